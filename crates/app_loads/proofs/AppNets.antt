@@ -20,7 +20,7 @@ use Rattle.machine_desc.specs.RightTables.{IsKeyOf}
 use Rattle.range_store.specs.Regions.{in_range}
 use Rattle.tern_word.specs.Ternary.{Matches}
 use Rattle.net_tables.specs.PlainTable.{AreRoutedApart}
-use Rattle.app_loads.specs.declared.answers.LoadErr.TheVariants.{KeysOut}
+use Rattle.app_loads.specs.declared.answers.LoadRefusal.TheVariants.{KeysOut}
 use Rattle.app_loads.specs.declared.loaded.Claim.{Claim}
 use Rattle.app_loads.specs.declared.loaded.LoadedApp.{LoadedApp}
 use Rattle.app_loads.specs.declared.loaded.Range.{Range}

@@ -15,7 +15,7 @@ use Rattle.machine_desc.proofs.Far.{index_below, live_inside}
 use Rattle.machine_desc.proofs.Live.{index_of-chip_of}
 use Rattle.machine_desc.proofs.Sites.{usable_parts}
 use Rattle.key_alloc.specs.KeyBlocks.{size_of}
-use Rattle.app_loads.specs.declared.answers.LoadErr.TheVariants.{Loaded, MemoryOut, KeysOut, RowsOut}
+use Rattle.app_loads.specs.declared.answers.LoadRefusal.TheVariants.{Loaded, MemoryOut, KeysOut, RowsOut}
 use Rattle.app_loads.specs.declared.loaded.Claim.{Claim}
 use Rattle.app_loads.specs.declared.plans.AppNet.{AppNet}
 use Rattle.app_loads.specs.declared.plans.AppPlan.{AppPlan}

@@ -10,7 +10,7 @@ use Rattle.spin_base.specs.Gathered.{gathered}
 use Rattle.spin_base.specs.declared.blocks.Block.{Block}
 use Rattle.machine_desc.specs.Description.{Description, HasSize}
 use Rattle.machine_desc.specs.Live.{chip_of}
-use Rattle.app_loads.specs.declared.answers.LoadErr.TheVariants.{MemoryOut, RowsOut}
+use Rattle.app_loads.specs.declared.answers.LoadRefusal.TheVariants.{MemoryOut, RowsOut}
 use Rattle.app_loads.specs.declared.loaded.Claim.{Claim}
 use Rattle.app_loads.specs.declared.loaded.LoadedApp.{LoadedApp}
 use Rattle.app_loads.specs.declared.plans.AppNet.{AppNet}

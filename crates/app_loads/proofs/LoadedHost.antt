@@ -33,7 +33,9 @@ use Rattle.mesh_core.proofs.Ways.{vertex_at_stands}
 use Rattle.spin_base.proofs.Gathering.{gathered_among}
 use Rattle.mesh_core.specs.Opened.{copy_from, first_copy}
 use Rattle.app_loads.specs.declared.answers.LoadErr.{LoadErr}
-use Rattle.app_loads.specs.declared.answers.LoadErr.TheVariants.{Loaded, MemoryOut, KeysOut, RowsOut, Memory}
+use Rattle.app_loads.specs.declared.answers.LoadErr.TheVariants.{Refused, Memory}
+use Rattle.app_loads.specs.declared.answers.LoadRefusal.{LoadRefusal}
+use Rattle.app_loads.specs.declared.answers.LoadRefusal.TheVariants.{Loaded, MemoryOut, KeysOut, RowsOut}
 use Rattle.app_loads.specs.declared.loaded.LoadedApp.{LoadedApp}
 use Rattle.app_loads.specs.declared.loaded.Range.{Range}
 use Rattle.app_loads.specs.declared.plans.AppNet.{AppNet}
@@ -42,7 +44,7 @@ use Rattle.app_loads.specs.Applications.{AreApps, HasRows, HaveOtherNumbers, Hav
 use Rattle.app_loads.specs.Claims.{AreServed, claims_of, IsRefusalDue}
 use Rattle.app_loads.specs.Host.{Free, Host, all_nets, all_ranges, all_spots, asked_of, is_loaded, is_spot_taken, nets_of}
 use Rattle.app_loads.specs.Joining.{AreSent, IsSent, IsServedApp, IsSettled, NoneUnsent}
-use Rattle.app_loads.specs.Loading.{HasLoaded, IsWhyNotLoaded}
+use Rattle.app_loads.specs.Loading.{HasLoaded, IsLoadRefusal, IsWhyNotLoaded}
 use Rattle.app_loads.specs.Plans.{IsAppNet, IsPlan, IsPacketOfApp, MayLoad}
 use Rattle.app_loads.specs.declared.places.Region.TheVariants.{Rows}
 use Rattle.app_loads.specs.Regions.{ShareNoPlace, AreFreeBeside, range_has, is_taken, region_size, IsRangeWithin, place_of}
@@ -317,15 +319,14 @@ module _ (h : Host) (apps : AreApps h) (number : ℕ) (plan : AppPlan) (may : Ma
 -- why an application is not loaded
 pub why_not : (h : Host) (apps : AreApps h) (number : ℕ) (plan : AppPlan) (old : List Region) → frees old ≡ h.regions → is_loaded h.apps number ≡ false → IsPlan h.mesh.setup.machine plan → (err : LoadErr) →
     IsDueAlways (claims_of h.mesh.setup.machine plan) old err → IsWhyNotLoaded h number plan err
-why_not h apps number plan old same none valid err (inl memory) = subst (IsWhyNotLoaded h number plan) (sym memory) tt
-why_not h apps number plan old same none valid err (inr due) = by_kind err (due h.mesh.setup.machine (all_ranges h.apps) apps.apart (subst (AreFreeBeside h.mesh.setup.machine (all_ranges h.apps)) (sym same) apps.free))
+why_not h apps number plan old same none valid Memory due = tt
+why_not h apps number plan old same none valid (Refused refusal) due = by_kind refusal (due h.mesh.setup.machine (all_ranges h.apps) apps.apart (subst (AreFreeBeside h.mesh.setup.machine (all_ranges h.apps)) (sym same) apps.free))
   where
-    by_kind : (e : LoadErr) → IsRefusalDue h.mesh.setup.machine (all_ranges h.apps) (claims_of h.mesh.setup.machine plan) e → IsWhyNotLoaded h number plan e
+    by_kind : (e : LoadRefusal) → IsRefusalDue h.mesh.setup.machine (all_ranges h.apps) (claims_of h.mesh.setup.machine plan) e → IsLoadRefusal h number plan e
     by_kind Loaded d = absurd ((facts h.mesh.setup.machine plan valid d.claim (Contains-at (claims_of h.mesh.setup.machine plan) (length d.ranges) d.claim d.is)).due d.refusal_is)
     by_kind (MemoryOut v) d = (none, d)
     by_kind (KeysOut n) d = (none, d)
     by_kind (RowsOut c) d = (none, d)
-    by_kind Memory d = tt
 
 -- the sources of a plan's nets have nothing unsent
 pub none_unsent : (h : Host) (apps : AreApps h) (plan : AppPlan) → MayLoad h plan → NoneUnsent h.mesh.setup.spots plan.nets h.mesh.unsent

@@ -13,8 +13,8 @@ use Rattle.machine_desc.specs.Live.{chip_of}
 use Rattle.tern_word.proofs.BlockLaws.{same_block}
 use Rattle.key_alloc.specs.KeyBlocks.{size_of}
 use Rattle.mesh_core.proofs.Counting.{count_some, counts_one}
-use Rattle.app_loads.specs.declared.answers.LoadErr.{LoadErr}
-use Rattle.app_loads.specs.declared.answers.LoadErr.TheVariants as refusals
+use Rattle.app_loads.specs.declared.answers.LoadRefusal.{LoadRefusal}
+use Rattle.app_loads.specs.declared.answers.LoadRefusal.TheVariants as refusals
 use Rattle.app_loads.specs.declared.loaded.Claim.{Claim}
 use Rattle.app_loads.specs.declared.loaded.Range.{Range}
 use Rattle.app_loads.specs.declared.plans.AppNet.{AppNet}
@@ -24,12 +24,11 @@ use Rattle.app_loads.specs.declared.places.Region.TheVariants.{Memory, Rows}
 use Rattle.app_loads.specs.Regions.{chip_count, keys_place, place_of}
 
 -- whether a claim is for the keys of a net
-abbrev names_net : ℕ → LoadErr → Bool
+abbrev names_net : ℕ → LoadRefusal → Bool
 names_net n refusals.Loaded = false
 names_net n (refusals.MemoryOut vertex) = false
 names_net n (refusals.KeysOut net) = net == n
 names_net n (refusals.RowsOut chip) = false
-names_net n refusals.Memory = false
 
 module _ (n : ℕ) where
   abbrev is_for : Claim → Bool

@@ -16,13 +16,13 @@ use Rattle.machine_desc.specs.Description.{Description}
 use Rattle.range_store.specs.Views.{Region}
 use Rattle.range_store.specs.Regions.{AreRuns, is_free, in_range}
 use Rattle.app_loads.specs.declared.answers.LoadErr.{LoadErr}
-use Rattle.app_loads.specs.declared.answers.LoadErr.TheVariants.{Memory}
+use Rattle.app_loads.specs.declared.answers.LoadErr.TheVariants.{Memory, Refused}
 use Rattle.app_loads.specs.declared.loaded.Claim.{Claim}
 use Rattle.app_loads.specs.declared.loaded.Range.{Range}
 use Rattle.app_loads.specs.Host.{Free}
 use Rattle.app_loads.specs.Regions.{AreFreeBeside, IsFreeBeside, ShareNoPlace, range_has, is_taken, region_size, IsRangeWithin}
 use Rattle.app_loads.specs.Claims.{IsLeastOpenRange, IsOpenRange, IsRefusalDue}
-use Rattle.app_loads.specs.Taking.{free_places_in, frees, range_at, ServesClaim, RefusesClaim, IsFair, IsFairFor, HaveRoom, CanServe, HaveServed, AreTaken, AreTakenAlways, AreServedAlways, IsDueAlways}
+use Rattle.app_loads.specs.Taking.{free_places_in, frees, range_at, ServesClaim, RefusesClaim, IsFair, IsFairFor, HaveRoom, CanServe, HaveServed, AreTaken, AreTakenAlways, AreServedAlways, IsDueAlways, IsDueOf}
 use Rattle.std.proofs.Math.Bool.{or-false}
 use Rattle.app_loads.proofs.Others.{pairs_with_last}
 use Rattle.range_store.proofs.HolePlaces.{clash}
@@ -466,9 +466,9 @@ module _ (claims : List Claim) (old mid : List Region) (ranges : List Range) (i 
       subst (λ l. HaveServed claims old l (slice_set mid claim.region after)) (sym pushed)
       (served_more claims old mid ranges so_far claim is_claim before' at_claim after place (slice_set mid claim.region after) claim_some refl serves (omega (arith, spare, counted)))
 
-  pub claim_due : (err : LoadErr) → (err ≡ Memory) ⊎ ((err ≡ claim.refusal) × RefusesClaim claim before') → IsDueAlways claims old err
-  claim_due err (inl memory) = inl memory
-  claim_due err (inr refused) = inr (λ m taken apart free. subst (IsRefusalDue m taken claims) (sym refused.0) (due_here claims old mid ranges so_far claim is_claim before' at_claim refused.1 m taken apart free))
+  pub claim_due : (err : LoadErr) → IsDueOf claim before' err → IsDueAlways claims old err
+  claim_due Memory due = tt
+  claim_due (Refused refusal) due = λ m taken apart free. subst (IsRefusalDue m taken claims) (sym due.0) (due_here claims old mid ranges so_far claim is_claim before' at_claim due.1 m taken apart free)
 
   pub claim_taken : (after : Region) → free_places_in after ≡ free_places_in before' → AreTakenAlways old ranges (slice_set mid claim.region after)
   claim_taken after same = taken_still claims old mid ranges so_far claim is_claim before' at_claim after (slice_set mid claim.region after) refl same

@@ -13,8 +13,8 @@ use Rattle.machine_desc.specs.Live.{chip_of}
 use Rattle.machine_desc.specs.RoutingTree.{end_of}
 use Rattle.range_store.specs.Regions.{in_range}
 use Rattle.key_alloc.specs.KeyBlocks.{size_of}
-use Rattle.app_loads.specs.declared.answers.LoadErr.{LoadErr}
-use Rattle.app_loads.specs.declared.answers.LoadErr.TheVariants.{MemoryOut, KeysOut, RowsOut}
+use Rattle.app_loads.specs.declared.answers.LoadRefusal.{LoadRefusal}
+use Rattle.app_loads.specs.declared.answers.LoadRefusal.TheVariants.{MemoryOut, KeysOut, RowsOut}
 use Rattle.app_loads.specs.declared.plans.AppNet.{AppNet}
 use Rattle.app_loads.specs.declared.plans.AppPlan.{AppPlan}
 use Rattle.app_loads.specs.declared.loaded.Claim.{Claim}
@@ -95,7 +95,7 @@ pub record AreServed (m : Description) (taken : List Range) (claims : List Claim
   pub all : length ranges ≡ length claims
 
 -- A refusal is due where it is that of the first claim that cannot be served.
-pub record IsRefusalDue (m : Description) (taken : List Range) (claims : List Claim) (refusal : LoadErr) : Type 0 where
+pub record IsRefusalDue (m : Description) (taken : List Range) (claims : List Claim) (refusal : LoadRefusal) : Type 0 where
   pub ranges : List Range
   pub before : AreFirstServed m taken claims ranges
   pub claim : Claim

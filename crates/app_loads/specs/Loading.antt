@@ -9,7 +9,9 @@ use Rattle.machine_desc.specs.Live.{IsInside}
 use Rattle.machine_desc.specs.RightTables.{table_at}
 use Rattle.mesh_core.specs.Opened.{copy_from}
 use Rattle.app_loads.specs.declared.answers.LoadErr.{LoadErr}
-use Rattle.app_loads.specs.declared.answers.LoadErr.TheVariants.{Loaded, MemoryOut, KeysOut, RowsOut, Memory}
+use Rattle.app_loads.specs.declared.answers.LoadErr.TheVariants.{Refused, Memory}
+use Rattle.app_loads.specs.declared.answers.LoadRefusal.{LoadRefusal}
+use Rattle.app_loads.specs.declared.answers.LoadRefusal.TheVariants.{Loaded, MemoryOut, KeysOut, RowsOut}
 use Rattle.app_loads.specs.declared.loaded.LoadedApp.{LoadedApp}
 use Rattle.app_loads.specs.declared.plans.AppPlan.{AppPlan}
 use Rattle.app_loads.specs.Host.{Host, all_ranges, is_loaded, nets_of}
@@ -37,14 +39,19 @@ pub record HasLoaded (old : Host) (number : ℕ) (plan : AppPlan) (new : Host) :
   pub tables : (c : Chip) (k : ℕ) → IsInside old.mesh.setup.machine c → is_taken app.ranges (place_of old.mesh.setup.machine (Rows c)) k ≡ false →
       slice_get (table_at old.mesh.setup.machine new.mesh.setup.tables c) k ≡ slice_get (table_at old.mesh.setup.machine old.mesh.setup.tables c) k
 
--- why an application is not loaded: its number is loaded, or else the first of its claims that cannot be served is refused
-abbrev pub IsLoadRefusal : Host → ℕ → AppPlan → LoadErr → Type 0
-IsLoadRefusal h number plan refusal =
+-- the number is not loaded, and the refusal is that of the first claim that cannot be served
+abbrev pub IsClaimRefused : Host → ℕ → AppPlan → LoadRefusal → Type 0
+IsClaimRefused h number plan refusal =
     (is_loaded h.apps number ≡ false) × IsRefusalDue h.mesh.setup.machine (all_ranges h.apps) (claims_of h.mesh.setup.machine plan) refusal
 
+-- Why an application is refused: its number is loaded, or else the first of its claims that cannot be served is refused.
+abbrev pub IsLoadRefusal : Host → ℕ → AppPlan → LoadRefusal → Type 0
+IsLoadRefusal h number plan Loaded = is_loaded h.apps number ≡ true
+IsLoadRefusal h number plan (MemoryOut vertex) = IsClaimRefused h number plan (MemoryOut vertex)
+IsLoadRefusal h number plan (KeysOut net) = IsClaimRefused h number plan (KeysOut net)
+IsLoadRefusal h number plan (RowsOut chip) = IsClaimRefused h number plan (RowsOut chip)
+
+-- Why it is not loaded: it is refused, or memory ran out, which is free.
 abbrev pub IsWhyNotLoaded : Host → ℕ → AppPlan → LoadErr → Type 0
-IsWhyNotLoaded h number plan Loaded = is_loaded h.apps number ≡ true
-IsWhyNotLoaded h number plan (MemoryOut vertex) = IsLoadRefusal h number plan (MemoryOut vertex)
-IsWhyNotLoaded h number plan (KeysOut net) = IsLoadRefusal h number plan (KeysOut net)
-IsWhyNotLoaded h number plan (RowsOut chip) = IsLoadRefusal h number plan (RowsOut chip)
+IsWhyNotLoaded h number plan (Refused refusal) = IsLoadRefusal h number plan refusal
 IsWhyNotLoaded h number plan Memory = Unit {0}

@@ -1,11 +1,11 @@
 -- How ranges are taken from regions and given back, as the private functions say it.
-use Rattle.std.specs.Prelude.{◌≡◌, ℕ, ◌+◌, ◌%◌, ◌<◌, ◌≤◌, ◌==◌, ◌⊎◌, List, [], ◌∷◌, ◌++◌, All, AllPairs, Some, IfSome, count_by, length, map, slice_get}
+use Rattle.std.specs.Prelude.{◌≡◌, ℕ, ◌+◌, ◌%◌, ◌<◌, ◌≤◌, ◌==◌, List, [], ◌∷◌, ◌++◌, All, AllPairs, Some, IfSome, count_by, length, map, slice_get}
 use Rattle.machine_desc.specs.Description.{Description}
 use Rattle.range_store.specs.Views.{Region}
 use Rattle.app_loads.specs.declared.loaded.Claim.{Claim}
 use Rattle.app_loads.specs.declared.loaded.Range.{Range}
 use Rattle.app_loads.specs.declared.answers.LoadErr.{LoadErr}
-use Rattle.app_loads.specs.declared.answers.LoadErr.TheVariants.{Memory}
+use Rattle.app_loads.specs.declared.answers.LoadErr.TheVariants.{Memory, Refused}
 use Rattle.app_loads.specs.Host.{Free}
 use Rattle.app_loads.specs.Regions.{AreFreeBeside, IsFreeBeside, IsRangeWithin, ShareNoPlace, region_size}
 use Rattle.app_loads.specs.Claims.{AreFirstServed, AreServed, IsLeastOpenRange, IsRefusedClaim, IsRefusalDue}
@@ -81,11 +81,11 @@ pub record HaveServed (claims : List Claim) (old : List Region) (ranges : List R
   pub room : HaveRoom ranges new
   pub long : length new ≡ length old
 
--- whatever was taken before, the refusal is due
+-- whatever was taken before, a refusal is due; want of memory is free
 abbrev pub IsDueAlways : List Claim → List Region → LoadErr → Type 0
-IsDueAlways claims old refusal =
-    (refusal ≡ Memory)
-    ⊎ ((m : Description) (taken : List Range) → AllPairs ShareNoPlace taken → AreFreeBeside m taken (frees old) → IsRefusalDue m taken claims refusal)
+IsDueAlways claims old (Refused refusal) =
+    (m : Description) (taken : List Range) → AllPairs ShareNoPlace taken → AreFreeBeside m taken (frees old) → IsRefusalDue m taken claims refusal
+IsDueAlways claims old Memory = Unit {0}
 
 -- the range of a claim from a place on
 abbrev pub range_at : Claim → ℕ → Range
@@ -101,6 +101,7 @@ ServesClaim claim before after place =
 abbrev pub RefusesClaim : Claim → Region → Type 0
 RefusesClaim claim before = (m : Description) (taken : List Range) → IsFreeBeside m taken claim.region (free_places_in before) → IsRefusedClaim m taken claim
 
--- the refusal of one claim is due: no memory is left, or the region has no range for the claim
+-- the refusal is that of one claim, for which the region has no range; want of memory is free
 abbrev pub IsDueOf : Claim → Region → LoadErr → Type 0
-IsDueOf claim before refusal = (refusal ≡ Memory) ⊎ ((refusal ≡ claim.refusal) × RefusesClaim claim before)
+IsDueOf claim before (Refused refusal) = (refusal ≡ claim.refusal) × RefusesClaim claim before
+IsDueOf claim before Memory = Unit {0}

@@ -11,6 +11,15 @@ pub struct Ended {
 /// Why an application was not loaded.
 #[derive(Clone, Copy)]
 pub enum LoadErr {
+    /// It was refused.
+    Refused(LoadRefusal),
+    /// Memory ran out.
+    Memory,
+}
+
+/// Why an application is refused.
+#[derive(Clone, Copy)]
+pub enum LoadRefusal {
     /// An application of that number is loaded.
     Loaded,
     /// No hole in the memory of the vertex's chip has its bytes.
@@ -19,8 +28,6 @@ pub enum LoadErr {
     KeysOut { net: u32 },
     /// No hole among the chip's entries has room for the application's rows there.
     RowsOut { chip: Chip },
-    /// Memory ran out.
-    Memory,
 }
 
 /// Why an application was not unloaded.

@@ -11,7 +11,7 @@ ghost use Rattle.app_loads.specs.Counting.{HasTree, IsKeyCount, IsRunEnd, end_pl
 ghost use Rattle.app_loads.specs.Plans.{IsPlan, IsAppNet};
 ghost use Rattle.app_loads.specs.Regions.{chip_count};
 
-use crate::answers::LoadErr;
+use crate::answers::LoadRefusal;
 use crate::loaded::Claim;
 use crate::places::{KEYS, Region};
 use crate::plans::{AppNet, AppPlan};
@@ -82,7 +82,7 @@ fn push_memory(
             size: u64::from(bytes),
             align: 1,
             fixed: None,
-            refusal: LoadErr::MemoryOut { vertex },
+            refusal: LoadRefusal::MemoryOut { vertex },
         })?;
     }
     Ok(())
@@ -110,7 +110,7 @@ fn push_fixed(claims: &mut Vec<Claim>, net: u32, fixed: Option<Block>) -> Result
             size: ALL_KEYS - u64::from(block.mask),
             align: 1,
             fixed: Some(u64::from(block.key)),
-            refusal: LoadErr::KeysOut { net },
+            refusal: LoadRefusal::KeysOut { net },
         })?;
     }
     Ok(())
@@ -146,7 +146,7 @@ fn push_keys(
             size,
             align: size,
             fixed: None,
-            refusal: LoadErr::KeysOut { net },
+            refusal: LoadRefusal::KeysOut { net },
         })?;
     }
     Ok(())
@@ -209,7 +209,7 @@ fn push_rows(
         size: rows,
         align: 1,
         fixed: None,
-        refusal: LoadErr::RowsOut { chip },
+        refusal: LoadRefusal::RowsOut { chip },
     })?;
     Ok(())
 }

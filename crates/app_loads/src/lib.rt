@@ -23,7 +23,7 @@ mod sends;
 mod steps;
 mod unloads;
 
-pub use answers::{Ended, LoadErr, UnloadErr};
+pub use answers::{Ended, LoadErr, LoadRefusal, UnloadErr};
 pub use apps::Apps;
 pub use loaded::{Claim, LoadedApp, Range};
 pub use places::Region;

@@ -1,5 +1,5 @@
 // An application that is loaded, and what it holds.
-use crate::answers::LoadErr;
+use crate::answers::LoadRefusal;
 use crate::plans::AppPlan;
 use spin_base::{Block, Seq};
 
@@ -20,7 +20,7 @@ pub struct Claim {
     pub size: u64,
     pub align: u64,
     pub fixed: Option<u64>,
-    pub refusal: LoadErr,
+    pub refusal: LoadRefusal,
 }
 
 /// An application that is loaded: its number and plan, the number of its first packet, the range that each claim of its plan got,

@@ -8,7 +8,7 @@ ghost use Rattle.app_loads.specs.Plans.{IsPlan, MayLoad};
 ghost use Rattle.app_loads.specs.Taking.{AreFreeAgain, AreRegionsOf, HaveRoom, IsDueAlways};
 ghost use Rattle.app_loads.specs.Writing.{AreCopied, CanCopy};
 
-use crate::answers::LoadErr;
+use crate::answers::{LoadErr, LoadRefusal};
 use crate::apps::{Apps, mark_spots, put};
 use crate::claims::claims_of;
 use crate::loaded::{Claim, LoadedApp, Range};
@@ -32,8 +32,8 @@ impl Apps {
     ///
     /// # Errors
     ///
-    /// `Loaded` where the number is loaded; else the refusal of the first of these that no range serves; and `Memory`, at any point,
-    /// where memory runs out. All is then as before.
+    /// `Refused` with `Loaded` where the number is loaded; else with the refusal of the first of these that no range serves; and
+    /// `Memory`, at any point, where memory runs out. All is then as before.
     pub fn load(&mut self, alloc: Global, number: u32, plan: &AppPlan) -> Result<(), LoadErr>
         requires { MayLoad self.old plan.now }
         ensures loaded { OnOk result (HasLoaded self.old number plan.now self.new) }
@@ -42,7 +42,7 @@ impl Apps {
         ensures apps { AreApps self.new }
     {
         if self.loaded(number) {
-            return Err(LoadErr::Loaded);
+            return Err(LoadErr::Refused(LoadRefusal::Loaded));
         }
         if self.apps.reserve(1).is_err() {
             return Err(LoadErr::Memory);
@@ -182,7 +182,7 @@ fn blocks_of(
     let none = Block { key: 0, mask: 0 };
     let mut blocks = vec![in alloc; none; nets]?;
     for (at, claim) in claims.iter().enumerate() {
-        if let LoadErr::KeysOut { net } = claim.refusal {
+        if let LoadRefusal::KeysOut { net } = claim.refusal {
             blocks[net as usize] = block_of(ranges[at].place as u32, ranges[at].size);
         }
     }

@@ -90,7 +90,7 @@ fn take_claim(region: &mut Ranges, claim: &Claim, held: u32) -> Result<u64, Load
 {
     match take_with_room(region, claim, held + 2) {
         Ok(Some(place)) => Ok(place),
-        Ok(None) => Err(claim.refusal),
+        Ok(None) => Err(LoadErr::Refused(claim.refusal)),
         Err(_) => Err(LoadErr::Memory),
     }
 }

@@ -11,8 +11,9 @@ use Rattle.job_requests.specs.Valid.{IsValidJob, IsValidStep}
 use Rattle.job_readers.specs.declared.jobs.Job.{Job}
 use Rattle.app_loads.specs.Applications.{AreApps}
 use Rattle.app_loads.specs.Host.{Host}
+use Rattle.app_loads.specs.declared.answers.LoadRefusal.TheVariants.{Loaded, MemoryOut, KeysOut, RowsOut}
 use Rattle.spin_apps.specs.declared.hosts.LoadAnswer.{LoadAnswer}
-use Rattle.spin_apps.specs.declared.hosts.LoadAnswer.TheVariants.{Done, Loaded, NoRoom, CutOff, MemoryOut, KeysOut, RowsOut}
+use Rattle.spin_apps.specs.declared.hosts.LoadAnswer.TheVariants.{Done, NoRoom, CutOff, Refused}
 use Rattle.spin_apps.specs.declared.hosts.UnloadAnswer.{UnloadAnswer}
 use Rattle.spin_apps.specs.declared.hosts.UnloadAnswer.TheVariants.{Got, NotLoaded, Waiting}
 use Rattle.spin_apps.specs.Answers.{Answers, AreAnswered, AreAnsweredFrom, IsLoadAnswer, IsUnloadAnswer, host_at, is_load}
@@ -101,12 +102,12 @@ load_packets h number job Done new valid is =
     let same : length is.plan.packets ≡ length job.run.packets = ap length is.is.packets in
     let few = valid.run.few_packets in
     omega (arith, more, same, few)
-load_packets h number job Loaded new valid is = let same = ap (λ (x : Host). x.packets) is.1 in omega (arith, same)
+load_packets h number job (Refused Loaded) new valid is = let same = ap (λ (x : Host). x.packets) is.1 in omega (arith, same)
 load_packets h number job (NoRoom vertex) new valid is = let same = ap (λ (x : Host). x.packets) is.2 in omega (arith, same)
 load_packets h number job (CutOff net target) new valid is = let same = ap (λ (x : Host). x.packets) is.2 in omega (arith, same)
-load_packets h number job (MemoryOut vertex) new valid is = let same = ap (λ (x : Host). x.packets) is.same in omega (arith, same)
-load_packets h number job (KeysOut net) new valid is = let same = ap (λ (x : Host). x.packets) is.same in omega (arith, same)
-load_packets h number job (RowsOut chip) new valid is = let same = ap (λ (x : Host). x.packets) is.same in omega (arith, same)
+load_packets h number job (Refused (MemoryOut vertex)) new valid is = let same = ap (λ (x : Host). x.packets) is.same in omega (arith, same)
+load_packets h number job (Refused (KeysOut net)) new valid is = let same = ap (λ (x : Host). x.packets) is.same in omega (arith, same)
+load_packets h number job (Refused (RowsOut chip)) new valid is = let same = ap (λ (x : Host). x.packets) is.same in omega (arith, same)
 
 unload_packets : (h : Host) (number : ℕ) (answer : UnloadAnswer) (new : Host) → IsUnloadAnswer h number answer new → new.packets ≡ h.packets
 unload_packets h number (Got delivered dumped) new is = is.unloaded.packets

@@ -21,8 +21,8 @@ use Rattle.place_fit.proofs.Determined as places
 use Rattle.place_fit.specs.Placement.{HasNoRoom, IsPlacement}
 use Rattle.job_readers.specs.declared.jobs.Job.{Job}
 use Rattle.job_requests.specs.Valid.{IsValidJob}
-use Rattle.app_loads.specs.declared.answers.LoadErr.{LoadErr}
-use Rattle.app_loads.specs.declared.answers.LoadErr.TheVariants as refusals
+use Rattle.app_loads.specs.declared.answers.LoadRefusal.{LoadRefusal}
+use Rattle.app_loads.specs.declared.answers.LoadRefusal.TheVariants.{Loaded, MemoryOut, KeysOut, RowsOut}
 use Rattle.app_loads.specs.declared.loaded.LoadedApp.{LoadedApp}
 use Rattle.app_loads.specs.declared.loaded.Range.{Range}
 use Rattle.app_loads.specs.declared.plans.AppNet.{AppNet}
@@ -36,7 +36,7 @@ use Rattle.app_loads.specs.Opening.{grid_spots}
 use Rattle.app_loads.specs.Unloading.{WaitsFor}
 use Rattle.app_loads.proofs.Alike.{alike_too, waits_too}
 use Rattle.spin_apps.specs.declared.hosts.LoadAnswer.{LoadAnswer}
-use Rattle.spin_apps.specs.declared.hosts.LoadAnswer.TheVariants.{Done, Loaded, NoRoom, CutOff, MemoryOut, KeysOut, RowsOut}
+use Rattle.spin_apps.specs.declared.hosts.LoadAnswer.TheVariants.{Done, NoRoom, CutOff, Refused}
 use Rattle.spin_apps.specs.declared.hosts.UnloadAnswer.{UnloadAnswer}
 use Rattle.spin_apps.specs.declared.hosts.UnloadAnswer.TheVariants.{Got, NotLoaded, Waiting}
 use Rattle.spin_apps.specs.Answers.{IsLoadAnswer, IsUnloadAnswer}
@@ -109,32 +109,25 @@ module _ (h : Host) (job : Job) (valid : IsValidJob job) where
 
   -- ---- loads
 
-  abbrev AreAsked : AppPlan → LoadErr → Type 0
+  abbrev AreAsked : AppPlan → LoadRefusal → Type 0
   AreAsked p e = IsRefusalDue grid (all_ranges h.apps) (claims_of grid p) e
 
   abbrev Get : AppPlan → List Range → Type 0
   Get p ranges = AreServed grid (all_ranges h.apps) (claims_of grid p) ranges
 
-  served_not_due : (p q : AppPlan) (ranges : List Range) (e : LoadErr) → IsPlanFor h job p → IsPlanFor h job q → Get p ranges → AreAsked q e → ⊥
+  served_not_due : (p q : AppPlan) (ranges : List Range) (e : LoadRefusal) → IsPlanFor h job p → IsPlanFor h job q → Get p ranges → AreAsked q e → ⊥
   served_not_due p q ranges e a b served due =
       served_not_refused grid (all_ranges h.apps) (claims_of grid p) e ranges served (subst (λ x. AreAsked x e) (one_plan q p b a) due)
 
-  one_due : (p q : AppPlan) (e f : LoadErr) → IsPlanFor h job p → IsPlanFor h job q → AreAsked p e → AreAsked q f → e ≡ f
+  one_due : (p q : AppPlan) (e f : LoadRefusal) → IsPlanFor h job p → IsPlanFor h job q → AreAsked p e → AreAsked q f → e ≡ f
   one_due p q e f a b x y = one_refusal grid (all_ranges h.apps) (claims_of grid p) e f x (subst (λ r. AreAsked r f) (one_plan q p b a) y)
-
-  abbrev answer_to : LoadErr → LoadAnswer
-  answer_to refusals.Loaded = Loaded
-  answer_to (refusals.MemoryOut vertex) = MemoryOut vertex
-  answer_to (refusals.KeysOut net) = KeysOut net
-  answer_to (refusals.RowsOut chip) = RowsOut chip
-  answer_to refusals.Memory = Loaded
 
   -- why a load of a number that is not loaded is answered so
   data Why (a : LoadAnswer) : Type 0 where
     without_room : (v : ℕ) → HasNoRoom (free_machine h) job.graph.vertices v → a ≡ NoRoom v → Why a
     cut : (i : ℕ) (target : Chip) → HasCutOffOnHost h job i target → a ≡ CutOff i target → Why a
     loads : (p : AppPlan) (ranges : List Range) → IsPlanFor h job p → Get p ranges → a ≡ Done → Why a
-    refused : (p : AppPlan) (e : LoadErr) → IsPlanFor h job p → AreAsked p e → a ≡ answer_to e → Why a
+    refused : (p : AppPlan) (e : LoadRefusal) → IsPlanFor h job p → AreAsked p e → a ≡ Refused e → Why a
 
   one_why : (a b : LoadAnswer) → Why a → Why b → a ≡ b
   one_why a b (without_room v none is) (without_room w other also) = is ∙ (ap NoRoom (places.one_vertex (free_machine h) job.graph.vertices v w none other) ∙ sym also)
@@ -152,27 +145,27 @@ module _ (h : Host) (job : Job) (valid : IsValidJob job) where
   one_why a b (refused p e planned due is) (without_room w other also) = absurd (room_not_planned w p other planned)
   one_why a b (refused p e planned due is) (cut j u other also) = absurd (cut_not_planned j u p other planned)
   one_why a b (refused p e planned due is) (loads q ranges other served also) = absurd (served_not_due q p ranges e other planned served due)
-  one_why a b (refused p e planned due is) (refused q f other asked also) = is ∙ (ap answer_to (one_due p q e f planned other due asked) ∙ sym also)
+  one_why a b (refused p e planned due is) (refused q f other asked also) = is ∙ (ap Refused (one_due p q e f planned other due asked) ∙ sym also)
 
   module _ (n : ℕ) where
     -- where the number is loaded, that is answered
-    only_loaded : is_loaded h.apps n ≡ true → (a : LoadAnswer) (new : Host) → IsLoadAnswer h n job a new → a ≡ Loaded
+    only_loaded : is_loaded h.apps n ≡ true → (a : LoadAnswer) (new : Host) → IsLoadAnswer h n job a new → a ≡ Refused Loaded
     only_loaded here Done new is = absurd (true≢false (sym here ∙ is.loaded.was_not))
-    only_loaded here Loaded new is = refl
+    only_loaded here (Refused Loaded) new is = refl
     only_loaded here (NoRoom v) new is = absurd (true≢false (sym here ∙ is.0))
     only_loaded here (CutOff i t) new is = absurd (true≢false (sym here ∙ is.0))
-    only_loaded here (MemoryOut v) new is = absurd (true≢false (sym here ∙ is.due.0))
-    only_loaded here (KeysOut i) new is = absurd (true≢false (sym here ∙ is.due.0))
-    only_loaded here (RowsOut c) new is = absurd (true≢false (sym here ∙ is.due.0))
+    only_loaded here (Refused (MemoryOut v)) new is = absurd (true≢false (sym here ∙ is.due.0))
+    only_loaded here (Refused (KeysOut i)) new is = absurd (true≢false (sym here ∙ is.due.0))
+    only_loaded here (Refused (RowsOut c)) new is = absurd (true≢false (sym here ∙ is.due.0))
 
     why : is_loaded h.apps n ≡ false → (a : LoadAnswer) (new : Host) → IsLoadAnswer h n job a new → Why a
     why gone Done new is = loads is.plan is.loaded.app.ranges is.is is.loaded.served refl
-    why gone Loaded new is = absurd (true≢false (sym is.0 ∙ gone))
+    why gone (Refused Loaded) new is = absurd (true≢false (sym is.0 ∙ gone))
     why gone (NoRoom v) new is = without_room v is.1 refl
     why gone (CutOff i t) new is = cut i t is.1 refl
-    why gone (MemoryOut v) new is = refused is.plan (refusals.MemoryOut v) is.is is.due.1 refl
-    why gone (KeysOut i) new is = refused is.plan (refusals.KeysOut i) is.is is.due.1 refl
-    why gone (RowsOut c) new is = refused is.plan (refusals.RowsOut c) is.is is.due.1 refl
+    why gone (Refused (MemoryOut v)) new is = refused is.plan (MemoryOut v) is.is is.due.1 refl
+    why gone (Refused (KeysOut i)) new is = refused is.plan (KeysOut i) is.is is.due.1 refl
+    why gone (Refused (RowsOut c)) new is = refused is.plan (RowsOut c) is.is is.due.1 refl
 
 -- ---- machines with the same applications
 
@@ -214,7 +207,7 @@ module _ (h g : Host) (machine : h.mesh.setup.machine ≡ g.mesh.setup.machine) 
       subst (λ (m : Description). AreServed m (all_ranges h.apps) (claims_of m p) ranges) (sym machine)
       (subst (λ (l : List LoadedApp). AreServed g.mesh.setup.machine (all_ranges l) (claims_of g.mesh.setup.machine p) ranges) (sym apps) is)
 
-  asked_there : (p : AppPlan) (e : LoadErr) → AreAsked g job valid p e → AreAsked h job valid p e
+  asked_there : (p : AppPlan) (e : LoadRefusal) → AreAsked g job valid p e → AreAsked h job valid p e
   asked_there p e is =
       subst (λ (m : Description). IsRefusalDue m (all_ranges h.apps) (claims_of m p) e) (sym machine)
       (subst (λ (l : List LoadedApp). IsRefusalDue g.mesh.setup.machine (all_ranges l) (claims_of g.mesh.setup.machine p) e) (sym apps) is)

@@ -5,7 +5,7 @@ use Rattle.std.proofs.lemmas.List.{take_all}
 use Rattle.std.proofs.lemmas.Option.{slice_get_within}
 use Rattle.spin_base.proofs.Places.{one_item_at, slice_get_there, take_more_at}
 use Rattle.machine_desc.specs.Description.{Description}
-use Rattle.app_loads.specs.declared.answers.LoadErr.{LoadErr}
+use Rattle.app_loads.specs.declared.answers.LoadRefusal.{LoadRefusal}
 use Rattle.app_loads.specs.declared.loaded.Claim.{Claim}
 use Rattle.app_loads.specs.declared.loaded.Range.{Range}
 use Rattle.app_loads.specs.Claims.{AreFirstServed, AreServed, IsLeastOpenRange, IsOpenRange, IsRefusalDue}
@@ -44,7 +44,7 @@ module _ (m : Description) (taken : List Range) (claims : List Claim) where
       sym (take_all n rs (omega (arith, all))) ∙ (same_ranges rs ss a.first b.first n (omega (arith, all)) (omega (arith, also)) ∙ take_all n ss (omega (arith, also)))
 
   -- a claim that is refused gets no range
-  refused_not_served : (refusal : LoadErr) (due : IsRefusalDue m taken claims refusal) (ss : List Range) → AreFirstServed m taken claims ss → length due.ranges < length ss → ⊥
+  refused_not_served : (refusal : LoadRefusal) (due : IsRefusalDue m taken claims refusal) (ss : List Range) → AreFirstServed m taken claims ss → length due.ranges < length ss → ⊥
   refused_not_served refusal due ss served longer =
       let n : ℕ = length due.ranges in
       let s = slice_get_there ss n longer in
@@ -54,13 +54,13 @@ module _ (m : Description) (taken : List Range) (claims : List Claim) where
       in
       due.refused s.0.place (subst (λ l. IsOpenRange m (taken ++ l) due.claim s.0.place) before got.may)
 
-  pub served_not_refused : (refusal : LoadErr) (rs : List Range) → AreServed m taken claims rs → IsRefusalDue m taken claims refusal → ⊥
+  pub served_not_refused : (refusal : LoadRefusal) (rs : List Range) → AreServed m taken claims rs → IsRefusalDue m taken claims refusal → ⊥
   served_not_refused refusal rs served due =
       let within = slice_get_within claims (length due.ranges) due.claim due.is in
       let all = served.all in
       refused_not_served refusal due rs served.first (omega (arith, within, all))
 
-  pub one_refusal : (e f : LoadErr) → IsRefusalDue m taken claims e → IsRefusalDue m taken claims f → e ≡ f
+  pub one_refusal : (e f : LoadRefusal) → IsRefusalDue m taken claims e → IsRefusalDue m taken claims f → e ≡ f
   one_refusal e f a b = elim (cases_order (length a.ranges) (length b.ranges)) [
     | inl same ↦ sym a.refusal_is ∙ (ap (λ (c : Claim). c.refusal) (one_item_at claims (length a.ranges) (length b.ranges) a.claim b.claim same a.is b.is) ∙ b.refusal_is)
     | inr (inl less) ↦ absurd (refused_not_served e a b.ranges b.before less)

@@ -28,8 +28,9 @@ use Rattle.app_loads.specs.Loading.{sent_by_vertex}
 use Rattle.app_loads.specs.Opening.{bare_host}
 use Rattle.app_loads.proofs.Alike.{alike_moved, alike_unloaded, same_spots}
 use Rattle.app_loads.proofs.OneClaim.{one_block}
+use Rattle.app_loads.specs.declared.answers.LoadRefusal.TheVariants.{Loaded, MemoryOut, KeysOut, RowsOut}
 use Rattle.spin_apps.specs.declared.hosts.LoadAnswer.{LoadAnswer}
-use Rattle.spin_apps.specs.declared.hosts.LoadAnswer.TheVariants.{Done, Loaded, NoRoom, CutOff, MemoryOut, KeysOut, RowsOut}
+use Rattle.spin_apps.specs.declared.hosts.LoadAnswer.TheVariants.{Done, NoRoom, CutOff, Refused}
 use Rattle.spin_apps.specs.declared.hosts.UnloadAnswer.{UnloadAnswer}
 use Rattle.spin_apps.specs.declared.hosts.UnloadAnswer.TheVariants.{Got, NotLoaded, Waiting}
 use Rattle.spin_apps.specs.Answers.{Answers, AreAnsweredFrom, AreAnswered, HasGot, IsDone, IsLoadAnswer, IsUnloadAnswer, host_at}
@@ -42,12 +43,9 @@ use Rattle.spin_apps.proofs.OneRefusal.{one_served}
 -- whether a load has changed the machine
 abbrev is_done : LoadAnswer → Bool
 is_done Done = true
-is_done Loaded = false
 is_done (NoRoom vertex) = false
 is_done (CutOff net target) = false
-is_done (MemoryOut vertex) = false
-is_done (KeysOut net) = false
-is_done (RowsOut chip) = false
+is_done (Refused refusal) = false
 
 -- what a load leaves: a plan of the job was loaded, or nothing has changed
 data LeftByLoad (h : Host) (n : ℕ) (job : Job) (a : LoadAnswer) (new : Host) : Type 0 where
@@ -56,12 +54,12 @@ data LeftByLoad (h : Host) (n : ℕ) (job : Job) (a : LoadAnswer) (new : Host) :
 
 left_by_load : (h : Host) (n : ℕ) (job : Job) (a : LoadAnswer) (new : Host) → IsLoadAnswer h n job a new → LeftByLoad h n job a new
 left_by_load h n job Done new is = changed refl is
-left_by_load h n job Loaded new is = unchanged refl is.1
+left_by_load h n job (Refused Loaded) new is = unchanged refl is.1
 left_by_load h n job (NoRoom vertex) new is = unchanged refl is.2
 left_by_load h n job (CutOff net target) new is = unchanged refl is.2
-left_by_load h n job (MemoryOut vertex) new is = unchanged refl is.same
-left_by_load h n job (KeysOut net) new is = unchanged refl is.same
-left_by_load h n job (RowsOut chip) new is = unchanged refl is.same
+left_by_load h n job (Refused (MemoryOut vertex)) new is = unchanged refl is.same
+left_by_load h n job (Refused (KeysOut net)) new is = unchanged refl is.same
+left_by_load h n job (Refused (RowsOut chip)) new is = unchanged refl is.same
 
 same_quiet : (s t : State) → t.inputs ≡ s.inputs → t.hands ≡ s.hands → t.cores ≡ s.cores → t.dumped ≡ s.dumped → IsQuiet s → IsQuiet t
 same_quiet s t inputs hands cores dumped quiet = record {

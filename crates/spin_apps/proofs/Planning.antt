@@ -1,5 +1,5 @@
 -- The plan of a job on free cores.
-use Rattle.std.proofs.Common.{◌≡◌, ℕ, zero, suc, ◌+◌, ◌^◌, ◌<◌, refl, sym, ap, ◌∙◌, subst, arith, inl, inr, List, [], ◌∷◌, ◌++◌, length, map, take, false, Some}
+use Rattle.std.proofs.Common.{◌≡◌, ℕ, ◌+◌, ◌^◌, ◌<◌, refl, sym, ap, ◌∙◌, subst, arith, inl, inr, List, [], ◌∷◌, ◌++◌, length, map, take, false, Some}
 use Rattle.std.specs.List.{All, AllZip, Contains, slice_get}
 use Rattle.std.proofs.lemmas.Bool.{cases_lt}
 use Rattle.std.proofs.lemmas.List.{length-map}
@@ -28,8 +28,9 @@ use Rattle.app_loads.specs.Host.{Host, is_spot_taken}
 use Rattle.app_loads.specs.Plans.{IsAppNet, IsPacketOfApp, IsPlan, MayLoad}
 use Rattle.job_requests.specs.Valid.{IsValidJob}
 use Rattle.job_readers.specs.declared.jobs.Job.{Job}
+use Rattle.app_loads.specs.declared.answers.LoadRefusal.TheVariants.{Loaded, MemoryOut, KeysOut, RowsOut}
 use Rattle.spin_apps.specs.declared.hosts.LoadAnswer.{LoadAnswer}
-use Rattle.spin_apps.specs.declared.hosts.LoadAnswer.TheVariants.{Done, Loaded, NoRoom, CutOff, MemoryOut, KeysOut, RowsOut}
+use Rattle.spin_apps.specs.declared.hosts.LoadAnswer.TheVariants.{Done, NoRoom, CutOff, Refused}
 use Rattle.spin_apps.specs.Answers.{IsLoadAnswer}
 use Rattle.spin_apps.specs.Hosting.{IsTaken}
 use Rattle.spin_apps.specs.Free.{free_machine}
@@ -180,9 +181,9 @@ may_load h m job plan is planned valid free numbers = record {
 pub taken_answer : (h : Host) (number : ℕ) (job : Job) (plan : AppPlan) (answer : LoadAnswer) (new : Host) → IsPlanFor h job plan → IsTaken h number plan answer new →
     IsLoadAnswer h number job answer new
 taken_answer h number job plan Done new planned taken = record { plan = plan; is = planned; loaded = taken }
-taken_answer h number job plan Loaded new planned taken = taken
 taken_answer h number job plan (NoRoom vertex) new planned taken = absurd taken
 taken_answer h number job plan (CutOff net target) new planned taken = absurd taken
-taken_answer h number job plan (MemoryOut vertex) new planned taken = record { plan = plan; is = planned; due = taken.0; same = taken.1 }
-taken_answer h number job plan (KeysOut net) new planned taken = record { plan = plan; is = planned; due = taken.0; same = taken.1 }
-taken_answer h number job plan (RowsOut chip) new planned taken = record { plan = plan; is = planned; due = taken.0; same = taken.1 }
+taken_answer h number job plan (Refused Loaded) new planned taken = taken
+taken_answer h number job plan (Refused (MemoryOut vertex)) new planned taken = record { plan = plan; is = planned; due = taken.0; same = taken.1 }
+taken_answer h number job plan (Refused (KeysOut net)) new planned taken = record { plan = plan; is = planned; due = taken.0; same = taken.1 }
+taken_answer h number job plan (Refused (RowsOut chip)) new planned taken = record { plan = plan; is = planned; due = taken.0; same = taken.1 }

@@ -6,17 +6,17 @@ use Rattle.job_requests.specs.declared.steps.Step.{Step}
 use Rattle.job_requests.specs.declared.steps.Step.TheVariants.{Load, Unload, Run}
 use Rattle.place_fit.specs.Placement.{HasNoRoom}
 use Rattle.app_loads.specs.declared.answers.Ended.{Ended}
-use Rattle.app_loads.specs.declared.answers.LoadErr.{LoadErr}
-use Rattle.app_loads.specs.declared.answers.LoadErr.TheVariants as refusals
+use Rattle.app_loads.specs.declared.answers.LoadRefusal.{LoadRefusal}
+use Rattle.app_loads.specs.declared.answers.LoadRefusal.TheVariants.{Loaded, MemoryOut, KeysOut, RowsOut}
 use Rattle.app_loads.specs.declared.plans.AppPlan.{AppPlan}
 use Rattle.app_loads.specs.Applications.{AreApps}
 use Rattle.app_loads.specs.Host.{Host, is_loaded}
-use Rattle.app_loads.specs.Loading.{HasLoaded, IsWhyNotLoaded}
+use Rattle.app_loads.specs.Loading.{HasLoaded, IsLoadRefusal}
 use Rattle.app_loads.specs.Opening.{bare_host}
 use Rattle.app_loads.specs.Running.{HasMovedMesh}
 use Rattle.app_loads.specs.Unloading.{HasUnloaded, IsLeastWaiting, NoneWaits}
 use Rattle.spin_apps.specs.declared.hosts.LoadAnswer.{LoadAnswer}
-use Rattle.spin_apps.specs.declared.hosts.LoadAnswer.TheVariants.{Done, Loaded, NoRoom, CutOff, MemoryOut, KeysOut, RowsOut}
+use Rattle.spin_apps.specs.declared.hosts.LoadAnswer.TheVariants.{Done, NoRoom, CutOff, Refused}
 use Rattle.spin_apps.specs.declared.hosts.UnloadAnswer.{UnloadAnswer}
 use Rattle.spin_apps.specs.declared.hosts.UnloadAnswer.TheVariants.{Got, NotLoaded, Waiting}
 use Rattle.spin_apps.specs.Free.{free_machine}
@@ -32,23 +32,23 @@ pub record IsDone (h : Host) (number : ℕ) (job : Job) (new : Host) : Type 0 wh
   pub loaded : HasLoaded h number plan new
 
 -- a plan of the job was refused for this cause, and nothing has changed
-pub record IsRefusedPlan (h : Host) (number : ℕ) (job : Job) (why : LoadErr) (new : Host) : Type 0 where
+pub record IsRefusedPlan (h : Host) (number : ℕ) (job : Job) (why : LoadRefusal) (new : Host) : Type 0 where
   pub plan : AppPlan
   pub is : IsPlanFor h job plan
-  pub due : IsWhyNotLoaded h number plan why
+  pub due : IsLoadRefusal h number plan why
   pub same : new ≡ h
 
 -- What is asked first is whether the number is loaded. Then all vertices are to have room, then no target to be cut off; then the
 -- application is loaded, or refused for what loading asks for first.
 abbrev pub IsLoadAnswer : Host → ℕ → Job → LoadAnswer → Host → Type 0
 IsLoadAnswer h number job Done new = IsDone h number job new
-IsLoadAnswer h number job Loaded new = (is_loaded h.apps number ≡ true) × (new ≡ h)
 IsLoadAnswer h number job (NoRoom vertex) new =
     (is_loaded h.apps number ≡ false) × HasNoRoom (free_machine h) job.graph.vertices vertex × (new ≡ h)
 IsLoadAnswer h number job (CutOff net target) new = (is_loaded h.apps number ≡ false) × HasCutOffOnHost h job net target × (new ≡ h)
-IsLoadAnswer h number job (MemoryOut vertex) new = IsRefusedPlan h number job (refusals.MemoryOut vertex) new
-IsLoadAnswer h number job (KeysOut net) new = IsRefusedPlan h number job (refusals.KeysOut net) new
-IsLoadAnswer h number job (RowsOut chip) new = IsRefusedPlan h number job (refusals.RowsOut chip) new
+IsLoadAnswer h number job (Refused Loaded) new = (is_loaded h.apps number ≡ true) × (new ≡ h)
+IsLoadAnswer h number job (Refused (MemoryOut vertex)) new = IsRefusedPlan h number job (MemoryOut vertex) new
+IsLoadAnswer h number job (Refused (KeysOut net)) new = IsRefusedPlan h number job (KeysOut net) new
+IsLoadAnswer h number job (Refused (RowsOut chip)) new = IsRefusedPlan h number job (RowsOut chip) new
 
 -- ---- unloads
 

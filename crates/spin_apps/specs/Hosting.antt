@@ -1,17 +1,16 @@
 -- A machine with its applications, as the private functions say it.
-use Rattle.std.specs.Prelude.{◌≡◌, ℕ, ◌++◌, List, Option, Some, None, IfSome, IsOk, Result, true}
+use Rattle.std.specs.Prelude.{◌≡◌, ℕ, ◌++◌, List, Option, Some, None, IfSome, IsOk, Result}
 use Rattle.link_detours.specs.LiveRoads.{AreRoadsOf}
 use Rattle.job_requests.specs.declared.steps.Step.{Step}
 use Rattle.app_loads.specs.Applications.{AreApps}
-use Rattle.app_loads.specs.declared.answers.LoadErr.TheVariants as refusals
 use Rattle.app_loads.specs.declared.plans.AppPlan.{AppPlan}
-use Rattle.app_loads.specs.Host.{Host, is_loaded}
-use Rattle.app_loads.specs.Loading.{HasLoaded, IsWhyNotLoaded}
+use Rattle.app_loads.specs.Host.{Host}
+use Rattle.app_loads.specs.Loading.{HasLoaded, IsLoadRefusal}
 use Rattle.spin_base.specs.declared.wants.Memory.{Memory}
 use Rattle.spin_apps.specs.declared.answers.Answered.{Answered}
 use Rattle.spin_apps.specs.declared.hosts.Hosted.TheInside.{Inside}
 use Rattle.spin_apps.specs.declared.hosts.LoadAnswer.{LoadAnswer}
-use Rattle.spin_apps.specs.declared.hosts.LoadAnswer.TheVariants.{Done, Loaded, NoRoom, CutOff, MemoryOut, KeysOut, RowsOut}
+use Rattle.spin_apps.specs.declared.hosts.LoadAnswer.TheVariants.{Done, NoRoom, CutOff, Refused}
 use Rattle.spin_apps.specs.Answers.{Answers}
 
 -- what is seen is the host of the applications
@@ -27,12 +26,9 @@ pub record IsHosted (s : Inside) : Type 0 where
 -- what may be answered where a plan is loaded
 abbrev pub IsTaken : Host → ℕ → AppPlan → LoadAnswer → Host → Type 0
 IsTaken h number plan Done new = HasLoaded h number plan new
-IsTaken h number plan Loaded new = (is_loaded h.apps number ≡ true) × (new ≡ h)
 IsTaken h number plan (NoRoom vertex) new = ⊥
 IsTaken h number plan (CutOff net target) new = ⊥
-IsTaken h number plan (MemoryOut vertex) new = IsWhyNotLoaded h number plan (refusals.MemoryOut vertex) × (new ≡ h)
-IsTaken h number plan (KeysOut net) new = IsWhyNotLoaded h number plan (refusals.KeysOut net) × (new ≡ h)
-IsTaken h number plan (RowsOut chip) new = IsWhyNotLoaded h number plan (refusals.RowsOut chip) × (new ≡ h)
+IsTaken h number plan (Refused refusal) new = IsLoadRefusal h number plan refusal × (new ≡ h)
 
 -- a text has got the line of a step, and all that applications keep holds of the state after it
 pub record HasAddedLine (step : Step) (before : Option Host) (old new : List ℕ) (after : Option Host) : Type 0 where

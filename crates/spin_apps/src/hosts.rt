@@ -8,7 +8,7 @@ ghost use Rattle.spin_apps.specs.Answers.{HasDrained, IsLoadAnswer, IsUnloadAnsw
 ghost use Rattle.spin_apps.specs.Hosting.{IsTaken};
 
 use crate::plans::{PlanErr, plan_of};
-use app_loads::{AppPlan, Apps, LoadErr, UnloadErr};
+use app_loads::{AppPlan, Apps, LoadErr, LoadRefusal, UnloadErr};
 use job_readers::Job;
 use link_detours::Roads;
 use machine_desc::Machine;
@@ -21,18 +21,12 @@ use std::marker::Model;
 pub enum LoadAnswer {
     /// The application is loaded.
     Done,
-    /// One of that number is loaded already.
-    Loaded,
     /// No chip on which this vertex may stand has room for it, the first such.
     NoRoom { vertex: u32 },
     /// No walk of live links joins the source's chip and this target chip of the net, the first such net and target.
     CutOff { net: u32, target: Chip },
-    /// No hole in the memory of the vertex's chip has its bytes.
-    MemoryOut { vertex: u32 },
-    /// The net's fixed block is not wholly free, or no block of its size is.
-    KeysOut { net: u32 },
-    /// No hole among the chip's entries has room for the application's rows there.
-    RowsOut { chip: Chip },
+    /// The machine refused it.
+    Refused(LoadRefusal),
 }
 
 /// What an unload is answered.
@@ -102,7 +96,7 @@ impl Hosted {
         ensures apps { AreApps self.new }
     {
         if self.apps.loaded(number) {
-            return Ok(LoadAnswer::Loaded);
+            return Ok(LoadAnswer::Refused(LoadRefusal::Loaded));
         }
         match plan_of(alloc, &self.machine, &self.roads, &self.apps, job) {
             Ok(plan) => self.take(alloc, number, &plan),
@@ -120,10 +114,7 @@ impl Hosted {
     {
         match self.apps.load(alloc, number, plan) {
             Ok(()) => Ok(LoadAnswer::Done),
-            Err(LoadErr::Loaded) => Ok(LoadAnswer::Loaded),
-            Err(LoadErr::MemoryOut { vertex }) => Ok(LoadAnswer::MemoryOut { vertex }),
-            Err(LoadErr::KeysOut { net }) => Ok(LoadAnswer::KeysOut { net }),
-            Err(LoadErr::RowsOut { chip }) => Ok(LoadAnswer::RowsOut { chip }),
+            Err(LoadErr::Refused(refusal)) => Ok(LoadAnswer::Refused(refusal)),
             Err(LoadErr::Memory) => Err(Memory),
         }
     }

@@ -1,10 +1,11 @@
 // The lines of answers.
 ghost use Rattle.std.specs.Prelude.{◌≡◌, ◌++◌, ◌∷◌, [], OnOk, codes, decimal, string_bytes};
 ghost use Rattle.run_report.specs.ReportText.{line};
-ghost use Rattle.spin_apps.specs.Lines.{load_line, net_name_at, run_line, unload_line, vertex_name_at};
+ghost use Rattle.spin_apps.specs.Lines.{load_line, net_name_at, refusal_words, run_line, unload_line, vertex_name_at};
 
 use crate::hosts::{LoadAnswer, UnloadAnswer};
 use app_graph::Graph;
+use app_loads::LoadRefusal;
 use spin_base::{Chip, Memory};
 
 // Puts the line of a load at the end.
@@ -19,16 +20,34 @@ pub(crate) fn put_load(
 {
     match answer {
         LoadAnswer::Done => put_word(text, number, "ok"),
-        LoadAnswer::Loaded => put_word(text, number, "loaded"),
         LoadAnswer::NoRoom { vertex } => put_no_room(text, number, vertex_name(graph, vertex)),
         LoadAnswer::CutOff { net, target } => {
             put_cut_off(text, number, net_name(graph, net), target)
         }
-        LoadAnswer::MemoryOut { vertex } => {
-            put_memory_out(text, number, vertex_name(graph, vertex))
-        }
-        LoadAnswer::KeysOut { net } => put_keys_out(text, number, net_name(graph, net)),
-        LoadAnswer::RowsOut { chip } => put_rows_out(text, number, chip),
+        LoadAnswer::Refused(refusal) => put_refusal(text, number, graph, refusal),
+    }
+}
+
+// Puts the line of a load that was refused at the end.
+fn put_refusal(
+    text: &mut String,
+    number: u32,
+    graph: &Graph,
+    refusal: LoadRefusal,
+) -> Result<(), Memory>
+    ensures { OnOk result (string_bytes text.new
+        ≡ string_bytes text.old
+        ++ line (codes "load" ∷ decimal number ∷ refusal_words graph.now refusal)) }
+{
+    match refusal {
+        LoadRefusal::Loaded => put_word(text, number, "loaded"),
+        LoadRefusal::MemoryOut { vertex } => put_memory_out(
+            text,
+            number,
+            vertex_name(graph, vertex),
+        ),
+        LoadRefusal::KeysOut { net } => put_keys_out(text, number, net_name(graph, net)),
+        LoadRefusal::RowsOut { chip } => put_rows_out(text, number, chip),
     }
 }
 

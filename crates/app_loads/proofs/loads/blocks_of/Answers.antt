@@ -3,7 +3,7 @@ use Rattle.std.proofs.Common.{◌≡◌, ◌∙◌, ◌+◌, ◌<◌, ℕ, sym, 
 use Rattle.std.specs.List.{slice_get}
 use Rattle.std.proofs.lemmas.List.{length-set}
 use Rattle.spin_base.specs.declared.blocks.Block.{Block}
-use Rattle.app_loads.specs.declared.answers.LoadErr.TheVariants.{KeysOut, Loaded}
+use Rattle.app_loads.specs.declared.answers.LoadRefusal.TheVariants.{KeysOut, Loaded}
 use Rattle.app_loads.specs.declared.loaded.Claim.{Claim}
 use Rattle.app_loads.specs.Claims.{IsBlockOf}
 use Rattle.app_loads.proofs.loads.blocks_of.Goals as goal

@@ -1,7 +1,7 @@
 use Rattle.std.proofs.Common.{◌≡◌, ◌<◌, ℕ, length, Some}
 use Rattle.std.specs.List.{slice_get}
 use Rattle.spin_base.specs.declared.blocks.Block.{Block}
-use Rattle.app_loads.specs.declared.answers.LoadErr.TheVariants.{KeysOut}
+use Rattle.app_loads.specs.declared.answers.LoadRefusal.TheVariants.{KeysOut}
 use Rattle.app_loads.specs.declared.loaded.Claim.{Claim}
 use Rattle.app_loads.specs.Claims.{IsBlockOf}
 use Rattle.app_loads.proofs.loads.blocks_of.Given as goal

@@ -1,4 +1,4 @@
-use Rattle.std.proofs.Common.{subst, sym, List, refl, inl}
+use Rattle.std.proofs.Common.{subst, sym, List, refl}
 use Rattle.machine_desc.specs.Description.{Description}
 use Rattle.app_loads.specs.declared.loaded.Range.{Range}
 use Rattle.app_loads.specs.Claims.{claims_of}
@@ -31,9 +31,6 @@ settle-mesh-requires c =
 pub returns-in-Ok-settled-clause-served : goal.returns-in-Ok-settled-clause-served
 returns-in-Ok-settled-clause-served c =
     subst (λ (m : Description). IsServedApp m c.args.regions.now c.args.number c.args.first c.args.plan.now c.in-Ok.app c.serve.new.regions) c.machine.ensures c.in-Ok.ensures.served
-
-pub returns-in-Err-settled-clause-due : goal.returns-in-Err-settled-clause-due
-returns-in-Err-settled-clause-due c = inl refl
 
 pub give_all-requires-clause-taken : goal.give_all-requires-clause-taken
 give_all-requires-clause-taken c =
