@@ -10,13 +10,13 @@ use Rattle.job_readers.specs.RunPart.{items_in, head_word, after_head}
 use Rattle.job_readers.proofs.ItemSteps.{values-more}
 use Rattle.job_requests.specs.declared.steps.Step.{Step}
 use Rattle.job_requests.specs.declared.steps.Step.TheVariants.{Load, Unload, Run}
-use Rattle.job_requests.specs.Steps.{first_machine_alone, is_load, kept, load_of, step_value, unload_of, without_machine, worded_step}
+use Rattle.job_requests.specs.Steps.{first_machine_alone, is_load, kept_step, load_of, step_value, unload_of, without_machine, worded_step}
 use Rattle.job_requests.specs.Valid.{HasFirstMachine}
 
 -- ---- one step more
 
 -- what is kept of a step is kept behind those before it
-kept_more : (steps : List Step) (step : Step) → first_machine_alone (steps ++ step ∷ []) ≡ first_machine_alone steps ++ kept (list_any is_load steps) step ∷ []
+kept_more : (steps : List Step) (step : Step) → first_machine_alone (steps ++ step ∷ []) ≡ first_machine_alone steps ++ kept_step (list_any is_load steps) step ∷ []
 kept_more [] (Load n job) = refl
 kept_more [] (Unload n) = refl
 kept_more [] Run = refl
@@ -24,7 +24,7 @@ kept_more (Load n job ∷ steps) step = ap (λ (l : List Step). Load n job ∷ l
 kept_more (Unload n ∷ steps) step = ap (λ (l : List Step). Unload n ∷ l) (kept_more steps step)
 kept_more (Run ∷ steps) step = ap (λ (l : List Step). Run ∷ l) (kept_more steps step)
 
-same_load : (loaded : Bool) (step : Step) → is_load (kept loaded step) ≡ is_load step
+same_load : (loaded : Bool) (step : Step) → is_load (kept_step loaded step) ≡ is_load step
 same_load true (Load n job) = refl
 same_load true (Unload n) = refl
 same_load true Run = refl
@@ -38,16 +38,16 @@ module _ {V : Type 0} (g : V → Data) (xs : List V) (i : ℕ) (x : V) (below : 
   one_more : before ++ step_value (g x) ∷ [] ≡ map step_value (map g (take (i + 1) xs))
   one_more = values-more g xs i x below is step_value before (before ++ step_value (g x) ∷ []) refl refl
 
-  pub kept_next : (out new : List Step) (loaded : Bool) (step : Step) → out ≡ first_machine_alone before → loaded ≡ list_any is_load before → step ≡ kept loaded (step_value (g x)) →
+  pub kept_next : (out new : List Step) (loaded : Bool) (step : Step) → out ≡ first_machine_alone before → loaded ≡ list_any is_load before → step ≡ kept_step loaded (step_value (g x)) →
       new ≡ out ++ step ∷ [] → new ≡ first_machine_alone (map step_value (map g (take (i + 1) xs)))
   kept_next out new loaded step so_far was here pushed =
       pushed
       ∙ (ap (λ (l : List Step). l ++ step ∷ []) so_far
-      ∙ (ap (λ (s : Step). first_machine_alone before ++ s ∷ []) (here ∙ ap (λ b. kept b (step_value (g x))) was)
+      ∙ (ap (λ (s : Step). first_machine_alone before ++ s ∷ []) (here ∙ ap (λ b. kept_step b (step_value (g x))) was)
       ∙ (sym (kept_more before (step_value (g x))) ∙ ap first_machine_alone one_more)))
 
   -- whether a load was among the steps
-  pub loaded_next : (loaded : Bool) (step : Step) (here : Bool) → loaded ≡ list_any is_load before → step ≡ kept loaded (step_value (g x)) → here ≡ is_load step →
+  pub loaded_next : (loaded : Bool) (step : Step) (here : Bool) → loaded ≡ list_any is_load before → step ≡ kept_step loaded (step_value (g x)) → here ≡ is_load step →
       (loaded || here) ≡ list_any is_load (map step_value (map g (take (i + 1) xs)))
   loaded_next loaded step here was kept_is load =
       let own : Bool = is_load (step_value (g x)) in

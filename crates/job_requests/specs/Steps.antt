@@ -92,7 +92,7 @@ is_load (Load number job) = true
 is_load (Unload number) = false
 is_load Run = false
 
--- a step whose job has no machine
+-- a step without its machine
 abbrev pub job_without_machine : AppJob → AppJob
 job_without_machine job = record { machine = None; graph = job.graph; run = job.run }
 
@@ -109,8 +109,8 @@ first_machine_alone (Unload number ∷ steps) = Unload number ∷ first_machine_
 first_machine_alone (Run ∷ steps) = Run ∷ first_machine_alone steps
 
 -- what is kept of a step, where a load was before and where none was
-abbrev pub kept : Bool → Step → Step
-kept loaded step = if loaded then without_machine step else step
+abbrev pub kept_step : Bool → Step → Step
+kept_step loaded step = if loaded then without_machine step else step
 
 unfoldable pub steps_value : Data → List Step
 steps_value d = first_machine_alone (map step_value (list_value (Some d)))

@@ -3,7 +3,7 @@ ghost use Rattle.std.specs.Prelude.{◌≡◌, ◌≤◌, All, IfOk, length, map
 ghost use Rattle.serde_json.specs.View.{view};
 ghost use Rattle.job_text.specs.Reading.{GivesOrFaults};
 ghost use Rattle.job_readers.specs.Items.{items_faults};
-ghost use Rattle.job_requests.specs.Steps.{number_of, step_number_faults, whole_job, load_faults, load_of, unload_faults, unload_of, run_step_faults, step_word_faults, worded_step, step_faults, step_value, is_load, job_without_machine, kept, first_machine_alone, steps_faults, steps_value};
+ghost use Rattle.job_requests.specs.Steps.{number_of, step_number_faults, whole_job, load_faults, load_of, unload_faults, unload_of, run_step_faults, step_word_faults, worded_step, step_faults, step_value, is_load, job_without_machine, kept_step, first_machine_alone, steps_faults, steps_value};
 ghost use Rattle.job_requests.specs.declared.steps.Step.TheVariants.{Run};
 ghost use Rattle.job_requests.specs.Valid.{IsValidStep, HasFirstMachine};
 ghost use Rattle.job_text.specs.Paths.{path_text};
@@ -95,7 +95,7 @@ fn is_load(step: &Step) -> bool
 
 // What is kept of a step: where a load was before, a load keeps no machine.
 fn kept(step: Step, loaded: bool) -> Step
-    ensures kept { result ≡ kept loaded step }
+    ensures kept { result ≡ kept_step loaded step }
     ensures valid { IsValidStep step → IsValidStep result }
 {
     if !loaded {

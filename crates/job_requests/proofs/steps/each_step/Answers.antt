@@ -5,7 +5,7 @@ use Rattle.serde_json.specs.View.{view}
 use Rattle.job_text.specs.Paths.{path_text, item_at}
 use Rattle.job_readers.specs.Items.{items_faults}
 use Rattle.job_readers.proofs.ItemSteps.{items-more, items-fail, items-none}
-use Rattle.job_requests.specs.Steps.{kept, step_faults, step_value}
+use Rattle.job_requests.specs.Steps.{kept_step, step_faults, step_value}
 use Rattle.job_requests.specs.Valid.{HasFirstMachine, IsValidStep}
 use Rattle.job_requests.proofs.FirstMachine.{has_first_machine, kept_next, loaded_next}
 use Rattle.job_requests.proofs.steps.each_step.Goals as goal
@@ -23,7 +23,7 @@ loop-i-preserved c =
     let item = c.index-items-i.result in
     let loaded = c.loop-i.loaded in
     let step = c.kept-step.result in
-    let here : step ≡ kept loaded (step_value (view item)) = c.kept-step.ensures.kept ∙ ap (kept loaded) c.in_ok-step_in.ensures.read.1 in
+    let here : step ≡ kept_step loaded (step_value (view item)) = c.kept-step.ensures.kept ∙ ap (kept_step loaded) c.in_ok-step_in.ensures.read.1 in
     let pushed = c.in_ok-push.ensures.ok in
     record {
       left = items-more view xs i item (omega arith) c.index-items-i.is step_faults (path_text c.args.path.now) (item_at (path_text c.args.path.now) i) (items_faults step_faults (path_text c.args.path.now) 0 (map view xs)) refl c.in_ok-step_in.ensures.read.0 c.loop-i.invariant.left;
