@@ -1,42 +1,48 @@
 -- A graph has at most one refusal that is due, and none where it has nets with trees.
-use Rattle.std.proofs.Common.{◌≡◌, ◌⊎◌, ℕ, List, Some, Result, Ok, Err, IfOk, IfErr, sym, ap, ◌∙◌, inl, inr}
-use Rattle.std.specs.List.{slice_get}
+use Rattle.std.proofs.Common.{◌≡◌, ℕ, List, Result, Ok, Err, IfOk, IfErr, sym, ap, ◌∙◌, inl, inr}
 use Rattle.spin_base.proofs.Places.{one_item_at}
 use Rattle.spin_base.specs.declared.chips.Spot.{Spot}
+use Rattle.spin_base.specs.declared.wants.Memory.{Memory as WantsMemory}
 use Rattle.machine_desc.specs.declared.trees.Edge.{Edge}
 use Rattle.machine_desc.specs.Description.{Description}
 use Rattle.app_graph.specs.declared.graphs.Graph.{Graph}
 use Rattle.app_graph.specs.declared.graphs.Net.{Net}
 use Rattle.app_graph.specs.declared.graphs.Vertex.{Vertex}
+use Rattle.place_fit.specs.Cause.{IsPlacementCause}
+use Rattle.place_fit.specs.declared.placing.PlaceErr.{PlaceErr}
+use Rattle.place_fit.specs.declared.placing.PlaceErr.TheVariants as places
+use Rattle.key_alloc.specs.Cause.{IsKeysCause}
+use Rattle.key_alloc.specs.declared.alloc.KeyErr.{KeyErr}
+use Rattle.key_alloc.specs.declared.alloc.KeyErr.TheVariants as keys
 use Rattle.machine_desc.specs.declared.nets.NetPlan.{NetPlan}
 use Rattle.net_plans.specs.Cause.{IsRefusedBy}
-use Rattle.place_fit.specs.Placement.{HasNoRoom, IsPlacement}
-use Rattle.place_fit.proofs.Determined as places
-use Rattle.key_alloc.specs.KeyBlocks.{AreKeysOut}
-use Rattle.key_alloc.proofs.Determined as keys
+use Rattle.place_fit.specs.Placement.{IsPlacement}
+use Rattle.place_fit.proofs.Determined as placing
+use Rattle.key_alloc.proofs.Determined as keying
 use Rattle.run_report.specs.declared.causes.Refusal.{Refusal}
 use Rattle.run_report.specs.declared.causes.Refusal.TheVariants.{NoRoom, KeysOut, Memory}
 use Rattle.spin_checks.specs.Answers.{HasNoAnswer, IsAnswer, IsJobRefusal, keys_out, no_room}
 use Rattle.spin_checks.specs.Nets.{AreNetsWith}
+use Rattle.spin_checks.specs.Naming.{IsNetIn, IsVertexIn, key_refusal, place_refusal}
 
 module _ (m : Description) (graph : Graph) where
   -- one refusal is due
   one_due : (r s : Refusal) → IsJobRefusal m graph r → IsJobRefusal m graph s → r ≡ s
   one_due r s (no_room i v room at is) (no_room j w other there also) =
-      let place : i ≡ j = places.one_vertex m graph.vertices i j room other in
+      let place : i ≡ j = placing.one_vertex m graph.vertices i j room other in
       let vertex : v ≡ w = one_item_at graph.vertices i j v w place at there in
       is ∙ (ap (λ (x : Vertex). NoRoom x.name) vertex ∙ sym also)
-  one_due r s (no_room i v room at is) (keys_out spots memory placed j w out there also) = absurd (places.not_both m graph.vertices spots memory i placed room)
-  one_due r s (keys_out spots memory placed i v out at is) (no_room j w room there also) = absurd (places.not_both m graph.vertices spots memory j placed room)
+  one_due r s (no_room i v room at is) (keys_out spots memory placed j w out there also) = absurd (placing.not_both m graph.vertices spots memory i placed room)
+  one_due r s (keys_out spots memory placed i v out at is) (no_room j w room there also) = absurd (placing.not_both m graph.vertices spots memory j placed room)
   one_due r s (keys_out spots memory placed i v out at is) (keys_out spots' memory' placed' j w other there also) =
-      let place : i ≡ j = keys.one_net graph.nets i j out other in
+      let place : i ≡ j = keying.one_net graph.nets i j out other in
       let net : v ≡ w = one_item_at graph.nets i j v w place at there in
       is ∙ (ap (λ (x : Net). KeysOut x.name) net ∙ sym also)
 
   -- none is where there are nets with trees
   pub none_due : (trees : List (List Edge)) (nets : List NetPlan) (r : Refusal) → AreNetsWith m graph trees nets → IsJobRefusal m graph r → ⊥
-  none_due trees nets r are (no_room i v room at is) = places.not_both m graph.vertices are.spots are.memory i are.placed room
-  none_due trees nets r are (keys_out spots memory placed i v out at is) = keys.not_both graph.nets are.blocks i are.keyed out
+  none_due trees nets r are (no_room i v room at is) = placing.not_both m graph.vertices are.spots are.memory i are.placed room
+  none_due trees nets r are (keys_out spots memory placed i v out at is) = keying.not_both graph.nets are.blocks i are.keyed out
 
   -- Whatever is answered, if what it says is so, it is the refusal that is due.
   pub refused_where : {X : Type 0} (P : X → Type 0) → ((x : X) → P x → (r : Refusal) → IsJobRefusal m graph r → ⊥) → (result : Result X Refusal) → IfOk result P → IfErr result (HasNoAnswer m graph) → (r : Refusal) →
@@ -53,12 +59,16 @@ module _ (m : Description) (graph : Graph) where
       IsJobRefusal m graph r → IsRefusedBy result r Memory
   refused_answer trees bytes = refused_where (IsAnswer m graph trees bytes) (λ text is r due. none_due trees is.nets r is.are due)
 
-  -- the refusals that are made
-  pub room_due : (i : ℕ) (r : Refusal) → HasNoRoom m graph.vertices i → ((v : Vertex) → slice_get graph.vertices i ≡ Some v → r ≡ NoRoom v.name) ⊎ (r ≡ Memory) → HasNoAnswer m graph r
-  room_due i r room (inl names) = inl (no_room i room.vertex room room.is (names room.vertex room.is))
-  room_due i r room (inr no_memory) = inr no_memory
+  -- the refusal by the name of the vertex without room
+  pub place_due : (e : PlaceErr) (name : Result (List ℕ) WantsMemory) (r : Refusal) → IsPlacementCause m graph.vertices e → IfOk name (IsVertexIn graph e) → r ≡ place_refusal e name →
+      HasNoAnswer m graph r
+  place_due (places.NoRoom i) (Ok name) r room named is = inl (no_room i named.0 room named.1 (is ∙ ap NoRoom named.2))
+  place_due (places.NoRoom i) (Err memory) r room named is = inr is
+  place_due places.Memory name r room named is = inr is
 
-  pub keys_due : (spots : List Spot) (memory : List ℕ) → IsPlacement m graph.vertices spots memory → (i : ℕ) (r : Refusal) → AreKeysOut graph.nets i →
-      ((n : Net) → slice_get graph.nets i ≡ Some n → r ≡ KeysOut n.name) ⊎ (r ≡ Memory) → HasNoAnswer m graph r
-  keys_due spots memory placed i r out (inl names) = inl (keys_out spots memory placed i out.net out out.is (names out.net out.is))
-  keys_due spots memory placed i r out (inr no_memory) = inr no_memory
+  -- the refusal by the name of the net without keys
+  pub key_due : (spots : List Spot) (memory : List ℕ) → IsPlacement m graph.vertices spots memory → (e : KeyErr) (name : Result (List ℕ) WantsMemory) (r : Refusal) →
+      IsKeysCause graph.nets e → IfOk name (IsNetIn graph e) → r ≡ key_refusal e name → HasNoAnswer m graph r
+  key_due spots memory placed (keys.KeysOut i) (Ok name) r out named is = inl (keys_out spots memory placed i named.0 out named.1 (is ∙ ap KeysOut named.2))
+  key_due spots memory placed (keys.KeysOut i) (Err no_name) r out named is = inr is
+  key_due spots memory placed keys.Memory name r out named is = inr is

@@ -4,3 +4,4 @@ pub mod Answers
 pub mod Findings
 pub mod Nets
 pub mod Plans
+pub mod Naming

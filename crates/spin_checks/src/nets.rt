@@ -1,13 +1,14 @@
 // The nets of a graph, each with the tree that was handed in for it.
-ghost use Rattle.std.specs.Prelude.{◌≡◌, ◌⊎◌, ◌<◌, All, IfOk, IfErr, Some, length, slice_get};
+ghost use Rattle.std.specs.Prelude.{◌≡◌, All, IfOk, IfErr, length};
 ghost use Rattle.app_graph.specs.ValidGraph.{IsValidGraph, IsValidNet};
-ghost use Rattle.app_graph.specs.declared.graphs.Net.{Net as NetOf};
-ghost use Rattle.app_graph.specs.declared.graphs.Vertex.{Vertex};
+ghost use Rattle.key_alloc.specs.Cause.{IsKeysCause};
+ghost use Rattle.place_fit.specs.Cause.{IsPlacementCause};
 ghost use Rattle.net_plans.specs.Cause.{IsRefusedBy};
 ghost use Rattle.run_report.specs.declared.causes.Refusal.{Refusal as Cause};
-ghost use Rattle.run_report.specs.declared.causes.Refusal.TheVariants.{NoRoom, KeysOut, Memory as NoMemory};
+ghost use Rattle.run_report.specs.declared.causes.Refusal.TheVariants.{Memory as NoMemory};
 ghost use Rattle.spin_checks.specs.Answers.{IsJobRefusal, HasNoAnswer};
 ghost use Rattle.spin_checks.specs.Nets.{AreNetsWith, IsEachNetWith, IsNetWith, IsTreeOf, StandsOnSites};
+ghost use Rattle.spin_checks.specs.Naming.{IsNetIn, IsVertexIn, key_refusal, place_refusal};
 
 use app_graph::{Graph, Net};
 use key_alloc::{KeyErr, keys};
@@ -35,13 +36,11 @@ pub(crate) fn nets_with(
 {
     let placement = match place(alloc, machine, graph) {
         Ok(placement) => placement,
-        Err(PlaceErr::NoRoom { vertex }) => return Err(no_room(alloc, graph, vertex)),
-        Err(PlaceErr::Memory) => return Err(Refusal::Memory),
+        Err(error) => return Err(place_refusal(error, vertex_in(alloc, machine, graph, error))),
     };
     let blocks = match keys(alloc, graph) {
         Ok(blocks) => blocks,
-        Err(KeyErr::KeysOut { net }) => return Err(keys_out(alloc, graph, net)),
-        Err(KeyErr::Memory) => return Err(Refusal::Memory),
+        Err(error) => return Err(key_refusal(error, net_in(alloc, graph, error))),
     };
     match plans_with(alloc, graph, &placement.spots, &blocks, trees) {
         Ok(plans) => Ok(plans),
@@ -49,29 +48,62 @@ pub(crate) fn nets_with(
     }
 }
 
-// The refusal that names this vertex.
-fn no_room(alloc: Global, graph: &Graph, vertex: u32) -> Refusal
-    requires { vertex < length graph.now.vertices }
-    ensures { ((v : Vertex) → slice_get graph.now.vertices vertex ≡ Some v → result ≡ NoRoom v.name)
-        ⊎ (result ≡ NoMemory) }
+// The name of the vertex that has no room.
+fn vertex_in(
+    alloc: Global,
+    machine: &Machine,
+    graph: &Graph,
+    error: PlaceErr,
+) -> Result<Name, Memory>
+    requires { IsPlacementCause machine.now graph.now.vertices error }
+    ensures { IfOk result (IsVertexIn graph.now error) }
 {
-    let vertex = graph.vertices.get(vertex as usize);
-    match Name::of(alloc, vertex.name.as_str()) {
-        Ok(name) => Refusal::NoRoom(name),
-        Err(Memory) => Refusal::Memory,
+    match error {
+        PlaceErr::NoRoom { vertex } => {
+            let vertex = graph.vertices.get(vertex as usize);
+            Name::of(alloc, vertex.name.as_str())
+        }
+        PlaceErr::Memory => Err(Memory),
     }
 }
 
-// The refusal that names this net.
-fn keys_out(alloc: Global, graph: &Graph, net: u32) -> Refusal
-    requires { net < length graph.now.nets }
-    ensures { ((n : NetOf) → slice_get graph.now.nets net ≡ Some n → result ≡ KeysOut n.name)
-        ⊎ (result ≡ NoMemory) }
+// The refusal of vertices that are not placed, with the name of the one without room.
+fn place_refusal(error: PlaceErr, name: Result<Name, Memory>) -> Refusal
+    ensures { result ≡ place_refusal error name }
 {
-    let net = graph.nets.get(net as usize);
-    match Name::of(alloc, net.name.as_str()) {
-        Ok(name) => Refusal::KeysOut(name),
-        Err(Memory) => Refusal::Memory,
+    match error {
+        PlaceErr::NoRoom { .. } => match name {
+            Ok(name) => Refusal::NoRoom(name),
+            Err(Memory) => Refusal::Memory,
+        },
+        PlaceErr::Memory => Refusal::Memory,
+    }
+}
+
+// The name of the net that has no keys.
+fn net_in(alloc: Global, graph: &Graph, error: KeyErr) -> Result<Name, Memory>
+    requires { IsKeysCause graph.now.nets error }
+    ensures { IfOk result (IsNetIn graph.now error) }
+{
+    match error {
+        KeyErr::KeysOut { net } => {
+            let net = graph.nets.get(net as usize);
+            Name::of(alloc, net.name.as_str())
+        }
+        KeyErr::Memory => Err(Memory),
+    }
+}
+
+// The refusal of nets without keys, with the name of the first.
+fn key_refusal(error: KeyErr, name: Result<Name, Memory>) -> Refusal
+    ensures { result ≡ key_refusal error name }
+{
+    match error {
+        KeyErr::KeysOut { .. } => match name {
+            Ok(name) => Refusal::KeysOut(name),
+            Err(Memory) => Refusal::Memory,
+        },
+        KeyErr::Memory => Refusal::Memory,
     }
 }
 

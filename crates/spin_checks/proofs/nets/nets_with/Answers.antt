@@ -1,31 +1,23 @@
 use Rattle.std.proofs.Common.{rules}
-use Rattle.std.proofs.lemmas.Option.{slice_get_within}
-use Rattle.place_fit.specs.Placement.{HasNoRoom}
-use Rattle.key_alloc.specs.KeyBlocks.{AreKeysOut, AreRightBlocks}
-use Rattle.spin_checks.proofs.Refusing.{keys_due, refused_nets, room_due}
+use Rattle.key_alloc.specs.KeyBlocks.{AreRightBlocks}
+use Rattle.spin_checks.proofs.Refusing.{key_due, place_due, refused_nets}
 use Rattle.spin_checks.proofs.Sites.{all_on_sites}
 use Rattle.spin_checks.proofs.nets.nets_with.Goals as goal
 
-pub returns-in-Err-NoRoom-clause-none : goal.returns-in-Err-NoRoom-clause-none
-returns-in-Err-NoRoom-clause-none c =
-    let room : HasNoRoom c.args.machine.now c.args.graph.now.vertices c.in-Err-NoRoom.vertex = search rules in
-    room_due c.args.machine.now c.args.graph.now c.in-Err-NoRoom.vertex c.no_room.result room c.no_room.ensures
+pub returns-in-Err-clause-none : goal.returns-in-Err-clause-none
+returns-in-Err-clause-none c =
+    place_due c.args.machine.now c.args.graph.now c.in-Err.error c.vertex_in.result c.place_refusal.result c.in-Err.ensures.no_room c.vertex_in.ensures c.place_refusal.ensures
 
-pub returns-in-Err-NoRoom-clause-refused : goal.returns-in-Err-NoRoom-clause-refused
-returns-in-Err-NoRoom-clause-refused c = refused_nets c.args.machine.now c.args.graph.now c.args.trees.now _ tt (returns-in-Err-NoRoom-clause-none c)
+pub returns-in-Err-clause-refused : goal.returns-in-Err-clause-refused
+returns-in-Err-clause-refused c = refused_nets c.args.machine.now c.args.graph.now c.args.trees.now _ tt (returns-in-Err-clause-none c)
 
-pub keys_out-requires : goal.keys_out-requires
-keys_out-requires c =
-    let out : AreKeysOut c.args.graph.now.nets c.in-Err-KeysOut.net = search rules in
-    slice_get_within c.args.graph.now.nets c.in-Err-KeysOut.net out.net out.is
+pub returns-in-Err-keys-clause-none : goal.returns-in-Err-keys-clause-none
+returns-in-Err-keys-clause-none c =
+    key_due c.args.machine.now c.args.graph.now c.in-Ok.placement.spots c.in-Ok.placement.memory c.in-Ok.ensures.placed c.in-Err-keys.error c.net_in.result c.key_refusal.result
+    c.in-Err-keys.ensures.keys_out c.net_in.ensures c.key_refusal.ensures
 
-pub returns-in-Err-KeysOut-clause-none : goal.returns-in-Err-KeysOut-clause-none
-returns-in-Err-KeysOut-clause-none c =
-    let out : AreKeysOut c.args.graph.now.nets c.in-Err-KeysOut.net = search rules in
-    keys_due c.args.machine.now c.args.graph.now c.in-Ok.placement.spots c.in-Ok.placement.memory c.in-Ok.ensures.placed c.in-Err-KeysOut.net c.keys_out.result out c.keys_out.ensures
-
-pub returns-in-Err-KeysOut-clause-refused : goal.returns-in-Err-KeysOut-clause-refused
-returns-in-Err-KeysOut-clause-refused c = refused_nets c.args.machine.now c.args.graph.now c.args.trees.now _ tt (returns-in-Err-KeysOut-clause-none c)
+pub returns-in-Err-keys-clause-refused : goal.returns-in-Err-keys-clause-refused
+returns-in-Err-keys-clause-refused c = refused_nets c.args.machine.now c.args.graph.now c.args.trees.now _ tt (returns-in-Err-keys-clause-none c)
 
 pub returns-in-Ok-plans_with-clause-nets : goal.returns-in-Ok-plans_with-clause-nets
 returns-in-Ok-plans_with-clause-nets c = record {

@@ -1,0 +1,35 @@
+-- Which refusal is told where a graph has no nets with trees, and by which name (this project's own). Want of memory is told where
+-- memory ran out, also for the name, and nowhere else.
+use Rattle.std.specs.Prelude.{◌≡◌, ℕ, List, Some, Result, Ok, Err, slice_get}
+use Rattle.spin_base.specs.declared.wants.Memory.{Memory}
+use Rattle.app_graph.specs.declared.graphs.Graph.{Graph}
+use Rattle.app_graph.specs.declared.graphs.Net.{Net}
+use Rattle.app_graph.specs.declared.graphs.Vertex.{Vertex}
+use Rattle.place_fit.specs.declared.placing.PlaceErr.{PlaceErr}
+use Rattle.place_fit.specs.declared.placing.PlaceErr.TheVariants as places
+use Rattle.key_alloc.specs.declared.alloc.KeyErr.{KeyErr}
+use Rattle.key_alloc.specs.declared.alloc.KeyErr.TheVariants as keys
+use Rattle.run_report.specs.declared.causes.Refusal.{Refusal}
+use Rattle.run_report.specs.declared.causes.Refusal.TheVariants as refusals
+
+-- the name of the vertex without room
+abbrev pub IsVertexIn : Graph → PlaceErr → List ℕ → Type 0
+IsVertexIn graph (places.NoRoom i) name = (vertex : Vertex) × (slice_get graph.vertices i ≡ Some vertex) × (name ≡ vertex.name)
+IsVertexIn graph places.Memory name = ⊥
+
+-- the refusal of a vertex without room, by this name
+abbrev pub place_refusal : PlaceErr → Result (List ℕ) Memory → Refusal
+place_refusal (places.NoRoom i) (Ok name) = refusals.NoRoom name
+place_refusal (places.NoRoom i) (Err memory) = refusals.Memory
+place_refusal places.Memory name = refusals.Memory
+
+-- the name of the net without keys
+abbrev pub IsNetIn : Graph → KeyErr → List ℕ → Type 0
+IsNetIn graph (keys.KeysOut i) name = (net : Net) × (slice_get graph.nets i ≡ Some net) × (name ≡ net.name)
+IsNetIn graph keys.Memory name = ⊥
+
+-- the refusal of a net without keys, by this name
+abbrev pub key_refusal : KeyErr → Result (List ℕ) Memory → Refusal
+key_refusal (keys.KeysOut i) (Ok name) = refusals.KeysOut name
+key_refusal (keys.KeysOut i) (Err memory) = refusals.Memory
+key_refusal keys.Memory name = refusals.Memory
