@@ -85,7 +85,7 @@ module _ (m : Description) (some : 0 < m.height) where
       let parts = inside_parts m (chip_of m n) (chip_of-inside m n (omega (arith, below))) in
       All-append (IsTable m.width m.height) (at_place n f) (tables_from m (n + 1) fs)
       (listed_valid m.width m.height (chip_of m n) f.entries parts.0 parts.1
-      (All-head IsShort f fs short) (All-head KeepsRows f fs keep))
+      (All-head IsShort f fs short) (All-head KeepsRows f fs keep).rows)
       (valid_tables (n + 1) fs (omega (arith, below)) (All-tail KeepsRows f fs keep) (All-tail IsShort f fs short))
 
   -- a chip of a lesser index comes before all tables

@@ -1,5 +1,5 @@
 -- Final tables that are loaded route every net's packets by its tree.
-use Rattle.std.proofs.Common.{◌≡◌, ℕ, zero, suc, ◌-◌, ◌*◌, ◌^◌, ◌<◌, ◌≤◌, bit_and, List, [], ◌∷◌, length, get_or, map, replicate, take, Some, sym, ap, ◌∙◌, subst, arith}
+use Rattle.std.proofs.Common.{◌≡◌, Bool, ℕ, zero, suc, ◌-◌, ◌*◌, ◌^◌, ◌<◌, ◌≤◌, bit_and, List, [], ◌∷◌, length, get_or, map, replicate, take, Some, sym, ap, ◌∙◌, subst, arith}
 use Rattle.std.specs.List.{All, AllZip, Contains, slice_get, slice_index_or}
 use Rattle.std.proofs.lemmas.List.Elements.{All-nil, All-cons, All-contains, All-map}
 use Rattle.std.proofs.lemmas.List.Sorted.{Contains-permutation}
@@ -11,6 +11,7 @@ use Rattle.spin_base.specs.declared.blocks.Block.{Block}
 use Rattle.spin_base.specs.declared.blocks.Entry.{Entry}
 use Rattle.spin_base.specs.declared.chips.Chip.{Chip}
 use Rattle.spin_base.specs.declared.chips.Port.{Port}
+use Rattle.spin_base.specs.declared.routes.Out.{Out}
 use Rattle.spin_base.specs.declared.routes.Route.{Route}
 use Rattle.spin_base.specs.Lookup.{lookup}
 use Rattle.spin_base.specs.Outputs.{has}
@@ -19,6 +20,7 @@ use Rattle.machine_desc.specs.Live.{IsInside, index_of, chip_of}
 use Rattle.machine_desc.proofs.Far.{index_below}
 use Rattle.machine_desc.proofs.Live.{chip_of-inside, index_of-chip_of}
 use Rattle.machine_desc.specs.declared.nets.NetPlan.{NetPlan}
+use Rattle.machine_desc.specs.Outputs.{is_wanted}
 use Rattle.machine_desc.specs.RightTables.{AreRight}
 use Rattle.tern_word.specs.declared.tables.Row.{Row}
 use Rattle.tern_word.specs.Entries.{entry_of}
@@ -55,6 +57,21 @@ taken_within : {X : Type 0} (n : ℕ) (xs : List X) → length (take n xs) ≤ l
 taken_within zero xs = omega arith
 taken_within (suc n) [] = omega arith
 taken_within (suc n) (x ∷ xs) = let rest = taken_within n xs in omega (arith, rest)
+
+-- ---- one lookup
+
+-- the loaded entries give a key of an original block its route
+gives_route : (rows : List Row) (f : Final) (x : Original) → All (RoutesAlone f.entries) (served rows) → Contains (served rows) x → (key : ℕ) → key < 2 ^ 32 → Matches x.block key →
+    lookup (loaded_of f) key x.port ≡ x.route
+gives_route rows f x serves there key small matching =
+    All-contains (RoutesAlone f.entries) (served rows) x serves there (replicate (1024 - length f.entries) unused) (all_unused (1024 - length f.entries)) key small matching
+
+same_output : (es fs : List Entry) (p q : Port) (key : ℕ) (r : Route) (o : Out) (wanted : Bool) → es ≡ fs → p ≡ q → lookup fs key q ≡ r → has r o ≡ wanted → has (lookup es key p) o ≡ wanted
+same_output es fs p q key r o wanted table ports routes is =
+    ap (λ (l : List Entry). has (lookup l key p) o) table
+    ∙ (ap (λ (x : Port). has (lookup fs key x) o) ports
+    ∙ (ap (λ (x : Route). has x o) routes
+    ∙ is))
 
 -- ---- what stands at each place
 
@@ -111,11 +128,11 @@ module _ (m : Description) (nets : List NetPlan) (target : ℕ) (lists : List (L
       of_block rows = All-map (λ (e : Entry). (bit_and e.key e.mask ≡ e.key) × (e.mask < 2 ^ 32)) entry_of rows (λ k d below. let r : Row = get_or rows k d in (r.block.within, r.block.small))
 
       keeps : (c : Chip) (f : Final) (marks : List Mark) → AreOriginals m c nets (map original_of marks) → IsFinalFor target marks f → KeepsRows f
-      keeps c f marks originals is k d below =
+      keeps c f marks originals is = record { rows = λ k d below.
           let final = is.stands.shortened.final in
           let block = subst (λ (es : List Entry). All (λ (e : Entry). (bit_and e.key e.mask ≡ e.key) × (e.mask < 2 ^ 32)) es) (sym final.entries) (of_block (rows_at final.rows final.kept)) k d below in
           let leads = rows_lead m nets routed c is.table.rows (is_plain m nets c marks is.table originals is.plain) in
-          (block.0, block.1, lead is.table.rows leads (get_or f.entries k d).route (is.stands.routes k d below))
+          (block.0, block.1, lead is.table.rows leads (get_or f.entries k d).route (is.stands.routes k d below)) }
 
   pub all_right : AreRoutedApart m nets → length finals ≡ m.width * m.height → AreRight m (map loaded_of finals) nets
   all_right routed many i d i_in c port key o comes k valid =
@@ -126,21 +143,15 @@ module _ (m : Description) (nets : List NetPlan) (target : ℕ) (lists : List (L
       let placed = slice_get_there finals (index_of m c) (subst (λ n. index_of m c < n) (sym many) (index_below m c inside)) in
       let f : Final = placed.0 in
       let here = at_chip c f inside placed.1 in
-      let rows : List Row = here.2.table.rows in
       let serves = serves_them m nets c here.0 here.2.table here.1 here.2.plain in
       let mine = has_original m c nets serves.originals serves.originals_are i d i_in on in
       let x : Original = mine.0 in
-      let there = Contains-permutation serves.originals (served rows) x serves.served mine.1 in
+      let there = Contains-permutation serves.originals (served here.2.table.rows) x serves.served mine.1 in
       let matching : Matches x.block key = ap (λ (b : Block). bit_and key b.mask) mine.2.keys ∙ (k.matches ∙ sym (ap (λ (b : Block). b.key) mine.2.keys)) in
-      let routes : lookup (loaded_of f) key x.port ≡ x.route =
-      All-contains (RoutesAlone f.entries) (served rows) x here.2.stands.serves there
-      (replicate (1024 - length f.entries) unused) (all_unused (1024 - length f.entries)) key k.fits matching in
       let ports : port ≡ x.port = one_port m net.tree.root net.tree.edges net.targets tree c port x.port comes mine.2.port in
       let table : slice_index_or (map loaded_of finals) (index_of m c) [] ≡ loaded_of f = get_or_from_slice_get (map loaded_of finals) (index_of m c) (loaded_of f) [] (slice_get-mapped loaded_of finals (index_of m c) f placed.1) in
-      ap (λ (es : List Entry). has (lookup es key port) o) table
-      ∙ (ap (λ (p : Port). has (lookup (loaded_of f) key p) o) ports
-      ∙ (ap (λ (r : Route). has r o) routes
-      ∙ mine.2.outputs o valid))
+      same_output (slice_index_or (map loaded_of finals) (index_of m c) []) (loaded_of f) port x.port key x.route o (is_wanted net.tree.edges net.targets c o) table ports
+      (gives_route here.2.table.rows f x here.2.stands.serves there key k.fits matching) (mine.2.outputs o valid)
 
 -- ---- what workers ask for
 

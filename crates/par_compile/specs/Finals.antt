@@ -46,8 +46,8 @@ abbrev pub AreFinals : Description → List NetPlan → ℕ → List Final → T
 AreFinals m nets target finals = (c : Chip) (f : Final) → IsInside m c → slice_get finals (index_of m c) ≡ Some f → HasFinal m nets target c f
 
 -- the entries are such as an image may have, each with an output
-abbrev pub KeepsRows : Final → Type 0
-KeepsRows f = All IsRow f.entries
+pub record KeepsRows (f : Final) : Type 0 where
+  pub rows : All IsRow f.entries
 
 -- A router's lookup memory has 1,024 entries (SpiNNaker datasheet). A final table is long where it has more.
 abbrev pub is_long : Final → Bool
