@@ -17,7 +17,6 @@ use Rattle.app_graph.specs.declared.graphs.Net.{Net}
 use Rattle.link_detours.specs.Steps.{Steps}
 use Rattle.link_detours.specs.Repair.{IsDetour, IsKeptEdge, IsRepaired, IsTreeLevel, IsWalkTo, Joins, LiveEdgeStep, last_of}
 use Rattle.machine_desc.specs.declared.nets.NetPlan.{NetPlan}
-use Rattle.ner_trees.specs.declared.growths.Grown.{Grown}
 use Rattle.net_plans.specs.CutOffTargets.{HasNoneCutOff}
 use Rattle.net_plans.specs.NetPlans.{IsPlannedNet, joined_chips}
 use Rattle.net_plans.proofs.Determined.{same_source}
@@ -82,9 +81,10 @@ module _ (m : Description) (root : Chip) where
       targets_joined targets is.kept is.whole (All-each EndJoined is.kept (λ e has. kept_joined edges e ((is.kept_is e).0 has))) is.joined
 
 -- so none of them is cut off
-pub planned_joined : (m : Description) (spots : List Spot) (net : Net) (block : Block) (g : Grown) (p : NetPlan) → IsPlannedNet m spots net block g p → HasNoneCutOff m spots net
-planned_joined m spots net block g p planned source chip cut =
+pub planned_joined : (m : Description) (spots : List Spot) (net : Net) (block : Block) (p : NetPlan) → IsPlannedNet m spots net block p → HasNoneCutOff m spots net
+planned_joined m spots net block p planned source chip cut =
+    let chips : List Chip = joined_chips planned.growth in
     let same : p.source ≡ source = same_source spots net.source p.source source planned.source cut.from in
-    let has : Contains (joined_chips g) chip = subst (Contains (joined_chips g)) cut.on (planned.chips.each cut.spot (planned.targets.each cut.vertex cut.spot cut.is_target cut.at)) in
-    let joined = repaired_joined m p.source.chip g.tree.edges (joined_chips g) p.tree.edges planned.repaired chip has in
+    let has : Contains chips chip = subst (Contains chips) cut.on (planned.chips.each cut.spot (planned.targets.each cut.vertex cut.spot cut.is_target cut.at)) in
+    let joined = repaired_joined m p.source.chip planned.growth.tree.edges chips p.tree.edges planned.repaired chip has in
     cut.cut_off joined.0 (subst (λ (s : Spot). IsWalkTo m s.chip chip joined.0) same joined.1)

@@ -65,7 +65,7 @@ module _ (h : Host) (job : Job) (valid : IsValidJob job) where
   one_net : (spots : List Spot) → All (IsSite grid) spots → (net : Net) (a b : AppNet) → IsNetFor grid spots net a → IsNetFor grid spots net b → a ≡ b
   one_net spots sites net a b x y =
       let same : net_with a any_block ≡ net_with b any_block =
-      (plans.one_plan grid spots sites net any_block x.grown y.grown (net_with a any_block) (net_with b any_block) (x.planned any_block) (y.planned any_block)).1
+      plans.one_plan grid spots sites net any_block (net_with a any_block) (net_with b any_block) (x.planned any_block) (y.planned any_block)
       in
       same_net a b (ap (λ (p : NetPlan). p.source) same) (ap (λ (p : NetPlan). p.targets) same) (ap (λ (p : NetPlan). p.tree) same) (x.keys ∙ sym y.keys) (x.fixed ∙ sym y.fixed)
 
@@ -100,7 +100,7 @@ module _ (h : Host) (job : Job) (valid : IsValidJob job) where
       let same = (places.one_placement (free_machine h) job.graph.vertices cut.spots p.spots cut.memory is.memory cut.placed is.placed).0 in
       let first = cut_at i target cut p.spots same in
       let app = AllZip-at_first (IsNetFor grid p.spots) job.graph.nets p.nets is.nets i first.net first.is in
-      planned_joined grid p.spots first.net any_block app.2.grown (net_with app.0 any_block) (app.2.planned any_block) first.target.source target first.target.is
+      planned_joined grid p.spots first.net any_block (net_with app.0 any_block) (app.2.planned any_block) first.target.source target first.target.is
 
   one_cut : (i j : ℕ) (a b : Chip) → HasCutOffOnHost h job i a → HasCutOffOnHost h job j b → (i ≡ j) × (a ≡ b)
   one_cut i j a b x y =

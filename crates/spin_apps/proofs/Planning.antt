@@ -1,5 +1,5 @@
 -- The plan of a job on free cores.
-use Rattle.std.proofs.Common.{◌≡◌, ℕ, zero, suc, ◌+◌, ◌^◌, ◌<◌, refl, sym, ap, ◌∙◌, subst, arith, inl, inr, List, [], ◌∷◌, ◌++◌, length, map, take, false, Some}
+use Rattle.std.proofs.Common.{◌≡◌, ℕ, ◌+◌, ◌^◌, ◌<◌, refl, sym, ap, ◌∙◌, subst, arith, inl, inr, List, [], ◌∷◌, ◌++◌, length, map, take, false, Some}
 use Rattle.std.specs.List.{All, AllZip, Contains, slice_get}
 use Rattle.std.proofs.lemmas.Bool.{cases_lt}
 use Rattle.std.proofs.lemmas.List.{length-map}
@@ -19,7 +19,6 @@ use Rattle.app_graph.proofs.Keys.{keys_of-at}
 use Rattle.app_graph.specs.RunPart.{IsPacketOf as IsRunPacket, key_count_of}
 use Rattle.app_graph.specs.ValidGraph.{IsValidNet}
 use Rattle.machine_desc.specs.declared.nets.NetPlan.{NetPlan}
-use Rattle.ner_trees.specs.declared.growths.Grown.{Grown}
 use Rattle.net_plans.specs.CutOffTargets.{HasNoneCutOff, IsFirstNetCutOff}
 use Rattle.net_plans.specs.NetPlans.{IsPlannedNet}
 use Rattle.app_loads.specs.declared.plans.AppNet.{AppNet}
@@ -50,10 +49,10 @@ use Rattle.place_fit.specs.declared.placing.PlaceErr.TheVariants as places
 abbrev pub net_of : Net → NetPlan → AppNet
 net_of net p = record { source = p.source; targets = p.targets; tree = p.tree; keys = net.keys; fixed = net.fixed }
 
-pub net_for : (m : Description) (spots : List Spot) (net : Net) (block : Block) (g : Grown) (p : NetPlan) → IsPlannedNet m spots net block g p → IsNetFor m spots net (net_of net p)
-net_for m spots net block g p planned = record {
-  grown = g;
+pub net_for : (m : Description) (spots : List Spot) (net : Net) (block : Block) (p : NetPlan) → IsPlannedNet m spots net block p → IsNetFor m spots net (net_of net p)
+net_for m spots net block p planned = record {
   planned = λ other. record {
+    growth = planned.growth;
     block = refl;
     source = planned.source;
     targets = planned.targets;
@@ -68,9 +67,9 @@ net_for m spots net block g p planned = record {
   fixed = refl;
 }
 
-pub net_valid : (m : Description) (spots : List Spot) (net : Net) (block : Block) (g : Grown) (p : NetPlan) → IsValidNet (length spots) net → IsPlannedNet m spots net block g p →
+pub net_valid : (m : Description) (spots : List Spot) (net : Net) (block : Block) (p : NetPlan) → IsValidNet (length spots) net → IsPlannedNet m spots net block p →
     IsRoutingTree m p.tree.root p.tree.edges p.targets → IsAppNet m spots (net_of net p)
-net_valid m spots net block g p valid planned routing = record {
+net_valid m spots net block p valid planned routing = record {
   source = Contains-at spots net.source p.source planned.source;
   targets = All-each (Contains spots) p.targets (λ s has. let of = planned.targets.only s has in Contains-at spots of.0 s of.2);
   in_order = planned.targets.ascending;

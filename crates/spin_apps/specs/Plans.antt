@@ -7,7 +7,6 @@ use Rattle.spin_base.specs.declared.chips.Spot.{Spot}
 use Rattle.machine_desc.specs.Description.{Description}
 use Rattle.app_graph.specs.declared.graphs.Net.{Net}
 use Rattle.app_graph.specs.declared.graphs.Vertex.{Vertex}
-use Rattle.ner_trees.specs.declared.growths.Grown.{Grown}
 use Rattle.net_plans.specs.CutOffTargets.{IsFirstNetCutOff}
 use Rattle.net_plans.specs.NetPlans.{IsPlannedNet}
 use Rattle.place_fit.specs.Placement.{IsPlacement, HasNoRoom}
@@ -22,8 +21,7 @@ use Rattle.spin_apps.specs.Free.{free_machine}
 -- A net of an application has the source, the targets and the tree of the net's plan as compiling makes it, whatever keys it
 -- gets, and needs the net's keys, and its fixed block, if it has one.
 pub record IsNetFor (m : Description) (spots : List Spot) (net : Net) (app : AppNet) : Type 0 where
-  pub grown : Grown
-  pub planned : (block : Block) → IsPlannedNet m spots net block grown (net_with app block)
+  pub planned : (block : Block) → IsPlannedNet m spots net block (net_with app block)
   pub keys : app.keys ≡ net.keys
   pub fixed : app.fixed ≡ net.fixed
 

@@ -186,13 +186,13 @@ fn app_net(
     ensures reached { IfOk result (λ _. HasNoneCutOff machine.now spots.now net.now) }
     ensures why { IfErr result (IsCauseOne machine.now spots.now net.now) }
 {
-    let routed = net_plan(alloc, machine, roads, spots, net, NO_KEYS)?;
+    let plan = net_plan(alloc, machine, roads, spots, net, NO_KEYS)?;
     let NetPlan {
         block: _,
         source,
         targets,
         tree,
-    } = routed.plan;
+    } = plan;
     Ok(AppNet {
         source,
         targets,
