@@ -6,6 +6,7 @@ ghost use Rattle.par_compile.specs.declared.workers.Work.TheVariants.{Plain, Don
 ghost use Rattle.par_compile.specs.Finals.{AreAllUnlessLong, AreCoverable, GivesFinal, IsFinalFor, IsLeft, HasLong, IsPlainWork, IsWorked, is_long};
 
 use crate::requests::CompileRequest;
+use crate::short_tables::short_table;
 use default_routes::{Final, shorten};
 use net_tables::marks::Mark;
 use net_tables::plain_table;
@@ -154,11 +155,14 @@ fn cover_at(alloc: Global, work: &mut Work, target: u32) -> bool
     long
 }
 
-// The final table of the plain table of original blocks. The plain table is gone at the end.
+// The final table of the plain table of original blocks. A plain table is made only where it is covered, and is gone at the end.
 fn final_of(alloc: Global, marks: Seq<Mark>, target: u32) -> Result<Final, Memory>
     requires { AreCoverable marks }
     ensures { IfOk result (IsFinalFor target marks) }
 {
+    if marks.len() <= target as usize {
+        return short_table(alloc, marks, target);
+    }
     let table = plain_table(alloc, marks.as_slice())?;
     let done = shorten(alloc, table, target)?;
     Ok(done)
