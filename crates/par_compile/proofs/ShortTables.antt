@@ -1,5 +1,5 @@
 -- The final table of a short plain table has the entries of the original blocks that do not go straight on.
-use Rattle.std.proofs.Common.{◌≡◌, ℕ, zero, suc, ◌+◌, ◌<◌, ◌≤◌, Bool, true, false, Some, List, [], ◌∷◌, ◌++◌, length, drop, map, refl, sym, ap, ◌∙◌, subst, arith, inl, inr}
+use Rattle.std.proofs.Common.{◌≡◌, ℕ, zero, suc, ◌+◌, ◌<◌, ◌≤◌, Bool, true, false, Some, List, [], ◌∷◌, ◌++◌, length, get_or, drop, map, refl, sym, ap, ◌∙◌, subst, arith, inl, inr}
 use Rattle.std.specs.Prelude.{All, AllPairs, slice_get, if◌then◌else◌}
 use Rattle.std.specs.List.{cons_option}
 use Rattle.std.specs.List.Sorted.{IsPermutation}
@@ -79,7 +79,7 @@ all_there (x ∷ xs) zero within is = cc
 all_there (x ∷ xs) (suc i) within is = ap suc (all_there xs i (omega (arith, within)) is)
 
 -- the places of the original blocks that do not go straight on, counted from i
-places_from : ℕ → List Mark → List ℕ
+abbrev places_from : ℕ → List Mark → List ℕ
 places_from i [] = []
 places_from i (k ∷ ks) = if goes_straight k.port k.route then places_from (suc i) ks else (i ∷ places_from (suc i) ks)
 
@@ -90,57 +90,50 @@ module _ (rows : List Row) where
   module _ (P : Row → Type 0) where
     all_at : (i : ℕ) (ks : List Mark) → drop i rows ≡ map row_of_mark ks → All (λ (l : Mark). P (row_of_mark l)) ks → All P (rows_at rows (places_from i ks))
     all_at i [] are all = All-nil P
-    all_at i (k ∷ ks) are all = elim (cases_Bool (goes_straight k.port k.route)) [
-      | inl straight ↦ subst (λ b. All P (rows_at rows (if b then places_from (suc i) ks else (i ∷ places_from (suc i) ks)))) (sym straight) later
-      | inr turns ↦
-          subst (λ b. All P (rows_at rows (if b then places_from (suc i) ks else (i ∷ places_from (suc i) ks)))) (sym turns)
-          (subst (All P) (sym (at_first i (row_of_mark k) (places_from (suc i) ks) there.0))
-          (All-cons P (row_of_mark k) (rows_at rows (places_from (suc i) ks)) (All-head (λ (l : Mark). P (row_of_mark l)) k ks all) later))
-    ]
-      where
-        there : (slice_get rows i ≡ Some (row_of_mark k)) × (drop (suc i) rows ≡ map row_of_mark ks)
-        there = head_there rows i (row_of_mark k) (map row_of_mark ks) are
-
-        later : All P (rows_at rows (places_from (suc i) ks))
-        later = all_at (suc i) ks there.1 (All-tail (λ (l : Mark). P (row_of_mark l)) k ks all)
+    all_at i (k ∷ ks) are all =
+        let there = head_there rows i (row_of_mark k) (map row_of_mark ks) are in
+        let later : All P (rows_at rows (places_from (suc i) ks)) = all_at (suc i) ks there.1 (All-tail (λ (l : Mark). P (row_of_mark l)) k ks all) in
+        elim (cases_Bool (goes_straight k.port k.route)) [
+          | inl straight ↦ subst (λ b. All P (rows_at rows (if b then places_from (suc i) ks else (i ∷ places_from (suc i) ks)))) (sym straight) later
+          | inr turns ↦
+              subst (λ b. All P (rows_at rows (if b then places_from (suc i) ks else (i ∷ places_from (suc i) ks)))) (sym turns)
+              (subst (All P) (sym (at_first i (row_of_mark k) (places_from (suc i) ks) there.0))
+              (All-cons P (row_of_mark k) (rows_at rows (places_from (suc i) ks)) (All-head (λ (l : Mark). P (row_of_mark l)) k ks all) later))
+        ]
 
   -- their entries are those of the rows there
   entries_at : (i : ℕ) (ks : List Mark) → drop i rows ≡ map row_of_mark ks → kept_entries ks ≡ map entry_of (rows_at rows (places_from i ks))
   entries_at i [] are = refl
-  entries_at i (k ∷ ks) are = by (goes_straight k.port k.route)
+  entries_at i (k ∷ ks) are =
+      let there = head_there rows i (row_of_mark k) (map row_of_mark ks) are in
+      by (goes_straight k.port k.route) there.0 (entries_at (suc i) ks there.1)
     where
-      there : (slice_get rows i ≡ Some (row_of_mark k)) × (drop (suc i) rows ≡ map row_of_mark ks)
-      there = head_there rows i (row_of_mark k) (map row_of_mark ks) are
-
-      by : (b : Bool) → (if b then [] else (entry_of (row_of_mark k) ∷ [])) ++ kept_entries ks
+      by : (b : Bool) → slice_get rows i ≡ Some (row_of_mark k) → kept_entries ks ≡ map entry_of (rows_at rows (places_from (suc i) ks)) →
+          (if b then [] else (entry_of (row_of_mark k) ∷ [])) ++ kept_entries ks
           ≡ map entry_of (rows_at rows (if b then places_from (suc i) ks else (i ∷ places_from (suc i) ks)))
-      by true = entries_at (suc i) ks there.1
-      by false =
-          ap (λ l. entry_of (row_of_mark k) ∷ l) (entries_at (suc i) ks there.1)
-          ∙ sym (ap (map entry_of) (at_first i (row_of_mark k) (places_from (suc i) ks) there.0))
+      by true here later = later
+      by false here later =
+          ap (λ l. entry_of (row_of_mark k) ∷ l) later
+          ∙ sym (ap (map entry_of) (at_first i (row_of_mark k) (places_from (suc i) ks) here))
 
   -- and the rows there are kept
   kept_at : (i : ℕ) (ks : List Mark) → i ≤ length rows → drop i rows ≡ map row_of_mark ks → AreApart ks → KeptFrom rows i (places_from i ks)
   kept_at i [] within are apart = subst (λ n. KeptFrom rows n []) (sym (all_there rows i within are)) ends
-  kept_at i (k ∷ ks) within are apart = elim (cases_Bool (goes_straight k.port k.route)) [
-    | inl straight ↦
-        subst (λ b. KeptFrom rows i (if b then places_from (suc i) ks else (i ∷ places_from (suc i) ks))) (sym straight)
-        (goes i (row_of_mark k) (places_from (suc i) ks) there.0 (strippable k (rows_at rows (places_from (suc i) ks)) straight clear) later)
-    | inr turns ↦
-        subst (λ b. KeptFrom rows i (if b then places_from (suc i) ks else (i ∷ places_from (suc i) ks))) (sym turns)
-        (stays i (row_of_mark k) (places_from (suc i) ks) there.0 (not_strippable k (rows_at rows (places_from (suc i) ks)) turns) later)
-  ]
-    where
-      there : (slice_get rows i ≡ Some (row_of_mark k)) × (drop (suc i) rows ≡ map row_of_mark ks)
-      there = head_there rows i (row_of_mark k) (map row_of_mark ks) are
-
-      clear : All (λ (r : Row). Misses r.block (row_of_mark k)) (rows_at rows (places_from (suc i) ks))
-      clear =
-          all_at (λ (r : Row). Misses r.block (row_of_mark k)) (suc i) ks there.1
-          (λ j d below. misses k _ (AllPairs-head (λ (a b : Mark). ¬ (Intersects a.block b.block)) k ks apart j d below))
-
-      later : KeptFrom rows (suc i) (places_from (suc i) ks)
-      later = kept_at (suc i) ks (slice_get_within rows i (row_of_mark k) there.0) there.1 (AllPairs-tail (λ (a b : Mark). ¬ (Intersects a.block b.block)) k ks apart)
+  kept_at i (k ∷ ks) within are apart =
+      let there = head_there rows i (row_of_mark k) (map row_of_mark ks) are in
+      let later : KeptFrom rows (suc i) (places_from (suc i) ks) =
+      kept_at (suc i) ks (slice_get_within rows i (row_of_mark k) there.0) there.1 (AllPairs-tail (λ (a b : Mark). ¬ (Intersects a.block b.block)) k ks apart) in
+      let clear : All (λ (r : Row). Misses r.block (row_of_mark k)) (rows_at rows (places_from (suc i) ks)) =
+      all_at (λ (r : Row). Misses r.block (row_of_mark k)) (suc i) ks there.1
+      (λ j d below. misses k (get_or ks j d) (AllPairs-head (λ (a b : Mark). ¬ (Intersects a.block b.block)) k ks apart j d below)) in
+      elim (cases_Bool (goes_straight k.port k.route)) [
+        | inl straight ↦
+            subst (λ b. KeptFrom rows i (if b then places_from (suc i) ks else (i ∷ places_from (suc i) ks))) (sym straight)
+            (goes i (row_of_mark k) (places_from (suc i) ks) there.0 (strippable k (rows_at rows (places_from (suc i) ks)) straight clear) later)
+        | inr turns ↦
+            subst (λ b. KeptFrom rows i (if b then places_from (suc i) ks else (i ∷ places_from (suc i) ks))) (sym turns)
+            (stays i (row_of_mark k) (places_from (suc i) ks) there.0 (not_strippable k (rows_at rows (places_from (suc i) ks)) turns) later)
+      ]
 
 -- ---- the whole table
 
