@@ -35,7 +35,6 @@ use Rattle.net_tables.specs.PlainTable.{AreOriginals, AreRoutedApart, HasChip}
 use Rattle.net_tables.proofs.Determined.{one_port, rows_lead}
 use Rattle.net_tables.proofs.Trees.{chips_inside, comes_in_tree}
 use Rattle.net_tables.proofs.Whole.{few_rows, has_original, is_plain, serves_them}
-use Rattle.table_load.specs.Images.{IsRow}
 use Rattle.par_compile.specs.Finals.{AreCoverable, AreFinals, IsFinalFor, KeepsRows, loaded_of}
 
 -- ---- unused entries

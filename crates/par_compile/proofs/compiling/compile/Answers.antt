@@ -1,5 +1,6 @@
 use Rattle.std.proofs.Common.{◌≡◌, ◌∙◌, length, ap, sym, subst, Some, rules}
 use Rattle.std.specs.List.{position, slice_get}
+use Rattle.par_compile.specs.Compiled.{HasLongTable}
 use Rattle.par_compile.specs.Finals.{is_long}
 use Rattle.par_compile.proofs.Refusing.{refused_where}
 use Rattle.par_compile.proofs.Standing.{routing_is}
@@ -34,21 +35,23 @@ returns-in-None-clause-refused g c = refused_where c.args.request.now.machine.no
 
 pub returns-in-Some-clause-cause : goal.returns-in-Some-clause-cause
 returns-in-Some-clause-cause g c =
-    let first : position is_long c.in_ok-tables.tables ≡ Some c.in-Some.index = ap (position is_long) (sym c.as_slice.ensures) ∙ sym c.in-Some.ensures in (
-      record {
-        placement = c.in-Ok.placement;
-        grown = c.in-Ok-net_plans.routed.grown;
-        nets = c.in-Ok-net_plans.routed.plans;
-        routing =
-            routing_is c.args.request.now.machine.now c.args.request.now.graph.now c.in-Ok.placement c.in-Ok-keys.blocks c.in-Ok-net_plans.routed.grown c.in-Ok-net_plans.routed.plans c.in-Ok.ensures.placed c.in-Ok.ensures.different c.in-Ok.ensures.sites
-            c.in-Ok.ensures.cores c.in-Ok-keys.ensures.blocks c.in-Ok-keys.ensures.apart c.in-Ok-keys.ensures.enough c.in-Ok-net_plans.ensures.planned c.in-Ok-net_plans.ensures.routing;
-        finals = c.in_ok-tables.tables;
-        are = c.in_ok-tables.ensures.finals;
-        inside = c.chip_at.ensures.inside;
-        first = first ∙ ap Some (sym c.chip_at.ensures.back);
-        at = subst (λ n. slice_get c.in_ok-tables.tables n ≡ Some c.table_at.result) (sym c.chip_at.ensures.back) c.table_at.ensures;
-      },
-      long_has_no_pair c.args.request.now.target _ c.in_ok-tables.tables c.in-Some.index c.table_at.result c.args.request.now.few_rows first c.table_at.ensures _,
+    let first : position is_long c.in_ok-tables.tables ≡ Some c.in-Some.index = ap (position is_long) (sym c.as_slice.ensures) ∙ sym c.in-Some.ensures in
+    let long : HasLongTable c.args.request.now.machine.now c.args.request.now.graph.now c.args.request.now.target c.chip_at.result c.table_at.result = record {
+      placement = c.in-Ok.placement;
+      grown = c.in-Ok-net_plans.routed.grown;
+      nets = c.in-Ok-net_plans.routed.plans;
+      routing =
+          routing_is c.args.request.now.machine.now c.args.request.now.graph.now c.in-Ok.placement c.in-Ok-keys.blocks c.in-Ok-net_plans.routed.grown c.in-Ok-net_plans.routed.plans c.in-Ok.ensures.placed c.in-Ok.ensures.different c.in-Ok.ensures.sites
+          c.in-Ok.ensures.cores c.in-Ok-keys.ensures.blocks c.in-Ok-keys.ensures.apart c.in-Ok-keys.ensures.enough c.in-Ok-net_plans.ensures.planned c.in-Ok-net_plans.ensures.routing;
+      finals = c.in_ok-tables.tables;
+      are = c.in_ok-tables.ensures.finals;
+      inside = c.chip_at.ensures.inside;
+      first = first ∙ ap Some (sym c.chip_at.ensures.back);
+      at = subst (λ n. slice_get c.in_ok-tables.tables n ≡ Some c.table_at.result) (sym c.chip_at.ensures.back) c.table_at.ensures;
+    } in
+    let has = long.are c.chip_at.result c.table_at.result long.inside long.at in (
+      long,
+      long_has_no_pair c.args.request.now.target has.rows c.in_ok-tables.tables c.in-Some.index c.table_at.result c.args.request.now.few_rows first c.table_at.ensures has.is_final,
       long_has_many (length c.in-Ok-net_plans.routed.plans) (length c.args.request.now.graph.now.nets) c.in_ok-tables.tables c.in-Some.index c.table_at.result
           c.in-Ok-net_plans.ensures.planned.one_plan_each c.in_ok-tables.ensures.few_rows first c.table_at.ensures,
     )
