@@ -155,14 +155,23 @@ fn cover_at(alloc: Global, work: &mut Work, target: u32) -> bool
     long
 }
 
-// The final table of the plain table of original blocks. A plain table is made only where it is covered, and is gone at the end.
+// The final table of the plain table of original blocks. That is made only where it has more rows than the target.
 fn final_of(alloc: Global, marks: Seq<Mark>, target: u32) -> Result<Final, Memory>
     requires { AreCoverable marks }
     ensures { IfOk result (IsFinalFor target marks) }
 {
     if marks.len() <= target as usize {
-        return short_table(alloc, marks, target);
+        short_table(alloc, marks, target)
+    } else {
+        covered_table(alloc, marks, target)
     }
+}
+
+// The same by the plain table itself, which is gone at the end.
+fn covered_table(alloc: Global, marks: Seq<Mark>, target: u32) -> Result<Final, Memory>
+    requires { AreCoverable marks }
+    ensures { IfOk result (IsFinalFor target marks) }
+{
     let table = plain_table(alloc, marks.as_slice())?;
     let done = shorten(alloc, table, target)?;
     Ok(done)
