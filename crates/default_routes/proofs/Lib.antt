@@ -1,3 +1,4 @@
 pub mod Determined
 pub mod FinalLemmas
+pub mod ShortTables
 mod StripLemmas

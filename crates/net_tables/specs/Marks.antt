@@ -80,6 +80,10 @@ mark_numbers k = (generality k.block, k.block.key)
 abbrev pub row_of_mark : Mark → Row
 row_of_mark k = row_of (original_of k)
 
+-- the table with a row for each original block, in the order of the list
+abbrev pub table_of_sorted : List Mark → Table
+table_of_sorted marks = record { rows = map row_of_mark marks }
+
 -- a table with a row for each original block of the list, in order
 pub record IsTableOf (marks : List Mark) (t : Table) : Type 0 where
   pub sorted : List Mark

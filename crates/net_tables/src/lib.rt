@@ -13,4 +13,4 @@ mod rows;
 pub use gather::original_blocks;
 pub use laws::{plain_tables_are_determined, tables_of_original_blocks_are_plain};
 pub use plain::plain_tables;
-pub use rows::plain_table;
+pub use rows::{in_row_order, plain_table};

@@ -4,7 +4,7 @@ ghost use Rattle.std.specs.List.{AllZip, AllPairs};
 ghost use Rattle.std.specs.List.Sorted.{IsPermutation};
 ghost use Rattle.tern_word.specs.SoundTable.{IsSound};
 ghost use Rattle.net_tables.specs.PlainTable.{row_of, IsRowNotAfter};
-ghost use Rattle.net_tables.specs.Marks.{AreApart, original_of, row_of_mark, IsTableOf};
+ghost use Rattle.net_tables.specs.Marks.{AreApart, original_of, row_of_mark, table_of_sorted, IsTableOf};
 
 use crate::marks::Mark;
 use spin_base::{Memory, Seq};
@@ -33,6 +33,16 @@ pub fn plain_table(alloc: Global, marks: &[Mark]) -> Result<Table, Memory>
     sort_marks(&mut sorted)?;
     let rows = rows_of(alloc, sorted.as_slice())?;
     Ok(Table { rows })
+}
+
+/// Original blocks in the order of the rows of their plain table: by generality, then by key.
+pub fn in_row_order(marks: Seq<Mark>) -> Result<Seq<Mark>, Memory>
+    ensures same { IfOk result (IsPermutation marks) }
+    ensures table { IfOk result (λ sorted. IsTableOf marks (table_of_sorted sorted)) }
+{
+    let mut marks = marks.into_vec();
+    sort_marks(&mut marks)?;
+    Ok(Seq::from_vec(marks))
 }
 
 // Sorts original blocks by generality, then by key.

@@ -1,6 +1,7 @@
 mod Imaged
 pub mod Refusing
 mod Righted
+mod ShortTables
 mod Standing
 pub mod Unique
 mod Working

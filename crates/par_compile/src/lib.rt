@@ -10,6 +10,7 @@ mod chip_tables;
 mod compiling;
 mod images;
 mod requests;
+mod short_tables;
 mod workers;
 
 pub use compiling::{CompileErr, Plan, compile};

@@ -6,6 +6,7 @@ ghost use Rattle.par_compile.specs.declared.workers.Work.TheVariants.{Plain, Don
 ghost use Rattle.par_compile.specs.Finals.{AreAllUnlessLong, AreCoverable, GivesFinal, IsFinalFor, IsLeft, HasLong, IsPlainWork, IsWorked, is_long};
 
 use crate::requests::CompileRequest;
+use crate::short_tables::short_table;
 use default_routes::{Final, shorten};
 use net_tables::marks::Mark;
 use net_tables::plain_table;
@@ -154,8 +155,20 @@ fn cover_at(alloc: Global, work: &mut Work, target: u32) -> bool
     long
 }
 
-// The final table of the plain table of original blocks. The plain table is gone at the end.
+// The final table of the plain table of original blocks. That is made only where it has more rows than the target.
 fn final_of(alloc: Global, marks: Seq<Mark>, target: u32) -> Result<Final, Memory>
+    requires { AreCoverable marks }
+    ensures { IfOk result (IsFinalFor target marks) }
+{
+    if marks.len() <= target as usize {
+        short_table(alloc, marks, target)
+    } else {
+        covered_table(alloc, marks, target)
+    }
+}
+
+// The same by the plain table itself, which is gone at the end.
+fn covered_table(alloc: Global, marks: Seq<Mark>, target: u32) -> Result<Final, Memory>
     requires { AreCoverable marks }
     ensures { IfOk result (IsFinalFor target marks) }
 {

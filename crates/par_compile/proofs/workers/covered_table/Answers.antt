@@ -2,7 +2,7 @@ use Rattle.std.proofs.Common.{sym, subst}
 use Rattle.std.specs.Prelude.{List}
 use Rattle.net_tables.specs.declared.marks.Mark.{Mark}
 use Rattle.net_tables.specs.Marks.{AreApart, IsTableOf}
-use Rattle.par_compile.proofs.workers.final_of.Goals as goal
+use Rattle.par_compile.proofs.workers.covered_table.Goals as goal
 
 pub shorten-requires-clause-sound : goal.shorten-requires-clause-sound
 shorten-requires-clause-sound c = c.in_ok-table.ensures.sound (subst AreApart (sym c.as_slice.ensures) c.requires.apart)

@@ -1,0 +1,73 @@
+// Final tables of chips with few nets, without a row of the plain table.
+ghost use Rattle.std.specs.Prelude.{◌≡◌, ◌≤◌, ◌++◌, IfOk, OnOk, length};
+ghost use Rattle.spin_base.specs.Lookup.{straight_on};
+ghost use Rattle.par_compile.specs.Finals.{AreCoverable, IsFinalFor};
+ghost use Rattle.par_compile.specs.ShortTables.{goes_straight, kept_entries, kept_entry};
+
+use default_routes::Final;
+use net_tables::in_row_order;
+use net_tables::marks::Mark;
+use spin_base::{Dir, Entry, Memory, Port, Route, Seq};
+use std::alloc::Global;
+
+/// The final table of original blocks that are no more than the target, so that their plain table is not covered. It has the
+/// entry of each block that does not go straight on, in the order of the rows. That is all that default routing asks, since no
+/// key is in two of the blocks. So no row is made, and none has a list of aliases.
+pub(crate) fn short_table(alloc: Global, marks: Seq<Mark>, target: u32) -> Result<Final, Memory>
+    requires few { length marks ≤ target }
+    requires coverable { AreCoverable marks }
+    ensures { IfOk result (IsFinalFor target marks) }
+{
+    let sorted = in_row_order(marks)?;
+    let entries = kept_entries(alloc, sorted.as_slice())?;
+    Ok(Final { entries })
+}
+
+// The entries of those original blocks that default routing does not replace, in their order.
+fn kept_entries(alloc: Global, marks: &[Mark]) -> Result<Seq<Entry>, Memory>
+    ensures { IfOk result (λ entries. entries ≡ kept_entries marks.now) }
+{
+    let mut entries = Seq::new(alloc);
+    for mark in marks {
+        keep(*mark, &mut entries)?;
+    }
+    Ok(entries)
+}
+
+// Puts the entry of an original block at the back, unless default routing replaces it.
+fn keep(mark: Mark, entries: &mut Seq<Entry>) -> Result<(), Memory>
+    ensures { OnOk result (entries.new ≡ entries.old ++ kept_entry mark) }
+{
+    if goes_straight(mark.port, mark.route) {
+        return Ok(());
+    }
+    entries.push(Entry {
+        key: mark.block.key,
+        mask: mark.block.mask,
+        route: mark.route,
+    })
+}
+
+// Whether what comes in at the port leaves by the route also where no entry matches.
+fn goes_straight(port: Port, route: Route) -> bool
+    ensures { result ≡ goes_straight port route }
+{
+    match port {
+        Port::Link(arrival) => route.bits == straight_on(arrival).bits,
+        Port::Local => false,
+    }
+}
+
+// The route that has the link opposite an arrival link, and no other output.
+fn straight_on(arrival: Dir) -> Route
+    ensures { result ≡ straight_on arrival }
+{
+    match arrival {
+        Dir::East => Route { bits: 8 },
+        Dir::NorthEast => Route { bits: 16 },
+        Dir::North => Route { bits: 32 },
+        Dir::West => Route { bits: 1 },
+        Dir::SouthWest => Route { bits: 2 },
+        Dir::South => Route { bits: 4 },
+    }
+}
