@@ -70,9 +70,9 @@ pub bytes_refused_spared : (reading : Reading) (r : Refusal) → IsRefusedFor st
 bytes_refused_spared reading r refused = elim refused [
   | no_value none ↦ elim none [
     | read_fault part rose is ↦ called r refusals.ReadFault is (low 2 (omega arith))
-    | too_long long is ↦ called r refusals.TooLong is (low 4 (omega arith))
-    | not_read_as bytes all is ↦ in_spared bytes r is
-    | no_memory part is ↦ called r refusals.Memory is nine
+    | too_long long quiet is ↦ called r refusals.TooLong is (low 4 (omega arith))
+    | not_read_as bytes all quiet is ↦ in_spared bytes r is
+    | no_memory few quiet is ↦ called r refusals.Memory is nine
   ]
   | no_answer steps read none ↦ absurd none
 ]

@@ -133,9 +133,9 @@ pub refused_other : (reading : Reading) (r : Refusal) → IsRefusedFor request_i
 refused_other reading r refused = elim refused [
   | no_value none ↦ elim none [
     | read_fault part rose is ↦ called r refusals.ReadFault is two
-    | too_long long is ↦ called r refusals.TooLong is four
-    | not_read_as bytes all is ↦ bytes_other bytes r is
-    | no_memory part is ↦ called r refusals.Memory is nine
+    | too_long long quiet is ↦ called r refusals.TooLong is four
+    | not_read_as bytes all quiet is ↦ bytes_other bytes r is
+    | no_memory few quiet is ↦ called r refusals.Memory is nine
   ]
   | no_answer request read due ↦ elim due [
     | no_room i vertex none at is ↦ called r (refusals.NoRoom vertex.name) is five

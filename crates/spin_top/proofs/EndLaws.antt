@@ -42,7 +42,7 @@ use Rattle.spin_top.specs.Made.{HasNoJob, IsJobOf, from_job, checked, done, IsMa
 use Rattle.spin_top.specs.Writing.{IsWritten, TakesMemory, Writing}
 use Rattle.spin_top.proofs.AppLaws.{IsSpared, bytes_refused_spared, fault_spared, memory_spared, none_refused, zero_spared}
 use Rattle.spin_top.proofs.CheckLaws.{checked_has_nets, fault_other, IsOther, memory_other, one_due, refused_other, with_nets, zero_other}
-use Rattle.spin_top.proofs.InputLaws.{answered_not_refused, read_told, refusal_due, refused_in_part, served_memory}
+use Rattle.spin_top.proofs.InputLaws.{answered_not_refused, read_told, refusal_due, refused_in_part, refused_quiet, served_memory}
 
 -- ---- words
 
@@ -354,13 +354,17 @@ module _ {words : List (List ℕ)} {reading : Reading} {writing : Writing} {o : 
 
 -- ---- what was read
 
--- whatever the cause, what was read is what the words ask for
-pub read_as_asked : (words : List (List ℕ)) (reading : Reading) (r : Refusal) → HasCause words reading r → IsReadAsAsked words reading
-read_as_asked words reading r cause = elim cause [
+-- a refusal for which memory is taken is not that of a failed read
+no_failed_read : (r : Refusal) → TakesMemory r → r ≡ refusals.ReadFault → ⊥
+no_failed_read r takes is = subst TakesMemory is takes
+
+-- where there is a refusal for which memory is taken, what was read is what the words ask for
+pub read_as_asked : (words : List (List ℕ)) (reading : Reading) (r : Refusal) → HasCause words reading r → TakesMemory r → IsReadAsAsked words reading
+read_as_asked words reading r cause takes = elim cause [
   | usage none untouched is ↦ inr untouched
-  | of_job asks none ↦ inl (inl asks, refused_in_part job_in HasNoPlan reading r none)
-  | of_request asks none ↦ inl (inr (inl asks), refused_in_part request_in HasNoNets reading r none)
-  | of_steps asks none ↦ inl (inr (inr asks), refused_in_part steps_in HaveNoLines reading r none)
+  | of_job asks none ↦ inl (inl asks, refused_in_part job_in HasNoPlan reading r none, refused_quiet job_in HasNoPlan reading r (no_failed_read r takes) none)
+  | of_request asks none ↦ inl (inr (inl asks), refused_in_part request_in HasNoNets reading r none, refused_quiet request_in HasNoNets reading r (no_failed_read r takes) none)
+  | of_steps asks none ↦ inl (inr (inr asks), refused_in_part steps_in HaveNoLines reading r none, refused_quiet steps_in HaveNoLines reading r (no_failed_read r takes) none)
   | no_memory command part is ↦ part
 ]
 
@@ -400,11 +404,11 @@ module _ (words : List (List ℕ)) (reading : Reading) where
 
   -- what was read for the job of a word
   read_for_job : (w : JobWord) (job : Job) → spelled words ≡ Some (OfJob w) → IsJobOf w reading job → IsReadAsAsked words reading
-  read_for_job Run job is its = inl (inl (Run, is, tt), (its.bytes, its.all.gives))
-  read_for_job Reinject job is its = inl (inl (Reinject, is, tt), (its.bytes, its.all.gives))
-  read_for_job Trace job is its = inl (inl (Trace, is, tt), (its.bytes, its.all.gives))
-  read_for_job Compile job is its = inl (inl (Compile, is, tt), (its.bytes, its.all.gives))
-  read_for_job Tables job is its = inl (inl (Tables, is, tt), (its.bytes, its.all.gives))
+  read_for_job Run job is its = inl (inl (Run, is, tt), (its.bytes, its.all.gives), its.no_fault)
+  read_for_job Reinject job is its = inl (inl (Reinject, is, tt), (its.bytes, its.all.gives), its.no_fault)
+  read_for_job Trace job is its = inl (inl (Trace, is, tt), (its.bytes, its.all.gives), its.no_fault)
+  read_for_job Compile job is its = inl (inl (Compile, is, tt), (its.bytes, its.all.gives), its.no_fault)
+  read_for_job Tables job is its = inl (inl (Tables, is, tt), (its.bytes, its.all.gives), its.no_fault)
   read_for_job (Gen n) job is its = inr its.0
 
   -- why nothing is made of the job of a word
@@ -415,8 +419,8 @@ module _ (words : List (List ℕ)) (reading : Reading) where
   -- why a request has no answer
   pub cause_with_request : AskForCheck words → (request : Request) → IsReadAs request_in reading request → (r : Refusal) → HasNoNets request r ⊎ (r ≡ refusals.Memory) → HasCause words reading r
   cause_with_request asks request read r (inl none) = of_request asks (no_answer request read none)
-  cause_with_request asks request read r (inr memory) = no_memory (spells Check asks) (inl (inr (inl asks), (read.bytes, read.all.gives))) memory
+  cause_with_request asks request read r (inr memory) = no_memory (spells Check asks) (inl (inr (inl asks), (read.bytes, read.all.gives), read.no_fault)) memory
 
   -- why steps have no answer
   pub cause_with_steps : AskForApps words → (steps : List Step) → IsReadAs steps_in reading steps → (r : Refusal) → r ≡ refusals.Memory → HasCause words reading r
-  cause_with_steps asks steps read r memory = no_memory (spells Apps asks) (inl (inr (inr asks), (read.bytes, read.all.gives))) memory
+  cause_with_steps asks steps read r memory = no_memory (spells Apps asks) (inl (inr (inr asks), (read.bytes, read.all.gives), read.no_fault)) memory

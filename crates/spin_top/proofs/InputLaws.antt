@@ -3,7 +3,7 @@ use Rattle.std.proofs.Common.{◌≡◌, ◌⊎◌, ℕ, List, Option, Some, Res
 use Rattle.spin_base.specs.Outside.{FaultsRose, LosesMoreThan}
 use Rattle.run_report.specs.declared.causes.Refusal.{Refusal}
 use Rattle.run_report.specs.declared.causes.Refusal.TheVariants as refusals
-use Rattle.spin_input.specs.Inputs.{Reading, IsReadAs, IsReadInPart, HasNoInput, read_fault, too_long, not_read_as, no_memory}
+use Rattle.spin_input.specs.Inputs.{Reading, HasNoFault, IsReadAs, IsReadInPart, HasNoInput, read_fault, too_long, not_read_as, no_memory}
 use Rattle.spin_input.proofs.JobBytes.{told_bytes}
 use Rattle.spin_top.specs.Inputs.{IsRefusedFor, no_value, no_answer, AreRefused, are_no_value, are_no_answer}
 
@@ -11,9 +11,9 @@ use Rattle.spin_top.specs.Inputs.{IsRefusedFor, no_value, no_answer, AreRefused,
 read_in_part : {A : Type 0} (value_in : List ℕ → Result A Refusal) (reading : Reading) (r : Refusal) → HasNoInput value_in reading r → IsReadInPart reading
 read_in_part value_in reading r none = elim none [
   | read_fault part rose is ↦ part
-  | too_long long is ↦ (long.0, long.1)
-  | not_read_as bytes all is ↦ (bytes, all.gives)
-  | no_memory part is ↦ part
+  | too_long long quiet is ↦ (long.0, long.1)
+  | not_read_as bytes all quiet is ↦ (bytes, all.gives)
+  | no_memory few quiet is ↦ (few.0, few.1)
 ]
 
 -- what was read, where there is no answer
@@ -22,6 +22,23 @@ pub refused_in_part : {A : Type 0} (value_in : List ℕ → Result A Refusal) (H
 refused_in_part value_in HasNone reading r refused = elim refused [
   | no_value none ↦ read_in_part value_in reading r none
   | no_answer value read none ↦ (read.bytes, read.all.gives)
+]
+
+-- no read failed, where there is no value by another refusal than that of a failed read
+unread_quiet : {A : Type 0} (value_in : List ℕ → Result A Refusal) (reading : Reading) (r : Refusal) → (r ≡ refusals.ReadFault → ⊥) → HasNoInput value_in reading r → HasNoFault reading
+unread_quiet value_in reading r other none = elim none [
+  | read_fault part rose is ↦ absurd (other is)
+  | too_long long quiet is ↦ quiet
+  | not_read_as bytes all quiet is ↦ quiet
+  | no_memory few quiet is ↦ quiet
+]
+
+-- nor where there is no answer
+pub refused_quiet : {A : Type 0} (value_in : List ℕ → Result A Refusal) (HasNone : A → Refusal → Type 0) (reading : Reading) (r : Refusal) → (r ≡ refusals.ReadFault → ⊥) →
+    IsRefusedFor value_in HasNone reading r → HasNoFault reading
+refused_quiet value_in HasNone reading r other refused = elim refused [
+  | no_value none ↦ unread_quiet value_in reading r other none
+  | no_answer value read none ↦ read.no_fault
 ]
 
 -- ---- sources that tell their bytes
@@ -38,9 +55,9 @@ unread_told : {A : Type 0} (value_in : List ℕ → Result A Refusal) (HasNone :
     AreRefused value_in HasNone bytes r ⊎ ((FaultsRose reading.faults reading.faults' × (r ≡ refusals.ReadFault)) ⊎ (r ≡ refusals.Memory))
 unread_told value_in HasNone limited reading r bytes told none = elim none [
   | read_fault part rose is ↦ inr (inl (rose, is))
-  | too_long long is ↦ inl (are_no_value (limited reading.left reading.rest bytes long told ∙ ap Err (sym is)))
-  | not_read_as given all is ↦ inl (are_no_value (subst (λ b. value_in b ≡ Err r) (told_bytes reading.left reading.rest given bytes all told) is))
-  | no_memory part is ↦ inr (inr is)
+  | too_long long quiet is ↦ inl (are_no_value (limited reading.left reading.rest bytes long told ∙ ap Err (sym is)))
+  | not_read_as given all quiet is ↦ inl (are_no_value (subst (λ b. value_in b ≡ Err r) (told_bytes reading.left reading.rest given bytes all told) is))
+  | no_memory few quiet is ↦ inr (inr is)
 ]
 
 -- and why there is no answer

@@ -8,7 +8,7 @@ use Rattle.spin_words.specs.declared.commands.JobWord.{JobWord}
 use Rattle.spin_words.specs.Commands.{spelled, ReadsJob}
 use Rattle.run_report.specs.declared.causes.Refusal.{Refusal}
 use Rattle.run_report.specs.declared.causes.Refusal.TheVariants as refusals
-use Rattle.spin_input.specs.Inputs.{Reading, IsUntouched, IsReadInPart}
+use Rattle.spin_input.specs.Inputs.{Reading, HasNoFault, IsUntouched, IsReadInPart}
 use Rattle.spin_input.specs.Jobs.{job_in}
 use Rattle.spin_input.specs.Requests.{request_in}
 use Rattle.spin_input.specs.Steps.{steps_in}
@@ -31,9 +31,9 @@ AskForApps words = spelled words ≡ Some Apps
 abbrev pub AskToRead : List (List ℕ) → Type 0
 AskToRead words = AskForJob words ⊎ (AskForCheck words ⊎ AskForApps words)
 
--- where the words are a command that reads, what the source lost it gave; else nothing was read
+-- where the words are a command that reads, no read failed, and what the source lost it gave; else nothing was read
 abbrev pub IsReadAsAsked : List (List ℕ) → Reading → Type 0
-IsReadAsAsked words reading = (AskToRead words × IsReadInPart reading) ⊎ IsUntouched reading
+IsReadAsAsked words reading = (AskToRead words × IsReadInPart reading × HasNoFault reading) ⊎ IsUntouched reading
 
 -- The words are a command. Words that are none need no memory to be told so.
 abbrev pub AreCommand : List (List ℕ) → Type 0
@@ -49,7 +49,7 @@ HaveNoLines steps r = ⊥
 
 -- Why a call gives no text of its own, with what was read of the source. The words are no command, and nothing was read. Or they
 -- ask for a job, and there is none, or one without a plan; or for a request, and there is none, or one without an answer; or for
--- steps, and there are none. Or memory ran out, which may come at any time to words that are a command.
+-- steps, and there are none. Or memory ran out, which may come at any time to words that are a command, but not where a read failed.
 pub data HasCause (words : List (List ℕ)) (reading : Reading) (r : Refusal) : Type 0 where
   usage : spelled words ≡ None → IsUntouched reading → r ≡ refusals.Usage → HasCause words reading r
   of_job : AskForJob words → IsRefusedFor job_in HasNoPlan reading r → HasCause words reading r

@@ -45,6 +45,6 @@ fn generated_job(alloc: Global, number: u64) -> Result<Job, Refusal>
     };
     match job_of_text(alloc, text.as_slice()) {
         Ok(job) => Ok(job),
-        Err(_) => Err(Refusal::Memory),
+        Err(refusal) => Err(refusal),
     }
 }

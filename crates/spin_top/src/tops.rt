@@ -1,5 +1,5 @@
 // The top call.
-ghost use Rattle.std.specs.Prelude.{◌≡◌, ◌⊎◌, Some, None, IfOk, IfErr};
+ghost use Rattle.std.specs.Prelude.{◌≡◌, ◌⊎◌, Some, None, IfOk, IfErr, MatchResult};
 ghost use Rattle.mesh_core.specs.Opened.{MeetsJobLedger};
 ghost use Rattle.spin_base.specs.Outside.{FaultsRose};
 ghost use Rattle.spin_words.specs.Commands.{spelled, texts_of};
@@ -22,7 +22,7 @@ use crate::answers::{checked, done, from_job};
 use crate::outcomes::{Outcome, Output, no_parts};
 use mesh_round::RoundGate;
 use run_report::{OUT_OF_MEMORY, Refusal, line_of};
-use spin_base::{Memory, Sink, Source, write_all};
+use spin_base::{Memory, Seq, Sink, Source, write_all};
 use spin_words::{Command, command_of};
 use std::alloc::Global;
 use std::sync::Wait;
@@ -193,7 +193,27 @@ fn write_made_line<K: Sink>(alloc: Global, refusal: Refusal, sink: &mut K) -> Ou
         ⊎ IsWritten (writing_of K.written K.faults sink.old sink.new)
         (line_of_refusal NoMemory) (Some NoMemory) result.refusal }
 {
-    match line_of(alloc, &refusal) {
+    let line = line_of(alloc, &refusal);
+    write_where_made(refusal, line, sink)
+}
+
+// Writes the line of a refusal where it was made, and that of want of memory exactly where there was none for it.
+fn write_where_made<K: Sink>(
+    refusal: Refusal,
+    line: Result<Seq<u8>, Memory>,
+    sink: &mut K,
+) -> Outcome
+    requires { IfOk line (λ text. text ≡ line_of_refusal refusal) }
+    ensures status { result.status ≡ status_at result.refusal }
+    ensures parts { result.parts ≡ no_parts }
+    ensures apps { result.apps ≡ None }
+    ensures written { MatchResult line
+        (λ text. IsWritten (writing_of K.written K.faults sink.old sink.new)
+        text (Some refusal) result.refusal)
+        (λ _. IsWritten (writing_of K.written K.faults sink.old sink.new)
+        (line_of_refusal NoMemory) (Some NoMemory) result.refusal) }
+{
+    match line {
         Ok(line) => write_line(refusal, line.as_slice(), sink),
         Err(Memory) => write_line(Refusal::Memory, OUT_OF_MEMORY.as_bytes(), sink),
     }

@@ -37,6 +37,6 @@ returns-in-Err-clause-ends g c =
     elim c.write_refusal.ensures.written [
       | inl line ↦ refused c.in-Err.refusal cause c.write_refusal.ensures.parts c.write_refusal.ensures.apps line
       | inr line ↦ refused refusals.Memory
-          (no_memory (told_command (texts_of c.args.words.now) reading c.in-Err.refusal cause line.0) (read_as_asked (texts_of c.args.words.now) reading c.in-Err.refusal cause) refl)
+          (no_memory (told_command (texts_of c.args.words.now) reading c.in-Err.refusal cause line.0) (read_as_asked (texts_of c.args.words.now) reading c.in-Err.refusal cause line.0) refl)
           c.write_refusal.ensures.parts c.write_refusal.ensures.apps line.1
     ]
