@@ -128,11 +128,13 @@ module _ (m : Description) (nets : List NetPlan) (target : ℕ) (lists : List (L
       of_block rows = All-map (λ (e : Entry). (bit_and e.key e.mask ≡ e.key) × (e.mask < 2 ^ 32)) entry_of rows (λ k d below. let r : Row = get_or rows k d in (r.block.within, r.block.small))
 
       keeps : (c : Chip) (f : Final) (marks : List Mark) → AreOriginals m c nets (map original_of marks) → IsFinalFor target marks f → KeepsRows f
-      keeps c f marks originals is = record { rows = λ k d below.
-          let final = is.stands.shortened.final in
-          let block = subst (λ (es : List Entry). All (λ (e : Entry). (bit_and e.key e.mask ≡ e.key) × (e.mask < 2 ^ 32)) es) (sym final.entries) (of_block (rows_at final.rows final.kept)) k d below in
-          let leads = rows_lead m nets routed c is.table.rows (is_plain m nets c marks is.table originals is.plain) in
-          (block.0, block.1, lead is.table.rows leads (get_or f.entries k d).route (is.stands.routes k d below)) }
+      keeps c f marks originals is = record {
+        rows = λ k d below.
+            let final = is.stands.shortened.final in
+            let block = subst (λ (es : List Entry). All (λ (e : Entry). (bit_and e.key e.mask ≡ e.key) × (e.mask < 2 ^ 32)) es) (sym final.entries) (of_block (rows_at final.rows final.kept)) k d below in
+            let leads = rows_lead m nets routed c is.table.rows (is_plain m nets c marks is.table originals is.plain) in
+            (block.0, block.1, lead is.table.rows leads (get_or f.entries k d).route (is.stands.routes k d below));
+      }
 
   pub all_right : AreRoutedApart m nets → length finals ≡ m.width * m.height → AreRight m (map loaded_of finals) nets
   all_right routed many i d i_in c port key o comes k valid =
