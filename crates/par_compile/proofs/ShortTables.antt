@@ -1,16 +1,15 @@
 -- The final table of a short plain table has the entries of the original blocks that do not go straight on.
-use Rattle.std.proofs.Common.{◌≡◌, ℕ, zero, suc, ◌+◌, ◌<◌, ◌≤◌, Bool, true, false, Some, List, [], ◌∷◌, ◌++◌, length, get_or, drop, map, refl, sym, ap, ◌∙◌, subst, arith, inl, inr}
-use Rattle.std.specs.Prelude.{All, AllPairs, slice_get, if◌then◌else◌}
+use Rattle.std.proofs.Common.{◌≡◌, ℕ, zero, suc, ◌+◌, ◌≤◌, Bool, true, false, Some, List, [], ◌∷◌, ◌++◌, length, get_or, drop, map, refl, sym, ap, ◌∙◌, subst, arith, inl, inr}
+use Rattle.std.specs.Prelude.{All, slice_get, if◌then◌else◌}
 use Rattle.std.specs.List.{cons_option}
 use Rattle.std.specs.List.Sorted.{IsPermutation}
 use Rattle.std.proofs.lemmas.Bool.{cases_Bool, eqb-true, eq-eqb, false≢true}
 use Rattle.std.proofs.lemmas.List.{length-map}
-use Rattle.std.proofs.lemmas.List.Elements.{All-nil, All-cons, All-head, All-tail, All-weaker}
+use Rattle.std.proofs.lemmas.List.Elements.{All-nil, All-cons, All-head, All-tail}
 use Rattle.std.proofs.lemmas.List.Sorted.{length_permutation}
 use Rattle.std.proofs.lemmas.Option.{slice_get_within}
 use Rattle.spin_base.proofs.Pairs.{AllPairs-head, AllPairs-tail, AllPairs-permutation}
 use Rattle.spin_base.proofs.RouteBits.{same_route}
-use Rattle.spin_base.specs.declared.blocks.Entry.{Entry}
 use Rattle.spin_base.specs.declared.chips.Dir.{Dir}
 use Rattle.spin_base.specs.declared.chips.Port.{Port}
 use Rattle.spin_base.specs.declared.chips.Port.TheVariants.{Link, Local}
@@ -30,7 +29,7 @@ use Rattle.net_tables.specs.declared.marks.Mark.{Mark}
 use Rattle.net_tables.specs.Marks.{AreApart, IsTableOf, row_of_mark, table_of_sorted}
 use Rattle.net_tables.proofs.Whole.{sound_table}
 use Rattle.par_compile.specs.Finals.{IsFinalFor}
-use Rattle.par_compile.specs.ShortTables.{goes_straight, kept_entries, kept_entry}
+use Rattle.par_compile.specs.ShortTables.{goes_straight, kept_entries}
 
 -- ---- one original block
 
