@@ -2,6 +2,7 @@
 
     python3 bench/tables_command.py
     python3 bench/tables_command.py --eight PROGRAM OTHER..     nets of eight targets anywhere alone, by each program in turn
+    python3 bench/tables_command.py --write FOLDER              the jobs of `--eight` as files, to count instructions or memory
 
 `./spin` must have built the program. Nets have four targets anywhere, or eight near their source; then some links are dead:
 5% of them and four targets anywhere, and 10% of them and 680 targets anywhere. Each job is run three times; the least
@@ -19,6 +20,8 @@ import time
 ROOT = os.path.dirname(os.path.dirname(os.path.realpath(__file__)))
 
 SIDE, VERTICES = 64, 16384
+# So many links of a hundred are dead in the jobs of `--eight`.
+DEAD = [0, 1, 5]
 
 
 def numbers():
@@ -98,8 +101,13 @@ def in_turn(name, value, programs):
 
 def main():
     if sys.argv[1:2] == ["--eight"]:
-        for percent in [0, 1, 5]:
+        for percent in DEAD:
             in_turn(f"{percent}% of the links dead", job(4096, eight_anywhere, percent), sys.argv[2:])
+        return
+    if sys.argv[1:2] == ["--write"]:
+        for percent in DEAD:
+            with open(f"{sys.argv[2]}/dead_{percent}.json", "w", encoding="utf-8") as file:
+                json.dump(job(4096, eight_anywhere, percent), file, separators=(",", ":"))
         return
     for nets in [1024, 2048, 4096]:
         timed(f"{nets} nets, eight targets near their source", job(nets, near))
