@@ -21,7 +21,7 @@ use Rattle.mesh_core.specs.Step.{has_room_behind, send_of, dump_of, step_of, aft
 use Rattle.mesh_core.specs.declared.places.Did.TheVariants.{Moved, Idle}
 use Rattle.mesh_core.specs.HasRun.{DropsNone}
 use Rattle.mesh_core.specs.Expected.{NothingWaits}
-use Rattle.mesh_core.proofs.EventsLaw.{events_keep}
+use Rattle.mesh_core.proofs.EventsLaw.{events_keep, IsMesh-after_events}
 use Rattle.mesh_drain.specs.Draining.{MeetsSomeLedger, IsReachedDropless, IsAfter, IsMoved}
 use Rattle.mesh_drain.specs.UnderWay.{weight_in}
 use Rattle.mesh_drain.specs.declared.waiting.Waits.{Waits}
@@ -44,6 +44,10 @@ kept_after s t kept after =
     subst MeetsSomeLedger (sym after.is)
     (record { mesh = keeps.mesh; nets = kept.nets; labels = kept.labels; right = keeps.right; ledger = keeps.ledger })
 
+-- a mesh is one after events
+pub mesh_after : (s t : State) → IsMesh s → IsAfter s t → IsMesh t
+mesh_after s t mesh after = subst IsMesh (sym after.is) (IsMesh-after_events s after.events mesh)
+
 pub after_then : (s t u : State) → IsAfter s t → IsAfter t u → IsAfter s u
 after_then s t u first rest = record {
   events = first.events ++ rest.events;
@@ -60,14 +64,14 @@ pub there_after : (s t : State) (v : ℕ) → IsAfter s t → v < length s.setup
 there_after s t v after below = subst (λ (u : Setup). v < length u.spots) (sym (after_setup s t after)) below
 
 -- events never make the marks heavier
-pub after_lighter : (s t : State) → MeetsSomeLedger s → IsAfter s t → weight_in t ≤ weight_in s
-after_lighter s t kept after = subst (λ x. weight_in x ≤ weight_in s) (sym after.is) (by_events s kept after.events)
+pub after_lighter : (s t : State) → IsMesh s → IsAfter s t → weight_in t ≤ weight_in s
+after_lighter s t mesh after = subst (λ x. weight_in x ≤ weight_in s) (sym after.is) (by_events s mesh after.events)
   where
-    by_events : (u : State) → MeetsSomeLedger u → (es : List Event) → weight_in (after_events u es) ≤ weight_in u
+    by_events : (u : State) → IsMesh u → (es : List Event) → weight_in (after_events u es) ≤ weight_in u
     by_events u own [] = omega arith
     by_events u own (e ∷ es) =
         let one = event_lighter u e own in
-        let rest = by_events (after_event u e) (kept_after u (after_event u e) own (after_one u (after_event u e) e refl)) es in
+        let rest = by_events (after_event u e) (IsMesh-after_events u (e ∷ []) own) es in
         omega (arith, one, rest)
 
 -- where something waited at the start, whatever comes
@@ -104,11 +108,11 @@ always (Err want) holds = tt
 
 -- ---- an event that is enabled
 
-pub lighter : (s t : State) (e : Event) → MeetsSomeLedger s → is_some (step_of s e) ≡ true → t ≡ after_event s e → weight_in t < weight_in s
-lighter s t e kept enabled is = by_step (step_of s e) refl enabled
+pub lighter : (s t : State) (e : Event) → IsMesh s → is_some (step_of s e) ≡ true → t ≡ after_event s e → weight_in t < weight_in s
+lighter s t e mesh enabled is = by_step (step_of s e) refl enabled
   where
     by_step : (u : Option State) → step_of s e ≡ u → is_some u ≡ true → weight_in t < weight_in s
-    by_step (Some u) at on = subst (λ x. weight_in x < weight_in s) (sym (is ∙ ap (λ o. unwrap_or o s) at)) (moved_lighter s u e kept at)
+    by_step (Some u) at on = subst (λ x. weight_in x < weight_in s) (sym (is ∙ ap (λ o. unwrap_or o s) at)) (moved_lighter s u e mesh at)
     by_step None at on = cc
 
 pub idle_stays : (s : State) (e : Event) → answer s e ≡ Idle → after_event s e ≡ s
@@ -137,8 +141,8 @@ held_lives s mesh c h inside at = by_test (is_live_chip s.setup.machine c) refl
 -- ---- what waits can be moved
 
 -- a hand whose copy cannot be sent by the output can drop it there
-pub dump_enabled : (s : State) (c : Chip) (o : Out) → MeetsSomeLedger s → IsWaiting s (InHand c o) → answer s (Send c o) ≡ Idle → is_some (step_of s (Dump c o)) ≡ true
-dump_enabled s c o kept waits idle = by_hand (slice_get s.hands (index_of s.setup.machine c)) refl waits.1 idle
+pub dump_enabled : (s : State) (c : Chip) (o : Out) → IsMesh s → IsWaiting s (InHand c o) → answer s (Send c o) ≡ Idle → is_some (step_of s (Dump c o)) ≡ true
+dump_enabled s c o mesh waits idle = by_hand (slice_get s.hands (index_of s.setup.machine c)) refl waits.1 idle
   where
     by_room : (live served room : Bool) (t u : State) → live ≡ true → served ≡ true →
         (if is_some (if (live && served) && room then Some t else None) then Moved else Idle) ≡ Idle →
@@ -154,7 +158,7 @@ dump_enabled s c o kept waits idle = by_hand (slice_get s.hands (index_of s.setu
         let first : Among o h.outs = subst (λ (l : List Out). Among o l) (sym next.1) (inl refl) in
         let listed : list_any (out_eq o) h.outs ≡ true = among_any (out_eq o) o h.outs first (out_eq_same o) in
         by_room (is_live_chip s.setup.machine c) (list_any (out_eq o) h.outs) (has_room_behind s (behind s.setup c o)) _ _
-        (held_lives s kept.mesh c h waits.0 at) listed on
+        (held_lives s mesh c h waits.0 at) listed on
     by_hand (Some None) at none on = absurd none
     by_hand None at none on = absurd none
 

@@ -23,7 +23,7 @@ use Rattle.mesh_core.proofs.VertexTableLaws.{site_inside, same_spot_place, spot_
 use Rattle.mesh_drain.specs.declared.draining.Waiting.{Waiting}
 use Rattle.mesh_drain.specs.Draining.{MeetsSomeLedger}
 use Rattle.mesh_core.specs.Expected.{NothingWaits}
-use Rattle.mesh_drain.specs.UnderWay.{times, IsAloneUnderWay, IsServing}
+use Rattle.mesh_drain.specs.UnderWay.{times, WaitsAlone, IsServing}
 use Rattle.mesh_drain.proofs.Steps.{kept_after, moved, written, queue_there}
 
 -- ---- a packet begins
@@ -65,13 +65,13 @@ module _ (s : State) (kept : MeetsSomeLedger s) (quiet : NothingWaits s) (v : �
   unfolding sent_mesh
   inject_unsent = ap (λ (t : State). t.unsent) injected_is
 
-  pub inject_step : IsAloneUnderWay (after_event s (Inject v)) (record { chip = spot.chip; port = Local } ∷ [])
+  pub inject_step : WaitsAlone (after_event s (Inject v)) (record { chip = spot.chip; port = Local } ∷ [])
   unfolding sent_mesh begun
   inject_step =
       let i : ℕ = queue_at s.setup.machine spot.chip Local in
       let there = queue_there s [] kept spot.chip Local live_chip in
       let Of : McCopy → Type 0 = λ (x : McCopy). x.packet ≡ k.packet in
-      subst (λ t. IsAloneUnderWay t (begun ∷ [])) (sym injected_is) (record {
+      subst (λ t. WaitsAlone t (begun ∷ [])) (sym injected_is) (record {
         kept = subst MeetsSomeLedger injected_is (kept_after s (Inject v) kept);
         packet = k.packet;
         free = quiet.hands_empty;
@@ -87,7 +87,7 @@ module _ (s : State) (kept : MeetsSomeLedger s) (quiet : NothingWaits s) (v : �
 
 -- ---- a packet ends
 
-pub serving_done : (s : State) (w : List Waiting) (c : Chip) → IsServing s w c [] → IsAloneUnderWay s w
+pub serving_done : (s : State) (w : List Waiting) (c : Chip) → IsServing s w c [] → WaitsAlone s w
 serving_done s w c u = record {
   kept = u.kept;
   packet = u.copy.packet;
@@ -98,7 +98,7 @@ serving_done s w c u = record {
   of_packet = u.of_packet;
 }
 
-pub packet_done : (s : State) → IsAloneUnderWay s [] → NothingWaits s
+pub packet_done : (s : State) → WaitsAlone s [] → NothingWaits s
 packet_done s u = record {
   inputs_empty = λ i d below. get_or_default s.inputs i d [] below ∙ short (slice_index_or s.inputs i []) (u.listed i);
   hands_empty = u.free;

@@ -1,9 +1,9 @@
 -- Each event that is enabled makes the marks of a mesh lighter.
-use Rattle.std.proofs.Common.{◌≡◌, ℕ, suc, ◌+◌, ◌*◌, ◌-◌, ◌<◌, ◌≤◌, min, refl, sym, ap, ◌∙◌, subst, arith, inl, inr, List, [], ◌∷◌, ◌++◌, map, length, Option, Some, None, true, unwrap_or}
-use Rattle.std.specs.List.{sum_by}
+use Rattle.std.proofs.Common.{◌≡◌, ℕ, suc, ◌+◌, ◌*◌, ◌-◌, ◌<◌, ◌≤◌, ◌^◌, min, refl, sym, ap, ◌∙◌, subst, arith, inl, inr, List, [], ◌∷◌, ◌++◌, map, length, Option, Some, None, true, unwrap_or}
+use Rattle.std.specs.List.{sum_by, All}
+use Rattle.std.specs.Prelude.{IfSome}
 use Rattle.std.proofs.Math.Nat.{mul-le-mul_left}
 use Rattle.std.proofs.lemmas.List.Sums.{sum_by-append, sum_by-cons}
-use Rattle.std.proofs.lemmas.Option.{slice_get_within}
 use Rattle.spin_base.specs.declared.copies.Event.{Event}
 use Rattle.spin_base.specs.declared.copies.McCopy.{McCopy}
 use Rattle.spin_base.specs.declared.chips.Chip.{Chip}
@@ -12,21 +12,19 @@ use Rattle.spin_base.specs.declared.routes.Out.{Out}
 use Rattle.spin_base.specs.Links.{opposite_of}
 use Rattle.spin_base.specs.declared.chips.Port.TheVariants.{Link as ByLink, Local}
 use Rattle.spin_base.specs.Hops.{last_hop, onward}
-use Rattle.mesh_core.specs.State.{State}
+use Rattle.mesh_core.specs.State.{State, Hand, FitsHand, FitsQueue, IsMesh}
 use Rattle.mesh_core.specs.Step.{outputs, step_of, after_event}
-use Rattle.mesh_core.specs.Trail.{Station, unsent, in_queue, in_hand, at_core, delivered, dumped, Mark, is_on_trail}
+use Rattle.mesh_core.specs.Trail.{Station, unsent, in_queue, in_hand, at_core, delivered, dumped, Mark, IsUnderWayAt}
 use Rattle.mesh_core.specs.Ledger.{marks_of}
 use Rattle.mesh_core.proofs.Events.{event_exchange}
 use Rattle.spin_base.proofs.Exchange.{among_taken_out, TakenOut, PutIn}
 use Rattle.spin_base.proofs.Members.{Among, among_contains, among_only}
-use Rattle.mesh_core.proofs.LedgerLaw.{IsRight, right_before, right_small, stands}
 use Rattle.mesh_core.specs.Heavy.{heavy}
 use Rattle.mesh_core.proofs.FewMoves.{few_come}
 use Rattle.mesh_core.proofs.Heavy.{one_heavy, heavy_grows, light}
 use Rattle.mesh_core.proofs.Moves.{mark, IsMove, IsMoveOf, Crosses}
-use Rattle.mesh_core.proofs.Law.{leaves_parts}
-use Rattle.mesh_core.proofs.Ways.{short_branch}
-use Rattle.mesh_drain.specs.Draining.{MeetsSomeLedger}
+use Rattle.mesh_core.proofs.Standing.{StandsAt, mark_stands}
+use Rattle.spin_base.proofs.Places.{All-at}
 use Rattle.mesh_drain.specs.UnderWay.{stage, advance, advance_weight_of, weight_in}
 
 -- ---- weights
@@ -43,7 +41,14 @@ advance_below x small = let most = stage_few x.station in omega (arith, most, sm
     stage_few (delivered v) = omega arith
     stage_few (dumped c o) = omega arith
 
--- a copy behind a router has not the greatest hop number
+-- what is true of each of a list is true of one of them
+of_all : {X : Type 0} (P : X → Type 0) (x : X) (xs : List X) → All P xs → Among x xs → P x
+of_all P x xs all a = let at = among_contains x xs a in subst P at.2 (all at.0 x at.1)
+
+in_a_queue : {capacity : ℕ} (k : McCopy) (q : List McCopy) → FitsQueue capacity q → Among k q → k.hop ≤ last_hop
+in_a_queue k q fits a = let below = of_all (λ (x : McCopy). x.hop < 2 ^ 32) k q fits.hops a in omega (arith, below)
+
+-- a copy that a router holds, or dropped, has not the greatest hop number
 HasNext : McCopy → Station → Type 0
 HasNext k (in_hand c o) = k.hop < last_hop
 HasNext k (unsent v) = Unit {0}
@@ -52,24 +57,30 @@ HasNext k (at_core v) = Unit {0}
 HasNext k (delivered v) = Unit {0}
 HasNext k (dumped c o) = k.hop < last_hop
 
-has_next : (s : State) (kept : MeetsSomeLedger s) (x : Mark) → IsRight s s kept.nets kept.labels kept.mesh kept.right kept.ledger x → HasNext x.copy x.station
+has_next : (s : State) → IsMesh s → (k : McCopy) (at : Station) → IsUnderWayAt at → StandsAt s k at → HasNext k at
 unfolding HasNext
-has_next s kept x r = by_station x.copy x.station r.trail.on
-  where
-    short : length r.trail.branch ≤ 4096
-    short = short_branch s r.net (stands s s kept.nets kept.labels kept.mesh kept.right kept.ledger r.net r.in_nets) r.trail.target r.trail.branch r.trail.way.is_branch
+has_next s mesh k (in_hand c o) under (i, h, there, chip, is, a) =
+    let fits : FitsHand h = All-at (λ (x : Option Hand). IfSome x FitsHand) s.hands i (Some h) mesh.hands_fit there in
+    subst (λ (y : McCopy). y.hop < last_hop) is (let below = fits.hop in omega (arith, below))
+has_next s mesh k (unsent v) under stands = tt
+has_next s mesh k (in_queue c port) under stands = tt
+has_next s mesh k (at_core v) under stands = tt
+has_next s mesh k (delivered v) under stands = absurd under
+has_next s mesh k (dumped c o) under stands = absurd under
 
-    by_station : (k : McCopy) (at : Station) → is_on_trail r.trail.from r.trail.to r.trail.branch (mark k at) ≡ true → HasNext k at
-    by_station k (in_hand c o) on =
-        let below = slice_get_within r.trail.branch k.hop (record { chip = c; out = o }) (leaves_parts r.trail.branch k.hop c o on) in
-        omega (arith, below, short)
-    by_station k (unsent v) on = tt
-    by_station k (in_queue c port) on = tt
-    by_station k (at_core v) on = tt
-    by_station k (delivered v) on = tt
-    by_station k (dumped c o) on =
-        let below = slice_get_within r.trail.branch k.hop (record { chip = c; out = o }) (leaves_parts r.trail.branch k.hop c o on) in
-        omega (arith, below, short)
+-- and no copy's hop number is above the last one
+small_under_way : (s : State) → IsMesh s → (k : McCopy) (at : Station) → IsUnderWayAt at → StandsAt s k at → k.hop ≤ last_hop
+small_under_way s mesh k (unsent v) under (q, there, a) =
+    let start = All-at (λ (l : List McCopy). All (λ x. x.hop ≡ 0) l) s.unsent v q mesh.unsent_at_start there in
+    let none : k.hop ≡ 0 = of_all (λ (x : McCopy). x.hop ≡ 0) k q start a in
+    omega (arith, none)
+small_under_way s mesh k (in_queue c port) under (i, q, there, chip, number, a) = in_a_queue k q (All-at (FitsQueue s.setup.capacity) s.inputs i q mesh.inputs_within there) a
+small_under_way s mesh k (in_hand c o) under (i, h, there, chip, is, a) =
+    let fits : FitsHand h = All-at (λ (x : Option Hand). IfSome x FitsHand) s.hands i (Some h) mesh.hands_fit there in
+    subst (λ (y : McCopy). y.hop ≤ last_hop) is (let below = fits.hop in omega (arith, below))
+small_under_way s mesh k (at_core v) under (q, there, a) = in_a_queue k q (All-at (FitsQueue s.setup.capacity) s.cores v q mesh.cores_within there) a
+small_under_way s mesh k (delivered v) under stands = absurd under
+small_under_way s mesh k (dumped c o) under stands = absurd under
 
 -- each mark that comes is further on than the one that leaves
 move_advances : (s : State) (x : Mark) (come : List Mark) → HasNext x.copy x.station → IsMove s x come → (y : Mark) → Among y come → advance x < advance y
@@ -123,15 +134,15 @@ come_lighter s x come small next move = by_bound (4 * last_hop + 4) (advance_bel
 
 -- ---- events
 
--- an event that is enabled makes the marks lighter
-pub moved_lighter : (s t : State) (e : Event) → MeetsSomeLedger s → step_of s e ≡ Some t → weight_in t < weight_in s
+-- an event that is enabled makes the marks lighter, since the copy that leaves is under way
+pub moved_lighter : (s t : State) (e : Event) → IsMesh s → step_of s e ≡ Some t → weight_in t < weight_in s
 unfolding weight_in
-moved_lighter s t e kept is =
-    let x = (event_exchange s kept.mesh e t is).0 in
-    let has = among_contains x.leaves (marks_of s) (among_taken_out x.leaves (marks_of s) x.rest x.out) in
-    let r = right_before s s kept.nets kept.labels kept.mesh kept.right kept.ledger x.leaves has in
-    let small = right_small s s kept.nets kept.labels kept.mesh kept.right kept.ledger x.leaves r in
-    let lighter = come_lighter s x.leaves x.come small (has_next s kept x.leaves r) x.move in
+moved_lighter s t e mesh is =
+    let moves = event_exchange s mesh e t is in
+    let x = moves.0 in
+    let stands = mark_stands s x.leaves (among_taken_out x.leaves (marks_of s) x.rest x.out) in
+    let small = small_under_way s mesh x.leaves.copy x.leaves.station moves.1 stands in
+    let lighter = come_lighter s x.leaves x.come small (has_next s mesh x.leaves.copy x.leaves.station moves.1 stands) x.move in
     let before = sum_taken_out x.leaves (marks_of s) x.rest x.out in
     let after = sum_put_in x.come x.rest (marks_of t) x.put in
     omega (arith, lighter, before, after)
@@ -155,9 +166,9 @@ moved_lighter s t e kept is =
         omega (arith, whole, more, inner, a, b)
 
 -- an event never makes them heavier
-pub event_lighter : (s : State) (e : Event) → MeetsSomeLedger s → weight_in (after_event s e) ≤ weight_in s
-event_lighter s e kept = by_answer (step_of s e) refl
+pub event_lighter : (s : State) (e : Event) → IsMesh s → weight_in (after_event s e) ≤ weight_in s
+event_lighter s e mesh = by_answer (step_of s e) refl
   where
     by_answer : (t : Option State) → step_of s e ≡ t → weight_in (unwrap_or t s) ≤ weight_in s
     by_answer None is = omega arith
-    by_answer (Some t) is = let less = moved_lighter s t e kept is in omega (arith, less)
+    by_answer (Some t) is = let less = moved_lighter s t e mesh is in omega (arith, less)

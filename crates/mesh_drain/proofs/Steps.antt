@@ -38,7 +38,7 @@ use Rattle.mesh_core.proofs.Queued.{FreeBehind, free_behind}
 use Rattle.mesh_core.proofs.Standing.{held_mark}
 use Rattle.mesh_drain.specs.declared.draining.Waiting.{Waiting}
 use Rattle.mesh_drain.specs.Draining.{MeetsSomeLedger}
-use Rattle.mesh_drain.specs.UnderWay.{far_port, next_place, outs_in, times, weight_in, IsAloneUnderWay, IsServing}
+use Rattle.mesh_drain.specs.UnderWay.{far_port, next_place, outs_in, times, weight_in, WaitsAlone, IsServing}
 use Rattle.mesh_drain.proofs.Progress.{moved_lighter}
 
 -- ---- lists
@@ -101,7 +101,7 @@ module _ (s : State) (waiting : List Waiting) where
 
 -- ---- Take
 
-module _ (s : State) (w : List Waiting) (a : Waiting) (u : IsAloneUnderWay s (w ++ a ∷ [])) where
+module _ (s : State) (w : List Waiting) (a : Waiting) (u : WaitsAlone s (w ++ a ∷ [])) where
   i : ℕ
   i = queue_at s.setup.machine a.chip a.port
 
@@ -377,7 +377,7 @@ module _ (s : State) (w : List Waiting) (c : Chip) (o : Out) (os : List Out) (u 
 
   pub send_link_lighter : weight_in (after_event s (Send c o)) < weight_in s
   send_link_lighter =
-      let less = moved_lighter s linked (Send c o) u.kept is_linked in
+      let less = moved_lighter s linked (Send c o) u.kept.mesh is_linked in
       let same : weight_in (after_event s (Send c o)) ≡ weight_in linked = ap weight_in (moved s linked (Send c o) is_linked) in
       omega (arith, less, same)
 

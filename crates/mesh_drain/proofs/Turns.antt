@@ -21,7 +21,7 @@ use Rattle.mesh_core.specs.Step.{after_event}
 use Rattle.mesh_drain.specs.declared.draining.Waiting.{Waiting}
 use Rattle.mesh_drain.specs.Draining.{MeetsSomeLedger, IsReachedDropless}
 use Rattle.mesh_core.specs.Expected.{IsAtRest, NothingWaits}
-use Rattle.mesh_drain.specs.UnderWay.{work, weight_in, outs_in, next_place, IsAloneUnderWay, IsServing}
+use Rattle.mesh_drain.specs.UnderWay.{work, weight_in, outs_in, next_place, WaitsAlone, IsServing}
 use Rattle.mesh_drain.proofs.Frame.{setup_reached, kept_reached}
 use Rattle.mesh_drain.proofs.Moving.{after_reached, there_after}
 use Rattle.mesh_drain.proofs.Progress.{event_lighter}
@@ -60,8 +60,8 @@ module _ (s t : State) (w : List Waiting) (c : Chip) (o : Out) (is : t ≡ after
       (rest : List Out) → IsServing s w c (o ∷ rest) → IsServing end w c rest × (work end w ≤ work s w)
   core_served v found end last rest u =
       let whole : end ≡ after_event (after_event s (Send c o)) (Collect v) = last ∙ ap (λ x. after_event x (Collect v)) is in
-      let first = event_lighter s (Send c o) u.kept in
-      let then' = event_lighter (after_event s (Send c o)) (Collect v) (kept_after s (Send c o) u.kept) in
+      let first = event_lighter s (Send c o) u.kept.mesh in
+      let then' = event_lighter (after_event s (Send c o)) (Collect v) (kept_after s (Send c o) u.kept).mesh in
       let all : weight_in end ≡ weight_in (after_event (after_event s (Send c o)) (Collect v)) = ap weight_in whole in
       (subst (λ x. IsServing x w c rest) (sym whole) (send_core s w c o rest u v (here (core v) found)), omega (arith, first, then', all))
 
@@ -71,15 +71,15 @@ module _ (s t : State) (w : List Waiting) (c : Chip) (o : Out) (is : t ≡ after
 
 -- ---- a packet goes on
 
-pub taken_serving : (s t : State) (w : List Waiting) (a : Waiting) (os items : List Out) → t ≡ after_event s (Take a.chip a.port) → IsAloneUnderWay s (w ++ a ∷ []) →
+pub taken_serving : (s t : State) (w : List Waiting) (a : Waiting) (os items : List Out) → t ≡ after_event s (Take a.chip a.port) → WaitsAlone s (w ++ a ∷ []) →
     os ≡ outs_in (slice_get t.hands (index_of t.setup.machine a.chip)) → items ≡ os → IsServing t w a.chip items
 taken_serving s t w a os items is u held list =
     subst (IsServing t w a.chip) (sym (list ∙ held))
     (subst (λ x. IsServing x w a.chip (outs_in (slice_get x.hands (index_of x.setup.machine a.chip)))) (sym is) (take_step s w a u))
 
-pub taken_less : (s t : State) (w v : List Waiting) (a : Waiting) → t ≡ after_event s (Take a.chip a.port) → IsAloneUnderWay s (v ++ a ∷ []) → work t w ≤ work s w
+pub taken_less : (s t : State) (w v : List Waiting) (a : Waiting) → t ≡ after_event s (Take a.chip a.port) → WaitsAlone s (v ++ a ∷ []) → work t w ≤ work s w
 taken_less s t w v a is u =
-    let lighter = event_lighter s (Take a.chip a.port) u.kept in
+    let lighter = event_lighter s (Take a.chip a.port) u.kept.mesh in
     let there : weight_in t ≡ weight_in (after_event s (Take a.chip a.port)) = ap weight_in is in
     omega (arith, lighter, there)
 
@@ -95,7 +95,7 @@ has_first [] some = absurd (some refl)
 has_first (k ∷ rest) some = (k, rest, refl)
 
 pub begins : (s t : State) (v : ℕ) (w items : List Waiting) (spots : List Spot) (d : Spot) → MeetsSomeLedger s → NothingWaits s → v < length s.setup.spots → slice_get s.unsent v ≢ Some [] →
-    t ≡ after_event s (Inject v) → spots ≡ s.setup.spots → w ≡ [] → items ≡ w ++ record { chip = (get_or spots v d).chip; port = Local } ∷ [] → IsAloneUnderWay t items
+    t ≡ after_event s (Inject v) → spots ≡ s.setup.spots → w ≡ [] → items ≡ w ++ record { chip = (get_or spots v d).chip; port = Local } ∷ [] → WaitsAlone t items
 begins s t v w items spots d kept quiet below some is list none more =
     let spot : Spot = get_or s.setup.spots v d in
     let stands : slice_get s.setup.spots v ≡ Some spot = slice_get-get_or s.setup.spots v d below in
@@ -104,8 +104,8 @@ begins s t v w items spots d kept quiet below some is list none more =
     let first = has_first (get_or s.unsent v []) (λ empty. some (there ∙ ap Some empty)) in
     let at : List Spot → Waiting = λ l. record { chip = (get_or l v d).chip; port = Local } in
     let same : items ≡ at s.setup.spots ∷ [] = more ∙ (ap (λ l. l ++ at spots ∷ []) none ∙ ap (λ l. at l ∷ []) list) in
-    subst (IsAloneUnderWay t) (sym same)
-    (subst (λ x. IsAloneUnderWay x (at s.setup.spots ∷ [])) (sym is) (inject_step s kept quiet v spot first.0 first.1 stands (there ∙ ap Some first.2)))
+    subst (WaitsAlone t) (sym same)
+    (subst (λ x. WaitsAlone x (at s.setup.spots ∷ [])) (sym is) (inject_step s kept quiet v spot first.0 first.1 stands (there ∙ ap Some first.2)))
 
 pub begins_unsent : (s t : State) (v : ℕ) → MeetsSomeLedger s → NothingWaits s → v < length s.setup.spots → t ≡ after_event s (Inject v) →
     (k : McCopy) (rest : List McCopy) → slice_get s.unsent v ≡ Some (k ∷ rest) → t.unsent ≡ set s.unsent v rest
@@ -113,8 +113,8 @@ begins_unsent s t v kept quiet below is k rest first =
     let d : Spot = record { chip = record { x = 0; y = 0 }; core = 0 } in
     ap (λ (x : State). x.unsent) is ∙ inject_unsent s kept quiet v (get_or s.setup.spots v d) k rest (slice_get-get_or s.setup.spots v d below) first
 
-pub ends_quiet : (s : State) (w : List Waiting) → IsAloneUnderWay s w → w ≡ [] → NothingWaits s
-ends_quiet s w u none = packet_done s (subst (IsAloneUnderWay s) none u)
+pub ends_quiet : (s : State) (w : List Waiting) → WaitsAlone s w → w ≡ [] → NothingWaits s
+ends_quiet s w u none = packet_done s (subst (WaitsAlone s) none u)
 
 -- ---- a vertex sends all
 

@@ -19,6 +19,11 @@ pub record MeetsSomeLedger (s : State) : Type 0 where
   pub right : AreRight s.setup.machine s.setup.tables nets
   pub ledger : MeetsLedger s nets labels
 
+-- No copy waits, and the mesh meets the ledger of some nets: a vertex may send.
+pub record MaySend (s : State) : Type 0 where
+  pub kept : MeetsSomeLedger s
+  pub quiet : NothingWaits s
+
 -- A mesh is reached from another by events of which none drops a copy.
 pub record IsReachedDropless (before after : State) : Type 0 where
   pub events : List Event

@@ -18,7 +18,7 @@ use Rattle.mesh_core.specs.Trail.{Station, unsent, in_queue, in_hand, at_core, d
 use Rattle.mesh_core.specs.Ledger.{marks_of}
 use Rattle.mesh_core.specs.Heavy.{heavy}
 use Rattle.mesh_drain.specs.declared.draining.Waiting.{Waiting}
-use Rattle.mesh_drain.specs.Draining.{MeetsSomeLedger}
+use Rattle.mesh_drain.specs.Draining.{MaySend, MeetsSomeLedger}
 
 -- how far a mark is on: each move of a copy raises it
 abbrev pub stage : Station → ℕ
@@ -64,9 +64,15 @@ abbrev pub next_place : Description → Chip → Out → Option Waiting
 next_place m c (Link d) = far_port d (far_of m c d)
 next_place m c (Core p) = None
 
--- One packet alone is under way: all copies that wait are of it, they wait in input queues, and each queue stands as often
--- in the list as copies wait in it, or more often.
-pub record IsAloneUnderWay (s : State) (waiting : List Waiting) : Type 0 where
+-- The vertex is there, and may send: no port is in the list of those where its packet waits.
+pub record CanSend (s : State) (waiting : List Waiting) (v : ℕ) : Type 0 where
+  pub may : MaySend s
+  pub none : waiting ≡ []
+  pub exists : v < length s.setup.spots
+
+-- One packet alone waits: all copies that wait are of it, they wait in input queues, and each queue stands as often in the list as
+-- copies wait in it, or more often.
+pub record WaitsAlone (s : State) (waiting : List Waiting) : Type 0 where
   pub kept : MeetsSomeLedger s
   pub packet : ℕ
   pub free : All (λ h. h ≡ None) s.hands

@@ -7,8 +7,8 @@ ghost use Rattle.spin_base.specs.declared.copies.Event.TheVariants.{Collect};
 ghost use Rattle.machine_desc.specs.Live.{index_of, IsInside};
 ghost use Rattle.mesh_core.specs.Step.{after_event};
 ghost use Rattle.mesh_core.specs.Expected.{IsAtRest, NothingWaits};
-ghost use Rattle.mesh_drain.specs.Draining.{MeetsSomeLedger, IsReachedDropless, IsMoved, DropsNoneWhereRoomy, SendAlone};
-ghost use Rattle.mesh_drain.specs.UnderWay.{work, outs_in, next_place, IsAloneUnderWay, IsServing};
+ghost use Rattle.mesh_drain.specs.Draining.{MaySend, MeetsSomeLedger, IsReachedDropless, IsMoved, DropsNoneWhereRoomy, SendAlone};
+ghost use Rattle.mesh_drain.specs.UnderWay.{work, outs_in, next_place, CanSend, WaitsAlone, IsServing};
 
 use crate::settling::settle;
 use machine_desc::Machine;
@@ -56,8 +56,7 @@ pub fn drain_from(alloc: Global, mesh: &mut Mesh, vertices: &[usize]) -> Result<
 
 // All vertices send all their packets, one after the other.
 fn send_each(alloc: Global, mesh: &mut Mesh) -> Result<(), Memory>
-    requires kept { MeetsSomeLedger mesh.old }
-    requires quiet { NothingWaits mesh.old }
+    requires { MaySend mesh.old }
     ensures at_rest { OnOk result (IsAtRest mesh.new) }
     ensures reached { IsReachedDropless mesh.old mesh.new }
 {
@@ -78,10 +77,7 @@ pub struct Waiting {
 
 // A vertex sends all its packets, and each is brought to its targets before the next.
 fn send_all(mesh: &mut Mesh, waiting: &mut Vec<Waiting>, vertex: u32) -> Result<(), Memory>
-    requires exists { vertex < length mesh.old.setup.spots }
-    requires kept { MeetsSomeLedger mesh.old }
-    requires quiet { NothingWaits mesh.old }
-    requires none { waiting.old.items ≡ [] }
+    requires { CanSend mesh.old waiting.old.items vertex }
     ensures reached { IsReachedDropless mesh.old mesh.new }
     ensures quiet { OnOk result (NothingWaits mesh.new) }
     ensures none { OnOk result (waiting.new.items ≡ []) }
@@ -95,11 +91,8 @@ fn send_all(mesh: &mut Mesh, waiting: &mut Vec<Waiting>, vertex: u32) -> Result<
 
 // A vertex sends its first packet, and the packet is brought to its targets.
 fn send_packet(mesh: &mut Mesh, waiting: &mut Vec<Waiting>, vertex: u32) -> Result<(), Memory>
-    requires exists { vertex < length mesh.old.setup.spots }
+    requires can { CanSend mesh.old waiting.old.items vertex }
     requires some { slice_get mesh.old.unsent vertex ≢ Some [] }
-    requires kept { MeetsSomeLedger mesh.old }
-    requires quiet { NothingWaits mesh.old }
-    requires none { waiting.old.items ≡ [] }
     ensures reached { IsReachedDropless mesh.old mesh.new }
     ensures quiet { OnOk result (NothingWaits mesh.new) }
     ensures none { OnOk result (waiting.new.items ≡ []) }
@@ -122,9 +115,9 @@ fn send_packet(mesh: &mut Mesh, waiting: &mut Vec<Waiting>, vertex: u32) -> Resu
 
 // A packet that waits at a port goes on from there to the next routers, or to the vertices of the chip.
 fn go_on(mesh: &mut Mesh, waiting: &mut Vec<Waiting>, at: Waiting) -> Result<(), Memory>
-    requires { IsAloneUnderWay mesh.old (waiting.old.items ++ at ∷ []) }
+    requires { WaitsAlone mesh.old (waiting.old.items ++ at ∷ []) }
     ensures reached { IsReachedDropless mesh.old mesh.new }
-    ensures under_way { OnOk result (IsAloneUnderWay mesh.new waiting.new.items) }
+    ensures under_way { OnOk result (WaitsAlone mesh.new waiting.new.items) }
     ensures unsent { OnOk result (mesh.new.unsent ≡ mesh.old.unsent) }
     ensures less { OnOk result (work mesh.new waiting.new.items ≤ work mesh.old waiting.old.items) }
 {

@@ -2,7 +2,7 @@
 ghost use Rattle.std.specs.Prelude.{◌≡◌, ◌+◌, ◌*◌, ◌<◌, ◌^◌, All, Contains, map, length, IfOk, OnOk, []};
 ghost use Rattle.mesh_core.specs.State.{IsMesh};
 ghost use Rattle.mesh_core.specs.Opened.{opened_mesh, AreOfNets};
-ghost use Rattle.mesh_drain.specs.Opening.{source_vertex_of};
+ghost use Rattle.mesh_drain.specs.Opening.{source_vertex_of, AreListed};
 
 use machine_desc::NetPlan;
 use mesh_core::laws::{every_mesh_is_one, every_setup_has_sites};
@@ -44,10 +44,8 @@ fn add_packets(
     packets: &[Packet],
 ) -> Result<(), Memory>
     requires none_yet { mesh.old ≡ opened_mesh mesh.old.setup nets.now [] }
-    requires sources { All (λ net. Contains mesh.old.setup.spots net.source) nets.now }
-    requires vertices { sources.now ≡ map (source_vertex_of mesh.old.setup.spots) nets.now }
+    requires listed { AreListed mesh.old.setup.spots nets.now packets.now sources.now }
     requires few { length packets.now < 2 ^ 32 }
-    requires of_nets { AreOfNets nets.now packets.now }
     ensures { OnOk result (mesh.new ≡ opened_mesh mesh.old.setup nets.now packets.now) }
 {
     every_mesh_is_one(mesh);

@@ -3,7 +3,7 @@ ghost use Rattle.std.specs.Prelude.{◌≡◌, ◌<◌, true, OnOk, is_some, len
 ghost use Rattle.mesh_core.specs.Expected.{NothingWaits};
 ghost use Rattle.mesh_core.specs.State.{behind};
 ghost use Rattle.mesh_core.specs.Step.{step_of};
-ghost use Rattle.mesh_drain.specs.Draining.{MeetsSomeLedger, IsAfter, IsMoved, collected_from};
+ghost use Rattle.mesh_drain.specs.Draining.{IsAfter, IsMoved, collected_from};
 ghost use Rattle.mesh_drain.specs.UnderWay.{weight_in};
 ghost use Rattle.mesh_drain.specs.Waiting.{IsWaiting};
 
@@ -16,12 +16,12 @@ use spin_base::{Chip, Event, Memory, Out};
 // Moves what waits, until nothing waits. Each sweep takes every copy that waited before it over one link or more, so there are no
 // more sweeps than a branch has chips.
 pub fn settle(mesh: &mut Mesh) -> Result<(), Memory>
-    requires { MeetsSomeLedger mesh.old }
     ensures quiet { OnOk result (NothingWaits mesh.new) }
     ensures moved { IsMoved mesh.old mesh.new }
 {
     'sweeps: while let Some(at) = waiting(mesh) {
         move_on(mesh, at)?;
+        every_mesh_is_one(mesh);
         sweep(mesh)?;
     }
     Ok(())
@@ -29,9 +29,9 @@ pub fn settle(mesh: &mut Mesh) -> Result<(), Memory>
 
 // Goes once over all vertices and all chips, and moves what waits there.
 fn sweep(mesh: &mut Mesh) -> Result<(), Memory>
-    requires { MeetsSomeLedger mesh.old }
     ensures { IsAfter mesh.old mesh.new }
 {
+    every_mesh_is_one(mesh);
     let vertices = mesh.spots().len();
     for vertex in 0..vertices {
         empty_core(mesh, vertex as u32)?;
@@ -41,8 +41,7 @@ fn sweep(mesh: &mut Mesh) -> Result<(), Memory>
 
 // A vertex takes all that waits for it.
 fn empty_core(mesh: &mut Mesh, vertex: u32) -> Result<(), Memory>
-    requires kept { MeetsSomeLedger mesh.old }
-    requires exists { vertex < length mesh.old.setup.spots }
+    requires { vertex < length mesh.old.setup.spots }
     ensures { IsAfter mesh.old mesh.new }
 {
     'copies: while waits_for(mesh, vertex) {
@@ -53,7 +52,6 @@ fn empty_core(mesh: &mut Mesh, vertex: u32) -> Result<(), Memory>
 
 // Each chip's router moves on all that waits there, chip after chip.
 fn empty_chips(mesh: &mut Mesh) -> Result<(), Memory>
-    requires { MeetsSomeLedger mesh.old }
     ensures { IsAfter mesh.old mesh.new }
 {
     let chips = mesh.machine().chips();
@@ -66,7 +64,6 @@ fn empty_chips(mesh: &mut Mesh) -> Result<(), Memory>
 
 // A chip's router moves on all that waits there.
 fn empty_chip(mesh: &mut Mesh, chip: Chip) -> Result<(), Memory>
-    requires { MeetsSomeLedger mesh.old }
     ensures { IsAfter mesh.old mesh.new }
 {
     'events: while let Some(at) = waiting_on(mesh, chip) {
@@ -77,11 +74,11 @@ fn empty_chip(mesh: &mut Mesh, chip: Chip) -> Result<(), Memory>
 
 // Moves a copy that waits.
 fn move_on(mesh: &mut Mesh, at: Waits) -> Result<(), Memory>
-    requires kept { MeetsSomeLedger mesh.old }
-    requires waits { IsWaiting mesh.old at }
+    requires { IsWaiting mesh.old at }
     ensures after { IsAfter mesh.old mesh.new }
     ensures lighter { OnOk result (weight_in mesh.new < weight_in mesh.old) }
 {
+    every_mesh_is_one(mesh);
     match at {
         Waits::InCore(vertex) => take_event(mesh, Event::Collect(vertex)),
         Waits::InHand(chip, out) => serve(mesh, chip, out),
@@ -91,22 +88,22 @@ fn move_on(mesh: &mut Mesh, at: Waits) -> Result<(), Memory>
 
 // Takes an event that is enabled.
 fn take_event(mesh: &mut Mesh, e: Event) -> Result<(), Memory>
-    requires kept { MeetsSomeLedger mesh.old }
-    requires enabled { is_some (step_of mesh.old e) ≡ true }
+    requires { is_some (step_of mesh.old e) ≡ true }
     ensures after { IsAfter mesh.old mesh.new }
     ensures lighter { OnOk result (weight_in mesh.new < weight_in mesh.old) }
 {
+    every_mesh_is_one(mesh);
     mesh.step(e)?;
     Ok(())
 }
 
 // The chip's router sends the copy in its hand by an output, or drops it there where the queue behind it is full.
 fn serve(mesh: &mut Mesh, chip: Chip, out: Out) -> Result<(), Memory>
-    requires kept { MeetsSomeLedger mesh.old }
-    requires waits { IsWaiting mesh.old (Waits.InHand chip out) }
+    requires { IsWaiting mesh.old (Waits.InHand chip out) }
     ensures after { IsAfter mesh.old mesh.new }
     ensures lighter { OnOk result (weight_in mesh.new < weight_in mesh.old) }
 {
+    every_mesh_is_one(mesh);
     match mesh.step(Event::Send(chip, out))? {
         Did::Moved => collect_behind(mesh, chip, out),
         Did::Idle => take_event(mesh, Event::Dump(chip, out)),

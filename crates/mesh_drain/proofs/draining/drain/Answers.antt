@@ -3,8 +3,8 @@ use Rattle.mesh_core.specs.State.{State}
 use Rattle.mesh_drain.proofs.Moving.{moved_then, kept_moved}
 use Rattle.mesh_drain.proofs.draining.drain.Goals as goal
 
-pub send_each-requires-clause-kept : goal.send_each-requires-clause-kept
-send_each-requires-clause-kept c = kept_moved c.args.mesh.now c.settle.new.mesh c.requires c.settle.ensures.moved
+pub send_each-requires : goal.send_each-requires
+send_each-requires c = record { kept = kept_moved c.args.mesh.now c.settle.new.mesh c.requires c.settle.ensures.moved; quiet = c.in_ok-settle.ensures.quiet }
 
 pub returns-clause-moved : goal.returns-clause-moved
 returns-clause-moved c = moved_then c.args.mesh.now c.settle.new.mesh c.send_each.new.mesh c.settle.ensures.moved c.send_each.ensures.reached

@@ -11,12 +11,15 @@ overflow_cast-vertex c =
     let below = c.requires.alone.there c.loop-vertex.vertex-index 0 c.loop-vertex-test.true in
     omega (arith, few, below)
 
-pub send_all-requires-clause-exists : goal.send_all-requires-clause-exists
-send_all-requires-clause-exists c =
-    sender_there c.args.mesh.now c.loop-vertex.mesh c.args.vertices.now c.loop-vertex.vertex-index _ c.requires.alone c.loop-vertex.invariant.reached c.loop-vertex-test.true
-
-pub send_all-requires-clause-kept : goal.send_all-requires-clause-kept
-send_all-requires-clause-kept c = kept_reached c.args.mesh.now c.loop-vertex.mesh c.requires.kept c.loop-vertex.invariant.reached
+pub send_all-requires : goal.send_all-requires
+send_all-requires c = record {
+  may = record {
+    kept = kept_reached c.args.mesh.now c.loop-vertex.mesh c.requires.kept c.loop-vertex.invariant.reached;
+    quiet = c.loop-vertex.invariant.quiet;
+  };
+  none = c.loop-vertex.invariant.none;
+  exists = sender_there c.args.mesh.now c.loop-vertex.mesh c.args.vertices.now c.loop-vertex.vertex-index _ c.requires.alone c.loop-vertex.invariant.reached c.loop-vertex-test.true;
+}
 
 pub loop-vertex-preserved : goal.loop-vertex-preserved
 loop-vertex-preserved c =

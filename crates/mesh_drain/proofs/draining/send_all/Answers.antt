@@ -5,7 +5,7 @@ use Rattle.mesh_drain.proofs.draining.send_all.Goals as goal
 pub packets-init : goal.packets-init
 packets-init c = record {
   reached = reached_none c.args.mesh.now;
-  quiet = c.requires.quiet;
+  quiet = c.requires.may.quiet;
   none = c.requires.none;
   unsent = as_before c.args.mesh.now c.args.vertex;
 }
@@ -13,11 +13,15 @@ packets-init c = record {
 pub unsent-requires : goal.unsent-requires
 unsent-requires c = there_still c.args.mesh.now c.packets.mesh c.args.vertex c.packets.invariant.reached c.requires.exists
 
-pub send_packet-requires-clause-exists : goal.send_packet-requires-clause-exists
-send_packet-requires-clause-exists c = there_still c.args.mesh.now c.packets.mesh c.args.vertex c.packets.invariant.reached c.requires.exists
-
-pub send_packet-requires-clause-kept : goal.send_packet-requires-clause-kept
-send_packet-requires-clause-kept c = kept_reached c.args.mesh.now c.packets.mesh c.requires.kept c.packets.invariant.reached
+pub send_packet-requires-clause-can : goal.send_packet-requires-clause-can
+send_packet-requires-clause-can c = record {
+  may = record {
+    kept = kept_reached c.args.mesh.now c.packets.mesh c.requires.may.kept c.packets.invariant.reached;
+    quiet = c.packets.invariant.quiet;
+  };
+  none = c.packets.invariant.none;
+  exists = there_still c.args.mesh.now c.packets.mesh c.args.vertex c.packets.invariant.reached c.requires.exists;
+}
 
 pub packets-smaller : goal.packets-smaller
 packets-smaller c =
@@ -36,7 +40,7 @@ packets-preserved c = record {
 pub returns-clause-unsent : goal.returns-clause-unsent
 returns-clause-unsent c =
     all_sent_there c.args.mesh.now.unsent c.packets.mesh.unsent c.args.vertex c.packets.invariant.unsent.0 c.unsent.result.now
-    (was_there c.args.mesh.now c.args.vertex c.requires.kept c.requires.exists) c.packets.invariant.unsent.1 c.unsent.ensures (is_none c.unsent.result.now c.packets-test.ensures)
+    (was_there c.args.mesh.now c.args.vertex c.requires.may.kept c.requires.exists) c.packets.invariant.unsent.1 c.unsent.ensures (is_none c.unsent.result.now c.packets-test.ensures)
 
 pub returns-in_err-send_packet-clause-reached : goal.returns-in_err-send_packet-clause-reached
 returns-in_err-send_packet-clause-reached c =

@@ -11,13 +11,16 @@ overflow_cast-vertex c =
     let below = c.loop-vertex-test.true in
     omega (arith, few, list, below)
 
-pub send_all-requires-clause-exists : goal.send_all-requires-clause-exists
-send_all-requires-clause-exists c =
-    there_still c.args.mesh.now c.loop-vertex.mesh c.loop-vertex.vertex c.loop-vertex.invariant.reached
-    (subst (λ l. c.loop-vertex.vertex < length l) c.spots-count.ensures c.loop-vertex-test.true)
-
-pub send_all-requires-clause-kept : goal.send_all-requires-clause-kept
-send_all-requires-clause-kept c = kept_reached c.args.mesh.now c.loop-vertex.mesh c.requires.kept c.loop-vertex.invariant.reached
+pub send_all-requires : goal.send_all-requires
+send_all-requires c = record {
+  may = record {
+    kept = kept_reached c.args.mesh.now c.loop-vertex.mesh c.requires.kept c.loop-vertex.invariant.reached;
+    quiet = c.loop-vertex.invariant.quiet;
+  };
+  none = c.loop-vertex.invariant.none;
+  exists = there_still c.args.mesh.now c.loop-vertex.mesh c.loop-vertex.vertex c.loop-vertex.invariant.reached
+      (subst (λ l. c.loop-vertex.vertex < length l) c.spots-count.ensures c.loop-vertex-test.true);
+}
 
 pub loop-vertex-preserved : goal.loop-vertex-preserved
 loop-vertex-preserved c =

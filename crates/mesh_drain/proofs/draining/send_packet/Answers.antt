@@ -8,8 +8,8 @@ pub loop-next-init : goal.loop-next-init
 loop-next-init c = record {
   reached = reached_by c.args.mesh.now c.step.new.self (Inject c.args.vertex) tt c.in_ok-step.ensures.moves;
   under_way = begins c.args.mesh.now c.step.new.self c.args.vertex c.args.waiting.now.items c.push.new.self.items c.spots.result.now _
-      c.requires.kept c.requires.quiet c.requires.exists c.requires.some c.in_ok-step.ensures.moves c.spots.ensures c.requires.none c.in_ok-push.ensures.items;
-  unsent = begins_unsent c.args.mesh.now c.step.new.self c.args.vertex c.requires.kept c.requires.quiet c.requires.exists c.in_ok-step.ensures.moves;
+      c.requires.can.may.kept c.requires.can.may.quiet c.requires.can.exists c.requires.some c.in_ok-step.ensures.moves c.spots.ensures c.requires.can.none c.in_ok-push.ensures.items;
+  unsent = begins_unsent c.args.mesh.now c.step.new.self c.args.vertex c.requires.can.may.kept c.requires.can.may.quiet c.requires.can.exists c.in_ok-step.ensures.moves;
 }
 
 pub loop-next-preserved : goal.loop-next-preserved

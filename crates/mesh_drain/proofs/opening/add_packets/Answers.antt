@@ -12,30 +12,30 @@ loop-number-init c = record { opened = c.requires.none_yet }
 
 pub bounds-nets-net : goal.bounds-nets-net
 bounds-nets-net c =
-    (known c.args.mesh.now.setup.spots c.args.nets.now c.args.packets.now c.requires.of_nets c.requires.sources c.loop-number.number _ c.loop-number-test.true).net_within
+    (known c.args.mesh.now.setup.spots c.args.nets.now c.args.packets.now c.requires.listed.of_nets c.requires.listed.sources c.loop-number.number _ c.loop-number-test.true).net_within
 
 pub bounds-nets-net-in-loop-number : goal.bounds-nets-net-in-loop-number
 bounds-nets-net-in-loop-number c =
-    (known c.args.mesh.now.setup.spots c.args.nets.now c.args.packets.now c.requires.of_nets c.requires.sources c.loop-number.number _ c.loop-number-test.true).net_within
+    (known c.args.mesh.now.setup.spots c.args.nets.now c.args.packets.now c.requires.listed.of_nets c.requires.listed.sources c.loop-number.number _ c.loop-number-test.true).net_within
 
 pub first_copy-copy-requires : goal.first_copy-copy-requires
 first_copy-copy-requires c =
     let d : Packet = record { net = 0; index = 0; payload = None } in
-    let k = known c.args.mesh.now.setup.spots c.args.nets.now c.args.packets.now c.requires.of_nets c.requires.sources c.loop-number.number d c.loop-number-test.true in
+    let k = known c.args.mesh.now.setup.spots c.args.nets.now c.args.packets.now c.requires.listed.of_nets c.requires.listed.sources c.loop-number.number d c.loop-number-test.true in
     let p : Packet = slice_index_or c.args.packets.now c.loop-number.number d in
     subst (λ (n : NetPlan). n.block.key + p.index < 4294967296) (sym (get_or_from_slice_get c.args.nets.now p.net k.net c.index-nets-net.result k.is_net)) k.fits
 
 pub bounds-sources-net : goal.bounds-sources-net
 bounds-sources-net c =
     let d : Packet = record { net = 0; index = 0; payload = None } in
-    let k = known c.args.mesh.now.setup.spots c.args.nets.now c.args.packets.now c.requires.of_nets c.requires.sources c.loop-number.number d c.loop-number-test.true in
-    (listed_source c.args.mesh.now.setup.spots c.args.nets.now c.args.sources.now (slice_index_or c.args.packets.now c.loop-number.number d) 0 c.requires.vertices k).0
+    let k = known c.args.mesh.now.setup.spots c.args.nets.now c.args.packets.now c.requires.listed.of_nets c.requires.listed.sources c.loop-number.number d c.loop-number-test.true in
+    (listed_source c.args.mesh.now.setup.spots c.args.nets.now c.args.sources.now (slice_index_or c.args.packets.now c.loop-number.number d) 0 c.requires.listed.vertices k).0
 
 pub overflow_cast-sources : goal.overflow_cast-sources
 overflow_cast-sources c =
     let d : Packet = record { net = 0; index = 0; payload = None } in
-    let k = known c.args.mesh.now.setup.spots c.args.nets.now c.args.packets.now c.requires.of_nets c.requires.sources c.loop-number.number d c.loop-number-test.true in
-    let source = (listed_source c.args.mesh.now.setup.spots c.args.nets.now c.args.sources.now (slice_index_or c.args.packets.now c.loop-number.number d) 0 c.requires.vertices k).1 in
+    let k = known c.args.mesh.now.setup.spots c.args.nets.now c.args.packets.now c.requires.listed.of_nets c.requires.listed.sources c.loop-number.number d c.loop-number-test.true in
+    let source = (listed_source c.args.mesh.now.setup.spots c.args.nets.now c.args.sources.now (slice_index_or c.args.packets.now c.loop-number.number d) 0 c.requires.listed.vertices k).1 in
     let below = k.below in
     let few = few_in_mesh c.args.mesh.now c.every_mesh_is_one.ensures in
     omega (arith, source, below, few)
@@ -43,8 +43,8 @@ overflow_cast-sources c =
 pub add-requires-clause-exists : goal.add-requires-clause-exists
 add-requires-clause-exists c =
     let d : Packet = record { net = 0; index = 0; payload = None } in
-    let k = known c.args.mesh.now.setup.spots c.args.nets.now c.args.packets.now c.requires.of_nets c.requires.sources c.loop-number.number d c.loop-number-test.true in
-    let source = (listed_source c.args.mesh.now.setup.spots c.args.nets.now c.args.sources.now (slice_index_or c.args.packets.now c.loop-number.number d) 0 c.requires.vertices k).1 in
+    let k = known c.args.mesh.now.setup.spots c.args.nets.now c.args.packets.now c.requires.listed.of_nets c.requires.listed.sources c.loop-number.number d c.loop-number-test.true in
+    let source = (listed_source c.args.mesh.now.setup.spots c.args.nets.now c.args.sources.now (slice_index_or c.args.packets.now c.loop-number.number d) 0 c.requires.listed.vertices k).1 in
     let below = k.below in
     let same = ap (λ s. length s.setup.spots) c.loop-number.invariant.opened in
     omega (arith, source, below, same)
@@ -52,9 +52,9 @@ add-requires-clause-exists c =
 pub loop-number-preserved : goal.loop-number-preserved
 loop-number-preserved c =
     let d : Packet = record { net = 0; index = 0; payload = None } in
-    let k = known c.args.mesh.now.setup.spots c.args.nets.now c.args.packets.now c.requires.of_nets c.requires.sources c.loop-number.number d c.loop-number-test.true in
+    let k = known c.args.mesh.now.setup.spots c.args.nets.now c.args.packets.now c.requires.listed.of_nets c.requires.listed.sources c.loop-number.number d c.loop-number-test.true in
     record {
       opened = grows c.args.mesh.now.setup c.args.nets.now c.args.packets.now c.loop-number.number d c.index-nets-net.result (slice_index_or c.args.sources.now (slice_index_or c.args.packets.now c.loop-number.number d).net 0) c.first_copy-copy.result c.loop-number.mesh c.add.new.self
           k c.loop-number-test.true c.loop-number.invariant.opened c.first_copy-copy.ensures
-          (listed_source c.args.mesh.now.setup.spots c.args.nets.now c.args.sources.now (slice_index_or c.args.packets.now c.loop-number.number d) 0 c.requires.vertices k).1 c.in_ok-add.ensures.ok;
+          (listed_source c.args.mesh.now.setup.spots c.args.nets.now c.args.sources.now (slice_index_or c.args.packets.now c.loop-number.number d) 0 c.requires.listed.vertices k).1 c.in_ok-add.ensures.ok;
     }

@@ -1,8 +1,7 @@
-use Rattle.std.proofs.Common.{◌≡◌, sym, ap, subst, []}
-use Rattle.std.specs.List.{All, Contains}
-use Rattle.machine_desc.specs.declared.nets.NetPlan.{NetPlan}
+use Rattle.std.proofs.Common.{◌≡◌, sym, ap, subst, ◌∙◌, []}
 use Rattle.mesh_core.specs.State.{State, Setup}
 use Rattle.mesh_core.specs.Opened.{opened_mesh}
+use Rattle.mesh_drain.specs.Opening.{AreListed}
 use Rattle.mesh_drain.proofs.Opened.{opens}
 use Rattle.mesh_drain.proofs.opening.open_mesh.Goals as goal
 
@@ -10,6 +9,7 @@ pub add_packets-requires-clause-none_yet : goal.add_packets-requires-clause-none
 add_packets-requires-clause-none_yet c =
     subst (λ (s : State). s ≡ opened_mesh s.setup c.args.nets.now []) (sym c.in_ok-mesh.ensures) (opens c.args.setup c.args.nets.now)
 
-pub add_packets-requires-clause-sources : goal.add_packets-requires-clause-sources
-add_packets-requires-clause-sources c =
-    subst (λ (u : Setup). All (λ (net : NetPlan). Contains u.spots net.source) c.args.nets.now) (sym (ap (λ (s : State). s.setup) c.in_ok-mesh.ensures)) c.requires.sources
+pub add_packets-requires-clause-listed : goal.add_packets-requires-clause-listed
+add_packets-requires-clause-listed c =
+    subst (λ (u : Setup). AreListed u.spots c.args.nets.now c.args.packets.now c.as_slice.result.now) (sym (ap (λ (s : State). s.setup) c.in_ok-mesh.ensures))
+    (record { of_nets = c.requires.of_nets; sources = c.requires.sources; vertices = c.as_slice.ensures.value ∙ c.in_ok-sources.ensures })

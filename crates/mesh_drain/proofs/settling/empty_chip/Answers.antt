@@ -1,11 +1,8 @@
-use Rattle.mesh_drain.proofs.Moving.{after_none, after_then, kept_after}
+use Rattle.mesh_drain.proofs.Moving.{after_none, after_then}
 use Rattle.mesh_drain.proofs.settling.empty_chip.Goals as goal
 
 pub events-init : goal.events-init
 events-init c = after_none c.args.mesh.now
-
-pub move_on-requires-clause-kept : goal.move_on-requires-clause-kept
-move_on-requires-clause-kept c = kept_after c.args.mesh.now c.events.mesh c.requires c.events.invariant
 
 pub events-preserved : goal.events-preserved
 events-preserved c = after_then c.args.mesh.now c.events.mesh c.move_on.new.mesh c.events.invariant c.move_on.ensures.after

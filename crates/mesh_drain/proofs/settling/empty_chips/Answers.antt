@@ -1,14 +1,11 @@
 use Rattle.std.proofs.Common.{◌*◌, ap, ◌∙◌, sym, arith}
 use Rattle.machine_desc.specs.Description.{Description}
 use Rattle.mesh_core.specs.State.{Setup}
-use Rattle.mesh_drain.proofs.Moving.{after_none, after_then, kept_after, after_setup}
+use Rattle.mesh_drain.proofs.Moving.{after_none, after_then, after_setup}
 use Rattle.mesh_drain.proofs.settling.empty_chips.Goals as goal
 
 pub loop-index-init : goal.loop-index-init
 loop-index-init c = after_none c.args.mesh.now
-
-pub empty_chip-requires : goal.empty_chip-requires
-empty_chip-requires c = kept_after c.args.mesh.now c.loop-index.mesh c.requires c.loop-index.invariant
 
 pub loop-index-preserved : goal.loop-index-preserved
 loop-index-preserved c = after_then c.args.mesh.now c.loop-index.mesh c.empty_chip.new.mesh c.loop-index.invariant c.empty_chip.ensures

@@ -1,20 +1,12 @@
 use Rattle.std.proofs.Common.{arith}
 use Rattle.mesh_core.specs.Expected.{NothingWaits}
-use Rattle.mesh_drain.proofs.Moving.{after_then, after_lighter, kept_after, moved_on, kept_moved, waits_somewhere}
+use Rattle.mesh_drain.proofs.Moving.{after_then, after_lighter, moved_on, waits_somewhere}
 use Rattle.mesh_drain.proofs.settling.settle.Goals as goal
-
-pub move_on-requires-clause-kept : goal.move_on-requires-clause-kept
-move_on-requires-clause-kept c = kept_moved c.args.mesh.now c.sweeps.mesh c.requires c.sweeps.invariant.moved
-
-pub sweep-requires : goal.sweep-requires
-sweep-requires c =
-    kept_after c.sweeps.mesh c.move_on.new.mesh (kept_moved c.args.mesh.now c.sweeps.mesh c.requires c.sweeps.invariant.moved) c.move_on.ensures.after
 
 pub sweeps-smaller : goal.sweeps-smaller
 sweeps-smaller c =
-    let kept = kept_after c.sweeps.mesh c.move_on.new.mesh (kept_moved c.args.mesh.now c.sweeps.mesh c.requires c.sweeps.invariant.moved) c.move_on.ensures.after in
     let one = c.in_ok-move_on.ensures.lighter in
-    let all = after_lighter c.move_on.new.mesh c.sweep.new.mesh kept c.sweep.ensures in
+    let all = after_lighter c.move_on.new.mesh c.sweep.new.mesh c.every_mesh_is_one.ensures c.sweep.ensures in
     omega (arith, one, all)
 
 pub sweeps-preserved : goal.sweeps-preserved

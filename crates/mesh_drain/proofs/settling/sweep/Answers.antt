@@ -1,6 +1,6 @@
 use Rattle.std.proofs.Common.{◌<◌, length, ap, arith, subst}
-use Rattle.mesh_drain.proofs.Moving.{after_none, after_then, kept_after, there_after}
-use Rattle.mesh_drain.proofs.Packets.{few_spots}
+use Rattle.mesh_drain.proofs.Moving.{after_none, after_then, there_after}
+use Rattle.mesh_drain.proofs.Packets.{few_in_mesh}
 use Rattle.mesh_drain.proofs.settling.sweep.Goals as goal
 
 pub loop-vertex-init : goal.loop-vertex-init
@@ -8,24 +8,18 @@ loop-vertex-init c = after_none c.args.mesh.now
 
 pub overflow_cast-vertex : goal.overflow_cast-vertex
 overflow_cast-vertex c =
-    let few = few_spots c.args.mesh.now c.requires in
+    let few = few_in_mesh c.args.mesh.now c.every_mesh_is_one.ensures in
     let list = ap length c.spots-vertices.ensures in
     let below = c.loop-vertex-test.true in
     omega (arith, few, list, below)
 
-pub empty_core-requires-clause-kept : goal.empty_core-requires-clause-kept
-empty_core-requires-clause-kept c = kept_after c.args.mesh.now c.loop-vertex.mesh c.requires c.loop-vertex.invariant
-
-pub empty_core-requires-clause-exists : goal.empty_core-requires-clause-exists
-empty_core-requires-clause-exists c =
+pub empty_core-requires : goal.empty_core-requires
+empty_core-requires c =
     there_after c.args.mesh.now c.loop-vertex.mesh c.loop-vertex.vertex c.loop-vertex.invariant
     (subst (λ l. c.loop-vertex.vertex < length l) c.spots-vertices.ensures c.loop-vertex-test.true)
 
 pub loop-vertex-preserved : goal.loop-vertex-preserved
 loop-vertex-preserved c = after_then c.args.mesh.now c.loop-vertex.mesh c.empty_core.new.mesh c.loop-vertex.invariant c.empty_core.ensures
-
-pub empty_chips-requires : goal.empty_chips-requires
-empty_chips-requires c = kept_after c.args.mesh.now c.loop-vertex.mesh c.requires c.loop-vertex.invariant
 
 pub returns : goal.returns
 returns c = after_then c.args.mesh.now c.loop-vertex.mesh c.empty_chips.new.mesh c.loop-vertex.invariant c.empty_chips.ensures
