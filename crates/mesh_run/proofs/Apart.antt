@@ -47,6 +47,11 @@ pub outs_differ : AllPairs (λ a b. a ≢ b) all_outs
 unfolding link_outs core_outs
 outs_differ = numbered out_number 24 all_outs refl
 
+-- there are 24 outputs
+pub among_outs : (outs : List Out) (i : ℕ) → outs ≡ all_outs → i < 24 → i < length outs
+unfolding link_outs core_outs
+among_outs outs i are below = subst (λ (l : List Out). i < length l) (sym are) below
+
 pub ends_differ : (u : Setup) (c : Chip) (ends : List (Out × OutEnd)) → outs_with_ends ends ≡ filter (has_queue_behind u c) all_outs → AllPairs (λ a b. a ≢ b) (outs_with_ends ends)
 ends_differ u c ends are = subst (AllPairs (λ a b. a ≢ b)) (sym are) (AllPairs-filter (λ (a b : Out). a ≢ b) (has_queue_behind u c) all_outs outs_differ)
 

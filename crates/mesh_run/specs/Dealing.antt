@@ -2,14 +2,16 @@
 use Rattle.std.specs.Prelude.{◌≡◌, ◌⊎◌, ℕ, true, false, ◌*◌, ◌<◌, ◌≤◌, List, [], ◌∷◌, ◌++◌, filter, length, Option, None, Some, slice_get, slice_set, All, Contains}
 use Rattle.std.specs.List.{flat_map}
 use Rattle.spin_base.specs.declared.chips.Chip.{Chip}
+use Rattle.spin_base.specs.declared.chips.Port.{Port}
 use Rattle.spin_base.specs.declared.chips.Port.TheVariants.{Local}
+use Rattle.spin_base.specs.declared.routes.Out.{Out}
 use Rattle.spin_base.specs.declared.chips.Spot.{Spot}
 use Rattle.spin_base.specs.declared.copies.McCopy.{McCopy}
 use Rattle.spin_base.specs.declared.copies.Delivery.{Delivery}
 use Rattle.spin_base.specs.declared.copies.DumpRec.{DumpRec}
 use Rattle.spin_base.specs.Outputs.{all_outs}
 use Rattle.machine_desc.specs.Description.{Description}
-use Rattle.machine_desc.specs.Live.{chip_of, index_of, is_live_chip}
+use Rattle.machine_desc.specs.Live.{chip_of, index_of, is_live_chip, IsInside}
 use Rattle.link_queue.specs.declared.links.Tx.{Tx}
 use Rattle.link_queue.specs.declared.links.Rx.{Rx}
 use Rattle.chip_node.specs.declared.banks.CoreBank.{CoreBank}
@@ -23,9 +25,10 @@ use Rattle.mesh_run.specs.declared.actors.Actor.TheVariants.{Router, Bank}
 use Rattle.mesh_run.specs.declared.spaces.ActorSpace.{ActorSpace}
 use Rattle.mesh_run.specs.declared.spaces.RouterSpace.{RouterSpace}
 use Rattle.mesh_run.specs.declared.spaces.BankSpace.{BankSpace}
+use Rattle.mesh_run.specs.declared.rounds.Logs.{Logs}
 use Rattle.mesh_run.specs.declared.standing.Standing.{Standing}
 use Rattle.mesh_run.specs.Holders.{Pair, actors_of}
-use Rattle.mesh_run.specs.Lending.{has_queue_behind, IsThere, Lent, tx_of, txs_of, rxs_of, vertex_rxs, vertex_unsent, IsBehind, IsAtPort, IsOnChip}
+use Rattle.mesh_run.specs.Lending.{has_queue_behind, place_behind, vertex_place, HasVertexEnds, IsThere, Lent, tx_of, txs_of, rxs_of, vertex_rxs, vertex_unsent, IsBehind, IsAtPort, IsOnChip}
 
 -- ---- what actors hold
 
@@ -98,6 +101,11 @@ pub record IsSpaceOf (m : Description) (c : Chip) (k : ActorSpace) : Type 0 wher
   pub router : IsRouterSpace k.router
   pub bank : IsBankSpace k.bank
 
+-- the space of a chip of the machine
+pub record IsSpaceInside (m : Description) (k : ActorSpace) : Type 0 where
+  pub is : IsSpaceOf m k.chip k
+  pub inside : IsInside m k.chip
+
 -- empty logs with room for all that so many turns can log
 pub record HasLogs (turns : ℕ) (k : ActorSpace) : Type 0 where
   pub no_dumps : k.router.dumps.items ≡ []
@@ -136,6 +144,27 @@ pub record DealsChip (u : Setup) (patience : ℕ) (space : ActorSpace) (before a
 abbrev pub AreThere : {T : Type 0} → ℕ → List (Option T) → Type 0
 AreThere n slots = (p : ℕ) → p < n → IsThere slots p
 
+-- the ends of a chip's router are there
+pub record HasRouterEnds (u : Setup) (c : Chip) (s : Standing) : Type 0 where
+  pub inputs : (port : Port) → IsThere s.rxs.items (queue_at u.machine c port)
+  pub outputs : (o : Out) (p : ℕ) → place_behind u c o ≡ Some p → IsThere s.txs.items p
+
+-- the ends of a chip's bank are there, and what its vertices did not send
+pub record HasBankEnds (u : Setup) (c : Chip) (s : Standing) (unsent : List (List McCopy)) : Type 0 where
+  pub injection : IsThere s.txs.items (queue_at u.machine c Local)
+  pub vertices : HasVertexEnds u c s.rxs.items unsent
+
+-- both
+pub record HasEndsOf (u : Setup) (c : Chip) (s : Standing) (unsent : List (List McCopy)) : Type 0 where
+  pub router : HasRouterEnds u c s
+  pub bank : HasBankEnds u c s unsent
+
+-- all ends are there, and what each vertex did not send
+pub record HasAllEnds (u : Setup) (s : Standing) (unsent : List (List McCopy)) : Type 0 where
+  pub txs : AreThere (vertex_place u (length u.spots)) s.txs.items
+  pub rxs : AreThere (vertex_place u (length u.spots)) s.rxs.items
+  pub unsent_long : length unsent ≡ length u.spots
+
 -- ---- giving back
 
 -- these items put at their places
@@ -146,3 +175,11 @@ put_all xs (h ∷ hs) = put_all (slice_set xs h.0 h.1) hs
 -- all these places are within a list
 abbrev pub AreWithin : {X : Type 0} → List X → List (ℕ × X) → Type 0
 AreWithin xs held = All (λ h. h.0 < length xs) held
+
+-- What actors hold can be given back: the places are within the lists, and the logs have room for what was logged.
+pub record CanGiveBack (sending : List (ℕ × Option Tx)) (receiving : List (ℕ × Option Rx)) (copies : List (ℕ × List McCopy)) (deliveries : List Delivery) (dumps : List DumpRec) (s : Standing) (left : List (List McCopy)) (logs : Logs) : Type 0 where
+  pub txs : AreWithin s.txs.items sending
+  pub rxs : AreWithin s.rxs.items receiving
+  pub unsent : AreWithin left copies
+  pub delivered : length deliveries ≤ logs.delivered.spare
+  pub dumped : length dumps ≤ logs.dumped.spare

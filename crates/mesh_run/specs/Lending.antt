@@ -1,5 +1,5 @@
 -- Ends of links that are lent, each from the place of its link.
-use Rattle.std.specs.Prelude.{◌≡◌, ◌≢◌, ℕ, ◌+◌, ◌*◌, Bool, List, [], ◌∷◌, ◌++◌, length, map, Option, Some, None, is_some, MatchOption, All, AllPairs, slice_get}
+use Rattle.std.specs.Prelude.{◌≡◌, ◌≢◌, ℕ, ◌+◌, ◌*◌, ◌≤◌, Bool, List, [], ◌∷◌, ◌++◌, length, map, Option, Some, None, is_some, MatchOption, All, AllPairs, slice_get}
 use Rattle.spin_base.specs.declared.chips.Chip.{Chip}
 use Rattle.spin_base.specs.declared.chips.Port.{Port}
 use Rattle.spin_base.specs.declared.chips.Spot.{Spot}
@@ -56,6 +56,16 @@ pub record Lent {X : Type 0} (blank : X) (held : List (ℕ × X)) (before after 
   pub stood : All (λ h. slice_get before h.0 ≡ Some h.1) held
   pub gone : All (λ h. slice_get after h.0 ≡ Some blank) held
   pub others : (p : ℕ) → NotAt held p → slice_get after p ≡ slice_get before p
+
+-- nothing is in the room, and it has room for so many
+pub record IsRoomFor {X : Type 0} (count : ℕ) (items : List X) (free : ℕ) : Type 0 where
+  pub none_yet : items ≡ []
+  pub spare : count ≤ free
+
+-- the receiving ends of the queues of a chip's vertices are there, and each vertex has a list of what it did not send
+pub record HasVertexEnds (u : Setup) (c : Chip) (rxs : List (Option Rx)) (unsent : List (List McCopy)) : Type 0 where
+  pub vertices : (v : ℕ) (spot : Spot) → slice_get u.spots v ≡ Some spot → spot.chip ≡ c → IsThere rxs (vertex_place u v)
+  pub unsent_long : length unsent ≡ length u.spots
 
 -- an end with the place of its link
 abbrev pub tx_of : OutEnd → ℕ × Option Tx

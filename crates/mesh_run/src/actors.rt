@@ -17,6 +17,14 @@ pub enum Actor {
 
 impl Shared for Actor {}
 
+/// What actors share in a round: all links, the routers' tables by chip index, and who is fed by whom.
+#[derive(Clone, Copy)]
+pub(crate) struct Around<'a> {
+    pub links: &'a [Link],
+    pub tables: &'a [Tcam],
+    pub places: &'a ActorPlaces,
+}
+
 impl Actor {
     ghost use Rattle.mesh_run.specs.Acting.{IsReadyActor, PlaysOn};
 
@@ -24,24 +32,22 @@ impl Actor {
     pub(crate) fn turn<R: Wait>(
         &mut self,
         rt: &R,
-        links: &[Link],
-        tables: &[Tcam],
+        around: Around,
         number: u32,
-        actor_places: &ActorPlaces,
         k: usize,
         awake: &mut Awake,
     )
-        requires { IsReadyActor links.now tables.now 1 self.old }
-        ensures { PlaysOn links.now tables.now 1 self.old self.new }
+        requires { IsReadyActor around.links.now around.tables.now 1 self.old }
+        ensures { PlaysOn around.entry.links.now around.entry.tables.now 1 self.old self.new }
     {
         match self {
             Actor::Router(index, node) => {
-                let served = node.turn(rt, links, &tables[*index as usize], number);
-                awake.note_router(actor_places, k, node, &served);
+                let served = node.turn(rt, around.links, &around.tables[*index as usize], number);
+                awake.note_router(around.places, k, node, &served);
             }
             Actor::Bank(bank) => {
-                let turn = bank.turn(rt, links, number);
-                awake.note_bank(actor_places, k, turn);
+                let turn = bank.turn(rt, around.links, number);
+                awake.note_bank(around.places, k, turn);
             }
         }
     }

@@ -4,7 +4,7 @@ ghost use Rattle.link_queue.specs.declared.links.LinkEnds.{LinkEnds};
 ghost use Rattle.mesh_run.specs.Standing.{HoldsAll};
 ghost use Rattle.mesh_run.specs.Queues.{AreUp};
 
-use crate::queues::bring_up;
+use crate::queues::{Places, bring_up};
 use crate::standing::{Standing, last_of};
 use spin_base::{Fifo, McCopy, Memory};
 use std::alloc::Global;
@@ -18,22 +18,20 @@ pub(crate) fn links_of<R: Wait>(
     alloc: Global,
     inputs: &mut Vec<Fifo<McCopy>>,
     cores: &mut Vec<Fifo<McCopy>>,
-    cap: u32,
-    turns: u32,
+    places: Places,
 ) -> Result<Standing, Memory>
-    requires some { 0 < cap }
-    requires inputs_fit { All (λ q. length q ≤ cap) inputs.old.items }
-    requires cores_fit { All (λ q. length q ≤ cap) cores.old.items }
+    requires inputs_fit { All (λ q. length q ≤ places.cap) inputs.old.items }
+    requires cores_fit { All (λ q. length q ≤ places.cap) cores.old.items }
     ensures cores_long { length cores.new.items ≡ length cores.old.items }
     ensures long { OnOk result (length inputs.new.items
         ≡ length inputs.old.items + length cores.old.items) }
     ensures up { IfOk result (λ s. (ends : List LinkEnds) × HoldsAll ends s
-        × AreUp cap (turns + 1) (inputs.old.items ++ cores.old.items) ends) }
+        × AreUp places.cap (places.turns + 1) (inputs.old.items ++ cores.old.items) ends) }
     ensures inputs_back { OnErr result (inputs.new.items ≡ inputs.old.items) }
     ensures cores_back { OnErr result (cores.new.items ≡ cores.old.items) }
 {
     gather(alloc, inputs, cores)?;
-    match bring_up(rt, alloc, inputs, cap, turns) {
+    match bring_up(rt, alloc, inputs, places) {
         Ok(standing) => {
             forget(alloc, inputs);
             Ok(standing)

@@ -1,25 +1,24 @@
 // Ends of links lent to the actors of a chip.
-ghost use Rattle.std.specs.Prelude.{◌≡◌, ◌≢◌, ℕ, ◌+◌, ◌*◌, ◌<◌, ◌≤◌, ◌^◌, [], ◌∷◌, ◌++◌, Some, None, All, AllPairs, Contains, filter, length, map, slice_get};
+ghost use Rattle.std.specs.Prelude.{◌≡◌, ℕ, ◌+◌, ◌*◌, ◌<◌, ◌≤◌, ◌^◌, [], ◌∷◌, ◌++◌, Some, None, All, Contains, filter, length, map, slice_get};
 ghost use Rattle.spin_base.specs.declared.chips.Spot.{Spot};
 ghost use Rattle.spin_base.specs.declared.chips.Port.{Port};
 ghost use Rattle.spin_base.specs.declared.chips.Port.TheVariants.{Local};
 ghost use Rattle.spin_base.specs.declared.routes.Out.{Out};
 ghost use Rattle.spin_base.specs.Outputs.{all_outs};
 ghost use Rattle.mesh_core.specs.Ledger.{all_ports};
-ghost use Rattle.machine_desc.specs.Live.{IsInside};
 ghost use Rattle.chip_node.specs.Numbers.{vertex_numbers_of};
 ghost use Rattle.chip_node.specs.Serving.{ports_of, outs_with_ends};
 ghost use Rattle.mesh_core.specs.State.{queue_at};
-ghost use Rattle.mesh_run.specs.Lending.{place_behind, has_queue_behind, vertex_place, IsSetup, IsThere, Lent, LendsOut, tx_of, rx_of, txs_of, rxs_of, vertex_rxs, vertex_unsent, IsBehind, IsAtPort, IsOnChip};
+ghost use Rattle.mesh_run.specs.Lending.{place_behind, has_queue_behind, vertex_place, IsRoomFor, IsThere, HasVertexEnds, Lent, LendsOut, tx_of, rx_of, txs_of, rxs_of, vertex_rxs, vertex_unsent, IsBehind, IsAtPort, IsOnChip};
 ghost use Rattle.machine_desc.specs.NetsOn.{vertex_at};
 ghost use Rattle.mesh_run.specs.Vertices.{LendsVertex};
 
+use crate::seats::{Seat, every_setup_is_one};
 use crate::standing::take_at;
 use chip_node::{BankVertex, InEnd, OutEnd};
 use link_queue::{Rx, Tx};
-use machine_desc::Machine;
 use mesh_core::{MeshSetup, Queue};
-use spin_base::{Chip, Dir, Fifo, McCopy, Out, Port, Room, Spot};
+use spin_base::{Dir, Fifo, McCopy, Out, Port, Room, Spot};
 use std::alloc::Global;
 use std::mem;
 
@@ -73,14 +72,13 @@ pub(crate) fn chip_outs() -> [Out; OUT_COUNT]
 }
 
 /// The place of the queue behind an output among all queues, where there is one.
-fn place_behind(setup: &MeshSetup, chip: Chip, out: Out) -> Option<u32>
-    requires inside { IsInside setup.now.machine chip }
-    requires setup { IsSetup setup.now }
-    ensures { result ≡ place_behind setup.now chip out }
+fn place_behind(seat: Seat, out: Out) -> Option<u32>
+    ensures { result ≡ place_behind seat.entry.setup.now seat.entry.chip out }
 {
-    match setup.behind(chip, out) {
+    every_setup_is_one(seat.setup);
+    match seat.setup.behind(seat.chip, out) {
         Queue::Input(place) => Some(place as u32),
-        Queue::Core(vertex) => Some(vertex_place(setup, vertex)),
+        Queue::Core(vertex) => Some(vertex_place(seat.setup, vertex)),
         Queue::Nowhere => None,
     }
 }
@@ -93,96 +91,69 @@ fn lend_end<T>(ends: &mut Vec<Option<T>>, place: u32) -> T
     take_at(ends, place as usize)
 }
 
-/// The sending ends of the queues behind these outputs of a chip.
-pub(crate) fn lend_outputs(
-    txs: &mut Vec<Option<Tx>>,
-    setup: &MeshSetup,
-    chip: Chip,
-    outs: &[Out],
-    outputs: &mut Room<(Out, OutEnd)>,
-)
-    requires inside { IsInside setup.now.machine chip }
-    requires setup { IsSetup setup.now }
-    requires none_yet { outputs.old.items ≡ [] }
-    requires spare { length outs.now ≤ outputs.old.spare }
-    requires different { AllPairs (λ a b. a ≢ b) outs.now }
-    requires there { (o : Out) (p : ℕ) → Contains outs.now o
-        → place_behind setup.now chip o ≡ Some p → IsThere txs.old.items p }
-    requires apart { (a b : Out) (p : ℕ) → Contains outs.now a → Contains outs.now b
-        → place_behind setup.now chip a ≡ Some p → place_behind setup.now chip b ≡ Some p → a ≡ b }
+/// The sending ends of the queues behind a chip's outputs.
+pub(crate) fn lend_outputs(txs: &mut Vec<Option<Tx>>, seat: Seat, outputs: &mut Room<(Out, OutEnd)>)
+    requires room { IsRoomFor 24 outputs.old.items outputs.old.spare }
+    requires there { (o : Out) (p : ℕ)
+        → place_behind seat.setup.now seat.chip o ≡ Some p → IsThere txs.old.items p }
     ensures outs { outs_with_ends outputs.new.items
-        ≡ filter (has_queue_behind setup.now chip) outs.now }
-    ensures places { All (IsBehind setup.now chip) outputs.new.items }
+        ≡ filter (has_queue_behind seat.entry.setup.now seat.entry.chip) all_outs }
+    ensures places { All (IsBehind seat.entry.setup.now seat.entry.chip) outputs.new.items }
     ensures lent { Lent None (txs_of outputs.new.items) txs.old.items txs.new.items }
 {
-    for out in outs {
-        lend_output(txs, setup, chip, *out, outputs);
+    let outs = chip_outs();
+    for out in &outs {
+        lend_output(txs, seat, *out, outputs);
     }
 }
 
 // The sending end of the queue behind an output, where there is one.
-fn lend_output(
-    txs: &mut Vec<Option<Tx>>,
-    setup: &MeshSetup,
-    chip: Chip,
-    out: Out,
-    outputs: &mut Room<(Out, OutEnd)>,
-)
-    requires inside { IsInside setup.now.machine chip }
-    requires setup { IsSetup setup.now }
+fn lend_output(txs: &mut Vec<Option<Tx>>, seat: Seat, out: Out, outputs: &mut Room<(Out, OutEnd)>)
     requires spare { 1 ≤ outputs.old.spare }
-    requires there { (p : ℕ) → place_behind setup.now chip out ≡ Some p → IsThere txs.old.items p }
-    ensures lends { LendsOut setup.now chip out txs.old.items txs.new.items outputs.old.items
-        outputs.new.items }
+    requires there { (p : ℕ) → place_behind seat.setup.now seat.chip out ≡ Some p
+        → IsThere txs.old.items p }
+    ensures lends { LendsOut seat.entry.setup.now seat.entry.chip out txs.old.items txs.new.items
+        outputs.old.items outputs.new.items }
     ensures spare { outputs.old.spare ≤ outputs.new.spare + 1 }
 {
-    if let Some(place) = place_behind(setup, chip, out) {
+    if let Some(place) = place_behind(seat, out) {
         let tx = lend_end(txs, place);
         outputs.put((out, OutEnd { link: place, tx }));
     }
 }
 
 // The place of a port's input queue.
-fn input_place(machine: &Machine, chip: Chip, port: Port) -> u32
-    requires { IsInside machine.now chip }
-    ensures { result ≡ queue_at machine.now chip port }
+fn input_place(seat: Seat, port: Port) -> u32
+    ensures { result ≡ queue_at seat.entry.setup.now.machine seat.entry.chip port }
 {
-    Port::COUNT * machine.index(chip) + u32::from(port.number())
+    Port::COUNT * seat.setup.machine().index(seat.chip) + u32::from(port.number())
 }
 
-/// The receiving ends of the input queues of these ports of a chip.
-pub(crate) fn lend_inputs(
-    rxs: &mut Vec<Option<Rx>>,
-    machine: &Machine,
-    chip: Chip,
-    ports: &[Port],
-    inputs: &mut Room<(Port, InEnd)>,
-)
-    requires inside { IsInside machine.now chip }
-    requires none_yet { inputs.old.items ≡ [] }
-    requires spare { length ports.now ≤ inputs.old.spare }
-    requires different { AllPairs (λ a b. a ≢ b) ports.now }
-    requires there { (port : Port) → Contains ports.now port
-        → IsThere rxs.old.items (queue_at machine.now chip port) }
-    ensures ports { ports_of inputs.new.items ≡ ports.now }
-    ensures places { All (IsAtPort machine.now chip) inputs.new.items }
+/// The receiving ends of the input queues of a chip's ports.
+pub(crate) fn lend_inputs(rxs: &mut Vec<Option<Rx>>, seat: Seat, inputs: &mut Room<(Port, InEnd)>)
+    requires room { IsRoomFor 7 inputs.old.items inputs.old.spare }
+    requires there { (port : Port)
+        → IsThere rxs.old.items (queue_at seat.setup.now.machine seat.chip port) }
+    ensures ports { ports_of inputs.new.items ≡ all_ports }
+    ensures places { All (IsAtPort seat.entry.setup.now.machine seat.entry.chip) inputs.new.items }
     ensures lent { Lent None (rxs_of inputs.new.items) rxs.old.items rxs.new.items }
 {
-    for port in ports {
-        let link = input_place(machine, chip, *port);
+    let ports = chip_ports();
+    for port in &ports {
+        let link = input_place(seat, *port);
         let rx = lend_end(rxs, link);
         inputs.put((*port, InEnd { link, rx }));
     }
 }
 
 /// The sending end of a chip's injection queue.
-pub(crate) fn lend_inject(txs: &mut Vec<Option<Tx>>, machine: &Machine, chip: Chip) -> OutEnd
-    requires inside { IsInside machine.now chip }
-    requires there { IsThere txs.old.items (queue_at machine.now chip Local) }
-    ensures place { result.link ≡ queue_at machine.now chip Local }
+pub(crate) fn lend_inject(txs: &mut Vec<Option<Tx>>, seat: Seat) -> OutEnd
+    requires { IsThere txs.old.items
+        (queue_at seat.setup.now.machine seat.chip Local) }
+    ensures place { result.link ≡ queue_at seat.entry.setup.now.machine seat.entry.chip Local }
     ensures lent { Lent None (tx_of result ∷ []) txs.old.items txs.new.items }
 {
-    let link = input_place(machine, chip, Port::Local);
+    let link = input_place(seat, Port::Local);
     let tx = lend_end(txs, link);
     OutEnd { link, tx }
 }
@@ -192,50 +163,50 @@ pub(crate) fn lend_vertices(
     alloc: Global,
     rxs: &mut Vec<Option<Rx>>,
     unsent: &mut Vec<Fifo<McCopy>>,
-    setup: &MeshSetup,
-    chip: Chip,
+    seat: Seat,
     vertices: &mut Room<BankVertex>,
 )
-    requires setup { IsSetup setup.now }
-    requires inside { IsInside setup.now.machine chip }
-    requires none_yet { vertices.old.items ≡ [] }
-    requires spare { 24 ≤ vertices.old.spare }
-    requires unsent_long { length unsent.old.items ≡ length setup.now.spots }
-    requires there { (v : ℕ) (spot : Spot) → slice_get setup.now.spots v ≡ Some spot
-        → spot.chip ≡ chip → IsThere rxs.old.items (vertex_place setup.now v) }
-    ensures each { All (IsOnChip setup.now chip) vertices.new.items }
-    ensures all { (v : ℕ) (spot : Spot) → slice_get setup.now.spots v ≡ Some spot → spot.chip ≡ chip
-        → Contains (vertex_numbers_of vertices.new.items) v }
+    requires room { IsRoomFor 24 vertices.old.items vertices.old.spare }
+    requires ends { HasVertexEnds seat.setup.now seat.chip rxs.old.items
+        unsent.old.items }
+    ensures each { All (IsOnChip seat.entry.setup.now seat.entry.chip) vertices.new.items }
+    ensures all { (v : ℕ) (spot : Spot) → slice_get seat.entry.setup.now.spots v ≡ Some spot
+        → spot.chip ≡ seat.entry.chip → Contains (vertex_numbers_of vertices.new.items) v }
     ensures rxs { Lent None (vertex_rxs vertices.new.items) rxs.old.items rxs.new.items }
     ensures unsent { Lent [] (vertex_unsent vertices.new.items) unsent.old.items unsent.new.items }
 {
+    every_setup_is_one(seat.setup);
     for core in 0..VERTEX_COUNT {
-        lend_vertex(alloc, rxs, unsent, setup, Spot { chip, core }, vertices);
+        lend_vertex(alloc, rxs, unsent, seat, core, vertices);
     }
 }
 
-// The vertex on a spot, where there is one.
+// The vertex on a chip's core, or the device on its link, where there is one.
 fn lend_vertex(
     alloc: Global,
     rxs: &mut Vec<Option<Rx>>,
     unsent: &mut Vec<Fifo<McCopy>>,
-    setup: &MeshSetup,
-    spot: Spot,
+    seat: Seat,
+    core: u8,
     vertices: &mut Room<BankVertex>,
 )
-    requires setup { IsSetup setup.now }
-    requires inside { IsInside setup.now.machine spot.chip }
-    requires numbered { spot.core < 24 }
+    requires numbered { core < 24 }
     requires spare { 1 ≤ vertices.old.spare }
-    requires unsent_long { length unsent.old.items ≡ length setup.now.spots }
-    requires there { (v : ℕ) → vertex_at setup.now.spots spot ≡ Some v
-        → IsThere rxs.old.items (vertex_place setup.now v) }
-    ensures lends { LendsVertex setup.now spot rxs.old.items rxs.new.items unsent.old.items
+    requires unsent_long { length unsent.old.items ≡ length seat.setup.now.spots }
+    requires there { (v : ℕ) → vertex_at seat.setup.now.spots
+        (record { chip = seat.chip; core = core }) ≡ Some v
+        → IsThere rxs.old.items (vertex_place seat.setup.now v) }
+    ensures lends { LendsVertex seat.entry.setup.now (record { chip = seat.entry.chip; core = core })
+        rxs.old.items rxs.new.items unsent.old.items
         unsent.new.items vertices.old.items vertices.new.items }
     ensures spare { vertices.old.spare ≤ vertices.new.spare + 1 }
 {
-    if let Some(vertex) = setup.vertex_at(spot) {
-        let link = vertex_place(setup, vertex);
+    let spot = Spot {
+        chip: seat.chip,
+        core,
+    };
+    if let Some(vertex) = seat.setup.vertex_at(spot) {
+        let link = vertex_place(seat.setup, vertex);
         let rx = lend_end(rxs, link);
         let unsent = mem::replace(&mut unsent[vertex], Fifo::new(alloc));
         vertices.put(BankVertex {
@@ -248,9 +219,9 @@ fn lend_vertex(
 
 // The place of a vertex's queue among all queues.
 fn vertex_place(setup: &MeshSetup, vertex: usize) -> u32
-    requires setup { IsSetup setup.now }
-    requires there { vertex < length setup.now.spots }
+    requires { vertex < length setup.now.spots }
     ensures { result ≡ vertex_place setup.now vertex }
 {
+    every_setup_is_one(setup);
     (Port::COUNT as usize * setup.machine().chips() + vertex) as u32
 }

@@ -20,22 +20,40 @@ pub(crate) struct Rested {
     pub free: usize,
 }
 
+/// For what links have places: the capacity of their queues, and so many turns of a round.
+#[derive(Clone, Copy)]
+pub(crate) struct Places {
+    pub cap: u32,
+    pub turns: u32,
+    ghost some: { 0 < cap },
+}
+
+impl Places {
+    // The places of a link that holds so many copies of a queue. Turns of a round bring it at most one copy each, so with one
+    // place more than that it is full exactly when its queue is: never, or where it has as many places. Twice as many, so that a
+    // queue that grows seldom asks for another link. All places are made with a link, used or not.
+    fn for_held(self, held: usize) -> u32
+        requires { held ≤ self.cap }
+        ensures { result ≡ places_for self.cap self.turns held }
+    {
+        u64::from(self.cap).min(2 * (held as u64 + u64::from(self.turns) + 1)) as u32
+    }
+}
+
 /// A link for each queue, at its place, with the queue as its first list, and with places for a round of so many turns.
 pub(crate) fn bring_up<R: Wait>(
     rt: &R,
     alloc: Global,
     queues: &[Fifo<McCopy>],
-    cap: u32,
-    turns: u32,
+    places: Places,
 ) -> Result<Standing, Memory>
-    requires some { 0 < cap }
-    requires fit { All (λ q. length q ≤ cap) queues.now }
+    requires { All (λ q. length q ≤ places.cap) queues.now }
     ensures { IfOk result (λ s. (ends : List LinkEnds) × HoldsAll ends s
-        × AreUp cap (turns + 1) queues.now ends) }
+        × AreUp places.cap (places.turns + 1) queues.now ends) }
 {
     let mut rising = Rising::over(alloc, queues.len())?;
     for place in 0..queues.len() {
-        raise_link(rt, alloc, &mut rising, queues[place].as_slice(), cap, turns)?;
+        raise_link(rt, alloc, &mut rising, queues[place].as_slice(), places)?;
     }
     Ok(rising.into_standing())
 }
@@ -46,17 +64,15 @@ fn raise_link<R: Wait>(
     alloc: Global,
     rising: &mut Rising,
     queue: &[McCopy],
-    cap: u32,
-    turns: u32,
+    places: Places,
 ) -> Result<(), Memory>
-    requires some { 0 < cap }
-    requires fits { length queue.now ≤ cap }
+    requires fits { length queue.now ≤ places.cap }
     requires room { (before : List LinkEnds) × (spare : ℕ) × RisenTo before (spare + 1) rising.old }
-    ensures { OnOk result (RaisesLink cap (turns + 1) queue.now rising.old rising.new) }
+    ensures { OnOk result (RaisesLink places.cap (places.turns + 1) queue.now rising.old rising.new) }
 {
     let list = copied(alloc, queue)?;
-    let places = link_places(cap, turns, list.len());
-    match link_up(rt, alloc, list, places) {
+    let cap = places.for_held(list.len());
+    match link_up(rt, alloc, list, cap) {
         Ok(ends) => {
             rising.put(ends);
             Ok(())
@@ -70,16 +86,6 @@ fn copied(alloc: Global, list: &[McCopy]) -> Result<Seq<McCopy>, Memory>
     ensures { IfOk result (λ copy. copy ≡ list.now) }
 {
     Ok(Seq::from_vec(Vec::from_slice(alloc, list)?))
-}
-
-// The places of a link that holds so many copies of a queue. Turns of a round bring it at most one copy each, so with one place
-// more than that it is full exactly when its queue is: never, or where it has as many places. Twice as many, so that a queue that
-// grows seldom asks for another link. All places are made with a link, used or not.
-fn link_places(cap: u32, turns: u32, held: usize) -> u32
-    requires { held ≤ cap }
-    ensures { result ≡ places_for cap turns held }
-{
-    u64::from(cap).min(2 * (held as u64 + u64::from(turns) + 1)) as u32
 }
 
 /// All links rest: each keeps what it holds.
@@ -128,19 +134,17 @@ pub(crate) fn widen_all<R: Wait>(
     rt: &R,
     alloc: Global,
     standing: &mut Standing,
-    cap: u32,
-    turns: u32,
+    places: Places,
 ) -> Result<(), Memory>
-    requires some { 0 < cap }
-    requires up { (ends : List LinkEnds) × HoldsAll ends standing.old
-        × AreUp cap 0 (map queue_of_link ends) ends }
+    requires { (ends : List LinkEnds) × HoldsAll ends standing.old
+        × AreUp places.cap 0 (map queue_of_link ends) ends }
     ensures wide { OnOk result ((ends : List LinkEnds) → HoldsAll ends standing.old
-        → StayUp cap (turns + 1) ends standing.new) }
+        → StayUp places.cap (places.turns + 1) ends standing.new) }
     ensures back { OnErr result ((ends : List LinkEnds) → HoldsAll ends standing.old
-        → StayUp cap 0 ends standing.new) }
+        → StayUp places.cap 0 ends standing.new) }
 {
     for place in 0..standing.links.len() {
-        widen_at(rt, alloc, standing, place, cap, turns)?;
+        widen_at(rt, alloc, standing, place, places)?;
     }
     Ok(())
 }
@@ -151,27 +155,25 @@ fn widen_at<R: Wait>(
     alloc: Global,
     standing: &mut Standing,
     place: usize,
-    cap: u32,
-    turns: u32,
+    places: Places,
 ) -> Result<(), Memory>
-    requires some { 0 < cap }
-    requires up { (ends : List LinkEnds) × (old : LinkEnds) × HoldsAll ends standing.old
-        × (slice_get ends place ≡ Some old) × IsUp cap 0 (queue_of_link old) old }
+    requires { (ends : List LinkEnds) × (old : LinkEnds) × HoldsAll ends standing.old
+        × (slice_get ends place ≡ Some old) × IsUp places.cap 0 (queue_of_link old) old }
     ensures wide { OnOk result ((ends : List LinkEnds) (old : LinkEnds) → HoldsAll ends standing.old
-        → slice_get ends place ≡ Some old → IsUp cap 0 (queue_of_link old) old
-        → UpAt cap (turns + 1) ends place (queue_of_link old) standing.new) }
+        → slice_get ends place ≡ Some old → IsUp places.cap 0 (queue_of_link old) old
+        → UpAt places.cap (places.turns + 1) ends place (queue_of_link old) standing.new) }
     ensures back { OnErr result ((ends : List LinkEnds) (old : LinkEnds)
         → HoldsAll ends standing.old → slice_get ends place ≡ Some old
-        → IsUp cap 0 (queue_of_link old) old
-        → UpAt cap 0 ends place (queue_of_link old) standing.new) }
+        → IsUp places.cap 0 (queue_of_link old) old
+        → UpAt places.cap 0 ends place (queue_of_link old) standing.new) }
 {
     let held = rest_at(rt, standing, place);
-    let places = standing.links[place].places();
-    if (turns as usize) < free_places(places, held, cap) {
+    let has = standing.links[place].places();
+    if (places.turns as usize) < free_places(has, held, places.cap) {
         return Ok(());
     }
     let (tx, rx) = standing.take_ends(place);
-    let wider = link_places(cap, turns, held);
+    let wider = places.for_held(held);
     let resting = AtRest {
         link: &standing.links[place],
         tx,

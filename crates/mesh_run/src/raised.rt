@@ -7,8 +7,8 @@ ghost use Rattle.mesh_run.specs.Queues.{is_empty};
 ghost use Rattle.mesh_run.specs.Raised.{IsRaised, has_none, mesh_of};
 
 use crate::gathering::{links_of, scatter};
-use crate::queues::{bring_down, rest_all, widen_all};
-use crate::rounds::{Logs, Pace, play_links};
+use crate::queues::{Places, bring_down, rest_all, widen_all};
+use crate::rounds::{Logs, Pace, Round, Stage, play_links};
 use crate::spaces::live_spaces;
 use crate::standing::{Standing, room_for};
 use mesh_core::{Hand, MeshParts, MeshSetup};
@@ -54,7 +54,8 @@ impl RaisedMesh {
     {
         let mut parts = parts;
         let cap = parts.setup.capacity();
-        match links_of(rt, alloc, &mut parts.inputs, &mut parts.cores, cap, turns) {
+        let places = Places { cap, turns };
+        match links_of(rt, alloc, &mut parts.inputs, &mut parts.cores, places) {
             Ok(mut standing) => {
                 let rested = rest_all(rt, &mut standing, cap);
                 let MeshParts {
@@ -114,19 +115,21 @@ impl RaisedMesh {
         };
         let cap = raised.setup.capacity();
         match Logs::over(raised.delivered, raised.dumped, spaces.len(), pace.turns) {
-            Ok(mut logs) => {
-                play_links(
-                    rt,
+            Ok(logs) => {
+                let stage = Stage {
                     alloc,
-                    &raised.setup,
                     spaces,
                     actors,
+                    logs,
+                };
+                let round = Round { pace, number, gate };
+                let logs = play_links(
+                    rt,
+                    &raised.setup,
+                    stage,
                     &mut raised.standing,
                     &mut raised.unsent,
-                    &mut logs,
-                    pace,
-                    number,
-                    gate,
+                    &round,
                 );
                 let rested = rest_all(rt, &mut raised.standing, cap);
                 (raised.delivered, raised.dumped) = logs.into_lists();
@@ -163,7 +166,8 @@ impl RaisedMesh {
             return Ok(raised);
         }
         let cap = raised.setup.capacity();
-        match widen_all(rt, alloc, &mut raised.standing, cap, turns) {
+        let places = Places { cap, turns };
+        match widen_all(rt, alloc, &mut raised.standing, places) {
             Ok(()) => {
                 raised.free = turns_in_all + 1;
                 Ok(raised)

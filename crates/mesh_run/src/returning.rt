@@ -2,13 +2,14 @@
 ghost use Rattle.std.specs.Prelude.{◌≡◌, ℕ, ◌+◌, ◌<◌, ◌≤◌, ◌++◌, [], ◌∷◌, Some, length};
 ghost use Rattle.std.specs.List.{flat_map};
 ghost use Rattle.mesh_run.specs.Lending.{rxs_of, txs_of, vertex_rxs, vertex_unsent};
-ghost use Rattle.mesh_run.specs.Dealing.{AreWithin, delivered_in, dumped_in, put_all, rxs_in, txs_in, unsent_in};
+ghost use Rattle.mesh_run.specs.Dealing.{AreWithin, CanGiveBack, delivered_in, dumped_in, put_all, rxs_in, txs_in, unsent_in};
 
 use crate::actors::Actor;
+use crate::rounds::Logs;
 use crate::standing::Standing;
 use chip_node::{BankVertex, CoreBank, InEnd, OutEnd, RouterNode};
 use link_queue::{Rx, Tx};
-use spin_base::{Delivery, DumpRec, Fifo, McCopy, Out, Port, Room, Seq};
+use spin_base::{Fifo, McCopy, Out, Port, Room, Seq};
 
 /// Takes all actors apart: ends go back to their links, copies that are not sent to their vertices, and logs to the
 /// lists of the mesh, in the order of the actors.
@@ -16,14 +17,11 @@ pub(crate) fn return_actors(
     actors: Vec<Actor>,
     standing: &mut Standing,
     unsent: &mut Vec<Fifo<McCopy>>,
-    delivered: &mut Room<Delivery>,
-    dumped: &mut Room<DumpRec>,
+    logs: &mut Logs,
 )
-    requires txs { AreWithin standing.old.txs.items (flat_map txs_in actors.items) }
-    requires rxs { AreWithin standing.old.rxs.items (flat_map rxs_in actors.items) }
-    requires unsent { AreWithin unsent.old.items (flat_map unsent_in actors.items) }
-    requires delivered { length (flat_map delivered_in actors.items) ≤ delivered.old.spare }
-    requires dumped { length (flat_map dumped_in actors.items) ≤ dumped.old.spare }
+    requires { CanGiveBack (flat_map txs_in actors.items) (flat_map rxs_in actors.items)
+        (flat_map unsent_in actors.items) (flat_map delivered_in actors.items)
+        (flat_map dumped_in actors.items) standing.old unsent.old.items logs.old }
     ensures links { standing.new.links ≡ standing.old.links }
     ensures rooms { standing.new.rooms ≡ standing.old.rooms }
     ensures txs { standing.new.txs.items
@@ -31,12 +29,13 @@ pub(crate) fn return_actors(
     ensures rxs { standing.new.rxs.items
         ≡ put_all standing.old.rxs.items (flat_map rxs_in actors.items) }
     ensures unsent { unsent.new.items ≡ put_all unsent.old.items (flat_map unsent_in actors.items) }
-    ensures delivered { delivered.new.items
-        ≡ delivered.old.items ++ flat_map delivered_in actors.items }
-    ensures dumped { dumped.new.items ≡ dumped.old.items ++ flat_map dumped_in actors.items }
+    ensures delivered { logs.new.delivered.items
+        ≡ logs.old.delivered.items ++ flat_map delivered_in actors.items }
+    ensures dumped { logs.new.dumped.items
+        ≡ logs.old.dumped.items ++ flat_map dumped_in actors.items }
 {
     for actor in actors {
-        return_actor(actor, standing, unsent, delivered, dumped);
+        return_actor(actor, standing, unsent, logs);
     }
 }
 
@@ -45,38 +44,36 @@ fn return_actor(
     actor: Actor,
     standing: &mut Standing,
     unsent: &mut Vec<Fifo<McCopy>>,
-    delivered: &mut Room<Delivery>,
-    dumped: &mut Room<DumpRec>,
+    logs: &mut Logs,
 )
-    requires txs { AreWithin standing.old.txs.items (txs_in actor) }
-    requires rxs { AreWithin standing.old.rxs.items (rxs_in actor) }
-    requires unsent { AreWithin unsent.old.items (unsent_in actor) }
-    requires delivered { length (delivered_in actor) ≤ delivered.old.spare }
-    requires dumped { length (dumped_in actor) ≤ dumped.old.spare }
+    requires { CanGiveBack (txs_in actor) (rxs_in actor) (unsent_in actor) (delivered_in actor)
+        (dumped_in actor) standing.old unsent.old.items logs.old }
     ensures links { standing.new.links ≡ standing.old.links }
     ensures rooms { standing.new.rooms ≡ standing.old.rooms }
     ensures txs { standing.new.txs.items ≡ put_all standing.old.txs.items (txs_in actor) }
     ensures rxs { standing.new.rxs.items ≡ put_all standing.old.rxs.items (rxs_in actor) }
     ensures unsent { unsent.new.items ≡ put_all unsent.old.items (unsent_in actor) }
-    ensures delivered { delivered.new.items ≡ delivered.old.items ++ delivered_in actor }
-    ensures dumped { dumped.new.items ≡ dumped.old.items ++ dumped_in actor }
-    ensures delivered_spare { delivered.new.spare + length (delivered_in actor)
-        ≡ delivered.old.spare }
-    ensures dumped_spare { dumped.new.spare + length (dumped_in actor) ≡ dumped.old.spare }
+    ensures delivered { logs.new.delivered.items
+        ≡ logs.old.delivered.items ++ delivered_in actor }
+    ensures dumped { logs.new.dumped.items ≡ logs.old.dumped.items ++ dumped_in actor }
+    ensures delivered_spare { logs.new.delivered.spare + length (delivered_in actor)
+        ≡ logs.old.delivered.spare }
+    ensures dumped_spare { logs.new.dumped.spare + length (dumped_in actor)
+        ≡ logs.old.dumped.spare }
 {
     match actor {
         Actor::Router(_index, node) => {
             let (_chip, inputs, outputs, _patience, log) = node.into_parts();
             return_inputs(&mut standing.rxs, inputs);
             return_outputs(&mut standing.txs, outputs);
-            put_each(log, dumped);
+            put_each(log, &mut logs.dumped);
         }
         Actor::Bank(bank) => {
             let (inject, vertices, log) = bank.into_parts();
             let OutEnd { link, tx } = inject;
             return_end(&mut standing.txs, link, tx);
             return_vertices(&mut standing.rxs, unsent, vertices);
-            put_each(log, delivered);
+            put_each(log, &mut logs.delivered);
         }
     }
 }

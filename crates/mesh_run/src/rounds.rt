@@ -1,20 +1,17 @@
 // One round of a mesh on threads.
-ghost use Rattle.std.specs.Prelude.{◌≡◌, ℕ, ◌+◌, ◌*◌, ◌<◌, ◌≤◌, ◌++◌, [], List, All, IfErr, IfOk, length};
-ghost use Rattle.std.specs.List.{AllZip};
+ghost use Rattle.std.specs.Prelude.{◌≡◌, ◌*◌, ◌≤◌, List, IfErr, IfOk, length};
 ghost use Rattle.link_queue.specs.declared.links.LinkEnds.{LinkEnds};
 ghost use Rattle.mesh_core.specs.State.{IsMesh};
-ghost use Rattle.mesh_run.specs.Holders.{IsPlayed, live_chips};
-ghost use Rattle.mesh_run.specs.Dealing.{HasLogs, IsSpaceOf};
-ghost use Rattle.mesh_run.specs.Lending.{IsSetup, vertex_place};
-ghost use Rattle.mesh_run.specs.Playing.{IsPlayedOn};
+ghost use Rattle.mesh_run.specs.Holders.{IsPlayed};
+ghost use Rattle.mesh_run.specs.Playing.{AreAllUp, IsPlayedOn, IsStageOf};
 ghost use Rattle.mesh_run.specs.Standing.{HoldsAll};
-ghost use Rattle.mesh_run.specs.Queues.{AreEnds};
 
 use crate::actors::Actor;
 use crate::dealing::deal;
 use crate::lending::OUT_COUNT;
 use crate::raised::RaisedMesh;
 use crate::returning::return_actors;
+use crate::seats::Frame;
 use crate::shares::play;
 use crate::spaces::ActorSpace;
 use crate::standing::Standing;
@@ -34,6 +31,14 @@ pub struct Pace {
     ghost patient: { 1 ≤ patience },
     ghost staffed: { 1 ≤ workers },
     ghost some_turns: { 1 ≤ turns },
+}
+
+/// A round: how it goes, its number, and the gate that its workers enter.
+#[derive(Drop)]
+pub struct Round<'a, G> {
+    pub pace: Pace,
+    pub number: u32,
+    pub gate: &'a G,
 }
 
 /// The lists of deliveries and of dump records, with room for those of a round.
@@ -98,62 +103,44 @@ impl Logs {
     }
 }
 
-// One round on links that are up.
+// Memory for a round, taken before its first turn: a space for each live chip, room for all actors, and the logs.
+#[derive(Drop)]
+pub(crate) struct Stage {
+    pub alloc: Global,
+    pub spaces: Vec<ActorSpace>,
+    pub actors: Room<Actor>,
+    pub logs: Logs,
+}
+
+// One round on links that are up. Back come the logs.
 pub(crate) fn play_links<R: Threads + Wait + Sync, G: Gate>(
     rt: &R,
-    alloc: Global,
     setup: &MeshSetup,
-    spaces: Vec<ActorSpace>,
-    mut room: Room<Actor>,
+    stage: Stage,
     standing: &mut Standing,
     unsent: &mut Vec<Fifo<McCopy>>,
-    logs: &mut Logs,
-    pace: Pace,
-    number: u32,
-    gate: &G,
-)
-    requires setup { IsSetup setup.now }
+    round: &Round<G>,
+) -> Logs
     requires tables { length setup.now.tables ≡ setup.now.machine.width * setup.now.machine.height }
-    requires spaces { AllZip (IsSpaceOf setup.now.machine)
-        (live_chips setup.now.machine) spaces.items }
-    requires space_logs { All (HasLogs pace.turns) spaces.items }
-    requires few { length spaces.items ≤ 4096 }
-    requires no_actors { room.items ≡ [] }
-    requires spare { 2 * length spaces.items ≤ room.spare }
-    requires up { (up : List LinkEnds) × HoldsAll up standing.old × All AreEnds up
-        × (length up ≡ vertex_place setup.now (length setup.now.spots)) }
-    requires unsent_long { length unsent.old.items ≡ length setup.now.spots }
-    requires deliveries { pace.turns * length spaces.items ≤ logs.old.delivered.spare }
-    requires dumps { 24 * pace.turns * length spaces.items ≤ logs.old.dumped.spare }
+    requires stage { IsStageOf setup.now.machine round.now.pace.turns stage }
+    requires ends { AreAllUp setup.now standing.old unsent.old.items }
     ensures { (up : List LinkEnds) → HoldsAll up standing.old
-        → IsPlayedOn setup.now pace.patience pace.turns up standing.new unsent.old.items
-        unsent.new.items logs.old logs.new }
+        → IsPlayedOn setup.now round.now.pace.patience round.now.pace.turns up standing.new
+        unsent.old.items unsent.new.items stage.logs result }
 {
-    deal(
+    let Stage {
         alloc,
         spaces,
-        standing,
-        unsent,
+        actors: mut room,
+        mut logs,
+    } = stage;
+    let frame = Frame {
         setup,
-        pace.patience,
-        &mut room,
-    );
+        patience: round.pace.patience,
+    };
+    deal(alloc, spaces, standing, unsent, frame, &mut room);
     let mut actors = room.into_seq().into_vec();
-    play(
-        rt,
-        &standing.links,
-        setup.tables(),
-        &mut actors,
-        pace.workers,
-        pace.turns,
-        number,
-        gate,
-    );
-    return_actors(
-        actors,
-        standing,
-        unsent,
-        &mut logs.delivered,
-        &mut logs.dumped,
-    );
+    play(rt, &standing.links, setup.tables(), &mut actors, round);
+    return_actors(actors, standing, unsent, &mut logs);
+    logs
 }

@@ -22,27 +22,33 @@ pub(crate) struct ActorPlaces {
     chips: usize,
     routers: [u16; CHIPS],
     watched: Flags,
+    // How many actors a share has, the last fewer.
+    share: usize,
     ghost few: { chips ≤ 4096 },
+    ghost some: { 0 < share },
 }
 
 // No router is there, and nobody is watched.
-fn no_places(chips: usize) -> ActorPlaces {
+fn no_places(chips: usize, share: usize) -> ActorPlaces
+    requires { 0 < share }
+{
     ActorPlaces {
         chips: chips.min(CHIPS),
         routers: [NOWHERE; CHIPS],
         watched: Flags::none(),
+        share,
     }
 }
 
 impl ActorPlaces {
-    /// The actor_places of the actors of so many chips, in shares of so many, the last shorter.
+    /// The places of the actors of so many chips, in shares of so many, the last shorter.
     pub fn of(actors: &[Actor], chips: usize, share: usize) -> ActorPlaces
         requires { 0 < share }
     {
-        let mut actor_places = no_places(chips);
+        let mut actor_places = no_places(chips, share);
         actor_places.note_routers(actors);
         if share < actors.len() {
-            actor_places.watch_all(actors, share);
+            actor_places.watch_all(actors);
         }
         actor_places
     }
@@ -63,35 +69,29 @@ impl ActorPlaces {
     }
 
     // Watches the actors with a queue that is fed from another share.
-    fn watch_all(&mut self, actors: &[Actor], share: usize)
-        requires { 0 < share }
-    {
+    fn watch_all(&mut self, actors: &[Actor]) {
         for place in 0..actors.len() {
-            self.watch_fed(&actors[place], place, share);
+            self.watch_fed(&actors[place], place);
         }
     }
 
     // Watches those to whom a router sends from another share, and the router, where its bank does.
-    fn watch_fed(&mut self, actor: &Actor, place: usize, share: usize)
-        requires { 0 < share }
-    {
+    fn watch_fed(&mut self, actor: &Actor, place: usize) {
         if let Actor::Router(_, node) = actor {
             let bank = place.saturating_add(1);
-            self.watch(place, bank, share);
-            self.watch(bank, place, share);
+            self.watch(place, bank);
+            self.watch(bank, place);
             for link in Dir::ALL {
                 if let Some(behind) = node.link_behind(Out::Link(link)) {
-                    self.watch(place, self.taker(place, behind), share);
+                    self.watch(place, self.taker(place, behind));
                 }
             }
         }
     }
 
     // Watches the actor at a place where it stands in another share than one that feeds it.
-    fn watch(&mut self, feeder: usize, taker: usize, share: usize)
-        requires { 0 < share }
-    {
-        if feeder / share != taker / share {
+    fn watch(&mut self, feeder: usize, taker: usize) {
+        if feeder / self.share != taker / self.share {
             self.watched.set(taker);
         }
     }
@@ -105,6 +105,11 @@ impl ActorPlaces {
         } else {
             feeder.saturating_add(1)
         }
+    }
+
+    /// The number of the worker whose share begins at a place.
+    pub fn worker_at(&self, start: usize) -> u32 {
+        (start / self.share).min(u32::MAX as usize) as u32
     }
 
     /// Whether the actor at a place is always awake. One that has no flag always is.

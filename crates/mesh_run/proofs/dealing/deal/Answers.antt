@@ -8,8 +8,8 @@ pub loop-space-init : goal.loop-space-init
 loop-space-init c = (
   tt,
   tt,
-  deal_none c.args.setup.now c.args.patience c.args.spaces.items (into_iter_items c.into_iter-space-iterator.result) c.args.standing.now c.args.unsent.now.items c.args.actors.now.items c.args.actors.now.spare
-      (search rules) c.requires.spaces c.requires.none_yet c.requires.spare,
+  deal_none c.args.frame.setup.now c.args.frame.patience c.args.spaces.items (into_iter_items c.into_iter-space-iterator.result) c.args.standing.now c.args.unsent.now.items c.args.actors.now.items c.args.actors.now.spare
+      (search rules) c.requires.spaces c.requires.room.none_yet c.requires.room.spare,
 )
 
 pub deal_chip-requires : goal.deal_chip-requires
@@ -18,15 +18,20 @@ deal_chip-requires c =
     let so_far = c.loop-space.invariant.2 in
     let space = the_space next so_far in
     record {
-      setup = c.requires.setup;
-      patient = c.requires.patient;
-      space = space.is;
-      inside = space.inside;
-      inputs = input_there next so_far c.requires.rxs;
-      outputs = output_there next so_far c.requires.txs;
-      injection = injection_there next so_far c.requires.txs;
-      vertices = vertex_there next so_far c.requires.rxs;
-      unsent_long = still_long next so_far c.requires.unsent_long;
+      space = record { is = space.is; inside = space.inside };
+      ends = record {
+        router = record {
+          inputs = input_there next so_far c.requires.ends.rxs;
+          outputs = output_there next so_far c.requires.ends.txs;
+        };
+        bank = record {
+          injection = injection_there next so_far c.requires.ends.txs;
+          vertices = record {
+            vertices = vertex_there next so_far c.requires.ends.rxs;
+            unsent_long = still_long next so_far c.requires.ends.unsent_long;
+          };
+        };
+      };
       spare = room_for_two next so_far;
     }
 

@@ -8,4 +8,4 @@ use Rattle.mesh_run.proofs.dealing.deal_bank.Goals as goal
 pub new-requires : goal.new-requires
 new-requires c =
     subst (λ (l : List BankVertex). AllPairs (λ a b. a ≢ b) (vertex_numbers_of l)) (sym c.into_seq.ensures)
-    (vertices_differ c.args.setup.now c.args.chip c.lend_vertices.new.vertices.items c.args.standing.now.rxs.items c.lend_vertices.new.rxs.items c.lend_vertices.ensures.each c.lend_vertices.ensures.rxs)
+    (vertices_differ c.args.seat.setup.now c.args.seat.chip c.lend_vertices.new.vertices.items c.args.standing.now.rxs.items c.lend_vertices.new.rxs.items c.lend_vertices.ensures.each c.lend_vertices.ensures.rxs)

@@ -7,21 +7,23 @@ use Rattle.mesh_run.proofs.DealingChips.{deals_both, put_both}
 use Rattle.mesh_run.proofs.Lent.{still_there}
 use Rattle.mesh_run.proofs.dealing.deal_chip.Goals as goal
 
-pub deal_bank-bank-requires-clause-injection : goal.deal_bank-bank-requires-clause-injection
-deal_bank-bank-requires-clause-injection c =
-    let u = c.args.setup.now in
+pub deal_bank-bank-requires-clause-ends : goal.deal_bank-bank-requires-clause-ends
+deal_bank-bank-requires-clause-ends c =
+    let u = c.args.frame.setup.now in
     let chip = c.args.space.chip in
+    let inside = c.requires.space.inside in
     let node = c.deal_router-node.result in
-    still_there (txs_of node.outputs.items) c.args.standing.now.txs.items c.deal_router-node.new.standing.txs.items (queue_at u.machine chip Local) c.deal_router-node.ensures.txs
-    (not_at_injection u chip chip node.outputs.items c.requires.inside c.requires.inside c.deal_router-node.ensures.router.outputs) c.requires.injection
-
-pub deal_bank-bank-requires-clause-vertices : goal.deal_bank-bank-requires-clause-vertices
-deal_bank-bank-requires-clause-vertices c = λ v spot at here.
-    let u = c.args.setup.now in
-    let chip = c.args.space.chip in
-    let node = c.deal_router-node.result in
-    still_there (rxs_of node.inputs.items) c.args.standing.now.rxs.items c.deal_router-node.new.standing.rxs.items (vertex_place u v) c.deal_router-node.ensures.rxs
-    (not_at_vertex u chip v node.inputs.items c.requires.inside c.deal_router-node.ensures.router.inputs) (c.requires.vertices v spot at here)
+    let bank = c.requires.ends.bank in
+    record {
+      injection = still_there (txs_of node.outputs.items) c.args.standing.now.txs.items c.deal_router-node.new.standing.txs.items (queue_at u.machine chip Local) c.deal_router-node.ensures.txs
+          (not_at_injection u chip chip node.outputs.items inside inside c.deal_router-node.ensures.router.outputs) bank.injection;
+      vertices = record {
+        vertices = λ v spot at here.
+            still_there (rxs_of node.inputs.items) c.args.standing.now.rxs.items c.deal_router-node.new.standing.rxs.items (vertex_place u v) c.deal_router-node.ensures.rxs
+            (not_at_vertex u chip v node.inputs.items inside c.deal_router-node.ensures.router.inputs) (bank.vertices.vertices v spot at here);
+        unsent_long = bank.vertices.unsent_long;
+      };
+    }
 
 pub returns-clause-deals_it : goal.returns-clause-deals_it
 returns-clause-deals_it c =
@@ -29,7 +31,7 @@ returns-clause-deals_it c =
     let b = c.deal_bank-bank in
     record {
       pair = record { index = c.args.space.index; router = r.result; bank = b.result };
-      is = record { index = c.requires.space.index; router = r.ensures.router; bank = b.ensures.bank };
+      is = record { index = c.requires.space.is.index; router = r.ensures.router; bank = b.ensures.bank };
       logs = record { dumps = r.ensures.log; deliveries = b.ensures.log };
       deals = deals_both c.args.space.index r.result b.result c.args.standing.now r.new.standing b.new.standing c.args.unsent.now.items b.new.unsent.items
           r.ensures.links r.ensures.rooms r.ensures.txs r.ensures.rxs b.ensures.links b.ensures.rooms b.ensures.txs b.ensures.rxs b.ensures.unsent;

@@ -17,4 +17,4 @@ returns-in-Err-clause-cores_back g c =
 pub returns-in-Ok-clause-up : goal.returns-in-Ok-clause-up
 returns-in-Ok-clause-up g c =
     let up = c.in-Ok.ensures in
-    (up.0, up.1, subst (λ (l : List (List McCopy)). AreUp c.args.cap (c.args.turns + 1) l up.0) (c.deref.ensures.value ∙ c.in_ok-gather.ensures.all) up.2)
+    (up.0, up.1, subst (λ (l : List (List McCopy)). AreUp c.args.places.cap (c.args.places.turns + 1) l up.0) (c.deref.ensures.value ∙ c.in_ok-gather.ensures.all) up.2)

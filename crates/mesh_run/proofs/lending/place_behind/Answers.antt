@@ -4,6 +4,6 @@ use Rattle.mesh_run.proofs.lending.place_behind.Goals as goal
 
 pub overflow_cast-result : goal.overflow_cast-result
 overflow_cast-result c =
-    let few = few_chips c.args.setup.now.machine c.requires.setup.size in
+    let few = few_chips c.args.seat.setup.now.machine c.every_setup_is_one.ensures.size in
     let place = c.in-Input.ensures.place in
     omega (arith, place, few)

@@ -5,19 +5,19 @@ use Rattle.mesh_run.specs.Queues.{IsUp}
 use Rattle.mesh_run.proofs.queues.bring_up.Goals as goal
 
 pub loop-place-init : goal.loop-place-init
-loop-place-init g c = up_none c.args.cap (c.args.turns + 1) (length c.args.queues.now) c.args.queues.now c.in_ok-rising.rising refl c.in_ok-rising.ensures
+loop-place-init g c = up_none c.args.places.cap (c.args.places.turns + 1) (length c.args.queues.now) c.args.queues.now c.in_ok-rising.rising refl c.in_ok-rising.ensures
 
 pub raise_link-requires-clause-fits : goal.raise_link-requires-clause-fits
 raise_link-requires-clause-fits g c =
     let q = c.index-queues-place.result in
-    subst (λ (p : List McCopy). length p ≤ c.args.cap) (sym (c.as_slice.ensures ∙ c.index-queues-place.is)) (c.requires.fit c.loop-place.place q c.loop-place-test.true)
+    subst (λ (p : List McCopy). length p ≤ c.args.places.cap) (sym (c.as_slice.ensures ∙ c.index-queues-place.is)) (c.requires c.loop-place.place q c.loop-place-test.true)
 
 pub raise_link-requires-clause-room : goal.raise_link-requires-clause-room
 raise_link-requires-clause-room g c =
     let u = c.loop-place.invariant in
     let qs = c.args.queues.now in
     let k = c.loop-place.place in
-    (u.ends, length qs - (k + 1), may_rise c.args.cap (c.args.turns + 1) qs k c.loop-place.rising u c.loop-place-test.true)
+    (u.ends, length qs - (k + 1), may_rise c.args.places.cap (c.args.places.turns + 1) qs k c.loop-place.rising u c.loop-place-test.true)
 
 pub loop-place-preserved : goal.loop-place-preserved
 loop-place-preserved g c =
@@ -25,9 +25,9 @@ loop-place-preserved g c =
     let qs = c.args.queues.now in
     let k = c.loop-place.place in
     let q = c.index-queues-place.result in
-    let made = c.in_ok-raise_link.ensures u.ends (length qs - (k + 1)) (may_rise c.args.cap (c.args.turns + 1) qs k c.loop-place.rising u c.loop-place-test.true) in
-    up_more c.args.cap (c.args.turns + 1) qs k c.loop-place.rising c.raise_link.new.rising q made.0 u c.loop-place-test.true c.index-queues-place.is
-    (subst (λ (p : List McCopy). IsUp c.args.cap (c.args.turns + 1) p made.0) c.as_slice.ensures made.1) made.2
+    let made = c.in_ok-raise_link.ensures u.ends (length qs - (k + 1)) (may_rise c.args.places.cap (c.args.places.turns + 1) qs k c.loop-place.rising u c.loop-place-test.true) in
+    up_more c.args.places.cap (c.args.places.turns + 1) qs k c.loop-place.rising c.raise_link.new.rising q made.0 u c.loop-place-test.true c.index-queues-place.is
+    (subst (λ (p : List McCopy). IsUp c.args.places.cap (c.args.places.turns + 1) p made.0) c.as_slice.ensures made.1) made.2
 
 pub returns : goal.returns
 returns g c =
@@ -39,5 +39,5 @@ returns g c =
     let all : k ≡ length qs = omega (arith, past, most) in (
       u.ends,
       c.into_standing.ensures u.ends (length qs - k) u.risen,
-      all_up c.args.cap (c.args.turns + 1) qs k c.loop-place.rising u all,
+      all_up c.args.places.cap (c.args.places.turns + 1) qs k c.loop-place.rising u all,
     )

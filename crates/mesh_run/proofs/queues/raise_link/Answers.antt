@@ -9,12 +9,12 @@ returns-in-Ok g c = λ ends spare risen.
     let e = c.in-Ok.ends in
     let q = c.in_ok-list.list in
     let made = c.in-Ok.ensures in
-    let fits : length q ≤ c.args.cap = subst (λ (p : List McCopy). length p ≤ c.args.cap) (sym c.in_ok-list.ensures) c.requires.fits in
-    let places = c.link_places-places.ensures ∙ ap (places_for c.args.cap c.args.turns) c.len.ensures in (
+    let fits : length q ≤ c.args.places.cap = subst (λ (p : List McCopy). length p ≤ c.args.places.cap) (sym c.in_ok-list.ensures) c.requires.fits in
+    let places = c.for_held-cap.ensures ∙ ap (places_for c.args.places.cap c.args.places.turns) c.len.ensures in (
       e,
-      subst (λ (p : List McCopy). IsUp c.args.cap (c.args.turns + 1) p e) c.in_ok-list.ensures (record {
+      subst (λ (p : List McCopy). IsUp c.args.places.cap (c.args.places.turns + 1) p e) c.in_ok-list.ensures (record {
         ends = record { tx = made.sending.0; rx = made.taking.0; empty = made.room.0; spare = subst (λ n. n ≤ e.room.spare) (sym made.cap) made.room.1 };
-        holds = made_with c.args.cap c.args.turns (length q) _ fits (made.cap ∙ places);
+        holds = made_with c.args.places.cap c.args.places.turns (length q) _ fits (made.cap ∙ places);
         tx_new = made.sending.1;
         rx_new = made.taking.1;
       }),

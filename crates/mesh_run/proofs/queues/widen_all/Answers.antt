@@ -7,10 +7,10 @@ use Rattle.mesh_run.proofs.Resting.{StaysAs, after_refusal, all_stay, links_past
 use Rattle.mesh_run.proofs.queues.widen_all.Goals as goal
 
 pub loop-place-init : goal.loop-place-init
-loop-place-init g c = let r = c.requires.up in (r.0, r.1, r.2, none_done (StaysAs c.args.cap (c.args.turns + 1)) r.0 c.args.standing.now r.1)
+loop-place-init g c = let r = c.requires in (r.0, r.1, r.2, none_done (StaysAs c.args.places.cap (c.args.places.turns + 1)) r.0 c.args.standing.now r.1)
 
-pub widen_at-requires-clause-up : goal.widen_at-requires-clause-up
-widen_at-requires-clause-up g c =
+pub widen_at-requires : goal.widen_at-requires
+widen_at-requires g c =
     let h = c.loop-place.invariant in
     let n = next_at h.3 h.1 (c.len-place-end.ensures ∙ c.args.standing.now.links.ok.0) c.loop-place-test.true in
     (h.3.now, n.old, h.3.holds, n.stands, next_up n h.2)
@@ -19,8 +19,8 @@ pub returns-in_err-widen_at-clause-back : goal.returns-in_err-widen_at-clause-ba
 returns-in_err-widen_at-clause-back g c =
     let h = c.loop-place.invariant in
     let n = next_at h.3 h.1 (c.len-place-end.ensures ∙ c.args.standing.now.links.ok.0) c.loop-place-test.true in
-    after_refusal c.from_residual.result ((ends : List LinkEnds) → HoldsAll ends c.args.standing.now → StayUp c.args.cap 0 ends c.widen_at.new.standing) (λ ends holds.
-    subst (λ (l : List LinkEnds). StayUp c.args.cap 0 l c.widen_at.new.standing) (only_ends h.0 ends c.args.standing.now h.1 holds)
+    after_refusal c.from_residual.result ((ends : List LinkEnds) → HoldsAll ends c.args.standing.now → StayUp c.args.places.cap 0 ends c.widen_at.new.standing) (λ ends holds.
+    subst (λ (l : List LinkEnds). StayUp c.args.places.cap 0 l c.widen_at.new.standing) (only_ends h.0 ends c.args.standing.now h.1 holds)
     (some_stay h.3 n h.2 (c.in_err-widen_at.ensures.back h.3.now n.old h.3.holds n.stands (next_up n h.2))))
 
 pub loop-place-preserved : goal.loop-place-preserved
@@ -33,5 +33,5 @@ loop-place-preserved g c =
 pub returns-clause-wide : goal.returns-clause-wide
 returns-clause-wide g c = λ ends holds.
     let h = c.loop-place.invariant in
-    subst (λ (l : List LinkEnds). StayUp c.args.cap (c.args.turns + 1) l c.loop-place.standing) (only_ends h.0 ends c.args.standing.now h.1 holds)
+    subst (λ (l : List LinkEnds). StayUp c.args.places.cap (c.args.places.turns + 1) l c.loop-place.standing) (only_ends h.0 ends c.args.standing.now h.1 holds)
     (all_stay h.3 (links_past h.3 h.1 (c.len-place-end.ensures ∙ c.args.standing.now.links.ok.0) c.loop-place-test.false))

@@ -8,31 +8,31 @@ use Rattle.mesh_run.proofs.queues.widen_at.Goals as goal
 
 pub index-requires : goal.index-requires
 index-requires g c =
-    let u = c.requires.up in
+    let u = c.requires in
     let inside = rest_inside u.3 (c.rest_at-held.ensures u.0 u.1 u.2 u.3) in
     let many = c.rest_at-held.new.standing.links.ok.0 in
     omega (arith, inside, many)
 
 pub free_places-requires : goal.free_places-requires
-free_places-requires g c = let u = c.requires.up in rest_fits u.3 (c.rest_at-held.ensures u.0 u.1 u.2 u.3) c.index.ensures c.places-places.ensures
+free_places-requires g c = let u = c.requires in rest_fits u.3 (c.rest_at-held.ensures u.0 u.1 u.2 u.3) c.index.ensures c.places-has.ensures
 
-pub returns-then-turns-free_places-clause-wide : goal.returns-then-turns-free_places-clause-wide
-returns-then-turns-free_places-clause-wide g c = λ ends old holds at up.
+pub returns-then-places-free_places-clause-wide : goal.returns-then-places-free_places-clause-wide
+returns-then-places-free_places-clause-wide g c = λ ends old holds at up.
     let r = c.rest_at-held.ensures ends old holds at in
-    rest_wide at r up (rest_places at r c.index.ensures c.places-places.ensures) c.free_places.ensures c.if-turns-free_places.true
+    rest_wide at r up (rest_places at r c.index.ensures c.places-has.ensures) c.free_places.ensures c.if-places-free_places.true
 
 pub take_ends-tx-requires : goal.take_ends-tx-requires
 take_ends-tx-requires g c =
-    let u = c.requires.up in
+    let u = c.requires in
     let r = c.rest_at-held.ensures u.0 u.1 u.2 u.3 in
     (_, r.now, r.holds, rest_stands u.3 r)
 
-pub link_places-wider-requires : goal.link_places-wider-requires
-link_places-wider-requires g c = let u = c.requires.up in held_short u.3 (c.rest_at-held.ensures u.0 u.1 u.2 u.3) u.4
+pub for_held-wider-requires : goal.for_held-wider-requires
+for_held-wider-requires g c = let u = c.requires in held_short u.3 (c.rest_at-held.ensures u.0 u.1 u.2 u.3) u.4
 
 pub index-requires-2 : goal.index-requires-2
 index-requires-2 g c =
-    let u = c.requires.up in
+    let u = c.requires in
     let r = c.rest_at-held.ensures u.0 u.1 u.2 u.3 in
     let inside = lent_inside u.3 r (c.take_ends-tx.ensures.left _ r.holds) in
     let many = c.take_ends-tx.new.self.links.ok.0 in
@@ -40,7 +40,7 @@ index-requires-2 g c =
 
 pub invariant_of-resting : goal.invariant_of-resting
 invariant_of-resting g c =
-    let u = c.requires.up in
+    let u = c.requires in
     let r = c.rest_at-held.ensures u.0 u.1 u.2 u.3 in
     let taken = c.take_ends-tx.ensures.ends _ r.now r.holds (rest_stands u.3 r) in
     let link = lent_link u.3 r (c.take_ends-tx.ensures.left _ r.holds) c.index-2.ensures in
@@ -54,11 +54,11 @@ invariant_of-resting g c =
 
 pub widened-requires : goal.widened-requires
 widened-requires g c =
-    let u = c.requires.up in
+    let u = c.requires in
     let r = c.rest_at-held.ensures u.0 u.1 u.2 u.3 in
     let short = held_short u.3 r u.4 in
-    let is = c.link_places-wider.ensures in
-    let some = c.requires.some in
+    let is = c.for_held-wider.ensures in
+    let some = c.args.places.some in
     record {
       some = omega (arith, is, some);
       fits = omega (arith, short, is);
@@ -66,13 +66,13 @@ widened-requires g c =
 
 pub set-requires : goal.set-requires
 set-requires g c =
-    let u = c.requires.up in
+    let u = c.requires in
     let r = c.rest_at-held.ensures u.0 u.1 u.2 u.3 in
     (_, c.take_ends-tx.ensures.left _ r.holds, rest_within u.3 r)
 
 pub put_ends-requires : goal.put_ends-requires
 put_ends-requires g c =
-    let u = c.requires.up in
+    let u = c.requires in
     let r = c.rest_at-held.ensures u.0 u.1 u.2 u.3 in
     (_, c.take_ends-tx.ensures.left _ r.holds, rest_within u.3 r)
 
@@ -81,7 +81,7 @@ returns-in-Ok-clause-wide g c = λ ends old holds at up.
     let r = c.rest_at-held.ensures ends old holds at in
     let taken = c.take_ends-tx.ensures.ends _ r.now r.holds (rest_stands at r) in
     let made = c.in-Ok.ensures in
-    widened_up at r up c.args.turns (ap (λ (x : Tx). (sending x).first) taken.0) c.link_places-wider.ensures made.sending made.taking made.cap made.room (c.set.ensures _ (c.take_ends-tx.ensures.left _ r.holds))
+    widened_up at r up c.args.places.turns (ap (λ (x : Tx). (sending x).first) taken.0) c.for_held-wider.ensures made.sending made.taking made.cap made.room (c.set.ensures _ (c.take_ends-tx.ensures.left _ r.holds))
 
 pub returns-in-Err-clause-back : goal.returns-in-Err-clause-back
 returns-in-Err-clause-back g c = λ ends old holds at up.

@@ -1,7 +1,6 @@
-use Rattle.std.proofs.Common.{◌++◌, ◌∙◌, ◌≡◌, ◌∷◌}
-use Rattle.std.specs.List.{flat_map}
+use Rattle.std.proofs.Common.{◌∙◌, ◌≡◌, ◌∷◌}
 use Rattle.std.specs.Vec.Iter.{into_iter_items}
-use Rattle.mesh_run.specs.Dealing.{delivered_in, dumped_in, put_all, rxs_in, txs_in, unsent_in}
+use Rattle.mesh_run.specs.Dealing.{delivered_in, dumped_in, rxs_in, txs_in, unsent_in}
 use Rattle.mesh_run.proofs.PuttingBack.{all_put_first, all_put_more, logged_first, logged_more}
 use Rattle.mesh_run.proofs.returning.return_actors.Goals as goal
 

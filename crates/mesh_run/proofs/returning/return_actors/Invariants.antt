@@ -15,6 +15,6 @@ invariant-loop-actor l = record {
   txs : AllPutOn txs_in (put_all l.fn.standing.txs.items (flat_map txs_in l.fn.actors.items)) l.standing.txs.items (into_iter_items l.actor-iterator);
   rxs : AllPutOn rxs_in (put_all l.fn.standing.rxs.items (flat_map rxs_in l.fn.actors.items)) l.standing.rxs.items (into_iter_items l.actor-iterator);
   unsent : AllPutOn unsent_in (put_all l.fn.unsent.items (flat_map unsent_in l.fn.actors.items)) l.unsent.items (into_iter_items l.actor-iterator);
-  delivered : LoggedOn delivered_in (l.fn.delivered.items ++ flat_map delivered_in l.fn.actors.items) l.delivered.items l.delivered.spare (into_iter_items l.actor-iterator);
-  dumped : LoggedOn dumped_in (l.fn.dumped.items ++ flat_map dumped_in l.fn.actors.items) l.dumped.items l.dumped.spare (into_iter_items l.actor-iterator);
+  delivered : LoggedOn delivered_in (l.fn.logs.delivered.items ++ flat_map delivered_in l.fn.actors.items) l.logs.delivered.items l.logs.delivered.spare (into_iter_items l.actor-iterator);
+  dumped : LoggedOn dumped_in (l.fn.logs.dumped.items ++ flat_map dumped_in l.fn.actors.items) l.logs.dumped.items l.logs.dumped.spare (into_iter_items l.actor-iterator);
 }

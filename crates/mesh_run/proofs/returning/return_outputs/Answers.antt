@@ -1,7 +1,6 @@
 use Rattle.std.proofs.Common.{◌≡◌, ◌∷◌}
 use Rattle.std.specs.Vec.Iter.{into_iter_items}
-use Rattle.mesh_run.specs.Lending.{tx_of, txs_of}
-use Rattle.mesh_run.specs.Dealing.{put_all}
+use Rattle.mesh_run.specs.Lending.{tx_of}
 use Rattle.mesh_run.proofs.PuttingBack.{put_first, put_more}
 use Rattle.mesh_run.proofs.returning.return_outputs.Goals as goal
 

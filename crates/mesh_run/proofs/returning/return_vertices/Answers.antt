@@ -1,7 +1,6 @@
-use Rattle.std.proofs.Common.{◌≡◌, length, vec_len, arith, refl, ◌∷◌}
+use Rattle.std.proofs.Common.{◌≡◌, arith, refl, ◌∷◌}
 use Rattle.std.specs.Vec.Iter.{into_iter_items}
-use Rattle.mesh_run.specs.Lending.{rx_of, vertex_rxs, vertex_unsent}
-use Rattle.mesh_run.specs.Dealing.{put_all}
+use Rattle.mesh_run.specs.Lending.{rx_of}
 use Rattle.mesh_run.proofs.PuttingBack.{put_first, put_more}
 use Rattle.mesh_run.proofs.returning.return_vertices.Goals as goal
 

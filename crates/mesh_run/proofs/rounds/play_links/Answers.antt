@@ -1,4 +1,4 @@
-use Rattle.std.proofs.Common.{List, length, sym, ap, ◌∙◌, subst, arith}
+use Rattle.std.proofs.Common.{List, sym, ◌∙◌, subst, arith}
 use Rattle.std.specs.List.{All}
 use Rattle.spin_base.specs.declared.blocks.Entry.{Entry}
 use Rattle.link_queue.specs.declared.links.Link.{Link}
@@ -6,26 +6,29 @@ use Rattle.mesh_run.specs.declared.actors.Actor.{Actor}
 use Rattle.mesh_run.specs.declared.rounds.Logs.{Logs}
 use Rattle.mesh_run.specs.Acting.{IsReadyActor}
 use Rattle.mesh_run.specs.Playing.{IsPlayedOn}
-use Rattle.mesh_run.proofs.Dealt.{AreDealt, AreTurned, txs_there, rxs_there, turned, actors_ready, few_actors, within_txs, within_rxs, within_unsent, deliveries_fit, dumps_fit, round_on_links}
+use Rattle.mesh_run.proofs.Dealt.{AreDealt, AreTurned, txs_there, rxs_there, turned, actors_ready, within_txs, within_rxs, within_unsent, deliveries_fit, dumps_fit, round_on_links}
 use Rattle.mesh_run.proofs.Holding.{only_ends}
 use Rattle.mesh_run.proofs.rounds.play_links.Given.{Over}
 use Rattle.mesh_run.proofs.rounds.play_links.Goals.{After-deal, After-play}
 use Rattle.mesh_run.proofs.rounds.play_links.Goals as goal
 
-pub deal-requires-clause-txs : goal.deal-requires-clause-txs
-deal-requires-clause-txs g c = txs_there c.requires.up.0 c.args.standing.now _ c.requires.up.1 c.requires.up.3
-
-pub deal-requires-clause-rxs : goal.deal-requires-clause-rxs
-deal-requires-clause-rxs g c = rxs_there c.requires.up.0 c.args.standing.now _ c.requires.up.1 c.requires.up.3
+pub deal-requires-clause-ends : goal.deal-requires-clause-ends
+deal-requires-clause-ends g c =
+    let e = c.requires.ends in
+    record {
+      txs = txs_there e.up c.args.standing.now _ e.holds e.long;
+      rxs = rxs_there e.up c.args.standing.now _ e.holds e.long;
+      unsent_long = e.unsent_long;
+    }
 
 -- what was dealt to the actors
-dealt : (g : Over) (c : After-deal g) → AreDealt c.args.setup.now c.args.pace.patience c.args.pace.turns c.requires.up.0 c.args.standing.now c.deal.new.standing c.args.unsent.now.items c.deal.new.unsent.items c.args.spaces.items
+dealt : (g : Over) (c : After-deal g) → AreDealt c.args.setup.now c.args.round.now.pace.patience c.args.round.now.pace.turns c.requires.ends.up c.args.standing.now c.deal.new.standing c.args.unsent.now.items c.deal.new.unsent.items c.args.stage.spaces.items
     c.deal.new.actors.items
 dealt g c = record {
   tables = c.requires.tables;
-  holds = c.requires.up.1;
-  ends = c.requires.up.2;
-  logs = c.requires.space_logs;
+  holds = c.requires.ends.holds;
+  ends = c.requires.ends.ends;
+  logs = c.requires.stage.space_logs;
   pairs = c.deal.ensures.pairs.0;
   are = c.deal.ensures.pairs.1;
   of_chips = c.deal.ensures.pairs.2;
@@ -34,29 +37,22 @@ dealt g c = record {
 }
 
 -- what turns made of them
-turns_of : (g : Over) (c : After-play g) → AreTurned c.deal.new.standing.links.items c.args.setup.now.tables c.args.pace.turns c.deal.new.actors.items c.play.new.actors.items
+turns_of : (g : Over) (c : After-play g) → AreTurned c.deal.new.standing.links.items c.args.setup.now.tables c.args.round.now.pace.turns c.deal.new.actors.items c.play.new.actors.items
 turns_of g c = turned (c.into_vec-actors.ensures ∙ c.into_seq.ensures) c.deref.ensures.value c.tables.ensures c.play.ensures.long c.play.ensures.each
-
-pub play-requires-clause-few : goal.play-requires-clause-few
-play-requires-clause-few g c κs within =
-    let many = few_actors (dealt g (goal.at.play-requires-clause-few g c).After-deal) in
-    let few = c.requires.few in
-    let long = ap length (c.into_vec-actors.ensures ∙ c.into_seq.ensures) in
-    omega (arith, many, few, long)
 
 pub play-requires-clause-ready : goal.play-requires-clause-ready
 play-requires-clause-ready g c κs within =
     let ready = actors_ready (dealt g (goal.at.play-requires-clause-ready g c).After-deal) in
-    subst (λ (l : List Actor). All (IsReadyActor c.deref.result.now c.tables.result.now c.args.pace.turns) l) (sym (c.into_vec-actors.ensures ∙ c.into_seq.ensures))
-    (subst (λ (t : List (List Entry)). All (IsReadyActor c.deref.result.now t c.args.pace.turns) c.deal.new.actors.items) (sym c.tables.ensures)
-    (subst (λ (l : List Link). All (IsReadyActor l c.args.setup.now.tables c.args.pace.turns) c.deal.new.actors.items) (sym c.deref.ensures.value) ready))
+    subst (λ (l : List Actor). All (IsReadyActor c.deref.result.now c.tables.result.now c.args.round.now.pace.turns) l) (sym (c.into_vec-actors.ensures ∙ c.into_seq.ensures))
+    (subst (λ (t : List (List Entry)). All (IsReadyActor c.deref.result.now t c.args.round.now.pace.turns) c.deal.new.actors.items) (sym c.tables.ensures)
+    (subst (λ (l : List Link). All (IsReadyActor l c.args.setup.now.tables c.args.round.now.pace.turns) c.deal.new.actors.items) (sym c.deref.ensures.value) ready))
 
 pub return_actors-requires : goal.return_actors-requires
 return_actors-requires g c =
     let before = dealt g (goal.at.return_actors-requires g c).After-deal in
     let turn = turns_of g (goal.at.return_actors-requires g c).After-play in
-    let deliveries = c.requires.deliveries in
-    let dumps = c.requires.dumps in
+    let deliveries = c.requires.stage.deliveries in
+    let dumps = c.requires.stage.dumps in
     let delivered = deliveries_fit before turn in
     let dumped = dumps_fit before turn in
     record {
@@ -69,8 +65,8 @@ return_actors-requires g c =
 
 pub returns : goal.returns
 returns g c = λ ends holds.
-    let logs : Logs = record { delivered = c.return_actors.new.delivered; dumped = c.return_actors.new.dumped } in
+    let logs : Logs = c.return_actors.new.logs in
     let e = c.return_actors.ensures in
-    subst (λ l. IsPlayedOn c.args.setup.now c.args.pace.patience c.args.pace.turns l c.return_actors.new.standing c.args.unsent.now.items c.return_actors.new.unsent.items c.args.logs.now logs)
-    (only_ends c.requires.up.0 ends c.args.standing.now c.requires.up.1 holds)
-    (round_on_links (dealt g (goal.at.returns g c).After-deal) (turns_of g (goal.at.returns g c).After-play) _ _ c.args.logs.now logs e.links e.rooms e.txs e.rxs e.unsent e.delivered e.dumped)
+    subst (λ l. IsPlayedOn c.args.setup.now c.args.round.now.pace.patience c.args.round.now.pace.turns l c.return_actors.new.standing c.args.unsent.now.items c.return_actors.new.unsent.items c.args.stage.logs logs)
+    (only_ends c.requires.ends.up ends c.args.standing.now c.requires.ends.holds holds)
+    (round_on_links (dealt g (goal.at.returns g c).After-deal) (turns_of g (goal.at.returns g c).After-play) _ _ c.args.stage.logs logs e.links e.rooms e.txs e.rxs e.unsent e.delivered e.dumped)

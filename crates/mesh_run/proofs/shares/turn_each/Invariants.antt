@@ -4,4 +4,4 @@ use Rattle.mesh_run.proofs.shares.turn_each.Given as goal
 
 -- the actors before place k have had their turn
 abbrev pub invariant-loop-k : goal.invariant-loop-k
-invariant-loop-k g l = GoneTo (MayPlayOn l.links l.tables l.number) l.fn.part l.part l.k
+invariant-loop-k g l = GoneTo (MayPlayOn l.around.links.now l.around.tables.now l.number) l.fn.part l.part l.k

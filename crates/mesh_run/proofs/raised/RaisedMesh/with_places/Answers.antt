@@ -3,8 +3,8 @@ use Rattle.mesh_run.specs.Queues.{AreUp, StayUp, queue_of_link}
 use Rattle.mesh_run.proofs.WholeRound.{can_widen, stays_raised}
 use Rattle.mesh_run.proofs.raised.RaisedMesh.with_places.Goals as goal
 
-pub widen_all-requires-clause-up : goal.widen_all-requires-clause-up
-widen_all-requires-clause-up g c =
+pub widen_all-requires : goal.widen_all-requires
+widen_all-requires g c =
     let r = c.requires.raised in
     (r.ends, r.holds, subst (λ n. AreUp n 0 (map queue_of_link r.ends) r.ends) (sym c.capacity-cap.ensures) (can_widen c.args.self r))
 
