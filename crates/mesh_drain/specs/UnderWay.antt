@@ -65,7 +65,7 @@ next_place m c (Link d) = far_port d (far_of m c d)
 next_place m c (Core p) = None
 
 -- The vertex is there, and may send: no port is in the list of those where its packet waits.
-pub record CanSend (s : State) (waiting : List Waiting) (v : ℕ) : Type 0 where
+pub record MaySendFrom (s : State) (waiting : List Waiting) (v : ℕ) : Type 0 where
   pub may : MaySend s
   pub none : waiting ≡ []
   pub exists : v < length s.setup.spots

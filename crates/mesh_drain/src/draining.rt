@@ -4,14 +4,14 @@ ghost use Rattle.spin_base.specs.declared.copies.McCopy.{McCopy as Copy};
 ghost use Rattle.spin_base.specs.declared.routes.Out.{Out as Output};
 ghost use Rattle.std.specs.Option.{option_to_list};
 ghost use Rattle.spin_base.specs.declared.copies.Event.TheVariants.{Collect};
-ghost use Rattle.machine_desc.specs.Live.{index_of, IsInside};
+ghost use Rattle.machine_desc.specs.Live.{index_of};
 ghost use Rattle.mesh_core.specs.Step.{after_event};
 ghost use Rattle.mesh_core.specs.Expected.{IsAtRest, NothingWaits};
 ghost use Rattle.mesh_drain.specs.Draining.{MaySend, MeetsSomeLedger, IsReachedDropless, IsMoved, DropsNoneWhereRoomy, SendAlone};
-ghost use Rattle.mesh_drain.specs.UnderWay.{work, outs_in, next_place, CanSend, WaitsAlone, IsServing};
+ghost use Rattle.mesh_drain.specs.UnderWay.{work, outs_in, next_place, MaySendFrom, WaitsAlone, IsServing};
 
 use crate::settling::settle;
-use machine_desc::Machine;
+use crate::waiting::Router;
 use mesh_core::laws::a_roomy_mesh_drops_nothing;
 use mesh_core::{Mesh, Queue};
 use spin_base::{Chip, Event, Memory, Out, Outs, Port};
@@ -77,7 +77,7 @@ pub struct Waiting {
 
 // A vertex sends all its packets, and each is brought to its targets before the next.
 fn send_all(mesh: &mut Mesh, waiting: &mut Vec<Waiting>, vertex: u32) -> Result<(), Memory>
-    requires { CanSend mesh.old waiting.old.items vertex }
+    requires { MaySendFrom mesh.old waiting.old.items vertex }
     ensures reached { IsReachedDropless mesh.old mesh.new }
     ensures quiet { OnOk result (NothingWaits mesh.new) }
     ensures none { OnOk result (waiting.new.items ≡ []) }
@@ -91,7 +91,7 @@ fn send_all(mesh: &mut Mesh, waiting: &mut Vec<Waiting>, vertex: u32) -> Result<
 
 // A vertex sends its first packet, and the packet is brought to its targets.
 fn send_packet(mesh: &mut Mesh, waiting: &mut Vec<Waiting>, vertex: u32) -> Result<(), Memory>
-    requires can { CanSend mesh.old waiting.old.items vertex }
+    requires can { MaySendFrom mesh.old waiting.old.items vertex }
     requires some { slice_get mesh.old.unsent vertex ≢ Some [] }
     ensures reached { IsReachedDropless mesh.old mesh.new }
     ensures quiet { OnOk result (NothingWaits mesh.new) }
@@ -122,7 +122,8 @@ fn go_on(mesh: &mut Mesh, waiting: &mut Vec<Waiting>, at: Waiting) -> Result<(),
     ensures less { OnOk result (work mesh.new waiting.new.items ≤ work mesh.old waiting.old.items) }
 {
     mesh.step(Event::Take(at.chip, at.port))?;
-    let outs = held_outs(mesh, at.chip)?;
+    let chip = at.chip;
+    let outs = held_outs(Router { mesh, chip })?;
     for out in outs.as_slice() {
         serve(mesh, waiting, at.chip, *out)?;
     }
@@ -130,12 +131,12 @@ fn go_on(mesh: &mut Mesh, waiting: &mut Vec<Waiting>, at: Waiting) -> Result<(),
 }
 
 // The outputs that a router still has to serve.
-fn held_outs(mesh: &Mesh, chip: Chip) -> Result<Outs, Memory>
-    requires { IsInside mesh.now.setup.machine chip }
+fn held_outs(router: Router) -> Result<Outs, Memory>
     ensures { IfOk result (λ outs. outs.items
-        ≡ outs_in (slice_get mesh.now.hands (index_of mesh.now.setup.machine chip))) }
+        ≡ outs_in (slice_get router.entry.mesh.now.hands
+        (index_of router.entry.mesh.now.setup.machine router.entry.chip))) }
 {
-    match mesh.hand(chip) {
+    match router.mesh.hand(router.chip) {
         Some(hand) => Ok(hand.outs.clone()?),
         None => Ok(Outs::new()),
     }
@@ -154,7 +155,7 @@ fn serve(mesh: &mut Mesh, waiting: &mut Vec<Waiting>, chip: Chip, out: Out) -> R
 {
     mesh.step(Event::Send(chip, out))?;
     match mesh.behind(chip, out) {
-        Queue::Input(_) => wait_beyond(mesh.machine(), waiting, chip, out),
+        Queue::Input(_) => wait_beyond(Router { mesh, chip }, waiting, out),
         Queue::Core(vertex) => collect(mesh, vertex as u32),
         Queue::Nowhere => Ok(()),
     }
@@ -170,31 +171,24 @@ pub fn collect(mesh: &mut Mesh, vertex: u32) -> Result<(), Memory>
 }
 
 // The packet waits at the far end of a link.
-fn wait_beyond(
-    machine: &Machine,
-    waiting: &mut Vec<Waiting>,
-    chip: Chip,
-    out: Out,
-) -> Result<(), Memory>
-    requires { IsInside machine.now chip }
-    ensures { OnOk result (waiting.new.items
-        ≡ waiting.old.items ++ option_to_list (next_place machine.now chip out)) }
+fn wait_beyond(router: Router, waiting: &mut Vec<Waiting>, out: Out) -> Result<(), Memory>
+    ensures { OnOk result (waiting.new.items ≡ waiting.old.items
+        ++ option_to_list (next_place router.entry.mesh.now.setup.machine router.entry.chip out)) }
 {
-    if let Some(next) = next_place(machine, chip, out) {
+    if let Some(next) = next_place(router, out) {
         waiting.push(next)?;
     }
     Ok(())
 }
 
 // Where the packet waits that left a chip by a live link.
-fn next_place(machine: &Machine, chip: Chip, out: Out) -> Option<Waiting>
-    requires { IsInside machine.now chip }
-    ensures { result ≡ next_place machine.now chip out }
+fn next_place(router: Router, out: Out) -> Option<Waiting>
+    ensures { result ≡ next_place router.entry.mesh.now.setup.machine router.entry.chip out }
 {
     let Out::Link(link) = out else {
         return None;
     };
-    let far = machine.far(chip, link)?;
+    let far = router.mesh.machine().far(router.chip, link)?;
     Some(Waiting {
         chip: far,
         port: Port::Link(link.opposite()),

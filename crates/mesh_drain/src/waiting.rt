@@ -18,6 +18,14 @@ pub enum Waits {
     AtPort(Chip, Port),
 }
 
+// A chip of a mesh's machine, live or not.
+#[derive(Clone, Copy)]
+pub struct Router<'a> {
+    pub mesh: &'a Mesh,
+    pub chip: Chip,
+    pub ghost inside: { IsInside mesh.now.setup.machine chip },
+}
+
 // Where a copy waits, if one does.
 pub fn waiting(mesh: &Mesh) -> Option<Waits>
     ensures some { IfSome result (IsWaiting mesh.now) }
@@ -40,10 +48,11 @@ pub fn waiting_on(mesh: &Mesh, chip: Chip) -> Option<Waits>
     if !mesh.machine().live(chip) {
         return None;
     }
-    if let Some(out) = next_output(mesh, chip) {
+    let router = Router { mesh, chip };
+    if let Some(out) = next_output(router) {
         return Some(Waits::InHand(chip, out));
     }
-    let port = full_port_of(mesh, chip)?;
+    let port = full_port_of(router)?;
     Some(Waits::AtPort(chip, port))
 }
 
@@ -71,7 +80,7 @@ fn full_hand(mesh: &Mesh) -> Option<(Chip, Out)>
     let machine = mesh.machine();
     for index in 0..machine.chips() {
         let chip = machine.chip_at(index as u32);
-        if let Some(out) = next_output(mesh, chip) {
+        if let Some(out) = next_output(Router { mesh, chip }) {
             return Some((chip, out));
         }
     }
@@ -79,13 +88,19 @@ fn full_hand(mesh: &Mesh) -> Option<(Chip, Out)>
 }
 
 // The first output by which the copy in a router's hand still has to leave, if there is one.
-fn next_output(mesh: &Mesh, chip: Chip) -> Option<Out>
-    requires { IsInside mesh.now.setup.machine chip }
-    ensures some { IfSome result (λ out. IsWaiting mesh.now (Waits.InHand chip out)) }
-    ensures none { IfNone result (HasNoHandOn mesh.now chip) }
+fn next_output(router: Router) -> Option<Out>
+    ensures some { IfSome result (λ out. IsWaiting router.entry.mesh.now
+        (Waits.InHand router.entry.chip out)) }
+    ensures none { IfNone result (HasNoHandOn router.entry.mesh.now router.entry.chip) }
 {
-    every_mesh_is_one(mesh);
-    mesh.hand(chip)?.outs.as_slice().first().copied()
+    every_mesh_is_one(router.mesh);
+    router
+        .mesh
+        .hand(router.chip)?
+        .outs
+        .as_slice()
+        .first()
+        .copied()
 }
 
 // A chip and a port of it at which a copy waits, if there is one, where all hands are free.
@@ -98,7 +113,7 @@ fn full_port(mesh: &Mesh) -> Option<(Chip, Port)>
     let machine = mesh.machine();
     for index in 0..machine.chips() {
         let chip = machine.chip_at(index as u32);
-        if let Some(port) = full_port_of(mesh, chip) {
+        if let Some(port) = full_port_of(Router { mesh, chip }) {
             return Some((chip, port));
         }
     }
@@ -106,17 +121,18 @@ fn full_port(mesh: &Mesh) -> Option<(Chip, Port)>
 }
 
 // A port of the chip at which a copy waits, if there is one.
-fn full_port_of(mesh: &Mesh, chip: Chip) -> Option<Port>
-    requires { IsInside mesh.now.setup.machine chip }
-    ensures some { IfSome result (λ port. HasCopies (port_copies mesh.now chip port)) }
-    ensures none { IfNone result ((port : APort) → port_copies mesh.now chip port ≡ Some []) }
+fn full_port_of(router: Router) -> Option<Port>
+    ensures some { IfSome result (λ port. HasCopies (port_copies router.entry.mesh.now
+        router.entry.chip port)) }
+    ensures none { IfNone result ((port : APort)
+        → port_copies router.entry.mesh.now router.entry.chip port ≡ Some []) }
 {
-    if waits_at(mesh, chip, Port::Local) {
+    if waits_at(router, Port::Local) {
         return Some(Port::Local);
     }
     for number in 0..6 {
         let port = Port::Link(Dir::ALL[number]);
-        if waits_at(mesh, chip, port) {
+        if waits_at(router, port) {
             return Some(port);
         }
     }
@@ -124,12 +140,13 @@ fn full_port_of(mesh: &Mesh, chip: Chip) -> Option<Port>
 }
 
 // Whether a copy waits at a port.
-fn waits_at(mesh: &Mesh, chip: Chip, port: Port) -> bool
-    requires { IsInside mesh.now.setup.machine chip }
-    ensures waits { result ≡ true → HasCopies (port_copies mesh.now chip port) }
-    ensures clear { result ≡ false → port_copies mesh.now chip port ≡ Some [] }
+fn waits_at(router: Router, port: Port) -> bool
+    ensures waits { result ≡ true
+        → HasCopies (port_copies router.entry.mesh.now router.entry.chip port) }
+    ensures clear { result ≡ false
+        → port_copies router.entry.mesh.now router.entry.chip port ≡ Some [] }
 {
-    !mesh.queue(chip, port).is_empty()
+    !router.mesh.queue(router.chip, port).is_empty()
 }
 
 // Whether a copy waits for a vertex.

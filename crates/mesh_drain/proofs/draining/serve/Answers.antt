@@ -1,4 +1,4 @@
-use Rattle.std.proofs.Common.{ap, ◌∙◌, arith, length}
+use Rattle.std.proofs.Common.{ap, ◌∙◌, arith, length, refl}
 use Rattle.mesh_core.specs.State.{State}
 use Rattle.mesh_core.specs.Step.{after_event}
 use Rattle.spin_base.specs.declared.copies.Event.TheVariants.{Send, Collect}
@@ -24,7 +24,7 @@ pub returns-in-Input-clause-served : goal.returns-in-Input-clause-served
 returns-in-Input-clause-served c =
     on_ok c.wait_beyond.result c.wait_beyond.ensures (λ more. λ rest u.
     (link_served c.args.mesh.now c.step.new.self c.args.waiting.now.items c.args.chip c.args.out c.in_ok-step.ensures.moves
-    c.in-Input.field-0 c.in-Input.ensures.queue c.machine.result.now c.machine.ensures c.wait_beyond.new.waiting.items more rest u).0)
+    c.in-Input.field-0 c.in-Input.ensures.queue c.step.new.self.setup.machine refl c.wait_beyond.new.waiting.items more rest u).0)
 
 pub returns-in-Input-clause-unsent : goal.returns-in-Input-clause-unsent
 returns-in-Input-clause-unsent c =
@@ -35,7 +35,7 @@ pub returns-in-Input-clause-less : goal.returns-in-Input-clause-less
 returns-in-Input-clause-less c =
     on_ok c.wait_beyond.result c.wait_beyond.ensures (λ more.
     (link_served c.args.mesh.now c.step.new.self c.args.waiting.now.items c.args.chip c.args.out c.in_ok-step.ensures.moves
-    c.in-Input.field-0 c.in-Input.ensures.queue c.machine.result.now c.machine.ensures c.wait_beyond.new.waiting.items more c.requires.0 c.requires.1).1)
+    c.in-Input.field-0 c.in-Input.ensures.queue c.step.new.self.setup.machine refl c.wait_beyond.new.waiting.items more c.requires.0 c.requires.1).1)
 
 pub returns-in-Core-clause-reached : goal.returns-in-Core-clause-reached
 returns-in-Core-clause-reached c =
