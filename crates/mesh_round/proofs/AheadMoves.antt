@@ -1,21 +1,19 @@
 -- What is left of all ways of all packets: a bag of moves leaves less by what its moves take.
-use Rattle.std.proofs.Common.{◌≡◌, ℕ, zero, suc, ◌+◌, ◌*◌, ◌<◌, ◌≤◌, ◌==◌, ◌&&◌, cond, if◌then◌else◌, refl, ap, sym, ◌∙◌, subst, arith, inl, inr, ◌⊎◌, List, [], ◌∷◌, ◌++◌, length, Bool, true, false, count_by}
+use Rattle.std.proofs.Common.{◌≡◌, ℕ, zero, suc, ◌+◌, ◌*◌, ◌<◌, ◌≤◌, ◌==◌, ◌&&◌, cond, if◌then◌else◌, refl, ap, sym, ◌∙◌, subst, arith, inl, inr, ◌⊎◌, List, [], ◌∷◌, length, Bool, true, false, count_by}
 use Rattle.std.specs.List.{sum_by, Contains}
-use Rattle.std.proofs.lemmas.Bool.{and_parts, cases_order, eqb-true}
+use Rattle.std.proofs.lemmas.Bool.{cases_order, eqb-true}
 use Rattle.std.proofs.lemmas.List.Sums.{sum_by-append, sum_by-cons}
 use Rattle.spin_base.proofs.Members.{Among, among_contains, among_either}
-use Rattle.spin_base.specs.Hops.{last_hop}
 use Rattle.spin_base.specs.declared.chips.Spot.{Spot}
-use Rattle.machine_desc.specs.Branch.{Exit}
 use Rattle.machine_desc.specs.NetsOn.{IsWayOn}
 use Rattle.machine_desc.specs.declared.nets.NetPlan.{NetPlan}
 use Rattle.machine_desc.specs.RightTables.{AreRight, IsKeyOf}
 use Rattle.mesh_core.specs.State.{State, IsMesh}
-use Rattle.mesh_core.specs.Trail.{Mark, is_on_trail, is_packet_on_trail}
+use Rattle.mesh_core.specs.Trail.{Mark}
 use Rattle.mesh_core.specs.Ledger.{Label, MeetsLedger, marks_of}
 use Rattle.mesh_core.proofs.Counting.{counted}
 use Rattle.mesh_core.proofs.Law.{move_comes, move_counts}
-use Rattle.mesh_core.proofs.LedgerLaw.{Bag, IsRight, Moved, count_come, count_left, one_net, right_before, right_come, stands}
+use Rattle.mesh_core.proofs.LedgerLaw.{Bag, IsRight, Moved, one_net, right_before, right_come, stands}
 use Rattle.mesh_core.proofs.MarkTests.{mark_eq, mark_eq_same, mark_eq_true, move_raises, rank}
 use Rattle.mesh_core.proofs.Ways.{short_branch}
 use Rattle.mesh_round.proofs.Ahead.{Counted, is_on, left_for, left_of, move_takes, sum_of_passing, taken_for, taken_of}

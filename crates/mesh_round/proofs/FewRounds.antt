@@ -1,13 +1,11 @@
 -- Of each packet each way has so much left; each round in which a copy moves takes at least one. So there are few such rounds.
-use Rattle.std.proofs.Common.{◌≡◌, ℕ, zero, suc, ◌+◌, ◌*◌, ◌<◌, ◌≤◌, ◌==◌, ◌&&◌, cond, refl, ap, sym, ◌∙◌, subst, arith, inl, inr, ◌⊎◌, List, [], ◌∷◌, ◌++◌, length, map, Bool, true, false, Option, Some, None, count_by}
+use Rattle.std.proofs.Common.{◌≡◌, ℕ, zero, suc, ◌+◌, ◌*◌, ◌≤◌, ◌==◌, ◌&&◌, cond, refl, ap, sym, ◌∙◌, subst, arith, inl, inr, List, [], ◌∷◌, ◌++◌, length, map, Bool, true, Option, Some, None, count_by}
 use Rattle.std.specs.List.{All, Contains, slice_get, sum_by}
-use Rattle.std.proofs.lemmas.Bool.{and_from, and_parts, eq-eqb, eqb-true, true≢false}
+use Rattle.std.proofs.lemmas.Bool.{and_from, eq-eqb, true≢false}
 use Rattle.std.proofs.lemmas.List.Elements.{All-contains}
 use Rattle.std.proofs.lemmas.List.Sums.{sum_by-append, sum_by-cons}
 use Rattle.std.proofs.lemmas.Option.{none-some, same_Some}
-use Rattle.spin_base.proofs.Members.{Among, among_contains, among_either, among_left, among_map, among_right, map_among}
-use Rattle.spin_base.specs.declared.chips.Chip.{Chip}
-use Rattle.spin_base.specs.declared.chips.Port.{Port}
+use Rattle.spin_base.proofs.Members.{Among, among_either, among_left, among_map, among_right, map_among}
 use Rattle.spin_base.specs.declared.chips.Spot.{Spot}
 use Rattle.spin_base.specs.declared.copies.McCopy.{McCopy}
 use Rattle.spin_base.specs.declared.copies.Packet.{Packet}
@@ -23,7 +21,6 @@ use Rattle.mesh_core.specs.Trail.{Mark, Station, at_core, delivered, dumped, in_
 use Rattle.mesh_core.proofs.AskedPackets.{IsAsked, asked_from, asked_of_net, asked_parts, asks, net_in_list}
 use Rattle.mesh_core.proofs.Counting.{counted}
 use Rattle.mesh_core.proofs.LedgerLaw.{Bag, IsRight, Moved, one_net}
-use Rattle.mesh_core.proofs.Moves.{mark}
 use Rattle.mesh_round.specs.Bound.{MoveEach, most_moves, moves_of_packet, rounds_in}
 use Rattle.mesh_round.specs.RoundFlow.{Flow, HasMoved, HasRounds, Passes, none, more}
 use Rattle.mesh_round.proofs.Ahead.{Counted, counted_from, is_step, is_step_at, left_for, left_most, left_of, sum_of_passing, taken_at, taken_for}
@@ -34,7 +31,7 @@ use Rattle.mesh_round.proofs.CountSums.{part_of_sum, sum_within}
 use Rattle.mesh_round.proofs.Lighter.{all_left, left_counts}
 use Rattle.mesh_round.proofs.NetWays.{each_way, few_places, many_ways, net_ways, one_sends, some_counts, some_sends, way_there}
 use Rattle.mesh_round.proofs.RoundBag.{bag_of_round, some_steps}
-use Rattle.mesh_round.proofs.Sums.{sum_agree, sum_map, sum_plus}
+use Rattle.mesh_round.proofs.Sums.{sum_map, sum_plus}
 
 -- a way of a packet, by the packet's number
 pub record PacketWay : Type 0 where

@@ -13,7 +13,6 @@ use Rattle.spin_base.specs.declared.routes.Out.{Out}
 use Rattle.spin_base.specs.declared.routes.Out.TheVariants.{Link}
 use Rattle.spin_base.specs.declared.copies.McCopy.{McCopy}
 use Rattle.spin_base.specs.declared.copies.DumpRec.{DumpRec}
-use Rattle.spin_base.specs.declared.copies.Packet.{Packet}
 use Rattle.spin_base.specs.Links.{opposite_of}
 use Rattle.machine_desc.specs.Description.{Description}
 use Rattle.machine_desc.specs.Live.{far_of, IsLiveLink}
@@ -27,10 +26,8 @@ use Rattle.mesh_core.specs.State.{State, IsMesh, input, nowhere, behind, behind_
 use Rattle.mesh_core.specs.Step.{has_room, has_room_behind}
 use Rattle.mesh_core.specs.Trail.{Mark, dumped}
 use Rattle.mesh_core.specs.Ledger.{marks_of, Label, MeetsLedger}
-use Rattle.mesh_core.specs.Opened.{asked_by, MeetsJobLedger}
 use Rattle.mesh_core.specs.Expected.{IsAtRest}
 use Rattle.mesh_core.proofs.Changes.{queue_at-below}
-use Rattle.mesh_core.proofs.EventsLaw.{labels_of}
 use Rattle.mesh_core.proofs.Law.{leaves_parts}
 use Rattle.mesh_core.proofs.Moves.{mark}
 use Rattle.mesh_core.proofs.Standing.{dumped_mark}

@@ -6,13 +6,18 @@ use Rattle.spin_base.specs.declared.chips.Port.{Port}
 use Rattle.spin_base.specs.declared.routes.Out.{Out}
 use Rattle.spin_base.specs.declared.copies.McCopy.{McCopy}
 use Rattle.spin_base.specs.Hops.{onward}
-use Rattle.machine_desc.specs.Live.{is_live_chip}
-use Rattle.mesh_core.specs.State.{Setup, State, behind, queue_at}
+use Rattle.machine_desc.specs.Live.{is_live_chip, IsInside}
+use Rattle.mesh_core.specs.State.{IsMesh, Setup, State, behind, queue_at}
 use Rattle.mesh_core.specs.Queues.{front_of, drop_front}
 use Rattle.mesh_core.specs.Step.{has_room_behind, outputs, push_behind}
 use Rattle.mesh_round.specs.OnThreads.{MayGoOn}
 use Rattle.mesh_round.specs.Bound.{HasMovingRounds}
 use Rattle.mesh_round.specs.Work.{work_in}
+
+-- a mesh, and a chip of its machine, live or not
+pub record IsMeshWith (c : Chip) (s : State) : Type 0 where
+  pub mesh : IsMesh s
+  pub inside : IsInside s.setup.machine c
 
 -- A copy was served at an output of a chip: it went on to the queue behind it where that has room, and was else dropped there.
 abbrev pub served_or_dumped : Bool → Setup → State → Chip → McCopy → Out → State

@@ -13,6 +13,7 @@ pub mod flow_laws;
 mod gates;
 pub mod laws;
 mod moves;
+mod ready;
 mod reinjecting;
 mod rounds;
 mod turning;

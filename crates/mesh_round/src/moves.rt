@@ -1,12 +1,11 @@
 // What a router and the vertices of a chip do in a turn, on the queues themselves: one move each.
 ghost use Rattle.std.specs.Prelude.{◌≡◌, ◌<◌, ◌++◌, [], ◌∷◌, List, Some, IfOk, OnErr, OnOk, is_some, length, slice_get, unwrap_or};
 ghost use Rattle.spin_base.specs.declared.copies.Event.TheVariants.{Inject, Collect};
-ghost use Rattle.machine_desc.specs.Live.{IsInside};
 ghost use Rattle.chip_node.specs.Routing.{outputs_at};
 ghost use Rattle.mesh_core.specs.State.{IsMesh, State, behind, queue_at as place_of_queue};
 ghost use Rattle.mesh_core.specs.Queues.{drop_front, front_of};
 ghost use Rattle.mesh_core.specs.Step.{after_event, has_room_behind, outputs, step_of};
-ghost use Rattle.mesh_round.specs.Turning.{router_step, served_at, served_at_all, served_or_dumped};
+ghost use Rattle.mesh_round.specs.Turning.{IsMeshWith, router_step, served_at, served_at_all, served_or_dumped};
 
 use crate::reinjecting::{has_room, onward, push_behind, queue_behind};
 use crate::waking::Awake;
@@ -69,8 +68,7 @@ pub(crate) fn route_first(
     chip: Chip,
     port: Port,
 ) -> Result<bool, Memory>
-    requires mesh { IsMesh parts.old }
-    requires inside { IsInside parts.old.setup.machine chip }
+    requires { IsMeshWith chip parts.old }
     ensures answer { IfOk result (λ took. took ≡ is_some (router_step parts.old chip port)) }
     ensures moves { OnOk result (parts.new ≡ unwrap_or (router_step parts.old chip port) parts.old) }
     ensures err { OnErr result (parts.new ≡ parts.old) }
@@ -110,8 +108,7 @@ fn drop_input(parts: &mut MeshParts, place: usize)
 
 // The outputs that a chip's table gives a copy that came in at this port: none where it has the greatest hop number.
 fn outputs_of(parts: &MeshParts, chip: Chip, port: Port, copy: McCopy) -> Outs
-    requires mesh { IsMesh parts.now }
-    requires inside { IsInside parts.now.setup.machine chip }
+    requires { IsMeshWith chip parts.now }
     ensures { result.items ≡ outputs parts.now.setup chip port copy }
 {
     let index = parts.setup.machine().index(chip) as usize;
@@ -137,8 +134,7 @@ fn serve_all(
     copy: McCopy,
     outs: &[Out],
 ) -> Result<(), Memory>
-    requires mesh { IsMesh parts.old }
-    requires inside { IsInside parts.old.setup.machine chip }
+    requires { IsMeshWith chip parts.old }
     ensures ok { OnOk result (parts.new
         ≡ served_at_all parts.old.setup parts.old chip copy outs.now) }
     ensures err { OnErr result (parts.new ≡ parts.old) }
@@ -164,8 +160,7 @@ fn serve(
     copy: McCopy,
     out: Out,
 ) -> Result<bool, Memory>
-    requires mesh { IsMesh parts.old }
-    requires inside { IsInside parts.old.setup.machine chip }
+    requires { IsMeshWith chip parts.old }
     ensures sent { IfOk result (λ sent. sent
         ≡ has_room_behind parts.old (behind parts.old.setup chip out)) }
     ensures ok { OnOk result (parts.new ≡ served_at parts.old.setup parts.old chip copy out) }
@@ -213,8 +208,7 @@ fn drop_last<T: Copy + Drop>(alloc: Global, queue: &mut Fifo<T>)
 
 // The place of a port's input queue.
 pub(crate) fn input_place(parts: &MeshParts, chip: Chip, port: Port) -> usize
-    requires mesh { IsMesh parts.now }
-    requires inside { IsInside parts.now.setup.machine chip }
+    requires { IsMeshWith chip parts.now }
     ensures place { result ≡ place_of_queue parts.now.setup.machine chip port }
     ensures below { result < length parts.now.inputs }
 {

@@ -13,6 +13,7 @@ ghost use Rattle.mesh_round.specs.Turning.{GoesTo};
 use crate::flow_laws::{a_round_leaves_less_to_do, rounds_that_move_copies_are_few};
 use crate::gates::RoundGate;
 use crate::laws::a_round_on_threads_is_a_round;
+use crate::ready::{ReadyMesh, every_ready_mesh_may_go_on};
 use crate::turning::turn_all;
 use crate::waking::Awake;
 use mesh_core::{Mesh, MeshParts};
@@ -101,8 +102,10 @@ pub(crate) fn run_parts<R: Threads + Wait + Sync, G: RoundGate>(
     if gate.may_hold() {
         return run_raised(rt, alloc, parts, pace, gate);
     }
-    let mut parts = parts;
-    if let Err(e) = turn_out(alloc, &mut parts, pace.turns, awake) {
+    let mut mesh = ReadyMesh { parts };
+    let turned = turn_out(alloc, &mut mesh, pace.turns, awake);
+    let ReadyMesh { parts } = mesh;
+    if let Err(e) = turned {
         return Err((parts, e));
     }
     if is_at_rest(&parts) {
@@ -114,15 +117,15 @@ pub(crate) fn run_parts<R: Threads + Wait + Sync, G: RoundGate>(
 // Turns of those who are awake until none of them moves a copy.
 fn turn_out(
     alloc: Global,
-    parts: &mut MeshParts,
+    mesh: &mut ReadyMesh,
     turns: u32,
     awake: &mut Awake,
 ) -> Result<(), Memory>
-    requires { MayGoOn parts.old }
-    ensures { GoesTo parts.old parts.new }
+    ensures { GoesTo mesh.old mesh.new }
 {
+    every_ready_mesh_may_go_on(mesh);
     'turns: loop {
-        if !turn_all(alloc, parts, turns, awake)? {
+        if !turn_all(alloc, mesh, turns, awake)? {
             return Ok(());
         }
     }

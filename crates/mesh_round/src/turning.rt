@@ -1,10 +1,10 @@
 // Turns of routers and vertices, one after the other on one thread.
 ghost use Rattle.std.specs.Prelude.{◌≡◌, ◌<◌, ◌≤◌, ◌||◌, IfOk, OnErr, false};
 ghost use Rattle.machine_desc.specs.Live.{IsInside};
-ghost use Rattle.mesh_round.specs.OnThreads.{MayGoOn};
 ghost use Rattle.mesh_round.specs.Turning.{GoesTo, TakesTurn};
 
 use crate::moves::{collect_first, route_first, send_first};
+use crate::ready::{ReadyMesh, every_ready_mesh_may_go_on};
 use crate::waking::Awake;
 use mesh_core::{MeshParts, MeshSetup};
 use spin_base::{Chip, Memory, Port, Spot};
@@ -16,17 +16,17 @@ const VERTEX_COUNT: u8 = 24;
 // So many turns of all who are awake. Whether a copy moved.
 pub(crate) fn turn_all(
     alloc: Global,
-    parts: &mut MeshParts,
+    mesh: &mut ReadyMesh,
     turns: u32,
     awake: &mut Awake,
 ) -> Result<bool, Memory>
-    requires { MayGoOn parts.old }
-    ensures turn { IfOk result (TakesTurn parts.old parts.new) }
-    ensures err { OnErr result (GoesTo parts.old parts.new) }
+    ensures turn { IfOk result (TakesTurn mesh.old mesh.new) }
+    ensures err { OnErr result (GoesTo mesh.old mesh.new) }
 {
+    every_ready_mesh_may_go_on(mesh);
     let mut moved = false;
     for number in 0..turns {
-        let some = turn_each(alloc, parts, number, awake)?;
+        let some = turn_each(alloc, mesh, number, awake)?;
         moved = either(some, moved);
         if !some {
             return Ok(moved);
@@ -45,18 +45,18 @@ fn either(one: bool, other: bool) -> bool
 // One turn of all who are awake, in order of their places. Whether a copy moved.
 fn turn_each(
     alloc: Global,
-    parts: &mut MeshParts,
+    mesh: &mut ReadyMesh,
     number: u32,
     awake: &mut Awake,
 ) -> Result<bool, Memory>
-    requires { MayGoOn parts.old }
-    ensures turn { IfOk result (TakesTurn parts.old parts.new) }
-    ensures err { OnErr result (GoesTo parts.old parts.new) }
+    ensures turn { IfOk result (TakesTurn mesh.old mesh.new) }
+    ensures err { OnErr result (GoesTo mesh.old mesh.new) }
 {
+    every_ready_mesh_may_go_on(mesh);
     let mut moved = false;
     let mut from = 0;
     'places: while let Some(place) = awake.next(from) {
-        let some = turn_at(alloc, parts, number, awake, place)?;
+        let some = turn_at(alloc, mesh, number, awake, place)?;
         moved = either(some, moved);
         from = place + 1;
     }
@@ -66,46 +66,46 @@ fn turn_each(
 // The turn at a place.
 fn turn_at(
     alloc: Global,
-    parts: &mut MeshParts,
+    mesh: &mut ReadyMesh,
     number: u32,
     awake: &mut Awake,
     place: usize,
 ) -> Result<bool, Memory>
-    requires { MayGoOn parts.old }
-    ensures turn { IfOk result (TakesTurn parts.old parts.new) }
-    ensures err { OnErr result (GoesTo parts.old parts.new) }
+    ensures turn { IfOk result (TakesTurn mesh.old mesh.new) }
+    ensures err { OnErr result (GoesTo mesh.old mesh.new) }
 {
+    every_ready_mesh_may_go_on(mesh);
     let index = place / 2;
-    if index >= parts.setup.machine().chips() {
+    if index >= mesh.setup().machine().chips() {
         awake.clear(place);
         return Ok(false);
     }
-    let chip = parts.setup.machine().chip_at(index as u32);
+    let chip = mesh.setup().machine().chip_at(index as u32);
     if place % 2 == 0 {
-        turn_router(alloc, parts, number, awake, chip)
+        turn_router(alloc, mesh, number, awake, chip)
     } else {
-        turn_vertices(parts, number, awake, chip)
+        turn_vertices(mesh, number, awake, chip)
     }
 }
 
 // A router takes a copy from the first of its ports that has one, in a ring that begins with the turn's number.
 fn turn_router(
     alloc: Global,
-    parts: &mut MeshParts,
+    mesh: &mut ReadyMesh,
     number: u32,
     awake: &mut Awake,
     chip: Chip,
 ) -> Result<bool, Memory>
-    requires ready { MayGoOn parts.old }
-    requires inside { IsInside parts.old.setup.machine chip }
-    ensures turn { IfOk result (TakesTurn parts.old parts.new) }
-    ensures err { OnErr result (GoesTo parts.old parts.new) }
+    requires { IsInside mesh.old.setup.machine chip }
+    ensures turn { IfOk result (TakesTurn mesh.old mesh.new) }
+    ensures err { OnErr result (GoesTo mesh.old mesh.new) }
 {
-    let index = parts.setup.machine().index(chip) as usize;
+    every_ready_mesh_may_go_on(mesh);
+    let index = mesh.setup().machine().index(chip) as usize;
     let start = number % Port::COUNT;
     for step in 0..Port::COUNT {
         let port = Port::ALL[((start + step) % Port::COUNT) as usize];
-        if route(alloc, parts, awake, chip, port)? {
+        if route(alloc, mesh, awake, chip, port)? {
             return Ok(true);
         }
     }
@@ -116,18 +116,17 @@ fn turn_router(
 // A router takes the first copy at a port, where there is one, and who takes what it sends is awake.
 fn route(
     alloc: Global,
-    parts: &mut MeshParts,
+    mesh: &mut ReadyMesh,
     awake: &mut Awake,
     chip: Chip,
     port: Port,
 ) -> Result<bool, Memory>
-    requires ready { MayGoOn parts.old }
-    requires inside { IsInside parts.old.setup.machine chip }
-    ensures turn { IfOk result (TakesTurn parts.old parts.new) }
-    ensures none { IfOk result (λ moved. moved ≡ false → parts.new ≡ parts.old) }
-    ensures err { OnErr result (parts.new ≡ parts.old) }
+    requires { IsInside mesh.old.setup.machine chip }
+    ensures turn { IfOk result (TakesTurn mesh.old mesh.new) }
+    ensures none { IfOk result (λ moved. moved ≡ false → mesh.new ≡ mesh.old) }
+    ensures err { OnErr result (mesh.new ≡ mesh.old) }
 {
-    let took = route_first(alloc, parts, awake, chip, port)?;
+    let took = route_first(alloc, &mut mesh.parts, awake, chip, port)?;
     Ok(took)
 }
 
@@ -178,21 +177,20 @@ impl OnChip {
 
 // The vertices of a chip send one copy and take one, each in a ring that begins with the turn's number.
 fn turn_vertices(
-    parts: &mut MeshParts,
+    mesh: &mut ReadyMesh,
     number: u32,
     awake: &mut Awake,
     chip: Chip,
 ) -> Result<bool, Memory>
-    requires ready { MayGoOn parts.old }
-    requires inside { IsInside parts.old.setup.machine chip }
-    ensures turn { IfOk result (TakesTurn parts.old parts.new) }
-    ensures err { OnErr result (GoesTo parts.old parts.new) }
+    requires { IsInside mesh.old.setup.machine chip }
+    ensures turn { IfOk result (TakesTurn mesh.old mesh.new) }
+    ensures err { OnErr result (GoesTo mesh.old mesh.new) }
 {
-    let index = parts.setup.machine().index(chip) as usize;
-    let here = OnChip::of(&parts.setup, chip);
-    let waiting = first_unsent(parts, &here, number);
-    let sent = send_waiting(parts, waiting)?;
-    let collected = collect(parts, &here, number)?;
+    let index = mesh.setup().machine().index(chip) as usize;
+    let here = OnChip::of(mesh.setup(), chip);
+    let waiting = first_unsent(&mesh.parts, &here, number);
+    let sent = send_waiting(mesh, waiting)?;
+    let collected = collect(mesh, &here, number)?;
     awake.note_vertices(index, waiting.is_some(), sent, collected);
     if collected {
         return Ok(true);
@@ -214,26 +212,26 @@ fn first_unsent(parts: &MeshParts, here: &OnChip, number: u32) -> Option<u32> {
 }
 
 // The vertex, where one is given, sends its first unsent copy, where it can.
-fn send_waiting(parts: &mut MeshParts, waiting: Option<u32>) -> Result<bool, Memory>
-    requires { MayGoOn parts.old }
-    ensures turn { IfOk result (TakesTurn parts.old parts.new) }
-    ensures err { OnErr result (GoesTo parts.old parts.new) }
+fn send_waiting(mesh: &mut ReadyMesh, waiting: Option<u32>) -> Result<bool, Memory>
+    ensures turn { IfOk result (TakesTurn mesh.old mesh.new) }
+    ensures err { OnErr result (GoesTo mesh.old mesh.new) }
 {
+    every_ready_mesh_may_go_on(mesh);
     let Some(vertex) = waiting else {
         return Ok(false);
     };
-    let sent = send_first(parts, vertex)?;
+    let sent = send_first(&mut mesh.parts, vertex)?;
     Ok(sent)
 }
 
 // The first vertex round the ring for which a copy waits takes it.
-fn collect(parts: &mut MeshParts, here: &OnChip, number: u32) -> Result<bool, Memory>
-    requires { MayGoOn parts.old }
-    ensures turn { IfOk result (TakesTurn parts.old parts.new) }
-    ensures err { OnErr result (GoesTo parts.old parts.new) }
+fn collect(mesh: &mut ReadyMesh, here: &OnChip, number: u32) -> Result<bool, Memory>
+    ensures turn { IfOk result (TakesTurn mesh.old mesh.new) }
+    ensures err { OnErr result (GoesTo mesh.old mesh.new) }
 {
+    every_ready_mesh_may_go_on(mesh);
     for step in 0..here.count {
-        if collect_at(parts, here.vertex_after(number, step))? {
+        if collect_at(mesh, here.vertex_after(number, step))? {
             return Ok(true);
         }
     }
@@ -241,12 +239,11 @@ fn collect(parts: &mut MeshParts, here: &OnChip, number: u32) -> Result<bool, Me
 }
 
 // A vertex takes the first copy in its queue, where there is one.
-fn collect_at(parts: &mut MeshParts, vertex: u32) -> Result<bool, Memory>
-    requires { MayGoOn parts.old }
-    ensures turn { IfOk result (TakesTurn parts.old parts.new) }
-    ensures none { IfOk result (λ moved. moved ≡ false → parts.new ≡ parts.old) }
-    ensures err { OnErr result (parts.new ≡ parts.old) }
+fn collect_at(mesh: &mut ReadyMesh, vertex: u32) -> Result<bool, Memory>
+    ensures turn { IfOk result (TakesTurn mesh.old mesh.new) }
+    ensures none { IfOk result (λ moved. moved ≡ false → mesh.new ≡ mesh.old) }
+    ensures err { OnErr result (mesh.new ≡ mesh.old) }
 {
-    let got = collect_first(parts, vertex)?;
+    let got = collect_first(&mut mesh.parts, vertex)?;
     Ok(got)
 }

@@ -4,7 +4,7 @@ use Rattle.mesh_round.proofs.rounds.turn_out.Given as goal
 
 -- the mesh was reached by rounds
 abbrev pub invariant-turns : goal.invariant-turns
-invariant-turns l = GoesTo l.fn.parts l.parts
+invariant-turns l = GoesTo l.fn.mesh l.mesh
 
 abbrev pub decreases-turns : goal.decreases-turns
-decreases-turns l = work_in l.parts
+decreases-turns l = work_in l.mesh

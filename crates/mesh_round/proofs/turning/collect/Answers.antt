@@ -4,7 +4,7 @@ use Rattle.mesh_round.proofs.OneMove.{goes_same, on_any}
 use Rattle.mesh_round.proofs.turning.collect.Goals as goal
 
 pub returns-in_err-collect_at-clause-err : goal.returns-in_err-collect_at-clause-err
-returns-in_err-collect_at-clause-err c = on_any _ (goes_same c.args.parts.now c.collect_at.new.parts c.requires (c.in_err-collect_at.ensures.err ∙ c.loop-step.invariant))
+returns-in_err-collect_at-clause-err c = on_any _ (goes_same c.args.mesh.now c.collect_at.new.mesh c.every_ready_mesh_may_go_on.ensures (c.in_err-collect_at.ensures.err ∙ c.loop-step.invariant))
 
 pub returns-clause-turn : goal.returns-clause-turn
-returns-clause-turn c = (goes_same c.args.parts.now c.loop-step.parts c.requires c.loop-step.invariant, λ is. cc)
+returns-clause-turn c = (goes_same c.args.mesh.now c.loop-step.mesh c.every_ready_mesh_may_go_on.ensures c.loop-step.invariant, λ is. cc)

@@ -4,7 +4,7 @@ use Rattle.mesh_round.proofs.turning.turn_each.Given as goal
 
 -- so far turns were taken, and places go up
 abbrev pub invariant-places : goal.invariant-places
-invariant-places l = TakesTurn l.fn.parts l.parts l.moved
+invariant-places l = TakesTurn l.fn.mesh l.mesh l.moved
 
 abbrev pub decreases-places : goal.decreases-places
 decreases-places l = 8192 - l.from
