@@ -23,8 +23,6 @@ use Rattle.mesh_core.specs.State.{Setup, queue_at}
 use Rattle.mesh_run.specs.declared.actors.Actor.{Actor}
 use Rattle.mesh_run.specs.declared.actors.Actor.TheVariants.{Router, Bank}
 use Rattle.mesh_run.specs.declared.spaces.ActorSpace.{ActorSpace}
-use Rattle.mesh_run.specs.declared.spaces.RouterSpace.{RouterSpace}
-use Rattle.mesh_run.specs.declared.spaces.BankSpace.{BankSpace}
 use Rattle.mesh_run.specs.declared.rounds.Logs.{Logs}
 use Rattle.mesh_run.specs.declared.standing.Standing.{Standing}
 use Rattle.mesh_run.specs.Holders.{Pair, actors_of}
@@ -82,24 +80,10 @@ pub record IsPairOf (u : Setup) (patience : ℕ) (c : Chip) (p : Pair) : Type 0 
 
 -- ---- dealing
 
--- room for the ends of a router
-pub record IsRouterSpace (k : RouterSpace) : Type 0 where
-  pub no_inputs : k.inputs.items ≡ []
-  pub inputs : 7 ≤ k.inputs.spare
-  pub no_outputs : k.outputs.items ≡ []
-  pub outputs : 24 ≤ k.outputs.spare
-
--- room for the vertices of a bank
-pub record IsBankSpace (k : BankSpace) : Type 0 where
-  pub no_vertices : k.vertices.items ≡ []
-  pub vertices : 24 ≤ k.vertices.spare
-
 -- room for the router and the bank of a chip
 pub record IsSpaceOf (m : Description) (c : Chip) (k : ActorSpace) : Type 0 where
   pub chip : k.chip ≡ c
   pub index : k.index ≡ index_of m c
-  pub router : IsRouterSpace k.router
-  pub bank : IsBankSpace k.bank
 
 -- the space of a chip of the machine
 pub record IsSpaceInside (m : Description) (k : ActorSpace) : Type 0 where

@@ -6,7 +6,7 @@ use Rattle.machine_desc.specs.Description.{Description}
 use Rattle.link_queue.specs.declared.links.LinkEnds.{LinkEnds}
 use Rattle.mesh_core.specs.State.{Setup}
 use Rattle.mesh_run.specs.declared.rounds.Logs.{Logs}
-use Rattle.mesh_run.specs.declared.rounds.Stage.{Stage}
+use Rattle.mesh_run.specs.declared.rounds.RoundSpace.{RoundSpace}
 use Rattle.mesh_run.specs.declared.standing.Standing.{Standing}
 use Rattle.mesh_run.specs.Holders.{AreDealt, AreLeft, HaveNoLogs, Pair, PairFlow, delivered_by, dumped_by, live_chips}
 use Rattle.mesh_run.specs.Dealing.{HasLogs, IsSpaceOf}
@@ -16,7 +16,7 @@ use Rattle.mesh_run.specs.Standing.{HoldsAll}
 
 -- Memory for a round of so many turns: a space for each live chip, with empty logs, room for all actors, and room for all that may
 -- be logged.
-pub record IsStageOf (m : Description) (turns : ℕ) (g : Stage) : Type 0 where
+pub record IsRoundSpaceOf (m : Description) (turns : ℕ) (g : RoundSpace) : Type 0 where
   pub spaces : AllZip (IsSpaceOf m) (live_chips m) g.spaces.items
   pub space_logs : All (HasLogs turns) g.spaces.items
   pub room : IsRoomFor (2 * length g.spaces.items) g.actors.items g.actors.spare

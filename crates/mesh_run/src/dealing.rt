@@ -2,13 +2,14 @@
 ghost use Rattle.std.specs.Prelude.{◌≡◌, ◌+◌, ◌*◌, ◌≤◌, List, [], ◌∷◌, None, length};
 ghost use Rattle.std.specs.List.{AllZip};
 ghost use Rattle.mesh_run.specs.Holders.{Pair, live_chips, actors_of};
-ghost use Rattle.mesh_run.specs.Dealing.{DealsChip, Deals, HasAllEnds, HasBankEnds, HasEndsOf, HasLogsOf, HasRouterEnds, IsBankSpace, IsBankOf, IsSpaceInside, IsSpaceOf, IsPairOf, IsRouterSpace, IsRouterOf};
+ghost use Rattle.mesh_run.specs.Dealing.{DealsChip, Deals, HasAllEnds, HasBankEnds, HasEndsOf, HasLogsOf, HasRouterEnds, IsBankOf, IsSpaceInside, IsSpaceOf, IsPairOf, IsRouterOf};
 ghost use Rattle.mesh_run.specs.Lending.{IsRoomFor, Lent, tx_of, txs_of, rxs_of, vertex_rxs, vertex_unsent};
 
 use crate::actors::Actor;
+use crate::end_spaces::{BankSpace, RouterSpace};
 use crate::lending::{lend_inject, lend_inputs, lend_outputs, lend_vertices};
 use crate::seats::{Frame, Seat};
-use crate::spaces::{ActorSpace, BankSpace, RouterSpace};
+use crate::spaces::ActorSpace;
 use crate::standing::Standing;
 use chip_node::{CoreBank, RouterNode};
 use spin_base::{Fifo, McCopy, Room};
@@ -73,8 +74,7 @@ fn deal_chip(
 
 // The router of a chip.
 fn deal_router(space: RouterSpace, standing: &mut Standing, seat: Seat, frame: Frame) -> RouterNode
-    requires space { IsRouterSpace space }
-    requires ends { HasRouterEnds seat.setup.now seat.chip standing.old }
+    requires { HasRouterEnds seat.setup.now seat.chip standing.old }
     ensures router { IsRouterOf seat.entry.setup.now frame.entry.patience seat.entry.chip result }
     ensures log { result.log ≡ space.dumps }
     ensures txs { Lent None
@@ -108,8 +108,7 @@ fn deal_bank(
     unsent: &mut Vec<Fifo<McCopy>>,
     seat: Seat,
 ) -> CoreBank
-    requires space { IsBankSpace space }
-    requires ends { HasBankEnds seat.setup.now seat.chip standing.old
+    requires { HasBankEnds seat.setup.now seat.chip standing.old
         unsent.old.items }
     ensures bank { IsBankOf seat.entry.setup.now seat.entry.chip result }
     ensures log { result.log ≡ space.deliveries }

@@ -6,6 +6,7 @@
 
 mod actors;
 mod dealing;
+mod end_spaces;
 mod flags;
 mod gathering;
 pub mod laws;

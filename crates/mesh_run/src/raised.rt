@@ -8,7 +8,7 @@ ghost use Rattle.mesh_run.specs.Raised.{IsRaised, has_none, mesh_of};
 
 use crate::gathering::{links_of, scatter};
 use crate::queues::{Places, bring_down, rest_all, widen_all};
-use crate::rounds::{Logs, Pace, Round, Stage, play_links};
+use crate::rounds::{Logs, Pace, Round, RoundSpace, play_links};
 use crate::spaces::live_spaces;
 use crate::standing::{Standing, room_for};
 use mesh_core::{Hand, MeshParts, MeshSetup};
@@ -116,7 +116,7 @@ impl RaisedMesh {
         let cap = raised.setup.capacity();
         match Logs::over(raised.delivered, raised.dumped, spaces.len(), pace.turns) {
             Ok(logs) => {
-                let stage = Stage {
+                let space = RoundSpace {
                     alloc,
                     spaces,
                     actors,
@@ -126,7 +126,7 @@ impl RaisedMesh {
                 let logs = play_links(
                     rt,
                     &raised.setup,
-                    stage,
+                    space,
                     &mut raised.standing,
                     &mut raised.unsent,
                     &round,

@@ -3,7 +3,7 @@ ghost use Rattle.std.specs.Prelude.{◌≡◌, ◌*◌, ◌≤◌, List, IfErr, 
 ghost use Rattle.link_queue.specs.declared.links.LinkEnds.{LinkEnds};
 ghost use Rattle.mesh_core.specs.State.{IsMesh};
 ghost use Rattle.mesh_run.specs.Holders.{IsPlayed};
-ghost use Rattle.mesh_run.specs.Playing.{AreAllUp, IsPlayedOn, IsStageOf};
+ghost use Rattle.mesh_run.specs.Playing.{AreAllUp, IsPlayedOn, IsRoundSpaceOf};
 ghost use Rattle.mesh_run.specs.Standing.{HoldsAll};
 
 use crate::actors::Actor;
@@ -105,7 +105,7 @@ impl Logs {
 
 // Memory for a round, taken before its first turn: a space for each live chip, room for all actors, and the logs.
 #[derive(Drop)]
-pub(crate) struct Stage {
+pub(crate) struct RoundSpace {
     pub alloc: Global,
     pub spaces: Vec<ActorSpace>,
     pub actors: Room<Actor>,
@@ -116,24 +116,24 @@ pub(crate) struct Stage {
 pub(crate) fn play_links<R: Threads + Wait + Sync, G: Gate>(
     rt: &R,
     setup: &MeshSetup,
-    stage: Stage,
+    space: RoundSpace,
     standing: &mut Standing,
     unsent: &mut Vec<Fifo<McCopy>>,
     round: &Round<G>,
 ) -> Logs
     requires tables { length setup.now.tables ≡ setup.now.machine.width * setup.now.machine.height }
-    requires stage { IsStageOf setup.now.machine round.now.pace.turns stage }
+    requires space { IsRoundSpaceOf setup.now.machine round.now.pace.turns space }
     requires ends { AreAllUp setup.now standing.old unsent.old.items }
     ensures { (up : List LinkEnds) → HoldsAll up standing.old
         → IsPlayedOn setup.now round.now.pace.patience round.now.pace.turns up standing.new
-        unsent.old.items unsent.new.items stage.logs result }
+        unsent.old.items unsent.new.items space.logs result }
 {
-    let Stage {
+    let RoundSpace {
         alloc,
         spaces,
         actors: mut room,
         mut logs,
-    } = stage;
+    } = space;
     let frame = Frame {
         setup,
         patience: round.pace.patience,

@@ -6,27 +6,12 @@ ghost use Rattle.machine_desc.specs.Live.{index_of, IsInside};
 ghost use Rattle.mesh_run.specs.Holders.{live_chips};
 ghost use Rattle.mesh_run.specs.Dealing.{AddsSpace, HasLogs, IsSpaceOf};
 
+use crate::end_spaces::{BankSpace, RouterSpace};
 use crate::lending::{OUT_COUNT, VERTEX_COUNT};
 use crate::standing::room_for;
-use chip_node::{BankVertex, InEnd, OutEnd};
 use machine_desc::Machine;
-use spin_base::{Chip, Delivery, DumpRec, Memory, Out, Port, Room};
+use spin_base::{Chip, Memory, Port};
 use std::alloc::Global;
-
-/// Room for the ends and the log of a router.
-#[derive(Drop)]
-pub(crate) struct RouterSpace {
-    pub inputs: Room<(Port, InEnd)>,
-    pub outputs: Room<(Out, OutEnd)>,
-    pub dumps: Room<DumpRec>,
-}
-
-/// Room for the vertices and the log of a bank.
-#[derive(Drop)]
-pub(crate) struct BankSpace {
-    pub vertices: Room<BankVertex>,
-    pub deliveries: Room<Delivery>,
-}
 
 /// A live chip, its index, and room for its router and bank.
 #[derive(Drop)]

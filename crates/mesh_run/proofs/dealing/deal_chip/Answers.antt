@@ -7,8 +7,8 @@ use Rattle.mesh_run.proofs.DealingChips.{deals_both, put_both}
 use Rattle.mesh_run.proofs.Lent.{still_there}
 use Rattle.mesh_run.proofs.dealing.deal_chip.Goals as goal
 
-pub deal_bank-bank-requires-clause-ends : goal.deal_bank-bank-requires-clause-ends
-deal_bank-bank-requires-clause-ends c =
+pub deal_bank-bank-requires : goal.deal_bank-bank-requires
+deal_bank-bank-requires c =
     let u = c.args.frame.setup.now in
     let chip = c.args.space.chip in
     let inside = c.requires.space.inside in

@@ -1,5 +1,6 @@
 use Rattle.std.proofs.Common.{◌≡◌, List, sym, ap, ◌∙◌, subst}
 use Rattle.std.specs.List.{All}
+use Rattle.std.proofs.lemmas.List.{nil_from_length}
 use Rattle.spin_base.specs.declared.chips.Port.{Port}
 use Rattle.spin_base.specs.declared.routes.Out.{Out}
 use Rattle.chip_node.specs.declared.ends.InEnd.{InEnd}
@@ -8,6 +9,12 @@ use Rattle.chip_node.specs.Serving.{ports_of, outs_with_ends}
 use Rattle.mesh_run.specs.Lending.{IsAtPort, IsBehind}
 use Rattle.mesh_run.proofs.Apart.{ends_differ, inputs_differ}
 use Rattle.mesh_run.proofs.dealing.deal_router.Goals as goal
+
+pub lend_inputs-requires-clause-room : goal.lend_inputs-requires-clause-room
+lend_inputs-requires-clause-room c = record { none_yet = nil_from_length c.args.space.inputs.items c.args.space.no_inputs; spare = c.args.space.for_inputs }
+
+pub lend_outputs-requires-clause-room : goal.lend_outputs-requires-clause-room
+lend_outputs-requires-clause-room c = record { none_yet = nil_from_length c.args.space.outputs.items c.args.space.no_outputs; spare = c.args.space.for_outputs }
 
 pub new-requires-clause-ports_differ : goal.new-requires-clause-ports_differ
 new-requires-clause-ports_differ c = inputs_differ c.into_seq.result (ap ports_of c.into_seq.ensures ∙ c.lend_inputs.ensures.ports)

@@ -22,13 +22,13 @@ deal-requires-clause-ends g c =
     }
 
 -- what was dealt to the actors
-dealt : (g : Over) (c : After-deal g) → AreDealt c.args.setup.now c.args.round.now.pace.patience c.args.round.now.pace.turns c.requires.ends.up c.args.standing.now c.deal.new.standing c.args.unsent.now.items c.deal.new.unsent.items c.args.stage.spaces.items
+dealt : (g : Over) (c : After-deal g) → AreDealt c.args.setup.now c.args.round.now.pace.patience c.args.round.now.pace.turns c.requires.ends.up c.args.standing.now c.deal.new.standing c.args.unsent.now.items c.deal.new.unsent.items c.args.space.spaces.items
     c.deal.new.actors.items
 dealt g c = record {
   tables = c.requires.tables;
   holds = c.requires.ends.holds;
   ends = c.requires.ends.ends;
-  logs = c.requires.stage.space_logs;
+  logs = c.requires.space.space_logs;
   pairs = c.deal.ensures.pairs.0;
   are = c.deal.ensures.pairs.1;
   of_chips = c.deal.ensures.pairs.2;
@@ -51,8 +51,8 @@ pub return_actors-requires : goal.return_actors-requires
 return_actors-requires g c =
     let before = dealt g (goal.at.return_actors-requires g c).After-deal in
     let turn = turns_of g (goal.at.return_actors-requires g c).After-play in
-    let deliveries = c.requires.stage.deliveries in
-    let dumps = c.requires.stage.dumps in
+    let deliveries = c.requires.space.deliveries in
+    let dumps = c.requires.space.dumps in
     let delivered = deliveries_fit before turn in
     let dumped = dumps_fit before turn in
     record {
@@ -67,6 +67,6 @@ pub returns : goal.returns
 returns g c = λ ends holds.
     let logs : Logs = c.return_actors.new.logs in
     let e = c.return_actors.ensures in
-    subst (λ l. IsPlayedOn c.args.setup.now c.args.round.now.pace.patience c.args.round.now.pace.turns l c.return_actors.new.standing c.args.unsent.now.items c.return_actors.new.unsent.items c.args.stage.logs logs)
+    subst (λ l. IsPlayedOn c.args.setup.now c.args.round.now.pace.patience c.args.round.now.pace.turns l c.return_actors.new.standing c.args.unsent.now.items c.return_actors.new.unsent.items c.args.space.logs logs)
     (only_ends c.requires.ends.up ends c.args.standing.now c.requires.ends.holds holds)
-    (round_on_links (dealt g (goal.at.returns g c).After-deal) (turns_of g (goal.at.returns g c).After-play) _ _ c.args.stage.logs logs e.links e.rooms e.txs e.rxs e.unsent e.delivered e.dumped)
+    (round_on_links (dealt g (goal.at.returns g c).After-deal) (turns_of g (goal.at.returns g c).After-play) _ _ c.args.space.logs logs e.links e.rooms e.txs e.rxs e.unsent e.delivered e.dumped)
