@@ -1,12 +1,12 @@
 -- Words that name columns: those in which a set has more, and those beside them.
-use Rattle.std.proofs.Common.{◌≡◌, ℕ, Bool, ◌≢◌, ◌+◌, ◌-◌, ◌*◌, ◌%◌, ◌^◌, ◌<◌, ◌≤◌, ◌↔◌, List, length, get_or, Some, max, min, refl, sym, ap, ◌∙◌, subst, arith, inl, inr}
+use Rattle.std.proofs.Common.{◌≡◌, ℕ, Bool, ◌≢◌, ◌+◌, ◌-◌, ◌*◌, ◌%◌, ◌^◌, ◌<◌, ◌≤◌, ◌↔◌, List, length, get_or, Some, ◌⊎◌, max, min, sym, ap, ◌∙◌, subst, arith, inl, inr}
 use Rattle.std.specs.Int.{bit_at, bit_not, w64}
 use Rattle.std.specs.Int.RustNames.{bit_or}
 use lib.Bits.{bit_and}
 use mir.Val.{bits}
 use Rattle.std.specs.List.{All}
 use Rattle.std.proofs.lemmas.Bool.{cases_eq}
-use Rattle.std.proofs.lemmas.List.{get_or-set_same, get_or-set_other, length-set}
+use Rattle.std.proofs.lemmas.List.{ext_get_or, get_or-set_same, get_or-set_other, length-set}
 use Rattle.std.proofs.lemmas.Nat.{and_le_l}
 use Rattle.std.proofs.lemmas.List.Elements.{All-set}
 use Rattle.std.proofs.lemmas.Nat.Bits.{bit_at_and, bit_at_or, bit_at_ones, bit_at-lt, bit_at-zero, bit_at_clear_same, bit_at_clear_other}
@@ -15,8 +15,8 @@ use Rattle.spin_base.specs.declared.chips.Dir.{Dir}
 use Rattle.machine_desc.specs.declared.steps.Step.{Step}
 use Rattle.machine_desc.specs.declared.steps.Step.TheVariants.{Back, Stay, Ahead}
 use Rattle.machine_desc.specs.Description.{Description}
-use Rattle.machine_desc.specs.Live.{far_of, x_step, stepped, IsInside}
-use Rattle.machine_desc.proofs.Far.{far_inside, far_parts, inside_parts}
+use Rattle.machine_desc.specs.Live.{x_step, stepped, IsInside}
+use Rattle.machine_desc.proofs.Far.{far_parts, inside_parts}
 use Rattle.link_detours.specs.declared.sets.Wave.{Wave}
 use Rattle.link_detours.specs.Waves.{IsIn, IsSpread, IsSpreadBut, IsSpreadAt}
 use Rattle.link_detours.proofs.RoadBits.{chip_of_column}
@@ -69,16 +69,18 @@ pub record Spreading (m : Description) (set : List ℕ) (wave : Wave) (left : �
   pub done : (c : Chip) → IsInside m c → (bit_at left c.x ≡ 1 → ⊥) → IsIn wave.set.items c ↔ IsSpread m set c
   pub rest : (x : ℕ) → bit_at left x ≡ 1 → get_or wave.set.items x 0 ≡ get_or set x 0
   pub told : (x : ℕ) → (bit_at wave.grown x ≡ 1 → ⊥) → get_or set x 0 ≡ get_or wave.set.items x 0
+  pub grew : (wave.grown ≡ 0) ⊎ ((x : ℕ) × (get_or set x 0 ≡ get_or wave.set.items x 0 → ⊥))
 
-pub spreading_start : (m : Description) (set : List ℕ) (wave : Wave) (near : ℕ) → wave.set.items ≡ set → length set ≡ m.width → All (λ w. w < 2 ^ 64) set →
+pub spreading_start : (m : Description) (set : List ℕ) (wave : Wave) (near : ℕ) → wave.grown ≡ 0 → wave.set.items ≡ set → length set ≡ m.width → All (λ w. w < 2 ^ 64) set →
     IsSpreadBut m set near → Spreading m set wave near
-spreading_start m set wave near same long fits others = record {
+spreading_start m set wave near none same long fits others = record {
   long = ap length same ∙ long;
   fits = subst (All (λ w. w < 2 ^ 64)) (sym same) fits;
   rises = λ x. (let is : get_or wave.set.items x 0 ≡ get_or set x 0 = ap (λ s. get_or s x 0) same in omega (arith, is));
   done = λ c inside off. (λ bit. inl (subst (λ s. IsIn s c) same bit), λ by. subst (λ s. IsIn s c) (sym same) (others c inside off by));
   rest = λ x bit. ap (λ s. get_or s x 0) same;
   told = λ x off. ap (λ s. get_or s x 0) (sym same);
+  grew = inl none;
 }
 
 abbrev pub without : ℕ → ℕ → ℕ
@@ -137,6 +139,17 @@ module _ (left x : ℕ) (few : x < 64) (here : bit_at left x ≡ 1) where
             subst (λ j. get_or set_of j 0 ≡ get_or new.set.items j 0) (sym same) (sym (read ∙ at.told unnamed))
         | inr other ↦ now.told k (λ bit. off (at.named k bit)) ∙ sym (unread k other)
       ];
+      grew = elim at.grew [
+        | inl unchanged ↦ elim now.grew [
+          | inl none ↦ inl (unchanged ∙ none)
+          | inr differs ↦ inr (
+            differs.0,
+            λ same. differs.1 (same ∙ unread differs.0 (λ is.
+                differs.1 (sym (ap (λ j. get_or wave.set.items j 0) is ∙ (now.rest x here ∙ sym (ap (λ j. get_or set_of j 0) is)))))),
+          )
+        ]
+        | inr changed ↦ inr (x, λ same. changed (sym (same ∙ read)))
+      ];
     }
       where
         read : get_or new.set.items x 0 ≡ at.word
@@ -156,6 +169,7 @@ module _ (left x : ℕ) (few : x < 64) (here : bit_at left x ≡ 1) where
           now.done c inside (λ bit. off (still c.x (omega (arith, low, narrow)) (λ same. omega (arith, low, beyond, same)) bit));
       rest = λ k bit. now.rest k (was k bit).1;
       told = now.told;
+      grew = now.grew;
     }
 
 -- no column is left
@@ -163,6 +177,19 @@ pub spreading_end : (m : Description) (set : List ℕ) (wave : Wave) (left : ℕ
     (c : Chip) → IsInside m c → IsIn wave.set.items c ↔ IsSpread m set c
 spreading_end m set wave left none now c inside = now.done c inside (λ bit.
     let clear : bit_at left c.x ≡ 0 = ap (λ n. bit_at n c.x) none ∙ bit_at-zero c.x in omega (arith, clear, bit))
+
+-- a set that has not changed names no column
+pub spreading_same : (m : Description) (set : List ℕ) (wave : Wave) (left : ℕ) → Spreading m set wave left → set ≡ wave.set.items → wave.grown ≡ 0
+spreading_same m set wave left now same = elim now.grew [
+  | inl none ↦ none
+  | inr differs ↦ absurd (differs.1 (ap (λ s. get_or s differs.0 0) same))
+]
+
+-- and where no column is named the set has not changed
+pub none_grew : (old new : List ℕ) (grown : ℕ) → length old ≡ length new → grown ≡ 0 →
+    ((x : ℕ) → (bit_at grown x ≡ 1 → ⊥) → get_or old x 0 ≡ get_or new x 0) → old ≡ new
+none_grew old new grown long none told = ext_get_or 0 old new long (λ x below. told x (λ bit.
+    let clear : bit_at grown x ≡ 0 = ap (λ n. bit_at n x) none ∙ bit_at-zero x in omega (arith, clear, bit)))
 
 -- where all columns are named nothing is asked
 pub all_named : (m : Description) (set : List ℕ) → m.width ≤ 64 → IsSpreadBut m set 18446744073709551615

@@ -16,9 +16,9 @@ use Rattle.machine_desc.specs.Flags.{link_place}
 use Rattle.link_detours.specs.Usable.{is_marked}
 use Rattle.link_detours.specs.Repair.{EdgeStep, LeadsToTarget, AreInPlaceOrder}
 use Rattle.link_detours.specs.Whole.{IsWholeTree, GoesOnFrom}
-use Rattle.link_detours.proofs.Stepping.{Steps-first}
+use Rattle.link_detours.proofs.Stepping.{Steps-first, Steps-map}
 use Rattle.link_detours.proofs.Unchanged.{tree_leads}
-use Rattle.machine_desc.proofs.TreeLemmas.{tree_cases, path_more}
+use Rattle.machine_desc.proofs.TreeLemmas.{tree_cases, tree_end, path_more}
 
 -- one edge more is in order, where its place is no less than the least that may come
 pub order_more : (m : Description) (edges : List Edge) (i : ℕ) (d : Edge) (least place : ℕ) → i < length edges →
@@ -123,3 +123,53 @@ all_stay m root tree targets is some on_tree ordered goes e = (
   λ has. (has, tree_leads m root tree targets (lean_tree m root tree targets is some on_tree ordered goes) e has),
   λ known. known.0,
 )
+
+-- ---- the same edges in another order
+
+module _ (m : Description) (root : Chip) (tree others : List Edge) (same : (e : Edge) → Contains others e ↔ Contains tree e) where
+  steps_same : (n : ℕ) (a c : Chip) → Steps (EdgeStep m tree) n a c → Steps (EdgeStep m others) n a c
+  steps_same = Steps-map (EdgeStep m tree) (EdgeStep m others) (λ a b step. (step.0, (same (record { chip = a; dir = step.0 })).1 step.1, step.2))
+
+  steps_back : (n : ℕ) (a c : Chip) → Steps (EdgeStep m others) n a c → Steps (EdgeStep m tree) n a c
+  steps_back = Steps-map (EdgeStep m others) (EdgeStep m tree) (λ a b step. (step.0, (same (record { chip = a; dir = step.0 })).0 step.1, step.2))
+
+  chip_same : (c : Chip) → IsTreeChip m root tree c → IsTreeChip m root others c
+  chip_same c on = elim (tree_cases m root tree c on) [
+    | inl at ↦ inl at
+    | inr into ↦ tree_end m root others into.0 c ((same into.0).1 into.1) into.2
+  ]
+
+  chip_back : (c : Chip) → IsTreeChip m root others c → IsTreeChip m root tree c
+  chip_back c on = elim (tree_cases m root others c on) [
+    | inl at ↦ inl at
+    | inr into ↦ tree_end m root tree into.0 c ((same into.0).0 into.1) into.2
+  ]
+
+  whole_same : IsWholeTree m root tree → IsWholeTree m root others
+  whole_same is = record {
+    live = λ e has. is.live e ((same e).0 has);
+    reached = λ c on. let way = is.reached c (chip_back c on) in (way.0, steps_same way.0 root c way.1);
+    none_into_root = λ e has. is.none_into_root e ((same e).0 has);
+    begins = λ e has. chip_same e.chip (is.begins e ((same e).0 has));
+    one_into = λ e f c first second. is.one_into e f c ((same e).0 first) ((same f).0 second);
+  }
+
+  module _ (targets : List Chip) where
+    goes_same : All (λ e. (c : Chip) → end_of m e ≡ Some c → GoesOnFrom tree targets c) tree →
+        All (λ e. (c : Chip) → end_of m e ≡ Some c → GoesOnFrom others targets c) others
+    goes_same goes k d h c leads =
+        let e : Edge = get_or others k d in
+        elim (All-contains (λ e. (x : Chip) → end_of m e ≡ Some x → GoesOnFrom tree targets x) tree e goes ((same e).0 (Contains-get_or others k d h)) c leads) [
+          | inl begins ↦ (let there = (same begins.1).1 (begins.0, begins.2, begins.3) in inl (there.0, begins.1, there.1, there.2, begins.4))
+          | inr target ↦ inr target
+        ]
+
+    -- Edges that all go on stay, once they are in order.
+    pub sorted_stay : IsWholeTree m root tree → 0 < length targets → All (IsTreeChip m root tree) targets → AreInPlaceOrder m others →
+        All (λ e. (c : Chip) → end_of m e ≡ Some c → GoesOnFrom tree targets c) tree →
+        (e : Edge) → Contains others e ↔ (Contains tree e × LeadsToTarget m tree targets e)
+    sorted_stay is some on_tree ordered goes e =
+        let known = all_stay m root others targets (whole_same is) some (λ k d h. chip_same (get_or targets k d) (on_tree k d h)) ordered (goes_same goes) e in (
+          λ has. (let by = (known.0 has).1 in ((same e).0 has, (by.0, by.1, (by.2.0, by.2.1, (by.2.2.0, steps_back by.2.2.0 by.0 by.2.0 by.2.2.1))))),
+          λ both. (same e).1 both.0,
+        )

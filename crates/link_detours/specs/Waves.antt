@@ -37,6 +37,7 @@ pub record IsSpreadAt (m : Description) (set : List ℕ) (x : ℕ) (old new : Wa
   pub spread : (y : ℕ) → y < m.height → (bit_at word y ≡ 1) ↔ IsSpread m set (record { x = x; y = y })
   pub named : (k : ℕ) → bit_at old.grown k ≡ 1 → bit_at new.grown k ≡ 1
   pub told : (bit_at new.grown x ≡ 1 → ⊥) → word ≡ slice_index set x
+  pub grew : (new.grown ≡ old.grown) ⊎ (word ≡ slice_index set x → ⊥)
 
 -- at most n live links lead from a start to the chip
 abbrev pub IsWithinLinks : Description → (Chip → Type 0) → ℕ → Chip → Type 0

@@ -12,7 +12,7 @@ ghost use Rattle.machine_desc.specs.declared.trees.Edge.{Edge};
 
 use crate::roads::Roads;
 use crate::searches::reached_chips;
-use crate::sets::{empty_set, has, near_columns, put, same_sets, spread};
+use crate::sets::{empty_set, has, near_columns, put, spread};
 use crate::tables::link_table;
 use machine_desc::{Edge, Machine};
 use spin_base::{Chip, Dir, Memory};
@@ -62,7 +62,7 @@ fn waves(
     let mut last = Vec::from_slice(alloc, tree)?;
     'spreading: while !has(&last, target) {
         let next = spread(alloc, machine, roads, &last, near)?;
-        if same_sets(next.set.as_slice(), last.as_slice()) {
+        if next.grown == 0 {
             return Ok(None);
         }
         near = near_columns(width, next.grown);
@@ -73,8 +73,8 @@ fn waves(
 }
 
 // The chip of the set from which the link `d` leads, live, to `at`.
-fn step_before(machine: &Machine, set: &[u64], at: Chip, d: Dir) -> Option<Chip>
-    requires few { machine.now.height ≤ 64 }
+fn step_before(machine: &Machine, roads: &Roads, set: &[u64], at: Chip, d: Dir) -> Option<Chip>
+    requires roads_are { AreRoadsOf machine.now roads.now }
     requires inside { IsInside machine.now at }
     requires long { length set.now ≡ machine.now.width }
     ensures found { IfSome result (λ b. IsStepFrom machine.now set.now at (record {
@@ -85,7 +85,11 @@ fn step_before(machine: &Machine, set: &[u64], at: Chip, d: Dir) -> Option<Chip>
         → IsStepFrom machine.now set.now at (record { chip = b; dir = d }) → ⊥) }
 {
     let back = d.opposite();
-    if !machine.link_live(at, back) {
+    let link = Edge {
+        chip: at,
+        dir: back,
+    };
+    if !roads.has_inside(machine, link) {
         return None;
     }
     let chip = machine.far(at, back)?;
@@ -93,15 +97,15 @@ fn step_before(machine: &Machine, set: &[u64], at: Chip, d: Dir) -> Option<Chip>
 }
 
 // Of the live links that lead from a chip of the set to `at`, that of the least number.
-fn last_link(machine: &Machine, set: &[u64], at: Chip) -> Option<Edge>
-    requires few { machine.now.height ≤ 64 }
+fn last_link(machine: &Machine, roads: &Roads, set: &[u64], at: Chip) -> Option<Edge>
+    requires roads_are { AreRoadsOf machine.now roads.now }
     requires inside { IsInside machine.now at }
     requires long { length set.now ≡ machine.now.width }
     ensures found { IfSome result (λ e. IsBestStep machine.now set.now at e) }
     ensures none { IfNone result ((e : Edge) → IsStepFrom machine.now set.now at e → ⊥) }
 {
     for dir in Dir::ALL {
-        if let Some(chip) = step_before(machine, set, at, dir) {
+        if let Some(chip) = step_before(machine, roads, set, at, dir) {
             return Some(Edge { chip, dir });
         }
     }
@@ -111,13 +115,14 @@ fn last_link(machine: &Machine, set: &[u64], at: Chip) -> Option<Edge>
 // Adds the links of the way back from a target over the waves, the last first, and the chips into which they lead.
 fn walk_back(
     machine: &Machine,
+    roads: &Roads,
     mut waves: Vec<Vec<u64>>,
     root: Chip,
     tree: &mut [u64],
     whole: &mut Vec<Edge>,
     target: Chip,
 ) -> Result<(), Memory>
-    requires few { machine.now.height ≤ 64 }
+    requires roads_are { AreRoadsOf machine.now roads.now }
     requires inside { IsInside machine.now target }
     requires waves_are { AreWaves machine.now (IsTreeChip machine.now root whole.old.items) (map
         (λ w. w.items) waves.items) }
@@ -132,7 +137,7 @@ fn walk_back(
 {
     let mut at = target;
     while let Some(wave) = waves.pop() {
-        let Some(edge) = last_link(machine, &wave, at) else {
+        let Some(edge) = last_link(machine, roads, &wave, at) else {
             unreachable!();
         };
         put(tree, at);
@@ -171,7 +176,7 @@ pub fn join(
     match found {
         None => Ok(false),
         Some(list) => {
-            walk_back(machine, list, root, tree, whole, target)?;
+            walk_back(machine, roads, list, root, tree, whole, target)?;
             Ok(true)
         }
     }

@@ -55,7 +55,7 @@ impl Roads {
     }
 
     // Whether an edge that begins inside the grid is a live link.
-    fn has_inside(&self, machine: &Machine, edge: Edge) -> bool
+    pub(crate) fn has_inside(&self, machine: &Machine, edge: Edge) -> bool
         requires roads_are { AreRoadsOf machine.now self.now }
         requires inside { IsInside machine.now edge.chip }
         ensures { result ≡ is_live_link machine.now edge.chip edge.dir }

@@ -1,5 +1,5 @@
 // Sets of chips as bits: one word a column of chips, and bit y of it is of the chip at y.
-ghost use Rattle.std.specs.Prelude.{◌≡◌, ◌<◌, ◌≤◌, ◌+◌, ◌*◌, ◌-◌, ◌^◌, ◌↔◌, ℕ, length, All, IfOk, IsTrue, Some, Bool, true, slice_index};
+ghost use Rattle.std.specs.Prelude.{◌≡◌, ◌<◌, ◌≤◌, ◌+◌, ◌*◌, ◌-◌, ◌^◌, ◌↔◌, ℕ, length, All, IfOk, IsTrue, Some, Bool, true, false, slice_index};
 ghost use Rattle.std.specs.Int.{bit_at};
 ghost use Rattle.spin_base.specs.declared.chips.Chip.{Chip};
 ghost use Rattle.spin_base.specs.declared.chips.Dir.{Dir};
@@ -22,13 +22,6 @@ pub fn has(set: &[u64], c: Chip) -> bool
     ensures { IsTrue result ↔ IsIn set.now c }
 {
     (set[usize::from(c.x)] >> c.y) & 1 == 1
-}
-
-// Whether the sets are the same.
-pub fn same_sets(a: &[u64], b: &[u64]) -> bool
-    ensures { IsTrue result ↔ (a.now ≡ b.now) }
-{
-    a == b
 }
 
 // Puts the chip into the set.
@@ -162,6 +155,7 @@ fn with_column(columns: u64, x: u32, named: bool) -> u64
     requires { x < 64 }
     ensures same { (k : ℕ) → bit_at columns k ≡ 1 → bit_at result k ≡ 1 }
     ensures named { named ≡ true → bit_at result x ≡ 1 }
+    ensures unnamed { named ≡ false → result ≡ columns }
 {
     if named { columns | 1 << x } else { columns }
 }
@@ -199,6 +193,7 @@ pub fn spread(
         → IsIn t.set.items c ↔ IsSpread machine.now set.now c) }
     ensures grown { IfOk result (λ t. (x : ℕ) → (bit_at t.grown x ≡ 1 → ⊥)
         → slice_index set.now x ≡ slice_index t.set.items x) }
+    ensures grew { IfOk result (λ t. set.now ≡ t.set.items → t.grown ≡ 0) }
 {
     let mut wave = Wave {
         set: Vec::from_slice(alloc, set)?,

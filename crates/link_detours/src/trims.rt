@@ -10,7 +10,7 @@ ghost use Rattle.machine_desc.specs.declared.trees.Edge.{Edge};
 
 use crate::prunes::pruned;
 use crate::searches::seed_table;
-use crate::tables::link_place;
+use crate::tables::{in_place_order, link_place};
 use machine_desc::{Edge, Machine};
 use spin_base::{Chip, Memory};
 use std::alloc::Global;
@@ -32,32 +32,23 @@ pub fn trimmed(
         ↔ (Contains whole.items e × LeadsToTarget machine.now whole.items targets.now e)) }
     ensures in_order { IfOk result (λ v. AreInPlaceOrder machine.now v.items) }
 {
-    if is_lean(alloc, machine, &whole, targets)? {
-        Ok(whole)
-    } else {
-        pruned(alloc, machine, &whole, targets)
+    if !ends_go_on(alloc, machine, &whole, targets)? {
+        return pruned(alloc, machine, &whole, targets);
     }
+    let left = put_in_order(alloc, machine, whole)?;
+    Ok(left)
 }
 
-// Whether edges stand in order, and each ends at a target or where another begins.
-fn is_lean(
-    alloc: Global,
-    machine: &Machine,
-    edges: &[Edge],
-    targets: &[Chip],
-) -> Result<bool, Memory>
-    requires inside { All (λ e. IsInside machine.now e.chip) edges.now }
-    requires targets_inside { All (IsInside machine.now) targets.now }
-    ensures in_order { IfOk result (λ b. b ≡ true → AreInPlaceOrder machine.now edges.now) }
-    ensures goes_on { IfOk result (λ b. b ≡ true
-        → All (λ e. (c : Chip) → end_of machine.now e ≡ Some c
-        → GoesOnFrom edges.now targets.now c) edges.now) }
+// Edges of which each stands once, in order of x, y and link number.
+fn put_in_order(alloc: Global, machine: &Machine, edges: Vec<Edge>) -> Result<Vec<Edge>, Memory>
+    requires { All (λ e. IsInside machine.now e.chip) edges.items }
+    ensures same { IfOk result (λ v. (e : Edge) → Contains v.items e ↔ Contains edges.items e) }
+    ensures in_order { IfOk result (λ v. AreInPlaceOrder machine.now v.items) }
 {
-    if !is_in_order(machine, edges) {
-        return Ok(false);
+    if is_in_order(machine, &edges) {
+        return Ok(edges);
     }
-    let all_go_on = ends_go_on(alloc, machine, edges, targets)?;
-    Ok(all_go_on)
+    in_place_order(alloc, machine, &edges)
 }
 
 // Whether edges stand in order of x, y and link number.

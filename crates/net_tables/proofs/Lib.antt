@@ -1,6 +1,7 @@
 pub mod Determined
 mod Marking
 mod Ordering
+mod Parting
 mod Taking
 pub mod Telling
 pub mod Trees

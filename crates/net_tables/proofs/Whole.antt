@@ -1,12 +1,13 @@
 -- What tables are, once each has a row for each original block of its chip.
-use Rattle.std.proofs.Common.{◌≡◌, ℕ, zero, suc, ◌*◌, ◌<◌, ◌≤◌, true, Bool, cond, bit_and, List, [], ◌∷◌, ◌++◌, length, get_or, map, find, Some, refl, sym, ap, ◌∙◌, subst, arith, inl, inr}
+use Rattle.std.proofs.Common.{◌≡◌, ℕ, zero, suc, ◌+◌, ◌*◌, ◌<◌, ◌≤◌, true, Bool, not, cond, bit_and, List, [], ◌∷◌, ◌++◌, length, get_or, map, filter, find, Some, refl, sym, ap, ◌∙◌, subst, arith, inl, inr}
 use Rattle.std.specs.Option.{option_map_or}
 use Rattle.std.specs.List.{All, AllPairs, AllZip, Contains, slice_get}
 use Rattle.std.specs.List.Sorted.{IsPermutation}
 use Rattle.std.proofs.lemmas.Bool.{cases_Bool, cases_eq, cases_lt, eqb-true, eq-eqb, false≢true}
 use Rattle.std.proofs.lemmas.List.{append-nil, get_or_default, length-map}
 use Rattle.std.proofs.lemmas.List.Elements.{All-nil, All-cons, All-head, All-tail}
-use Rattle.std.proofs.lemmas.List.Kept.{AllPairs-cons}
+use Rattle.std.proofs.lemmas.List.Kept.{AllPairs-cons, AllPairs-filter}
+use Rattle.std.proofs.lemmas.List.Filters.{length-filter_both}
 use Rattle.std.proofs.lemmas.List.Sorted.{IsPermutation-map, length_permutation, IsPermutation-sym, Contains-permutation}
 use Rattle.spin_base.proofs.Members.{Contains-none, Contains-first, Contains-later, Contains-cases, Contains-map, Contains-unmap}
 use Rattle.spin_base.proofs.Pairs.{AllPairs-head, AllPairs-tail, AllPairs-map, AllPairs-from_map, AllPairs-permutation}
@@ -33,7 +34,7 @@ use Rattle.tern_word.specs.SoundTable.{Original, Misses, HoldsItsAliases, IsSoun
 use Rattle.tern_word.proofs.BlockLaws.{Intersects-sym}
 use Rattle.net_tables.specs.declared.marks.Mark.{Mark}
 use Rattle.net_tables.specs.PlainTable.{HasChip, IsOriginalOf, AreOriginals, IsRowNotAfter, IsPlainTable, ServesOriginals, AtEach, AreRoutedApart, ArePlainTables, row_of, entry_of, entries}
-use Rattle.net_tables.specs.Marks.{AreApart, AreBlocksOf, original_of, row_of_mark, IsTableOf}
+use Rattle.net_tables.specs.Marks.{AreApart, AreBlocksOf, AreTurningBlocksOf, original_of, row_of_mark, turns, IsTableOf}
 use Rattle.net_tables.proofs.Trees.{chips_inside, comes_in_tree}
 
 -- ---- lists
@@ -142,10 +143,10 @@ few_originals m c (n ∷ nets) os (inr off) = let rest : length os ≤ length ne
 
 -- the original blocks of a chip are no more than the nets, and no key is in two of them
 module _ (m : Description) (nets : List NetPlan) (c : Chip) (marks : List Mark) (are : AreOriginals m c nets (map original_of marks)) where
-  few_marks : length marks ≤ length nets
+  pub few_marks : length marks ≤ length nets
   few_marks = subst (λ n. n ≤ length nets) (length-map marks original_of) (few_originals m c nets (map original_of marks) are)
 
-  marks_apart : AllPairs (λ (a b : NetPlan). ¬ (Intersects a.block b.block)) nets → AreApart marks
+  pub marks_apart : AllPairs (λ (a b : NetPlan). ¬ (Intersects a.block b.block)) nets → AreApart marks
   marks_apart apart =
       AllPairs-from_map original_of (λ (a b : Original). ¬ (Intersects a.block b.block)) marks (originals_apart m c nets (map original_of marks) are apart)
 
@@ -266,6 +267,25 @@ module _ (m : Description) (nets : List NetPlan) (lists : List (List Mark)) (rou
 
   pub all_apart : All AreApart lists
   all_apart = each_list AreApart (λ c marks originals. marks_apart m nets c marks originals routed.apart)
+
+-- the same of those that do not go straight on
+module _ (m : Description) (nets : List NetPlan) (lists : List (List Mark)) (routed : AreRoutedApart m nets) (are : AreTurningBlocksOf m nets lists) where
+  each_turning : (P : List Mark → Type 0) → ((c : Chip) (marks : List Mark) → AreOriginals m c nets (map original_of marks) → P (filter turns marks)) → All P lists
+  each_turning P from k d below =
+      let at : index_of m (chip_of m k) ≡ k = index_of-chip_of m k in
+      let here = are.blocks (chip_of m k) (chip_of-inside m k (subst (λ n. k < n) are.long below)) in
+      subst P (sym here.2 ∙ (ap (λ j. get_or lists j []) at ∙ get_or_default lists k [] d below)) (from (chip_of m k) here.0 here.1)
+
+  pub few_turning : All (λ (marks : List Mark). length marks ≤ length nets) lists
+  few_turning = each_turning (λ marks. length marks ≤ length nets) (λ c marks originals.
+      let all : length marks ≤ length nets = few_marks m nets c marks originals in
+      let both : length (filter turns marks) + length (filter (λ k. not (turns k)) marks) ≡ length marks =
+      length-filter_both turns (λ k. not (turns k)) (λ k. refl) marks in
+      omega (arith, all, both))
+
+  pub turning_apart : All AreApart lists
+  turning_apart = each_turning AreApart (λ c marks originals.
+      AllPairs-filter (λ (a b : Mark). ¬ (Intersects a.block b.block)) turns marks (marks_apart m nets c marks originals routed.apart))
 
 module _ (m : Description) (nets : List NetPlan) (lists : List (List Mark)) (tables : List Table) (routed : AreRoutedApart m nets) (are : AreBlocksOf m nets lists)
     (each : AllZip IsTableOf lists tables) where

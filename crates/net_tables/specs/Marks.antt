@@ -1,12 +1,14 @@
 -- What one net wants of each chip, by the chip's index, and the rows that follow.
-use Rattle.std.specs.Prelude.{◌≡◌, ℕ, ◌*◌, ◌<◌, ◌⊎◌, List, [], ◌∷◌, ◌++◌, Option, Some, None, All, AllPairs, length, map, slice_index_or}
+use Rattle.std.specs.Prelude.{◌≡◌, ℕ, ◌*◌, ◌<◌, ◌⊎◌, List, [], ◌∷◌, ◌++◌, ◌==◌, Bool, false, not, Option, Some, None, All, AllPairs, filter, length, map, slice_index_or}
 use Rattle.std.specs.List.Sorted.{IsPermutation}
 use Rattle.spin_base.specs.declared.chips.Chip.{Chip}
 use Rattle.spin_base.specs.declared.chips.Port.{Port}
+use Rattle.spin_base.specs.declared.chips.Port.TheVariants.{Link, Local}
 use Rattle.spin_base.specs.declared.chips.Spot.{Spot}
 use Rattle.spin_base.specs.declared.blocks.Block.{Block}
 use Rattle.spin_base.specs.declared.routes.Out.{Out}
 use Rattle.spin_base.specs.declared.routes.Route.{Route}
+use Rattle.spin_base.specs.Lookup.{straight_on}
 use Rattle.spin_base.specs.Outputs.{has, IsOutput, nothing}
 use Rattle.machine_desc.specs.declared.trees.Edge.{Edge}
 use Rattle.machine_desc.specs.Description.{Description}
@@ -90,3 +92,18 @@ pub record IsTableOf (marks : List Mark) (t : Table) : Type 0 where
   pub same : IsPermutation marks sorted
   pub rows_are : t.rows ≡ map row_of_mark sorted
   pub in_order : AllPairs IsRowNotAfter t.rows
+
+-- What comes in at the port leaves by the route also where no entry matches: by the link opposite the one by which it came, and by
+-- no other output (default routing, SpiNNaker datasheet).
+abbrev pub goes_straight : Port → Route → Bool
+goes_straight (Link arrival) route = route.bits == (straight_on arrival).bits
+goes_straight Local route = false
+
+abbrev pub turns : Mark → Bool
+turns k = not (goes_straight k.port k.route)
+
+-- Of each chip's original blocks, by the chip's index, those that do not go straight on.
+pub record AreTurningBlocksOf (m : Description) (nets : List NetPlan) (lists : List (List Mark)) : Type 0 where
+  pub long : length lists ≡ m.width * m.height
+  pub blocks : (c : Chip) → IsInside m c →
+      (marks : List Mark) × AreOriginals m c nets (map original_of marks) × (slice_index_or lists (index_of m c) [] ≡ filter turns marks)

@@ -30,7 +30,11 @@ pub fn original_blocks(
 }
 
 // The same for nets whose trees are routing trees. The two boards are made once: a net costs no more than its tree and targets.
-fn marks_of(alloc: Global, machine: &Machine, nets: &[NetPlan]) -> Result<Vec<Seq<Mark>>, Memory>
+pub(crate) fn marks_of(
+    alloc: Global,
+    machine: &Machine,
+    nets: &[NetPlan],
+) -> Result<Vec<Seq<Mark>>, Memory>
     requires { All (IsRouted machine.now) nets.now }
     ensures { IfOk result (λ v. AreBlocksOf machine.now nets.now v.items) }
 {
@@ -42,7 +46,7 @@ fn marks_of(alloc: Global, machine: &Machine, nets: &[NetPlan]) -> Result<Vec<Se
 }
 
 // So many empty lists.
-fn empty_lists(alloc: Global, count: usize) -> Result<Vec<Seq<Mark>>, Memory>
+pub(crate) fn empty_lists(alloc: Global, count: usize) -> Result<Vec<Seq<Mark>>, Memory>
     ensures { IfOk result (λ v. v.items ≡ replicate count []) }
 {
     let mut lists = Vec::new(alloc);

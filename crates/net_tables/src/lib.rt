@@ -9,8 +9,10 @@ mod laws;
 pub mod marks;
 mod plain;
 mod rows;
+mod turning;
 
 pub use gather::original_blocks;
 pub use laws::{plain_tables_are_determined, tables_of_original_blocks_are_plain};
 pub use plain::plain_tables;
 pub use rows::{in_row_order, plain_table};
+pub use turning::{goes_straight, turning_blocks};

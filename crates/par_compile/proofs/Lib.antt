@@ -1,4 +1,5 @@
 mod Imaged
+mod Left
 pub mod Refusing
 mod Righted
 mod ShortTables

@@ -32,12 +32,12 @@ use Rattle.cover_merge.specs.Merge.{rows_at}
 use Rattle.default_routes.specs.declared.stripping.Final.{Final}
 use Rattle.default_routes.specs.FinalTable.{MatchesNoKey, RoutesAlone}
 use Rattle.net_tables.specs.declared.marks.Mark.{Mark}
-use Rattle.net_tables.specs.Marks.{AreApart, AreBlocksOf, original_of}
+use Rattle.net_tables.specs.Marks.{AreApart, original_of}
 use Rattle.net_tables.specs.PlainTable.{AreOriginals, AreRoutedApart, HasChip}
 use Rattle.net_tables.proofs.Determined.{one_port, rows_lead}
 use Rattle.net_tables.proofs.Trees.{chips_inside, comes_in_tree}
 use Rattle.net_tables.proofs.Whole.{few_rows, has_original, is_plain, serves_them}
-use Rattle.par_compile.specs.Finals.{AreCoverable, AreFinals, IsFinalFor, KeepsRows, loaded_of}
+use Rattle.par_compile.specs.Finals.{AreBlocksFor, AreCoverable, AreFinals, IsFinalFor, KeepsRows, loaded_of}
 
 -- ---- unused entries
 
@@ -75,7 +75,7 @@ same_output es fs p q key r o wanted table ports routes is =
 
 -- ---- what stands at each place
 
-module _ (m : Description) (nets : List NetPlan) (target : ℕ) (lists : List (List Mark)) (finals : List Final) (are : AreBlocksOf m nets lists)
+module _ (m : Description) (nets : List NetPlan) (target : ℕ) (lists : List (List Mark)) (finals : List Final) (are : AreBlocksFor m nets target lists)
     (each : AllZip (IsFinalFor target) (take (length finals) lists) finals) where
   -- a chip's final table is that of its original blocks
   at_chip : (c : Chip) (f : Final) → IsInside m c → slice_get finals (index_of m c) ≡ Some f →
@@ -84,7 +84,8 @@ module _ (m : Description) (nets : List NetPlan) (target : ℕ) (lists : List (L
       let k = AllZip-at_second (IsFinalFor target) (take (length finals) lists) finals each (index_of m c) f at in
       let is : slice_index_or lists (index_of m c) [] ≡ k.0 =
       get_or_from_slice_get lists (index_of m c) k.0 [] (slice_get-taken lists (length finals) (index_of m c) k.0 k.1) in
-      (k.0, subst (λ (marks : List Mark). AreOriginals m c nets (map original_of marks)) is (are.blocks c inside), k.2)
+      let here = are.blocks c inside in
+      (here.0, here.1, here.2 f (subst (λ (marks : List Mark). IsFinalFor target marks f) (sym is) k.2))
 
   pub finals_within : length finals ≤ m.width * m.height
   finals_within =

@@ -1,5 +1,5 @@
 -- The final table of a short plain table has the entries of the original blocks that do not go straight on.
-use Rattle.std.proofs.Common.{◌≡◌, ℕ, zero, suc, ◌+◌, ◌≤◌, Bool, true, false, Some, List, [], ◌∷◌, ◌++◌, length, get_or, drop, map, refl, sym, ap, ◌∙◌, subst, arith, inl, inr}
+use Rattle.std.proofs.Common.{◌≡◌, ℕ, zero, suc, ◌≤◌, Bool, true, false, Some, List, [], ◌∷◌, ◌++◌, length, get_or, drop, map, refl, sym, ap, ◌∙◌, subst, arith, inl, inr}
 use Rattle.std.specs.Prelude.{All, slice_get, if◌then◌else◌}
 use Rattle.std.specs.List.{cons_option}
 use Rattle.std.specs.List.Sorted.{IsPermutation}
@@ -23,13 +23,15 @@ use Rattle.tern_word.specs.SoundTable.{IsSound, Misses}
 use Rattle.tern_word.proofs.BlockLaws.{Intersects-sym}
 use Rattle.cover_merge.specs.Merge.{rows_at}
 use Rattle.default_routes.specs.declared.stripping.Final.{Final}
+use Rattle.default_routes.specs.FinalTable.{IsShortened}
 use Rattle.default_routes.specs.KeptRows.{IsStrippable, KeptFrom, ends, goes, stays, AreKept}
 use Rattle.default_routes.proofs.ShortTables.{short_final, short_routes, short_serves}
 use Rattle.net_tables.specs.declared.marks.Mark.{Mark}
 use Rattle.net_tables.specs.Marks.{AreApart, IsTableOf, row_of_mark, table_of_sorted}
 use Rattle.net_tables.proofs.Whole.{sound_table}
 use Rattle.par_compile.specs.Finals.{IsFinalFor}
-use Rattle.par_compile.specs.ShortTables.{goes_straight, kept_entries}
+use Rattle.net_tables.specs.Marks.{goes_straight}
+use Rattle.par_compile.specs.ShortTables.{kept_entries}
 
 -- ---- one original block
 
@@ -135,6 +137,20 @@ module _ (rows : List Row) where
       ]
 
 -- ---- the whole table
+
+-- the entries of those that do not go straight on are the only final ones
+pub short_for : (target : ℕ) (marks sorted : List Mark) (f : Final) → length marks ≤ target → AreApart marks → IsPermutation marks sorted →
+    IsTableOf marks (table_of_sorted sorted) → f.entries ≡ kept_entries sorted → IsShortened target (map row_of_mark sorted) f
+short_for target marks sorted f few apart same table entries =
+    let rows : List Row = map row_of_mark sorted in
+    let kept : List ℕ = places_from 0 sorted in
+    let many : length rows ≡ length marks = length-map sorted row_of_mark ∙ length_permutation marks sorted same in
+    let short : length rows ≤ target = omega (arith, many, few) in
+    let sound : IsSound rows = sound_table marks (table_of_sorted sorted) table apart in
+    let on_sorted : AreApart sorted =
+    AllPairs-permutation (λ (a b : Mark). ¬ (Intersects a.block b.block)) (λ a b none meet. none (Intersects-sym b.block a.block meet)) marks sorted same apart in
+    let are : AreKept rows kept = kept_at rows 0 sorted (omega arith) refl on_sorted in
+    short_final target rows kept f short sound are (entries ∙ entries_at rows 0 sorted refl)
 
 pub final_for : (target : ℕ) (marks sorted : List Mark) (f : Final) → length marks ≤ target → AreApart marks → IsPermutation marks sorted →
     IsTableOf marks (table_of_sorted sorted) → f.entries ≡ kept_entries sorted → IsFinalFor target marks f

@@ -1,5 +1,5 @@
 -- The final tables of chips: the entries that are loaded of each chip's plain table (this project's own).
-use Rattle.std.specs.Prelude.{◌≡◌, ℕ, ◌<◌, ◌^◌, Bool, List, All, None, Some, length, nat_lt, position, slice_get, true}
+use Rattle.std.specs.Prelude.{◌≡◌, ℕ, ◌*◌, ◌<◌, ◌^◌, Bool, List, [], All, None, Some, length, map, nat_lt, position, slice_get, slice_index_or, true}
 use Rattle.spin_base.specs.declared.blocks.Entry.{Entry}
 use Rattle.spin_base.specs.declared.chips.Chip.{Chip}
 use Rattle.spin_base.specs.declared.sizes.TheConstants.{ROUTER_ENTRIES}
@@ -12,8 +12,8 @@ use Rattle.tern_word.specs.SoundTable.{served}
 use Rattle.default_routes.specs.declared.stripping.Final.{Final}
 use Rattle.default_routes.specs.FinalTable.{HaveRoutesOf, IsFinalOf, IsShortened, RoutesAlone}
 use Rattle.net_tables.specs.declared.marks.Mark.{Mark}
-use Rattle.net_tables.specs.Marks.{AreApart, IsTableOf}
-use Rattle.net_tables.specs.PlainTable.{IsPlainTable}
+use Rattle.net_tables.specs.Marks.{AreApart, IsTableOf, original_of}
+use Rattle.net_tables.specs.PlainTable.{AreOriginals, IsPlainTable}
 use Rattle.table_load.specs.Images.{IsRow}
 use Rattle.table_load.specs.Memories.{loaded}
 use Rattle.par_compile.specs.declared.workers.Work.{Work}
@@ -71,6 +71,13 @@ pub record IsFinalFor (target : ℕ) (marks : List Mark) (f : Final) : Type 0 wh
   pub table : Table
   pub plain : IsTableOf marks table
   pub stands : StandsFor target table.rows f
+
+-- Lists of original blocks, by the chips' indices, from which final tables are made: what is final for the list of a chip is final
+-- for all original blocks of the chip.
+pub record AreBlocksFor (m : Description) (nets : List NetPlan) (target : ℕ) (lists : List (List Mark)) : Type 0 where
+  pub long : length lists ≡ m.width * m.height
+  pub blocks : (c : Chip) → IsInside m c → (marks : List Mark) × AreOriginals m c nets (map original_of marks)
+      × ((f : Final) → IsFinalFor target (slice_index_or lists (index_of m c) []) f → IsFinalFor target marks f)
 
 -- In its place stands its final table, or a refusal where there was not enough memory, or the original blocks, where their table
 -- is not yet covered.

@@ -3,13 +3,14 @@ ghost use Rattle.std.specs.Prelude.{◌≡◌, ◌*◌, ◌<◌, ◌≤◌, ◌^
 ghost use Rattle.machine_desc.specs.RightTables.{AreRight};
 ghost use Rattle.net_tables.specs.PlainTable.{AreRoutedApart};
 ghost use Rattle.default_routes.specs.declared.stripping.Final.{Final};
-ghost use Rattle.par_compile.specs.Finals.{AreAllUnlessLong, AreFinals, KeepsRows, loaded_of};
+ghost use Rattle.par_compile.specs.Finals.{AreAllUnlessLong, AreBlocksFor, AreCoverable, AreFinals, KeepsRows, loaded_of};
 
 use crate::requests::CompileRequest;
 use crate::workers::finals;
 use default_routes::Final;
 use machine_desc::NetPlan;
-use net_tables::original_blocks;
+use net_tables::marks::Mark;
+use net_tables::{original_blocks, turning_blocks};
 use spin_base::{Gate, Memory, Seq};
 use std::alloc::Global;
 use std::thread::Threads;
@@ -38,8 +39,29 @@ pub(crate) fn final_tables<R: Threads + Sync, G: Gate>(
         → AreRight request.now.machine.now (map loaded_of finals) nets.now) }
 {
     let machine = request.machine;
-    let blocks = original_blocks(alloc, machine, nets)?;
+    let blocks = blocks_for(alloc, request, nets)?;
     let chips = machine.chips();
     prove!(blocks.len() == chips);
     finals(rt, alloc, blocks, request, gate)
+}
+
+// The original blocks of each chip that its final table asks for, by the chip's index. Where there are no more nets than the target
+// no table is covered, and blocks that go straight on are not held.
+fn blocks_for(
+    alloc: Global,
+    request: &CompileRequest<'_>,
+    nets: &Seq<NetPlan>,
+) -> Result<Seq<Seq<Mark>>, Memory>
+    requires few { length nets.now < 2 ^ 32 }
+    requires routed { AreRoutedApart request.now.machine.now nets.now }
+    ensures blocks { IfOk result (AreBlocksFor request.now.machine.now nets.now request.now.target) }
+    ensures coverable { IfOk result (All AreCoverable) }
+{
+    if nets.len() <= request.target as usize {
+        let turning = turning_blocks(alloc, request.machine, nets)?;
+        Ok(turning)
+    } else {
+        let all = original_blocks(alloc, request.machine, nets)?;
+        Ok(all)
+    }
 }

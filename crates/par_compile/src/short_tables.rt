@@ -1,13 +1,12 @@
 // Final tables of chips with few nets, without a row of the plain table.
 ghost use Rattle.std.specs.Prelude.{◌≡◌, ◌≤◌, ◌++◌, IfOk, OnOk, length};
-ghost use Rattle.spin_base.specs.Lookup.{straight_on};
 ghost use Rattle.par_compile.specs.Finals.{AreCoverable, IsFinalFor};
-ghost use Rattle.par_compile.specs.ShortTables.{goes_straight, kept_entries, kept_entry};
+ghost use Rattle.par_compile.specs.ShortTables.{kept_entries, kept_entry};
 
 use default_routes::Final;
-use net_tables::in_row_order;
 use net_tables::marks::Mark;
-use spin_base::{Dir, Entry, Memory, Port, Route, Seq};
+use net_tables::{goes_straight, in_row_order};
+use spin_base::{Entry, Memory, Seq};
 use std::alloc::Global;
 
 /// The final table of original blocks that are no more than the target, so that their plain table is not covered. It has the
@@ -46,28 +45,4 @@ fn keep(mark: Mark, entries: &mut Seq<Entry>) -> Result<(), Memory>
         mask: mark.block.mask,
         route: mark.route,
     })
-}
-
-// Whether what comes in at the port leaves by the route also where no entry matches.
-fn goes_straight(port: Port, route: Route) -> bool
-    ensures { result ≡ goes_straight port route }
-{
-    match port {
-        Port::Link(arrival) => route.bits == straight_on(arrival).bits,
-        Port::Local => false,
-    }
-}
-
-// The route that has the link opposite an arrival link, and no other output.
-fn straight_on(arrival: Dir) -> Route
-    ensures { result ≡ straight_on arrival }
-{
-    match arrival {
-        Dir::East => Route { bits: 8 },
-        Dir::NorthEast => Route { bits: 16 },
-        Dir::North => Route { bits: 32 },
-        Dir::West => Route { bits: 1 },
-        Dir::SouthWest => Route { bits: 2 },
-        Dir::South => Route { bits: 4 },
-    }
 }

@@ -9,16 +9,16 @@ use Rattle.link_detours.specs.Waves.{IsIn}
 use Rattle.link_detours.proofs.Reaching.{link_turned, turned_link}
 use Rattle.link_detours.proofs.detours.step_before.Goals as goal
 
-pub returns-then-not-link_live-clause-none : goal.returns-then-not-link_live-clause-none
-returns-then-not-link_live-clause-none c = λ b step.
+pub returns-then-not-has_inside-clause-none : goal.returns-then-not-has_inside-clause-none
+returns-then-not-has_inside-clause-none c = λ b step.
     let turned = link_turned c.args.machine.now c.args.at b c.args.d step.0 step.1 in
-    false≢true (sym c.if-not-link_live.true ∙ (c.link_live.ensures
+    false≢true (sym c.if-not-has_inside.true ∙ (c.has_inside.ensures
     ∙ (ap (λ (o : Dir). is_live_link c.args.machine.now c.args.at o) c.opposite-back.ensures.link ∙ turned.0)))
 
 pub returns-then-has-clause-found : goal.returns-then-has-clause-found
 returns-then-has-clause-found c =
     let lives : IsLiveLink c.args.machine.now c.args.at (opposite_of c.args.d) =
-    sym (ap (λ (o : Dir). is_live_link c.args.machine.now c.args.at o) c.opposite-back.ensures.link) ∙ (sym c.link_live.ensures ∙ c.if-not-link_live.false) in
+    sym (ap (λ (o : Dir). is_live_link c.args.machine.now c.args.at o) c.opposite-back.ensures.link) ∙ (sym c.has_inside.ensures ∙ c.if-not-has_inside.false) in
     let leads : far_of c.args.machine.now c.args.at (opposite_of c.args.d) ≡ Some c.in_ok-chip.chip =
     sym (ap (λ (o : Dir). far_of c.args.machine.now c.args.at o) c.opposite-back.ensures.link) ∙ sym c.in_ok-chip.ensures in
     let turned = turned_link c.args.machine.now c.args.at c.in_ok-chip.chip c.args.d lives leads in
@@ -37,4 +37,4 @@ has-requires-clause-bit c =
     let inside : IsInside c.args.machine.now c.in_ok-chip.chip =
     far_inside c.args.machine.now c.args.at c.in_ok-chip.chip c.opposite-back.result c.requires.inside (sym c.in_ok-chip.ensures) in
     let low : c.in_ok-chip.chip.y < c.args.machine.now.height = (inside_parts c.args.machine.now c.in_ok-chip.chip inside).1 in
-    let few : c.args.machine.now.height ≤ 64 = c.requires.few in omega (arith, low, few)
+    let few : c.args.machine.now.height ≤ 64 = c.requires.roads_are.few in omega (arith, low, few)

@@ -37,7 +37,7 @@ unreachable-requires c =
 pub put-requires-clause-bit : goal.put-requires-clause-bit
 put-requires-clause-bit c =
     let low : c.loop-wave.at.y < c.args.machine.now.height = (inside_parts c.args.machine.now c.loop-wave.at c.loop-wave.invariant.inside).1 in
-    let few : c.args.machine.now.height ≤ 64 = c.requires.few in omega (arith, low, few)
+    let few : c.args.machine.now.height ≤ 64 = c.requires.roads_are.few in omega (arith, low, few)
 
 pub loop-wave-preserved : goal.loop-wave-preserved
 loop-wave-preserved c =

@@ -1,7 +1,7 @@
 use Rattle.std.proofs.Common.{◌≡◌, ℕ, ◌+◌, ◌<◌, length, Vec, Global, refl, sym, ap, ◌∙◌, subst, arith, length-append}
 use Rattle.std.proofs.lemmas.Bool.{false≢true}
 use Rattle.link_detours.specs.Waves.{IsIn, IsWave}
-use Rattle.link_detours.proofs.Naming.{all_named, spread_but}
+use Rattle.link_detours.proofs.Naming.{all_named, none_grew, spread_but}
 use Rattle.link_detours.proofs.Waving.{first_wave, next_wave, dry, level_is, off_wave, waves_none, waves_push, sum_rises}
 use Rattle.link_detours.proofs.detours.waves.Goals as goal
 
@@ -40,12 +40,15 @@ pub spreading-smaller : goal.spreading-smaller
 spreading-smaller c =
     sum_rises c.args.machine.now c.spreading.last.items c.in_ok-next.next.set.items c.spreading.invariant.wave.long c.in_ok-next.ensures.long
     c.in_ok-next.ensures.fits (rw c.deref-in-spreading.ensures.value at c.in_ok-next.ensures.rises)
-    (λ same. false≢true (sym c.if-same_sets.false ∙ c.same_sets.ensures.1 (c.as_slice.ensures.value ∙ (same ∙ sym c.as_slice-in-spreading.ensures.value))))
+    (λ same.
+    let none : c.in_ok-next.next.grown ≡ 0 = (rw c.deref-in-spreading.ensures.value at c.in_ok-next.ensures.grew) (sym same) in
+    omega (arith, c.if-next-eq0.false, none))
 
-pub returns-then-same_sets-clause-cut_off : goal.returns-then-same_sets-clause-cut_off
-returns-then-same_sets-clause-cut_off c = λ n by.
+pub returns-then-next-eq0-clause-cut_off : goal.returns-then-next-eq0-clause-cut_off
+returns-then-next-eq0-clause-cut_off c = λ n by.
     let same : c.in_ok-next.next.set.items ≡ c.spreading.last.items =
-    sym c.as_slice.ensures.value ∙ (c.same_sets.ensures.0 c.if-same_sets.true ∙ c.as_slice-in-spreading.ensures.value) in
+    sym (none_grew c.spreading.last.items c.in_ok-next.next.set.items c.in_ok-next.next.grown (c.spreading.invariant.wave.long ∙ sym c.in_ok-next.ensures.long)
+    (omega (arith, c.if-next-eq0.true)) (rw c.deref-in-spreading.ensures.value at c.in_ok-next.ensures.grown)) in
     let bit : IsIn c.spreading.last.items c.args.target =
     dry c.args.machine.now (IsIn c.args.tree.now) c.spreading.last.items c.in_ok-next.next.set.items
     (λ x inside start. (c.spreading.invariant.wave.told x inside).1 (0, omega arith, (x, start, refl))) same

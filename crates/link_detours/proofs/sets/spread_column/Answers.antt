@@ -1,4 +1,4 @@
-use Rattle.std.proofs.Common.{◌≡◌, get_or, refl, inl, inr, rules}
+use Rattle.std.proofs.Common.{get_or, refl, inl, inr, rules}
 use Rattle.std.proofs.lemmas.Bool.{cases_eq}
 use Rattle.link_detours.proofs.sets.spread_column.Goals as goal
 
@@ -16,5 +16,9 @@ returns c = record {
   told = λ off. elim (cases_eq c.spread_word-word.result (get_or c.args.set.now c.args.x 0)) [
     | inl same ↦ same
     | inr other ↦ absurd (off (c.with_column-wave.ensures.named (search rules)))
+  ];
+  grew = elim (cases_eq c.spread_word-word.result (get_or c.args.set.now c.args.x 0)) [
+    | inl same ↦ inl (c.with_column-wave.ensures.unnamed (search rules))
+    | inr other ↦ inr other
   ];
 }

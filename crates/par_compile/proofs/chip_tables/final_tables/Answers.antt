@@ -4,19 +4,19 @@ use Rattle.std.proofs.lemmas.Result.{IfOk-weaker}
 use Rattle.default_routes.specs.declared.stripping.Final.{Final}
 use Rattle.machine_desc.specs.RightTables.{AreRight}
 use Rattle.par_compile.specs.Finals.{AreAllUnlessLong, AreFinals, IsFinalFor, KeepsRows, loaded_of}
-use Rattle.par_compile.proofs.Righted.{all_final, all_keep, all_right, coverable, few_chips, few_entries, finals_within}
+use Rattle.par_compile.proofs.Righted.{all_final, all_keep, all_right, few_chips, few_entries, finals_within}
 use Rattle.par_compile.proofs.chip_tables.final_tables.Goals as goal
 
 pub finals-requires-clause-few : goal.finals-requires-clause-few
-finals-requires-clause-few g c κs within = few_chips c.args.request.now.machine.now c.chips-chips.ensures.size (length c.in_ok-blocks.blocks) c.in_ok-blocks.ensures.long
+finals-requires-clause-few g c κs within = few_chips c.args.request.now.machine.now c.chips-chips.ensures.size (length c.in_ok-blocks.blocks) c.in_ok-blocks.ensures.blocks.long
 
 pub finals-requires-clause-coverable : goal.finals-requires-clause-coverable
-finals-requires-clause-coverable g c κs within = coverable c.in_ok-blocks.blocks (length c.args.nets.now) c.requires.few c.in_ok-blocks.ensures.few c.in_ok-blocks.ensures.apart
+finals-requires-clause-coverable g c κs within = c.in_ok-blocks.ensures.coverable
 
 pub returns-clause-all : goal.returns-clause-all
 returns-clause-all g c =
     IfOk-weaker c.finals.result (AreAllUnlessLong (length c.in_ok-blocks.blocks)) (AreAllUnlessLong (c.args.request.now.machine.now.width * c.args.request.now.machine.now.height))
-    (λ fs all none. all none ∙ c.in_ok-blocks.ensures.long) c.finals.ensures.all
+    (λ fs all none. all none ∙ c.in_ok-blocks.ensures.blocks.long) c.finals.ensures.all
 
 pub returns-clause-within : goal.returns-clause-within
 returns-clause-within g c =

@@ -1,0 +1,7 @@
+use Rattle.std.proofs.Common.{◌≡◌, ◌++◌, filter, take}
+use Rattle.net_tables.specs.Marks.{turns}
+use Rattle.net_tables.proofs.turning.add_turns.Given as goal
+
+-- those of the original blocks that were read were added
+abbrev pub invariant-loop-mark : goal.invariant-loop-mark
+invariant-loop-mark l = l.kept ≡ l.fn.kept ++ filter turns (take l.mark-index l.list)
