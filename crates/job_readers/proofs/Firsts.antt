@@ -1,5 +1,5 @@
 -- A first fault stays first when more faults are appended, or stand inside.
-use Rattle.std.proofs.Common.{◌≡◌, List, [], ◌∷◌, ◌++◌, refl}
+use Rattle.std.proofs.Common.{◌≡◌, List, [], ◌∷◌, ◌++◌}
 use Rattle.job_text.specs.declared.faults.JobFault.{JobFault}
 use Rattle.job_text.specs.declared.faults.TextErr.{TextErr}
 use Rattle.job_text.specs.declared.faults.TextErr.TheVariants as errors

@@ -1,5 +1,5 @@
 -- A loop over the items of a list goes on with the faults of those that are left.
-use Rattle.std.proofs.Common.{◌≡◌, ℕ, ◌+◌, ◌<◌, ◌≤◌, List, [], ◌∷◌, ◌++◌, length, map, take, drop, get_or, refl, ap, subst, sym, ◌∙◌, arith, add-one, drop-cons}
+use Rattle.std.proofs.Common.{◌≡◌, ℕ, ◌+◌, ◌<◌, ◌≤◌, List, [], ◌∷◌, ◌++◌, length, map, take, drop, get_or, refl, ap, subst, sym, ◌∙◌, add-one, drop-cons}
 use Rattle.std.proofs.lemmas.List.{take_more, map-append, drop_all}
 use Rattle.std.proofs.Common.{take_all}
 use Rattle.serde_json.specs.Data.{Data}

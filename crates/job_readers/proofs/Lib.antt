@@ -7,5 +7,6 @@ mod PlaceSteps
 mod BlockSteps
 mod GraphSteps
 mod RunSteps
+mod VerbSteps
 mod Parts
 mod Named

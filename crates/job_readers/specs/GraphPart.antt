@@ -1,6 +1,6 @@
 -- The graph of a job: its faults in the order of reading, and what it is (this project's own). Where a part has faults,
 -- its value is what could be read, and 0 or nothing in place of the rest.
-use Rattle.std.specs.Prelude.{ℕ, ◌-◌, ◌^◌, List, [], ◌∷◌, ◌++◌, Bool, true, false, is_some, ◌&&◌, nat_le, ◌==◌, if◌then◌else◌, Option, Some, None, map, option_map, option_and_then, unwrap_or, codes, option_to_list, slice_get, bit_and, bit_xor}
+use Rattle.std.specs.Prelude.{ℕ, List, [], ◌∷◌, ◌++◌, Bool, true, false, is_some, if◌then◌else◌, Option, Some, None, map, option_map, option_and_then, unwrap_or, codes, option_to_list, slice_get}
 use Rattle.std.specs.List.{list_any, flat_map}
 use Rattle.serde_json.specs.Data.{Data}
 use Rattle.spin_base.specs.declared.chips.Chip.{Chip}

@@ -14,6 +14,7 @@ pub mod Hung
 pub mod Listed
 pub mod MachinePart
 pub mod GraphPart
+pub mod Verbs
 pub mod RunPart
 pub mod Job
 pub mod WholeJob

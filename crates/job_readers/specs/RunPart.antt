@@ -1,7 +1,6 @@
 -- The run part of a job: its faults in the order of reading, and what it is (this project's own). Where a part has
 -- faults, its value is what could be read, and 0 or nothing in place of the rest.
-use Rattle.std.specs.Prelude.{ℕ, ◌+◌, ◌-◌, ◌*◌, List, [], ◌∷◌, ◌++◌, length, Bool, true, false, ◌&&◌, ◌||◌, nat_le, is_some, bytes_eq, decimal, if◌then◌else◌, Option, Some, None, map, option_map, option_and_then, unwrap_or, codes}
-use Rattle.std.specs.List.{range_with_len}
+use Rattle.std.specs.Prelude.{ℕ, ◌+◌, ◌-◌, ◌*◌, List, [], ◌∷◌, ◌++◌, length, false, ◌&&◌, nat_le, is_some, bytes_eq, if◌then◌else◌, Option, Some, None, map, option_map, option_and_then, unwrap_or, codes}
 use Rattle.serde_json.specs.Data.{Data}
 use Rattle.serde_json.specs.Find.{as_str, as_array}
 use Rattle.spin_base.specs.declared.chips.Chip.{Chip}

@@ -26,7 +26,12 @@ pub(crate) fn triple(item: &Value) -> Option<(u64, u64, u64)>
     ensures { result ≡ triple_of (view item.now) }
 {
     match item.as_array()?.as_slice() {
-        [x, y, z] => Some((x.as_u64()?, y.as_u64()?, z.as_u64()?)),
+        [x, y, z] => {
+            match (x.as_u64(), y.as_u64(), z.as_u64()) {
+                (Some(x), Some(y), Some(z)) => Some((x, y, z)),
+                _ => None,
+            }
+        }
         _ => None,
     }
 }

@@ -6,6 +6,7 @@ ghost use Rattle.job_text.specs.Reading.{GivesOrFaults};
 ghost use Rattle.app_graph.specs.ValidGraph.{IsValidGraph};
 ghost use Rattle.app_graph.specs.RunPart.{IsEventOf};
 ghost use Rattle.job_readers.specs.RunPart.{link_named, core_named, port_named, out_named, one_text, chip_and_text, items_in, at_vertex_faults, at_vertex, at_chip_faults, chip_of_event, word_of_event, event_word_faults, worded_event, events_faults, events_value};
+ghost use Rattle.job_readers.specs.Verbs.{verb_named};
 ghost use Rattle.job_text.specs.Paths.{path_text};
 
 use crate::graph_parts::names_of_vertices;
@@ -23,13 +24,13 @@ use std::alloc::Global;
 fn link_named(word: &str) -> Option<Dir>
     ensures { result ≡ link_named word.now }
 {
-    match word {
-        "E" => Some(Dir::East),
-        "NE" => Some(Dir::NorthEast),
-        "N" => Some(Dir::North),
-        "W" => Some(Dir::West),
-        "SW" => Some(Dir::SouthWest),
-        "S" => Some(Dir::South),
+    match word.as_bytes() {
+        b"E" => Some(Dir::East),
+        b"NE" => Some(Dir::NorthEast),
+        b"N" => Some(Dir::North),
+        b"W" => Some(Dir::West),
+        b"SW" => Some(Dir::SouthWest),
+        b"S" => Some(Dir::South),
         _ => None,
     }
 }
@@ -40,25 +41,9 @@ fn core_named(word: &str) -> Option<u8>
     ensures value { result ≡ core_named word.now }
     ensures core { IfSome result (λ p. p < 18) }
 {
-    match word {
-        "c0" => Some(0),
-        "c1" => Some(1),
-        "c2" => Some(2),
-        "c3" => Some(3),
-        "c4" => Some(4),
-        "c5" => Some(5),
-        "c6" => Some(6),
-        "c7" => Some(7),
-        "c8" => Some(8),
-        "c9" => Some(9),
-        "c10" => Some(10),
-        "c11" => Some(11),
-        "c12" => Some(12),
-        "c13" => Some(13),
-        "c14" => Some(14),
-        "c15" => Some(15),
-        "c16" => Some(16),
-        "c17" => Some(17),
+    match word.as_bytes() {
+        [b'c', one @ b'0'..=b'9'] => Some(one - b'0'),
+        [b'c', b'1', one @ b'0'..=b'7'] => Some(one - b'0' + 10),
         _ => None,
     }
 }
@@ -67,7 +52,7 @@ fn core_named(word: &str) -> Option<u8>
 fn port_named(word: &str) -> Option<Port>
     ensures { result ≡ port_named word.now }
 {
-    if word == "L" {
+    if let b"L" = word.as_bytes() {
         return Some(Port::Local);
     }
     match link_named(word) {
@@ -130,7 +115,12 @@ fn chip_and_text<'a>(rest: &'a [Value]) -> Option<(u64, u64, &'a str)>
     ensures { option_map (λ t. (t.0, t.1, t.2.now)) result ≡ chip_and_text (map view rest.now) }
 {
     match rest {
-        [x, y, word] => Some((x.as_u64()?, y.as_u64()?, word.as_str()?)),
+        [x, y, word] => {
+            match (x.as_u64(), y.as_u64(), word.as_str()) {
+                (Some(x), Some(y), Some(word)) => Some((x, y, word)),
+                _ => None,
+            }
+        }
         _ => None,
     }
 }
@@ -206,8 +196,37 @@ fn chip_and_named<W: EventWord>(
     Ok((chip, named))
 }
 
+// What an event does.
+#[derive(Clone, Copy)]
+enum Verb {
+    Inject,
+    Take,
+    Send,
+    Dump,
+    Collect,
+}
+
+// What an event does that begins with a word.
+#[tactic(auto, unfolding(crate::specs::Verbs::verb_named))]
+fn verb_named(word: &str) -> Option<Verb>
+    ensures { result ≡ verb_named word.now }
+{
+    match word.as_bytes() {
+        b"take" => Some(Verb::Take),
+        b"send" => Some(Verb::Send),
+        b"dump" => Some(Verb::Dump),
+        _ => {
+            match word {
+                "inject" => Some(Verb::Inject),
+                "collect" => Some(Verb::Collect),
+                _ => None,
+            }
+        }
+    }
+}
+
 // The event that begins with a word.
-#[tactic(auto, unfolding(crate::specs::RunPart::event_word_faults, crate::specs::RunPart::worded_event, crate::specs::RunPart::port_of_event, crate::specs::RunPart::out_of_event))]
+#[tactic(none)]
 fn worded(
     alloc: Global,
     word: &str,
@@ -220,25 +239,23 @@ fn worded(
         (map view rest.now)) (worded_event vertices.now word.now (map view rest.now)) }
     ensures valid { IfOk result (IsEventOf (length vertices.now)) }
 {
-    if word == "inject" {
-        return Ok(Event::Inject(vertex_of(alloc, rest, path, vertices)?));
+    match verb_named(word) {
+        Some(Verb::Inject) => Ok(Event::Inject(vertex_of(alloc, rest, path, vertices)?)),
+        Some(Verb::Take) => {
+            let (chip, port) = chip_and_named(alloc, rest, path)?;
+            Ok(Event::Take(chip, port))
+        }
+        Some(Verb::Send) => {
+            let (chip, out) = chip_and_named(alloc, rest, path)?;
+            Ok(Event::Send(chip, out))
+        }
+        Some(Verb::Dump) => {
+            let (chip, out) = chip_and_named(alloc, rest, path)?;
+            Ok(Event::Dump(chip, out))
+        }
+        Some(Verb::Collect) => Ok(Event::Collect(vertex_of(alloc, rest, path, vertices)?)),
+        None => Err(range(alloc, path)),
     }
-    if word == "take" {
-        let (chip, port) = chip_and_named(alloc, rest, path)?;
-        return Ok(Event::Take(chip, port));
-    }
-    if word == "send" {
-        let (chip, out) = chip_and_named(alloc, rest, path)?;
-        return Ok(Event::Send(chip, out));
-    }
-    if word == "dump" {
-        let (chip, out) = chip_and_named(alloc, rest, path)?;
-        return Ok(Event::Dump(chip, out));
-    }
-    if word == "collect" {
-        return Ok(Event::Collect(vertex_of(alloc, rest, path, vertices)?));
-    }
-    Err(range(alloc, path))
 }
 
 /// The items of a value that is a list, and none of any other.
@@ -302,5 +319,6 @@ pub(crate) fn events(
     let items = long_list_of(alloc, run, path, "events", false)?;
     let path = Path::Member(path, "events");
     let names = names_of_vertices(alloc, graph.vertices.as_slice())?;
-    each_item(alloc, items, &path, &Listed { vertices: &names })
+    let listed = Listed { vertices: &names };
+    each_item(alloc, items, &path, &listed)
 }

@@ -175,7 +175,7 @@ fn places_to(
     count_to(alloc, &path, MOST_PLACES, places)
 }
 
-#[tactic(auto, using(crate::proofs::Firsts::firsts), unfolding(crate::specs::RunPart::run_members_faults, crate::specs::RunPart::run_members))]
+#[tactic(auto, unfolding(crate::specs::RunPart::run_members_faults, crate::specs::RunPart::run_members))]
 fn run_members(
     alloc: Global,
     run: &Value,
@@ -210,23 +210,45 @@ fn run_members(
     })
 }
 
-// The object at a path, and null where it is absent.
-#[tactic(auto, unfolding(crate::specs::RunPart::optional_object_faults))]
-fn optional_object<'a>(
+// The run part that is not there.
+fn absent_run(
     alloc: Global,
-    v: Option<&'a Value>,
     path: &Path<'_>,
-    absent: &'a Value,
-) -> Result<&'a Value, TextErr>
-    requires { view absent.now ≡ null }
-    ensures { GivesOrFaults (λ d. view d.now) result
-        (optional_object_faults (path_text path.now) (option_map (λ d. view d.now) v.entry))
-        (object_value (option_map (λ d. view d.now) v.entry)) }
+    machine: &Machine,
+    graph: &Graph,
+) -> Result<RunPart, TextErr>
+    requires { IsValidGraph graph.now }
+    ensures read { GivesOrFaults (λ r. r) result
+        (run_members_faults (live_count_of machine.now) graph.now (path_text path.now) null)
+        (run_members graph.now null) }
+    ensures found { IfOk result (IsRunOf graph.now) }
 {
-    match v {
-        Some(found) => object(alloc, Some(found), path),
-        None => Ok(absent),
-    }
+    let absent = Value::Null;
+    run_members(alloc, &absent, path, machine, graph)
+}
+
+// The run part at a path.
+#[tactic(auto, using(crate::proofs::Firsts::firsts), unfolding(crate::specs::RunPart::optional_object_faults))]
+fn run_in(
+    alloc: Global,
+    v: Option<&Value>,
+    path: &Path<'_>,
+    machine: &Machine,
+    graph: &Graph,
+) -> Result<RunPart, TextErr>
+    requires { IsValidGraph graph.now }
+    ensures read { GivesOrFaults (λ r. r) result
+        (optional_object_faults (path_text path.now) (option_map (λ d. view d.now) v.entry)
+        ▹ run_members_faults (live_count_of machine.now) graph.now (path_text path.now)
+        (object_value (option_map (λ d. view d.now) v.entry)))
+        (run_members graph.now (object_value (option_map (λ d. view d.now) v.entry))) }
+    ensures found { IfOk result (IsRunOf graph.now) }
+{
+    let Some(found) = v else {
+        return absent_run(alloc, path, machine, graph);
+    };
+    let run = object(alloc, Some(found), path)?;
+    run_members(alloc, run, path, machine, graph)
 }
 
 /// The run part of the job at a path, for its machine and its graph.
@@ -251,7 +273,5 @@ pub fn run_of(
 {
     let found = field(alloc, job, path, "run")?;
     let path = Path::Member(path, "run");
-    let absent = Value::Null;
-    let run = optional_object(alloc, found, &path, &absent)?;
-    run_members(alloc, run, &path, machine, graph)
+    run_in(alloc, found, &path, machine, graph)
 }

@@ -130,7 +130,11 @@ pub fn may_name(text: &str) -> bool
 fn is_printable(bytes: &[u8]) -> bool
     ensures { result ≡ list_all is_printable_byte bytes.now }
 {
-    bytes.iter().all(|byte| 0x21 <= *byte && *byte <= 0x7e)
+    let mut printable = true;
+    for byte in bytes {
+        printable &= 0x21 <= *byte && *byte <= 0x7e;
+    }
+    printable
 }
 
 /// The name at a path, as it stands in the value.

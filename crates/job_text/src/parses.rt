@@ -24,7 +24,7 @@ pub fn parse(alloc: Global, bytes: &[u8]) -> Result<Value, ParseErr>
     ensures value { IfOk result (λ v. json_of bytes.now ≡ Some (view v)) }
     ensures not_json { result ≡ Err ParseErr.NotJson → json_of bytes.now ≡ None }
 {
-    let Ok(text) = std::str::from_utf8(bytes) else {
+    let Ok(text) = simdutf8::compat::from_utf8(bytes) else {
         return Err(ParseErr::NotJson);
     };
     match Value::from_str(alloc, text) {

@@ -1,6 +1,7 @@
 -- What is gathered from the items of a list, one item more.
-use Rattle.std.proofs.Common.{◌≡◌, ap₂, subst, ℕ, zero, suc, ◌+◌, ◌-◌, ◌^◌, ◌<◌, List, [], ◌∷◌, ◌++◌, take, length, get_or, min, sum_by, sym, ap, ◌∙◌, arith, append_assoc, map-id, Some}
-use Rattle.std.specs.List.{slice_get, slice_index_or, range_with_len}
+use Rattle.std.proofs.Common.{◌≡◌, ap₂, subst, ℕ, zero, suc, ◌+◌, ◌-◌, ◌^◌, ◌<◌, ◌≤◌, List, [], ◌∷◌, ◌++◌, take, length, get_or, min, sum_by, sym, ap, ◌∙◌, arith, append_assoc, map, map-id, Some}
+use Rattle.std.specs.List.{slice_get, slice_index_or, range_with_len, flat_map}
+use Rattle.std.proofs.lemmas.List.{flat_map_more, map_push, take_more, take_all}
 use Rattle.std.proofs.lemmas.List.FromFn.{sum_by-map-range_with_len_more}
 use Rattle.std.proofs.lemmas.Option.{slice_get-get_or}
 use Rattle.spin_base.specs.Gathered.{gathered}
@@ -51,3 +52,26 @@ events_more all i d before sofar new below so_far more =
     more ∙ ap (λ l. l ++ event_line (i + 1) did) so_far
     ∙ append_assoc before (gathered event_line 1 (take i all)) (event_line (i + 1) did)
     ∙ ap (λ l. before ++ l) (sym (gathered_more event_line 1 all i (i + 1) did (slice_get-get_or all i d below) (omega arith)))
+
+-- what a function puts for each item of a list, so far and for the next, and when no item is left
+module _ {X A : Type 0} (f : X → List A) (xs : List X) (before sofar : List A) (i : ℕ) (put : sofar ≡ before ++ flat_map f (take i xs)) where
+  pub put_at : (d : X) (new : List A) → i < length xs → new ≡ sofar ++ f (get_or xs i d) → new ≡ before ++ flat_map f (take (i + 1) xs)
+  put_at d new below more =
+      more ∙ ap (λ l. l ++ f (get_or xs i d)) put ∙ flat_map_more f before (take i xs) (get_or xs i d)
+      ∙ ap (λ l. before ++ flat_map f l) (sym (take_more xs i d below))
+
+  pub put_more : (x : X) (new : List A) → i < length xs → x ≡ get_or xs i x → new ≡ sofar ++ f x → new ≡ before ++ flat_map f (take (i + 1) xs)
+  put_more x new below is more = put_at x new below (more ∙ ap (λ y. sofar ++ f y) is)
+
+  pub put_all : length xs ≤ i → sofar ≡ before ++ flat_map f xs
+  put_all end = put ∙ ap (λ l. before ++ flat_map f l) (take_all i xs end)
+
+-- the same for a function that puts one item for each
+module _ {X A : Type 0} (h : X → A) (xs : List X) (before sofar : List A) (i : ℕ) (put : sofar ≡ before ++ map h (take i xs)) where
+  pub pushed_at : (d : X) (new : List A) → i < length xs → new ≡ sofar ++ h (get_or xs i d) ∷ [] → new ≡ before ++ map h (take (i + 1) xs)
+  pushed_at d new below more =
+      more ∙ ap (λ l. l ++ h (get_or xs i d) ∷ []) put ∙ append_assoc before (map h (take i xs)) (h (get_or xs i d) ∷ [])
+      ∙ ap (λ l. before ++ l) (sym (map_push h (take i xs) (get_or xs i d)) ∙ ap (map h) (sym (take_more xs i d below)))
+
+  pub pushed_all : length xs ≤ i → sofar ≡ before ++ map h xs
+  pushed_all end = put ∙ ap (λ l. before ++ map h l) (take_all i xs end)

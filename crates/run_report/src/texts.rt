@@ -202,16 +202,16 @@ fn put_event(text: &mut Vec<u8>, number: usize, did: Did) -> Result<(), Memory>
 {
     put(text, "event ")?;
     put_number(text, number as u64, b' ')?;
-    put(text, did_word(did))?;
-    put(text, "\n")
+    put(text, did_end(did))
 }
 
-fn did_word(did: Did) -> &'static str
-    ensures { result.now ≡ did_word did }
+// Whether an event was enabled, as the end of its line.
+fn did_end(did: Did) -> &'static str
+    ensures { result.now ≡ did_word did ++ 10 ∷ [] }
 {
     match did {
-        Did::Moved => "moved",
-        Did::Idle => "idle",
+        Did::Moved => "moved\n",
+        Did::Idle => "idle\n",
     }
 }
 

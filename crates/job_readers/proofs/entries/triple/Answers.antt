@@ -8,6 +8,6 @@ pub returns-in_default : goal.returns-in_default
 returns-in_default c =
     triple-short (view c.args.item.now) (map view c.in_ok-as_array.field-0.now.items) c.in_ok-as_array.ensures (omega (arith, length-map c.in_ok-as_array.field-0.now.items view, ap length c.as_slice.ensures.value))
 
-pub returns-in_default-2 : goal.returns-in_default-2
-returns-in_default-2 c =
+pub returns-in_default-3 : goal.returns-in_default-3
+returns-in_default-3 c =
     triple-long (view c.args.item.now) (map view c.in_ok-as_array.field-0.now.items) c.in_ok-as_array.ensures (omega (arith, length-map c.in_ok-as_array.field-0.now.items view, ap length c.as_slice.ensures.value))

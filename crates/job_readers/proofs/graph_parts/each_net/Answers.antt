@@ -1,4 +1,4 @@
-use Rattle.std.proofs.Common.{refl, ◌≡◌, ◌+◌, ◌<◌, ◌≤◌, [], ◌∷◌, ◌++◌, length, map, ap, sym, subst, ◌∙◌, arith, length-append}
+use Rattle.std.proofs.Common.{refl, ◌≡◌, [], ◌∷◌, ◌++◌, length, map, ap, sym, subst, ◌∙◌, arith, length-append}
 use Rattle.std.proofs.lemmas.List.Elements.{All-push}
 use Rattle.std.proofs.lemmas.Result.{err_from_is_err_and}
 use Rattle.serde_json.specs.View.{view}
@@ -7,7 +7,7 @@ use Rattle.app_graph.specs.ValidGraph.{IsValidNet, HasSendingSource}
 use Rattle.job_text.specs.Reading.{IsFirstFault}
 use Rattle.job_text.specs.Paths.{path_text, item_at}
 use Rattle.job_readers.specs.Items.{following_faults}
-use Rattle.job_readers.specs.GraphPart.{net_value, next_net_faults, fixed_blocks_of}
+use Rattle.job_readers.specs.GraphPart.{net_value, next_net_faults}
 use Rattle.job_readers.proofs.ItemSteps.{values-more, values-all}
 use Rattle.job_readers.proofs.FollowingSteps.{following-more, following-fail, following-none}
 use Rattle.job_readers.proofs.GraphSteps.{next_net, net_name, net_names_more, blocks_more, apart_more}

@@ -1,4 +1,4 @@
-use Rattle.std.proofs.Common.{◌≡◌, ◌-◌, ◌<◌, ◌≤◌, length, arith, ap}
+use Rattle.std.proofs.Common.{◌-◌, length, arith, ap}
 use Rattle.app_graph.specs.ValidGraph.{IsValidNet}
 use Rattle.app_graph.proofs.Keys.{keys_of-at}
 use Rattle.job_readers.proofs.RunSteps.{holds_at}

@@ -1,4 +1,4 @@
-use Rattle.std.proofs.Common.{◌≡◌, ap, ◌∙◌}
+use Rattle.std.proofs.Common.{ap, ◌∙◌}
 use Rattle.std.specs.List.{list_any}
 use Rattle.job_readers.specs.Hung.{is_among}
 use Rattle.job_readers.specs.Listed.{anchor_of, anchor_eq}

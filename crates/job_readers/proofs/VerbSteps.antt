@@ -1,0 +1,73 @@
+-- What an event's word leads to, by what the event does.
+use Rattle.std.proofs.Common.{◌≡◌, ℕ, List, [], ◌∷◌, true, false, Option, Some, None, if◌then◌else◌, codes, refl, ap, sym, subst, ◌∙◌}
+use Rattle.std.specs.Prelude.{bytes_eq}
+use Rattle.serde_json.specs.Data.{Data}
+use Rattle.spin_base.specs.declared.copies.Event.{Event}
+use Rattle.spin_base.specs.declared.copies.Event.TheVariants as events
+use Rattle.job_text.specs.declared.faults.JobFault.{JobFault}
+use Rattle.job_text.specs.declared.faults.JobFault.TheVariants.{Range}
+use Rattle.job_text.specs.declared.faults.TextErr.{TextErr}
+use Rattle.job_text.specs.Reading.{IsFirstFault}
+use Rattle.job_readers.specs.declared.events.Verb.{Verb}
+use Rattle.job_readers.specs.declared.events.Verb.TheVariants.{Inject, Take, Send, Dump, Collect}
+use Rattle.job_readers.specs.Verbs.{verb_named}
+use Rattle.job_readers.specs.RunPart.{event_word_faults, worded_event, at_vertex_faults, at_vertex, at_chip_faults, chip_of_event, port_named, out_named, port_of_event, out_of_event}
+
+abbrev pub verb_faults : List (List ℕ) → List ℕ → Option Verb → List Data → List JobFault
+verb_faults vertices path (Some Inject) ds = at_vertex_faults vertices path ds
+verb_faults vertices path (Some Take) ds = at_chip_faults port_named path ds
+verb_faults vertices path (Some Send) ds = at_chip_faults out_named path ds
+verb_faults vertices path (Some Dump) ds = at_chip_faults out_named path ds
+verb_faults vertices path (Some Collect) ds = at_vertex_faults vertices path ds
+verb_faults vertices path None ds = Range path ∷ []
+
+abbrev pub verb_event : List (List ℕ) → Option Verb → List Data → Event
+verb_event vertices (Some Inject) ds = events.Inject (at_vertex vertices ds)
+verb_event vertices (Some Take) ds = events.Take (chip_of_event ds) (port_of_event ds)
+verb_event vertices (Some Send) ds = events.Send (chip_of_event ds) (out_of_event ds)
+verb_event vertices (Some Dump) ds = events.Dump (chip_of_event ds) (out_of_event ds)
+verb_event vertices (Some Collect) ds = events.Collect (at_vertex vertices ds)
+verb_event vertices None ds = events.Collect (at_vertex vertices ds)
+
+module _ (vertices : List (List ℕ)) (path w : List ℕ) (ds : List Data) where
+  pub word_faults : event_word_faults vertices path w ds ≡ verb_faults vertices path (verb_named w) ds
+  unfolding event_word_faults verb_named
+  word_faults =
+      elim (bytes_eq w (codes "inject")) as (λ b. (if b then at_vertex_faults vertices path ds else (if bytes_eq w (codes "take") then at_chip_faults port_named path ds else (if bytes_eq w (codes "send") then at_chip_faults out_named path ds else (if bytes_eq w (codes "dump") then at_chip_faults out_named path ds else (if bytes_eq w (codes "collect") then at_vertex_faults vertices path ds else Range path ∷ []))))) ≡ verb_faults vertices path (if b then Some Inject else (if bytes_eq w (codes "take") then Some Take else (if bytes_eq w (codes "send") then Some Send else (if bytes_eq w (codes "dump") then Some Dump else (if bytes_eq w (codes "collect") then Some Collect else None))))) ds) [
+        | true ↦ refl
+        | false ↦ elim (bytes_eq w (codes "take")) as (λ b. (if b then at_chip_faults port_named path ds else (if bytes_eq w (codes "send") then at_chip_faults out_named path ds else (if bytes_eq w (codes "dump") then at_chip_faults out_named path ds else (if bytes_eq w (codes "collect") then at_vertex_faults vertices path ds else Range path ∷ [])))) ≡ verb_faults vertices path (if b then Some Take else (if bytes_eq w (codes "send") then Some Send else (if bytes_eq w (codes "dump") then Some Dump else (if bytes_eq w (codes "collect") then Some Collect else None)))) ds) [
+          | true ↦ refl
+          | false ↦ elim (bytes_eq w (codes "send")) as (λ b. (if b then at_chip_faults out_named path ds else (if bytes_eq w (codes "dump") then at_chip_faults out_named path ds else (if bytes_eq w (codes "collect") then at_vertex_faults vertices path ds else Range path ∷ []))) ≡ verb_faults vertices path (if b then Some Send else (if bytes_eq w (codes "dump") then Some Dump else (if bytes_eq w (codes "collect") then Some Collect else None))) ds) [
+            | true ↦ refl
+            | false ↦ elim (bytes_eq w (codes "dump")) as (λ b. (if b then at_chip_faults out_named path ds else (if bytes_eq w (codes "collect") then at_vertex_faults vertices path ds else Range path ∷ [])) ≡ verb_faults vertices path (if b then Some Dump else (if bytes_eq w (codes "collect") then Some Collect else None)) ds) [
+              | true ↦ refl
+              | false ↦ elim (bytes_eq w (codes "collect")) as (λ b. (if b then at_vertex_faults vertices path ds else Range path ∷ []) ≡ verb_faults vertices path (if b then Some Collect else None) ds) [ true ↦ refl | false ↦ refl ]
+            ]
+          ]
+        ]
+      ]
+
+  pub word_event : worded_event vertices w ds ≡ verb_event vertices (verb_named w) ds
+  unfolding worded_event verb_named
+  word_event =
+      elim (bytes_eq w (codes "inject")) as (λ b. (if b then events.Inject (at_vertex vertices ds) else (if bytes_eq w (codes "take") then events.Take (chip_of_event ds) (port_of_event ds) else (if bytes_eq w (codes "send") then events.Send (chip_of_event ds) (out_of_event ds) else (if bytes_eq w (codes "dump") then events.Dump (chip_of_event ds) (out_of_event ds) else events.Collect (at_vertex vertices ds))))) ≡ verb_event vertices (if b then Some Inject else (if bytes_eq w (codes "take") then Some Take else (if bytes_eq w (codes "send") then Some Send else (if bytes_eq w (codes "dump") then Some Dump else (if bytes_eq w (codes "collect") then Some Collect else None))))) ds) [
+        | true ↦ refl
+        | false ↦ elim (bytes_eq w (codes "take")) as (λ b. (if b then events.Take (chip_of_event ds) (port_of_event ds) else (if bytes_eq w (codes "send") then events.Send (chip_of_event ds) (out_of_event ds) else (if bytes_eq w (codes "dump") then events.Dump (chip_of_event ds) (out_of_event ds) else events.Collect (at_vertex vertices ds)))) ≡ verb_event vertices (if b then Some Take else (if bytes_eq w (codes "send") then Some Send else (if bytes_eq w (codes "dump") then Some Dump else (if bytes_eq w (codes "collect") then Some Collect else None)))) ds) [
+          | true ↦ refl
+          | false ↦ elim (bytes_eq w (codes "send")) as (λ b. (if b then events.Send (chip_of_event ds) (out_of_event ds) else (if bytes_eq w (codes "dump") then events.Dump (chip_of_event ds) (out_of_event ds) else events.Collect (at_vertex vertices ds))) ≡ verb_event vertices (if b then Some Send else (if bytes_eq w (codes "dump") then Some Dump else (if bytes_eq w (codes "collect") then Some Collect else None))) ds) [
+            | true ↦ refl
+            | false ↦ elim (bytes_eq w (codes "dump")) as (λ b. (if b then events.Dump (chip_of_event ds) (out_of_event ds) else events.Collect (at_vertex vertices ds)) ≡ verb_event vertices (if b then Some Dump else (if bytes_eq w (codes "collect") then Some Collect else None)) ds) [
+              | true ↦ refl
+              | false ↦ elim (bytes_eq w (codes "collect")) as (λ b. events.Collect (at_vertex vertices ds) ≡ verb_event vertices (if b then Some Collect else None) ds) [ true ↦ refl | false ↦ refl ]
+            ]
+          ]
+        ]
+      ]
+
+  -- an event without a fault, and one with a fault
+  module _ (v : Option Verb) (is : v ≡ verb_named w) where
+    pub verb_reads : (e : Event) → verb_faults vertices path v ds ≡ [] → e ≡ verb_event vertices v ds → (event_word_faults vertices path w ds ≡ []) × (e ≡ worded_event vertices w ds)
+    verb_reads e none same = (word_faults ∙ ap (λ o. verb_faults vertices path o ds) (sym is) ∙ none, same ∙ ap (λ o. verb_event vertices o ds) is ∙ sym word_event)
+
+    pub verb_fails : (e : TextErr) → IsFirstFault e (verb_faults vertices path v ds) → IsFirstFault e (event_word_faults vertices path w ds)
+    verb_fails e first = subst (IsFirstFault e) (ap (λ o. verb_faults vertices path o ds) is ∙ sym word_faults) first

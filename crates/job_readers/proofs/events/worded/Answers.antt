@@ -1,0 +1,97 @@
+use Rattle.std.proofs.Common.{refl, ap, sym, ◌∙◌, map, Some, None}
+use Rattle.std.proofs.lemmas.Result.{err_from_is_err_and}
+use Rattle.serde_json.specs.View.{view}
+use Rattle.spin_base.specs.declared.copies.Event.TheVariants as events
+use Rattle.job_text.specs.Paths.{path_text}
+use Rattle.job_readers.specs.RunPart.{port_of_event, out_of_event}
+use Rattle.job_readers.specs.declared.events.Verb.TheVariants.{Inject, Take, Send, Dump, Collect}
+use Rattle.job_readers.proofs.VerbSteps.{verb_reads, verb_fails}
+use Rattle.job_readers.proofs.events.worded.Goals as goal
+
+pub returns-in_err-vertex_of-in-Some-Inject-clause-read : goal.returns-in_err-vertex_of-in-Some-Inject-clause-read
+returns-in_err-vertex_of-in-Some-Inject-clause-read c =
+    let p = err_from_is_err_and c.from_residual.result c.from_residual.ensures.1 in
+    rw (p.1, p.2) (verb_fails c.args.vertices.now (path_text c.args.path.now) c.args.word.now (map view c.args.rest.now) (Some Inject) (ap Some (sym c.in-Some-Inject.field-0-is) ∙ c.in-Some-Inject.ensures) c.in_err-vertex_of-in-Some-Inject.field-0.0 c.in_err-vertex_of-in-Some-Inject.ensures.read)
+
+pub returns-in_err-vertex_of-in-Some-Inject-clause-valid : goal.returns-in_err-vertex_of-in-Some-Inject-clause-valid
+returns-in_err-vertex_of-in-Some-Inject-clause-valid c =
+    let p = err_from_is_err_and c.from_residual.result c.from_residual.ensures.1 in
+    rw p.1 tt
+
+pub returns-in_ok-vertex_of-in-Some-Inject-clause-read : goal.returns-in_ok-vertex_of-in-Some-Inject-clause-read
+returns-in_ok-vertex_of-in-Some-Inject-clause-read c =
+    verb_reads c.args.vertices.now (path_text c.args.path.now) c.args.word.now (map view c.args.rest.now) (Some Inject) (ap Some (sym c.in-Some-Inject.field-0-is) ∙ c.in-Some-Inject.ensures) (events.Inject c.in_ok-vertex_of-in-Some-Inject.field-0) c.in_ok-vertex_of-in-Some-Inject.ensures.read.0 (ap events.Inject c.in_ok-vertex_of-in-Some-Inject.ensures.read.1)
+
+pub returns-in_ok-vertex_of-in-Some-Inject-clause-valid : goal.returns-in_ok-vertex_of-in-Some-Inject-clause-valid
+returns-in_ok-vertex_of-in-Some-Inject-clause-valid c = c.in_ok-vertex_of-in-Some-Inject.ensures.below
+
+pub returns-in_err-chip-in-Some-Take-clause-read : goal.returns-in_err-chip-in-Some-Take-clause-read
+returns-in_err-chip-in-Some-Take-clause-read c =
+    let p = err_from_is_err_and c.from_residual-in_err-chip-in-Some-Take.result c.from_residual-in_err-chip-in-Some-Take.ensures.1 in
+    rw (p.1, p.2) (verb_fails c.args.vertices.now (path_text c.args.path.now) c.args.word.now (map view c.args.rest.now) (Some Take) (ap Some (sym c.in-Some-Take.field-0-is) ∙ c.in-Some-Take.ensures) c.in_err-chip-in-Some-Take.field-0.0 c.in_err-chip-in-Some-Take.ensures.chip)
+
+pub returns-in_err-chip-in-Some-Take-clause-valid : goal.returns-in_err-chip-in-Some-Take-clause-valid
+returns-in_err-chip-in-Some-Take-clause-valid c =
+    let p = err_from_is_err_and c.from_residual-in_err-chip-in-Some-Take.result c.from_residual-in_err-chip-in-Some-Take.ensures.1 in
+    rw p.1 tt
+
+pub returns-in_ok-chip-in-Some-Take-clause-read : goal.returns-in_ok-chip-in-Some-Take-clause-read
+unfolding port_of_event
+returns-in_ok-chip-in-Some-Take-clause-read c =
+    verb_reads c.args.vertices.now (path_text c.args.path.now) c.args.word.now (map view c.args.rest.now) (Some Take) (ap Some (sym c.in-Some-Take.field-0-is) ∙ c.in-Some-Take.ensures) (events.Take c.in_ok-chip-in-Some-Take.chip c.in_ok-chip-in-Some-Take.port) c.in_ok-chip-in-Some-Take.ensures.chip.0 (rw (c.in_ok-chip-in-Some-Take.ensures.named, ← c.in_ok-chip-in-Some-Take.ensures.chip.1) refl)
+
+pub returns-in_err-chip-in-Some-Send-clause-read : goal.returns-in_err-chip-in-Some-Send-clause-read
+returns-in_err-chip-in-Some-Send-clause-read c =
+    let p = err_from_is_err_and c.from_residual-in_err-chip-in-Some-Send.result c.from_residual-in_err-chip-in-Some-Send.ensures.1 in
+    rw (p.1, p.2) (verb_fails c.args.vertices.now (path_text c.args.path.now) c.args.word.now (map view c.args.rest.now) (Some Send) (ap Some (sym c.in-Some-Send.field-0-is) ∙ c.in-Some-Send.ensures) c.in_err-chip-in-Some-Send.field-0.0 c.in_err-chip-in-Some-Send.ensures.chip)
+
+pub returns-in_err-chip-in-Some-Send-clause-valid : goal.returns-in_err-chip-in-Some-Send-clause-valid
+returns-in_err-chip-in-Some-Send-clause-valid c =
+    let p = err_from_is_err_and c.from_residual-in_err-chip-in-Some-Send.result c.from_residual-in_err-chip-in-Some-Send.ensures.1 in
+    rw p.1 tt
+
+pub returns-in_ok-chip-in-Some-Send-clause-read : goal.returns-in_ok-chip-in-Some-Send-clause-read
+unfolding out_of_event
+returns-in_ok-chip-in-Some-Send-clause-read c =
+    verb_reads c.args.vertices.now (path_text c.args.path.now) c.args.word.now (map view c.args.rest.now) (Some Send) (ap Some (sym c.in-Some-Send.field-0-is) ∙ c.in-Some-Send.ensures) (events.Send c.in_ok-chip-in-Some-Send.chip c.in_ok-chip-in-Some-Send.out) c.in_ok-chip-in-Some-Send.ensures.chip.0 (rw (c.in_ok-chip-in-Some-Send.ensures.named, ← c.in_ok-chip-in-Some-Send.ensures.chip.1) refl)
+
+pub returns-in_ok-chip-in-Some-Send-clause-valid : goal.returns-in_ok-chip-in-Some-Send-clause-valid
+returns-in_ok-chip-in-Some-Send-clause-valid c = c.in_ok-chip-in-Some-Send.ensures.right
+
+pub returns-in_err-chip-in-Some-Dump-clause-read : goal.returns-in_err-chip-in-Some-Dump-clause-read
+returns-in_err-chip-in-Some-Dump-clause-read c =
+    let p = err_from_is_err_and c.from_residual-in_err-chip-in-Some-Dump.result c.from_residual-in_err-chip-in-Some-Dump.ensures.1 in
+    rw (p.1, p.2) (verb_fails c.args.vertices.now (path_text c.args.path.now) c.args.word.now (map view c.args.rest.now) (Some Dump) (ap Some (sym c.in-Some-Dump.field-0-is) ∙ c.in-Some-Dump.ensures) c.in_err-chip-in-Some-Dump.field-0.0 c.in_err-chip-in-Some-Dump.ensures.chip)
+
+pub returns-in_err-chip-in-Some-Dump-clause-valid : goal.returns-in_err-chip-in-Some-Dump-clause-valid
+returns-in_err-chip-in-Some-Dump-clause-valid c =
+    let p = err_from_is_err_and c.from_residual-in_err-chip-in-Some-Dump.result c.from_residual-in_err-chip-in-Some-Dump.ensures.1 in
+    rw p.1 tt
+
+pub returns-in_ok-chip-in-Some-Dump-clause-read : goal.returns-in_ok-chip-in-Some-Dump-clause-read
+unfolding out_of_event
+returns-in_ok-chip-in-Some-Dump-clause-read c =
+    verb_reads c.args.vertices.now (path_text c.args.path.now) c.args.word.now (map view c.args.rest.now) (Some Dump) (ap Some (sym c.in-Some-Dump.field-0-is) ∙ c.in-Some-Dump.ensures) (events.Dump c.in_ok-chip-in-Some-Dump.chip c.in_ok-chip-in-Some-Dump.out) c.in_ok-chip-in-Some-Dump.ensures.chip.0 (rw (c.in_ok-chip-in-Some-Dump.ensures.named, ← c.in_ok-chip-in-Some-Dump.ensures.chip.1) refl)
+
+pub returns-in_ok-chip-in-Some-Dump-clause-valid : goal.returns-in_ok-chip-in-Some-Dump-clause-valid
+returns-in_ok-chip-in-Some-Dump-clause-valid c = c.in_ok-chip-in-Some-Dump.ensures.right
+
+pub returns-in_err-vertex_of-in-Some-Collect-clause-read : goal.returns-in_err-vertex_of-in-Some-Collect-clause-read
+returns-in_err-vertex_of-in-Some-Collect-clause-read c =
+    let p = err_from_is_err_and c.from_residual-in_err-vertex_of-in-Some-Collect.result c.from_residual-in_err-vertex_of-in-Some-Collect.ensures.1 in
+    rw (p.1, p.2) (verb_fails c.args.vertices.now (path_text c.args.path.now) c.args.word.now (map view c.args.rest.now) (Some Collect) (ap Some (sym c.in-Some-Collect.field-0-is) ∙ c.in-Some-Collect.ensures) c.in_err-vertex_of-in-Some-Collect.field-0.0 c.in_err-vertex_of-in-Some-Collect.ensures.read)
+
+pub returns-in_err-vertex_of-in-Some-Collect-clause-valid : goal.returns-in_err-vertex_of-in-Some-Collect-clause-valid
+returns-in_err-vertex_of-in-Some-Collect-clause-valid c =
+    let p = err_from_is_err_and c.from_residual-in_err-vertex_of-in-Some-Collect.result c.from_residual-in_err-vertex_of-in-Some-Collect.ensures.1 in
+    rw p.1 tt
+
+pub returns-in_ok-vertex_of-in-Some-Collect-clause-read : goal.returns-in_ok-vertex_of-in-Some-Collect-clause-read
+returns-in_ok-vertex_of-in-Some-Collect-clause-read c =
+    verb_reads c.args.vertices.now (path_text c.args.path.now) c.args.word.now (map view c.args.rest.now) (Some Collect) (ap Some (sym c.in-Some-Collect.field-0-is) ∙ c.in-Some-Collect.ensures) (events.Collect c.in_ok-vertex_of-in-Some-Collect.field-0) c.in_ok-vertex_of-in-Some-Collect.ensures.read.0 (ap events.Collect c.in_ok-vertex_of-in-Some-Collect.ensures.read.1)
+
+pub returns-in_ok-vertex_of-in-Some-Collect-clause-valid : goal.returns-in_ok-vertex_of-in-Some-Collect-clause-valid
+returns-in_ok-vertex_of-in-Some-Collect-clause-valid c = c.in_ok-vertex_of-in-Some-Collect.ensures.below
+
+pub returns-in-None-clause-read : goal.returns-in-None-clause-read
+returns-in-None-clause-read c = verb_fails c.args.vertices.now (path_text c.args.path.now) c.args.word.now (map view c.args.rest.now) None c.in-None.ensures c.range.result c.range.ensures
