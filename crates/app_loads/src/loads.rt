@@ -189,6 +189,9 @@ fn settle(alloc: Global, mesh: Mesh, app: &LoadedApp) -> (Mesh, Result<(), Memor
     ensures settled { OnOk result.1 (IsSettled app.now mesh result.0) }
     ensures refused { OnErr result.1 (result.0 ≡ mesh) }
 {
+    if app.plan.nets.is_empty() {
+        return (mesh, Ok(()));
+    }
     let Ok(rows) = tables_of(alloc, mesh.machine(), app) else {
         return (mesh, Err(Memory));
     };

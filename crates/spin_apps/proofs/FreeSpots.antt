@@ -2,7 +2,7 @@
 use Rattle.std.proofs.Common.{◌≡◌, ℕ, ◌+◌, ◌-◌, ◌*◌, ◌/◌, ◌%◌, ◌<◌, ◌≤◌, refl, sym, ap, ◌∙◌, subst, arith, inl, inr, List, [], ◌∷◌, ◌++◌, map, take, Bool, true, false, not, ◌&&◌, ◌||◌, cond, Option, Some, None}
 use Rattle.std.specs.Prelude.{MatchOption}
 use Rattle.std.specs.List.{All, Contains, filter, list_any, range_with_len, slice_get}
-use Rattle.std.proofs.lemmas.Bool.{and_parts, cases_Bool, leb-true, ltb-true, not-true}
+use Rattle.std.proofs.lemmas.Bool.{and_from, and_parts, cases_Bool, leb-true, ltb-true, not-true, or_parts}
 use Rattle.std.proofs.lemmas.List.FromFn.{filter_of_map_range_with_len_more, get_or-map-range_with_len, length-map-range_with_len}
 use Rattle.std.proofs.lemmas.List.Elements.{All-append, All-weaker}
 use Rattle.std.proofs.lemmas.List.Folds.{list_any-append}
@@ -102,10 +102,10 @@ usable_free h s usable =
     let core = and_parts _ _ rest.0 in
     let clear : list_any (spot_eq s) (unusable_spots m ++ all_spots h.apps) ≡ false = not-true _ rest.1 in
     let both : (list_any (spot_eq s) (unusable_spots m) || list_any (spot_eq s) (all_spots h.apps)) ≡ false = sym (list_any-append (spot_eq s) (unusable_spots m) (all_spots h.apps)) ∙ clear in
-    let none = or_parts_false (list_any (spot_eq s) (unusable_spots m)) (list_any (spot_eq s) (all_spots h.apps)) both in
+    let none = or_parts (list_any (spot_eq s) (unusable_spots m)) (list_any (spot_eq s) (all_spots h.apps)) both in
     let untaken : is_spot_taken h.apps s ≡ false = sym (any_spot (spot_eq s) h.apps) ∙ none.1 in
     elim (cases_Bool (is_usable m s)) [
-      | inl is ↦ and_both (is_usable m s) (not (is_spot_taken h.apps s)) is (ap not untaken)
+      | inl is ↦ and_from (is_usable m s) (not (is_spot_taken h.apps s)) is (ap not untaken)
       | inr is_not ↦
           let has : Contains (unusable_spots m) s =
           Contains-filter (λ (t : Spot). not (is_usable m t)) (grid_spots m) s (on_grid m s inside (leb-true _ _ core.0) (leb-true _ _ core.1)) (ap not is_not) in
@@ -113,14 +113,6 @@ usable_free h s usable =
           let never : true ≡ false = sym listed ∙ none.0 in
           cc
     ]
-  where
-    or_parts_false : (a b : Bool) → (a || b) ≡ false → (a ≡ false) × (b ≡ false)
-    or_parts_false false b e = (refl, e)
-    or_parts_false true b e = cc
-
-    and_both : (a b : Bool) → a ≡ true → b ≡ true → (a && b) ≡ true
-    and_both true b x y = y
-    and_both false b x y = cc
 
 -- a free core is usable, and no loaded application's
 pub free_parts : (h : Host) (s : Spot) → is_free_spot h s ≡ true → IsUsable h.mesh.setup.machine s × (is_spot_taken h.apps s ≡ false)
