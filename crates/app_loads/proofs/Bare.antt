@@ -24,13 +24,10 @@ use Rattle.mesh_core.specs.State.{Setup, State, Hand, IsMesh}
 use Rattle.mesh_core.specs.Trail.{Mark, unsent, in_queue, at_core}
 use Rattle.mesh_core.specs.Ledger.{marks_of, marks_at, hand_marks, port_of, unsent_marks, input_marks, all_hand_marks, core_marks, MeetsLedgerFor}
 use Rattle.mesh_core.specs.Opened.{empty_mesh}
-use Rattle.mesh_core.specs.VertexTable.{spot_place}
-use Rattle.mesh_core.proofs.VertexTableLaws.{spot_place-below}
 use Rattle.app_loads.specs.declared.loaded.LoadedApp.{LoadedApp}
 use Rattle.app_loads.specs.Host.{Free, Host, asked_of}
 use Rattle.app_loads.specs.Regions.{all_free, open_regions, chip_count, region_size, IsFreeBeside}
 use Rattle.app_loads.specs.Applications.{AreApps}
-use Rattle.app_loads.specs.Inner.{TellsTaken}
 use Rattle.app_loads.specs.Opening.{bare_mesh, bare_host}
 
 -- ---- copies
@@ -184,12 +181,6 @@ memory_long = length-replicate 1024 unused
 tables_long : (m : Description) (c : Chip) → IsInside m c → length (table_at m (replicate (m.width * m.height) empty_memory) c) ≡ 1024
 tables_long m c inside = ap (λ (l : List Entry). length l) (get_or-replicate (m.width * m.height) (index_of m c) empty_memory [] (index_below m c inside)) ∙ memory_long
 
-pub none_held : (m : Description) → TellsTaken m [] (replicate (24 * (m.width * m.height)) false)
-none_held m = record {
-  long = length-replicate (24 * (m.width * m.height)) false;
-  told = λ s inside few. replicated (24 * (m.width * m.height)) (spot_place m s) false (spot_place-below m s inside few);
-}
-
 -- ---- the host
 
 pub bare_apps : (m : Description) (q : ℕ) → IsMesh (bare_mesh m q) → AreApps (bare_host m q)
@@ -223,10 +214,3 @@ pub made_apps : (m : Description) (q : ℕ) (mesh : State) (regions : List Free)
     (let h : Host = record { mesh = mesh; regions = regions; apps = apps; packets = 0 } in AreApps h)
 made_apps m q mesh regions apps is_mesh are_open none whole =
     subst AreApps (sym (bare_is m q mesh regions apps is_mesh are_open none)) (bare_apps m q (subst IsMesh is_mesh whole))
-
-pub made_taken : (m : Description) (q : ℕ) (mesh : State) (apps : List LoadedApp) (taken : List Bool) → mesh ≡ bare_mesh m q → apps ≡ [] →
-    taken ≡ replicate (24 * (m.width * m.height)) false → TellsTaken mesh.setup.machine apps taken
-made_taken m q mesh apps taken is_mesh none clear =
-    subst (λ (s : State). TellsTaken s.setup.machine apps taken) (sym is_mesh)
-    (subst (λ (l : List LoadedApp). TellsTaken m l taken) (sym none)
-    (subst (λ (l : List Bool). TellsTaken m [] l) (sym clear) (none_held m)))

@@ -4,16 +4,16 @@ use Rattle.std.specs.Prelude.{IfSome}
 use Rattle.spin_base.specs.declared.copies.Event.{Event}
 use Rattle.spin_base.specs.declared.wants.Memory.{Memory}
 use Rattle.mesh_core.specs.declared.places.Did.{Did}
-use Rattle.mesh_core.specs.State.{Setup, State}
+use Rattle.mesh_core.specs.State.{State}
 use Rattle.mesh_core.specs.Step.{after_event}
 use Rattle.app_loads.specs.declared.apps.Apps.TheInside.{Inside}
 use Rattle.app_loads.specs.Host.{Host}
 use Rattle.app_loads.specs.Applications.{AreApps}
-use Rattle.app_loads.specs.Inner.{mesh_in, host_of, TellsTaken, IsHost}
+use Rattle.app_loads.specs.Inner.{mesh_in, host_of, IsHost}
 use Rattle.app_loads.specs.Running.{HasMovedMesh}
 use Rattle.mesh_drain.specs.Draining.{MeetsSomeLedger, IsAfter, IsMoved, SendAlone}
 use Rattle.app_loads.proofs.Keeping.{apps_after, apps_kept}
-use Rattle.mesh_drain.proofs.Moving.{after_none, after_one, after_setup}
+use Rattle.mesh_drain.proofs.Moving.{after_none, after_one}
 
 mesh_is : (i : Inside) (m : State) → i.mesh ≡ Some m → (host_of i).mesh ≡ m
 mesh_is i m e = ap mesh_in e
@@ -35,7 +35,7 @@ pub host_after : (i : Inside) (m t : State) (senders : Option (List ℕ)) → Is
 host_after i m t senders host e after alone = record {
   there = refl;
   apps = apps_after_in i m t host e after;
-  taken = subst (λ (u : Setup). TellsTaken u.machine i.apps.items i.taken.items) (sym (after_setup (host_of i).mesh t (after_in i m t e after))) host.taken;
+  numbers = host.numbers;
   rest = alone;
 }
 

@@ -1,18 +1,16 @@
 -- A host that an application left.
-use Rattle.std.proofs.Common.{◌≡◌, ◌≢◌, ℕ, ◌+◌, ◌≤◌, ◌==◌, ltb, not, ◌&&◌, Bool, true, false, List, ◌++◌, length, refl, sym, ap, ◌∙◌, subst, inl, inr, Some}
-use Rattle.std.specs.List.{list_any, All, AllPairs, Contains}
+use Rattle.std.proofs.Common.{◌≡◌, ◌≢◌, ℕ, ◌+◌, ◌≤◌, ◌==◌, ltb, not, ◌&&◌, true, false, List, ◌++◌, length, refl, sym, ap, ◌∙◌, subst, inl, inr}
+use Rattle.std.specs.List.{All, AllPairs, Contains}
 use Rattle.std.proofs.lemmas.Bool.{cases_Bool, false≢true}
 use Rattle.std.proofs.lemmas.List.{length-map}
 use Rattle.std.proofs.lemmas.List.Elements.{All-contains, All-filter}
 use Rattle.std.proofs.lemmas.List.Kept.{AllPairs-filter}
-use Rattle.spin_base.proofs.Members.{among_any, among_contains, among_either, among_filter, among_left, among_right, any_among, contains_among}
+use Rattle.spin_base.proofs.Members.{among_contains, among_either, among_left, among_right, contains_among}
 use Rattle.spin_base.proofs.Pairs.{AllPairs-append}
 use Rattle.spin_base.proofs.Places.{All-each}
 use Rattle.spin_base.specs.declared.blocks.Entry.{Entry}
 use Rattle.spin_base.specs.declared.chips.Chip.{Chip}
 use Rattle.spin_base.specs.declared.chips.Spot.{Spot}
-use Rattle.spin_base.specs.Equality.{spot_eq}
-use Rattle.spin_base.proofs.Equality.{spot_eq_true}
 use Rattle.machine_desc.specs.Description.{Description}
 use Rattle.machine_desc.specs.Live.{IsInside}
 use Rattle.machine_desc.specs.NetsOn.{HaveDisjointBlocks}
@@ -25,10 +23,8 @@ use Rattle.app_loads.specs.declared.answers.Ended.{Ended}
 use Rattle.app_loads.specs.declared.loaded.LoadedApp.{LoadedApp}
 use Rattle.app_loads.specs.declared.loaded.Range.{Range}
 use Rattle.app_loads.specs.Applications.{AreApps, HasRows, HaveOtherNumbers, HaveRows, IsLoadedOn}
-use Rattle.app_loads.specs.Host.{Host, all_nets, all_ranges, asked_of, is_spot_taken, nets_of}
-use Rattle.app_loads.specs.Inner.{TellsTaken}
+use Rattle.app_loads.specs.Host.{Host, all_nets, all_ranges, asked_of, nets_of}
 use Rattle.app_loads.specs.Leaving.{NoneUnderWay, mesh_without, others_than}
-use Rattle.app_loads.specs.Marking.{AreSpotsMarked}
 use Rattle.app_loads.specs.declared.places.Region.TheVariants.{Rows}
 use Rattle.app_loads.specs.Regions.{ShareNoPlace, AreFreeBeside, IsRangeWithin, range_has, is_taken, place_of}
 use Rattle.app_loads.specs.Removing.{HasLeft}
@@ -37,7 +33,7 @@ use Rattle.app_loads.specs.Unloading.{HasUnloaded, NoneWaits}
 use Rattle.app_loads.proofs.Copying.{mine_at, same_part}
 use Rattle.app_loads.proofs.LeftMesh.{mesh_with}
 use Rattle.app_loads.proofs.LeavingLedger.{the_ledger_without}
-use Rattle.app_loads.proofs.Others.{AllPairs-left_in, item_of, mine_or_other, only_one, other_in, others_item, own_item, own_pairs, same_tests, with_mine}
+use Rattle.app_loads.proofs.Others.{AllPairs-left_in, item_of, only_one, other_in, others_item, own_item, own_pairs, same_tests, with_mine}
 use Rattle.app_loads.proofs.RightRows.{right_rows}
 use Rattle.app_loads.proofs.Serving.{by_taken, taken_by}
 
@@ -95,46 +91,6 @@ module _ (h : Host) (apps : AreApps h) (number : ℕ) (app : LoadedApp) (in_apps
           record { size = was.size; runs = was.runs; free = λ k. was.free k ∙ ap (λ b. ltb k f.size && not b) (sym (either_taken region k)) };
     });
   }
-
-  -- ---- the table of taken spots
-
-  pub tells_less : (old new : List Bool) → TellsTaken m h.apps old → AreSpotsMarked m false app.plan.spots old new → TellsTaken m others new
-  tells_less old new tells marked = record {
-    long = marked.long ∙ tells.long;
-    told = λ s inside few. elim (cases_Bool (list_any (spot_eq s) app.plan.spots)) [
-      | inl mine ↦ marked.marked s inside few mine ∙ ap Some (sym (nobody s mine))
-      | inr none ↦ marked.others s (is_spot_taken h.apps s) inside few (λ hit. absurd (false≢true (sym none ∙ hit))) (tells.told s inside few) ∙ ap Some (same s none)
-    ];
-  }
-    where
-      nobody : (s : Spot) → list_any (spot_eq s) app.plan.spots ≡ true → is_spot_taken others s ≡ false
-      nobody s mine = elim (cases_Bool (is_spot_taken others s)) [
-        | inr none ↦ none
-        | inl some ↦
-            let other = any_among (λ (a : LoadedApp). list_any (spot_eq s) a.plan.spots) others some in
-            let theirs = any_among (spot_eq s) other.0.plan.spots other.2 in
-            let own = any_among (spot_eq s) app.plan.spots mine in
-            let from = other_in h.apps apps.numbers number app in_apps its other.0 (among_contains other.0 others other.1) in
-            let differ = with_spots other.0 (among_contains other.0 others other.1) theirs.0 own.0 (among_contains theirs.0 other.0.plan.spots theirs.1) (among_contains own.0 app.plan.spots own.1) in
-            absurd (differ (sym (spot_eq_true s theirs.0 theirs.2) ∙ spot_eq_true s own.0 own.2))
-      ]
-        where
-          with_spots : (a : LoadedApp) → Contains others a → (t u : Spot) → Contains a.plan.spots t → Contains app.plan.spots u → t ≢ u
-          with_spots a has t u in_t in_u =
-              with_mine h.apps apps.numbers number app in_apps its (λ x y. x ≢ y) (λ x y differ e. differ (sym e)) spots_in apps.spots t u
-              (own_item others (AllPairs-filter (λ (x y : LoadedApp). x.number ≢ y.number) (λ (x : LoadedApp). not (x.number == number)) h.apps apps.numbers) a.number a has refl spots_in t in_t) in_u
-
-      same : (s : Spot) → list_any (spot_eq s) app.plan.spots ≡ false → is_spot_taken h.apps s ≡ is_spot_taken others s
-      same s none = same_tests (is_spot_taken h.apps s) (is_spot_taken others s)
-          (λ hit.
-          let found = any_among (λ (a : LoadedApp). list_any (spot_eq s) a.plan.spots) h.apps hit in
-          elim (mine_or_other h.apps apps.numbers number app in_apps its found.0 (among_contains found.0 h.apps found.1)) [
-            | inl mine ↦ absurd (false≢true (sym none ∙ (ap (λ (a : LoadedApp). list_any (spot_eq s) a.plan.spots) (sym mine) ∙ found.2)))
-            | inr other ↦ among_any (λ (a : LoadedApp). list_any (spot_eq s) a.plan.spots) found.0 others (contains_among found.0 others other) found.2
-          ])
-          (λ hit.
-          let found = any_among (λ (a : LoadedApp). list_any (spot_eq s) a.plan.spots) others hit in
-          among_any (λ (a : LoadedApp). list_any (spot_eq s) a.plan.spots) found.0 h.apps (among_filter (λ (a : LoadedApp). not (a.number == number)) found.0 h.apps found.1).0 found.2)
 
   -- none of the application's packets is under way
   pub none_waits : NoneUnderWay h.mesh app → NoneWaits h number

@@ -1,16 +1,12 @@
 -- The fields of a host that an application left, or left not.
-use Rattle.std.proofs.Common.{◌≡◌, ℕ, suc, ◌*◌, ◌<◌, ◌==◌, Bool, false, List, ◌++◌, length, take, drop, get_or, sym, ap, ◌∙◌, subst, arith, Option, None, Some, Result, Ok, OnOk, inl, inr}
+use Rattle.std.proofs.Common.{◌≡◌, ℕ, suc, ◌<◌, ◌==◌, false, List, ◌++◌, length, take, drop, get_or, sym, ap, ◌∙◌, subst, Option, None, Some, Result, Ok, OnOk, inl, inr}
+use Rattle.std.proofs.lemmas.List.{drop-map, map-append, take-map}
 use Rattle.std.specs.Prelude.{IfSome, is_some, position}
-use Rattle.std.specs.List.{slice_get, All, Contains}
+use Rattle.std.specs.List.{slice_get, Contains}
 use Rattle.std.proofs.lemmas.Bool.{cases_Bool, eqb-true}
-use Rattle.std.proofs.lemmas.List.Elements.{All-weaker}
 use Rattle.std.proofs.lemmas.Option.{slice_get-get_or, slice_get_within, same_Some}
 use Rattle.spin_base.proofs.Members.{Contains-at, any_among, position_nowhere, position_there}
-use Rattle.spin_base.specs.declared.chips.Spot.{Spot}
 use Rattle.machine_desc.specs.Description.{Description}
-use Rattle.machine_desc.specs.Live.{IsInside, IsUsable}
-use Rattle.machine_desc.proofs.Far.{live_inside}
-use Rattle.machine_desc.proofs.Sites.{usable_parts}
 use Rattle.range_store.specs.Views.{Region}
 use Rattle.mesh_core.specs.State.{State}
 use Rattle.mesh_drain.specs.Draining.{SendAlone}
@@ -22,15 +18,14 @@ use Rattle.app_loads.specs.declared.loaded.LoadedApp.{LoadedApp}
 use Rattle.app_loads.specs.declared.loaded.Range.{Range}
 use Rattle.app_loads.specs.Applications.{AreApps}
 use Rattle.app_loads.specs.Host.{Host, all_ranges, is_loaded}
-use Rattle.app_loads.specs.Inner.{host_of, IsHost, mesh_in, TellsTaken}
+use Rattle.app_loads.specs.Inner.{host_of, IsHost, mesh_in, numbers_of}
 use Rattle.app_loads.specs.Leaving.{NoneUnderWay, others_than}
-use Rattle.app_loads.specs.Marking.{AreSpotsMarked}
 use Rattle.app_loads.specs.Regions.{AreFreeBeside}
 use Rattle.app_loads.specs.Removing.{CanLeave, HasLeft, IsWhyHere}
 use Rattle.app_loads.specs.Taking.{AreTaken, frees}
 use Rattle.app_loads.specs.Unloading.{HasUnloaded, IsWhyNotUnloaded, NoneWaits}
 use Rattle.app_loads.proofs.FewClaims.{few_ranges}
-use Rattle.app_loads.proofs.LeftHost.{apps_left, has_unloaded, loaded_one, none_waits, taken_beside, tells_less}
+use Rattle.app_loads.proofs.LeftHost.{apps_left, has_unloaded, loaded_one, none_waits, taken_beside}
 use Rattle.app_loads.proofs.LoadedParts.{one_host, still_host}
 use Rattle.app_loads.proofs.Others.{without_one}
 use Rattle.app_loads.proofs.Resting.{left_alone}
@@ -105,23 +100,6 @@ module _ (i : Inside) (mesh : State) (is : i.mesh ≡ Some mesh) (host : IsHost 
   pub ok_none : NoneUnderWay mesh app → NoneWaits h number
   ok_none none = none_waits h host.apps number app in_apps its (subst (λ (s : State). NoneUnderWay s app) (sym mesh_h) none)
 
-  usable : All (IsUsable h.mesh.setup.machine) app.plan.spots
-  usable = (loaded_one h host.apps number app in_apps its).plan.usable
-
-  pub spots_inside : (m : Description) → m ≡ mesh.setup.machine → (lent : List Spot) → lent ≡ app.plan.spots → All (λ (s : Spot). IsInside m s.chip) lent
-  spots_inside m m_is lent lent_is =
-      subst (λ (l : List Spot). All (λ (s : Spot). IsInside m s.chip) l) (sym lent_is)
-      (subst (λ (d : Description). All (λ (s : Spot). IsInside d s.chip) app.plan.spots) (machine_h ∙ sym m_is)
-      (All-weaker (IsUsable h.mesh.setup.machine) (λ (s : Spot). IsInside h.mesh.setup.machine s.chip) (λ s u. live_inside h.mesh.setup.machine s.chip (usable_parts h.mesh.setup.machine s u).0) app.plan.spots usable))
-
-  pub spots_numbered : (lent : List Spot) → lent ≡ app.plan.spots → All (λ (s : Spot). s.core < 24) lent
-  spots_numbered lent lent_is =
-      subst (All (λ (s : Spot). s.core < 24)) (sym lent_is)
-      (All-weaker (IsUsable h.mesh.setup.machine) (λ (s : Spot). s.core < 24) (λ s u. let most = (usable_parts h.mesh.setup.machine s u).2 in omega (arith, most)) app.plan.spots usable)
-
-  pub table_long : (m : Description) → m ≡ mesh.setup.machine → (lent : List Bool) → lent ≡ i.taken.items → length lent ≡ 24 * (m.width * m.height)
-  table_long m m_is lent lent_is = ap length lent_is ∙ (host.taken.long ∙ ap (λ (d : Description). 24 * (d.width * d.height)) (machine_h ∙ sym m_is))
-
   module _ (new : List Region) (back : (others : List Range) → AreTaken mesh.setup.machine others app.ranges given → AreFreeBeside mesh.setup.machine others (frees new))
       (ended : Ended) (result : State) (left : HasLeft app mesh ended result) (none : NoneUnderWay mesh app)
       (j : Inside) (j_mesh : j.mesh ≡ Some result) (j_regions : j.regions.items ≡ new) (j_apps : j.apps.items ≡ take at i.apps.items ++ drop (suc at) i.apps.items) (j_packets : j.packets ≡ i.packets) where
@@ -146,27 +124,19 @@ module _ (i : Inside) (mesh : State) (is : i.mesh ≡ Some mesh) (host : IsHost 
     pub ok_unloaded : HasUnloaded h number ended (host_of j)
     ok_unloaded = subst (HasUnloaded h number ended) (sym is_now) (has_unloaded h host.apps number app in_apps its given new old_is back_h ended result left_h none_h)
 
-    pub ok_host : (m : Description) (lent marked : List Bool) (spots : List Spot) → m ≡ mesh.setup.machine → lent ≡ i.taken.items → spots ≡ app.plan.spots → AreSpotsMarked m false spots lent marked → j.taken.items ≡ marked → j.senders ≡ i.senders → IsHost j
-    ok_host m lent marked spots m_is lent_is spots_is marks j_taken j_senders = record {
+    pub ok_host : j.numbers.items ≡ take at i.numbers.items ++ drop (suc at) i.numbers.items → j.senders ≡ i.senders → IsHost j
+    ok_host j_numbers j_senders = record {
       there = ap is_some j_mesh;
       apps = ok_apps;
-      taken = subst (λ (l : List Bool). TellsTaken (host_of j).mesh.setup.machine j.apps.items l) (sym j_taken)
-          (subst (λ (l : List LoadedApp). TellsTaken (host_of j).mesh.setup.machine l marked) (sym others_are)
-          (subst (λ (d : Description). TellsTaken d (others_than number i.apps.items) marked) (sym same_machine)
-          (tells_less h host.apps number app in_apps its i.taken.items marked host.taken marks_h)));
+      numbers = j_numbers
+          ∙ (ap (λ (l : List ℕ). take at l ++ drop (suc at) l) host.numbers
+          ∙ (ap (λ (l : List ℕ). l ++ drop (suc at) (numbers_of i.apps.items)) (take-map (λ (a : LoadedApp). a.number) at i.apps.items)
+          ∙ (ap (λ (l : List ℕ). numbers_of (take at i.apps.items) ++ l) (drop-map (λ (a : LoadedApp). a.number) (suc at) i.apps.items)
+          ∙ (sym (map-append (λ (a : LoadedApp). a.number) (take at i.apps.items) (drop (suc at) i.apps.items)) ∙ ap numbers_of (sym j_apps)))));
       rest = subst (λ (o : Option State). IfSome j.senders (λ vertices. SendAlone vertices (mesh_in o))) (sym j_mesh)
           (subst (λ (o : Option (List ℕ)). IfSome o (λ vertices. SendAlone vertices result)) (sym j_senders)
           (left_alone app h.mesh result result.setup.tables i.senders left_h.mesh host.rest));
     }
-      where
-        same_machine : (host_of j).mesh.setup.machine ≡ h.mesh.setup.machine
-        same_machine = ap (λ (s : State). s.setup.machine) (ap mesh_in j_mesh ∙ left_h.mesh)
-
-        marks_h : AreSpotsMarked h.mesh.setup.machine false app.plan.spots i.taken.items marked
-        marks_h =
-            subst (λ (l : List Bool). AreSpotsMarked h.mesh.setup.machine false app.plan.spots l marked) lent_is
-            (subst (λ (l : List Spot). AreSpotsMarked h.mesh.setup.machine false l lent marked) spots_is
-            (subst (λ (d : Description). AreSpotsMarked d false spots lent marked) (m_is ∙ sym machine_h) marks))
 
   module _ (j : Inside) (result : State) (refused : result ≡ mesh) (new : List Region) (same : frees new ≡ frees given)
       (j_mesh : j.mesh ≡ Some result) (j_regions : j.regions.items ≡ new) (j_apps : j.apps.items ≡ i.apps.items) (j_packets : j.packets ≡ i.packets) where
@@ -174,8 +144,8 @@ module _ (i : Inside) (mesh : State) (is : i.mesh ≡ Some mesh) (host : IsHost 
     stays_same =
         one_host (mesh_in j.mesh) h.mesh (frees j.regions.items) h.regions j.apps.items h.apps j.packets h.packets (ap mesh_in j_mesh ∙ (refused ∙ sym mesh_h)) (ap frees j_regions ∙ (same ∙ old_is)) j_apps j_packets
 
-    pub stays_host : j.taken.items ≡ i.taken.items → j.senders ≡ i.senders → IsHost j
-    stays_host table senders = still_host i j host (ap is_some j_mesh) stays_same table senders
+    pub stays_host : j.numbers.items ≡ i.numbers.items → j.senders ≡ i.senders → IsHost j
+    stays_host numbers senders = still_host i j host (ap is_some j_mesh) stays_same numbers senders
 
   pub why_stays : (cause : UnloadErr) → IsWhyHere mesh app cause → IsWhyNotUnloaded h number cause
   why_stays cause why = by_cause cause (subst (λ (s : State). IsWhyHere s app cause) (sym mesh_h) why)

@@ -17,7 +17,7 @@ mod LeftMesh
 mod LeftParts
 mod LoadedHost
 mod LoadedParts
-mod MarkedSpots
+mod Numbers
 pub mod OneClaim
 mod Others
 mod PacketLedger

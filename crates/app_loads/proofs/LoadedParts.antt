@@ -1,14 +1,11 @@
 -- The fields of a host to which an application came, or came not.
-use Rattle.std.proofs.Common.{◌≡◌, ℕ, ◌+◌, ◌*◌, ◌^◌, ◌<◌, Bool, true, false, List, [], ◌∷◌, ◌++◌, length, refl, sym, ap, ◌∙◌, subst, inl, arith, Option, None, Some, Result, Ok, Err, OnOk, OnErr}
+use Rattle.std.proofs.Common.{◌≡◌, ℕ, ◌+◌, ◌^◌, ◌<◌, true, false, List, [], ◌∷◌, ◌++◌, length, refl, sym, ap, ◌∙◌, subst, inl, Option, None, Some, Result, Ok, Err, OnOk, OnErr}
+use Rattle.std.proofs.lemmas.List.{map-append}
 use Rattle.std.specs.Prelude.{IfSome, is_err, is_some}
-use Rattle.std.specs.List.{All, AllPairs, Contains}
-use Rattle.std.proofs.lemmas.List.Elements.{All-contains, All-weaker}
+use Rattle.std.specs.List.{AllPairs, Contains}
+use Rattle.std.proofs.lemmas.List.Elements.{All-contains}
 use Rattle.spin_base.proofs.Members.{among_contains, among_right}
-use Rattle.spin_base.specs.declared.chips.Spot.{Spot}
 use Rattle.machine_desc.specs.Description.{Description}
-use Rattle.machine_desc.specs.Live.{IsInside, IsUsable}
-use Rattle.machine_desc.proofs.Far.{live_inside}
-use Rattle.machine_desc.proofs.Sites.{usable_parts}
 use Rattle.range_store.specs.Views.{Region}
 use Rattle.mesh_core.specs.State.{State}
 use Rattle.mesh_drain.specs.Draining.{SendAlone}
@@ -21,16 +18,14 @@ use Rattle.app_loads.specs.declared.plans.AppPlan.{AppPlan}
 use Rattle.app_loads.specs.Applications.{AreApps, IsLoadedOn}
 use Rattle.app_loads.specs.Claims.{claims_of}
 use Rattle.app_loads.specs.Host.{Free, Host, all_ranges, is_loaded}
-use Rattle.app_loads.specs.Inner.{host_of, IsHost, mesh_in, TellsTaken}
+use Rattle.app_loads.specs.Inner.{host_of, IsHost, mesh_in, numbers_of}
 use Rattle.app_loads.specs.Joining.{CanJoin, IsServedApp, IsSettled}
 use Rattle.app_loads.specs.Loading.{HasLoaded, IsWhyNotLoaded}
-use Rattle.app_loads.specs.Marking.{AreSpotsMarked}
 use Rattle.app_loads.specs.Plans.{MayLoad}
 use Rattle.app_loads.specs.Regions.{ShareNoPlace, AreFreeBeside}
 use Rattle.app_loads.specs.Taking.{IsDueAlways, frees}
 use Rattle.app_loads.proofs.LoadedHost.{apps_now, loaded_host, none_unsent, same_frees, why_not}
 use Rattle.app_loads.specs.Sending.{AreWithSources}
-use Rattle.app_loads.proofs.MarkedSpots.{tells_more}
 use Rattle.app_loads.proofs.Resting.{with_alone}
 
 pub one_host : (a b : State) (r s : List Free) (p q : List LoadedApp) (n k : ℕ) → a ≡ b → r ≡ s → p ≡ q → n ≡ k →
@@ -38,12 +33,11 @@ pub one_host : (a b : State) (r s : List Free) (p q : List LoadedApp) (n k : ℕ
 one_host a b r s p q n k ea er ep en = cc
 
 -- a host of the same parts
-pub still_host : (i j : Inside) → IsHost i → is_some j.mesh ≡ true → host_of j ≡ host_of i → j.taken.items ≡ i.taken.items → j.senders ≡ i.senders → IsHost j
-still_host i j host there same table senders = record {
+pub still_host : (i j : Inside) → IsHost i → is_some j.mesh ≡ true → host_of j ≡ host_of i → j.numbers.items ≡ i.numbers.items → j.senders ≡ i.senders → IsHost j
+still_host i j host there same numbers senders = record {
   there = there;
   apps = subst AreApps (sym same) host.apps;
-  taken = subst (λ (l : List Bool). TellsTaken (host_of j).mesh.setup.machine (host_of j).apps l) (sym table)
-      (subst (λ (h : Host). TellsTaken h.mesh.setup.machine h.apps i.taken.items) (sym same) host.taken);
+  numbers = numbers ∙ (host.numbers ∙ ap (λ (h : Host). numbers_of h.apps) (sym same));
   rest = subst (λ (o : Option (List ℕ)). IfSome o (λ vertices. SendAlone vertices (host_of j).mesh)) (sym senders)
       (subst (λ (h : Host). IfSome i.senders (λ vertices. SendAlone vertices h.mesh)) (sym same) host.rest);
 }
@@ -79,21 +73,6 @@ module _ (i : Inside) (mesh : State) (is : i.mesh ≡ Some mesh) (host : IsHost 
     long = host.apps.rows.long;
   })
 
-  pub spots_inside : (app : LoadedApp) → app.plan ≡ plan → (m : Description) → m ≡ mesh.setup.machine → (lent : List Spot) → lent ≡ app.plan.spots → All (λ (s : Spot). IsInside m s.chip) lent
-  spots_inside app plan_is m m_is lent lent_is =
-      subst (λ (l : List Spot). All (λ (s : Spot). IsInside m s.chip) l) (sym (lent_is ∙ ap (λ (p : AppPlan). p.spots) plan_is))
-      (subst (λ (d : Description). All (λ (s : Spot). IsInside d s.chip) plan.spots) (sym (m_is ∙ ap (λ (s : State). s.setup.machine) (sym mesh_h)))
-      (All-weaker (IsUsable h.mesh.setup.machine) (λ (s : Spot). IsInside h.mesh.setup.machine s.chip) (λ s u. live_inside h.mesh.setup.machine s.chip (usable_parts h.mesh.setup.machine s u).0) plan.spots may.valid.usable))
-
-  pub spots_numbered : (app : LoadedApp) → app.plan ≡ plan → (lent : List Spot) → lent ≡ app.plan.spots → All (λ (s : Spot). s.core < 24) lent
-  spots_numbered app plan_is lent lent_is =
-      subst (All (λ (s : Spot). s.core < 24)) (sym (lent_is ∙ ap (λ (p : AppPlan). p.spots) plan_is))
-      (All-weaker (IsUsable h.mesh.setup.machine) (λ (s : Spot). s.core < 24) (λ s u. let most = (usable_parts h.mesh.setup.machine s u).2 in omega (arith, most)) plan.spots may.valid.usable)
-
-  pub table_long : (m : Description) → m ≡ mesh.setup.machine → (lent : List Bool) → lent ≡ i.taken.items → length lent ≡ 24 * (m.width * m.height)
-  table_long m m_is lent lent_is =
-      ap length lent_is ∙ (host.taken.long ∙ ap (λ (d : Description). 24 * (d.width * d.height)) (ap (λ (s : State). s.setup.machine) mesh_h ∙ sym m_is))
-
   pub packets_fit : i.packets + length plan.packets < 2 ^ 32
   packets_fit = may.numbers
 
@@ -117,31 +96,20 @@ module _ (i : Inside) (mesh : State) (is : i.mesh ≡ Some mesh) (host : IsHost 
     pub ok_loaded : HasLoaded h number plan (host_of j)
     ok_loaded = subst (HasLoaded h number plan) (sym is_now) (loaded_host h host.apps number plan may not_loaded given new old_is app result served_h settled_h)
 
-    pub ok_host : (m : Description) (lent : List Bool) (marked : List Bool) (spots : List Spot) → m ≡ mesh.setup.machine → lent ≡ i.taken.items → spots ≡ app.plan.spots → AreSpotsMarked m true spots lent marked → j.taken.items ≡ marked →
-        (nets : List AppNet) → nets ≡ app.plan.nets → IfSome j.senders (AreWithSources result nets i.senders) → IsHost j
-    ok_host m lent marked spots m_is lent_is spots_is marks j_taken nets nets_are are = record {
+    pub ok_host : j.numbers.items ≡ i.numbers.items ++ app.number ∷ [] → (nets : List AppNet) → nets ≡ app.plan.nets → IfSome j.senders (AreWithSources result nets i.senders) → IsHost j
+    ok_host j_numbers nets nets_are are = record {
       there = ap is_some j_mesh;
       apps = ok_apps;
-      taken = subst (λ (l : List Bool). TellsTaken (host_of j).mesh.setup.machine j.apps.items l) (sym j_taken)
-          (subst (λ (l : List LoadedApp). TellsTaken (host_of j).mesh.setup.machine l marked) (sym j_apps)
-          (subst (λ (d : Description). TellsTaken d (i.apps.items ++ app ∷ []) marked) (sym same_machine)
-          (tells_more h.mesh.setup.machine i.apps.items app i.taken.items marked host.taken marks_h)));
+      numbers = j_numbers
+          ∙ (ap (λ (l : List ℕ). l ++ app.number ∷ []) host.numbers
+          ∙ (sym (map-append (λ (a : LoadedApp). a.number) i.apps.items (app ∷ [])) ∙ ap numbers_of (sym j_apps)));
       rest = subst (λ (o : Option State). IfSome j.senders (λ vertices. SendAlone vertices (mesh_in o))) (sym j_mesh)
           (with_alone (host_of j).mesh.setup.machine h.mesh result app on settled_h i.senders j.senders nets nets_are host.rest are);
     }
       where
-        same_machine : (host_of j).mesh.setup.machine ≡ h.mesh.setup.machine
-        same_machine = ap (λ (s : State). s.setup.machine) (ap mesh_in j_mesh ∙ settled_h.mesh)
-
         on : IsLoadedOn (host_of j).mesh.setup.machine app
         on = All-contains (IsLoadedOn (host_of j).mesh.setup.machine) j.apps.items app ok_apps.loaded
             (subst (λ (l : List LoadedApp). Contains l app) (sym j_apps) (among_contains app (i.apps.items ++ app ∷ []) (among_right app i.apps.items (app ∷ []) (inl refl))))
-
-        marks_h : AreSpotsMarked h.mesh.setup.machine true app.plan.spots i.taken.items marked
-        marks_h =
-            subst (λ (l : List Bool). AreSpotsMarked h.mesh.setup.machine true app.plan.spots l marked) lent_is
-            (subst (λ (l : List Spot). AreSpotsMarked h.mesh.setup.machine true l lent marked) spots_is
-            (subst (λ (d : Description). AreSpotsMarked d true spots lent marked) (m_is ∙ ap (λ (s : State). s.setup.machine) (sym mesh_h)) marks))
 
   module _ (j : Inside) (result : State) (refused : result ≡ mesh) (new : List Region)
       (back : (m : Description) (taken : List Range) → AllPairs ShareNoPlace taken → AreFreeBeside m taken (frees given) → AreFreeBeside m taken (frees new))
@@ -152,8 +120,8 @@ module _ (i : Inside) (mesh : State) (is : i.mesh ≡ Some mesh) (host : IsHost 
         (ap frees j_regions ∙ same_frees h.mesh.setup.machine (all_ranges h.apps) (frees new) h.regions
         (back h.mesh.setup.machine (all_ranges h.apps) host.apps.apart (subst (AreFreeBeside h.mesh.setup.machine (all_ranges h.apps)) (sym old_is) host.apps.free)) host.apps.free) j_apps j_packets
 
-    pub err_host : j.taken.items ≡ i.taken.items → j.senders ≡ i.senders → IsHost j
-    err_host table senders = still_host i j host (ap is_some j_mesh) err_same table senders
+    pub err_host : j.numbers.items ≡ i.numbers.items → j.senders ≡ i.senders → IsHost j
+    err_host numbers senders = still_host i j host (ap is_some j_mesh) err_same numbers senders
 
   pub err_why : is_loaded h.apps number ≡ false → (err : LoadErr) → IsDueAlways (claims_of mesh.setup.machine plan) given err → IsWhyNotLoaded h number plan err
   err_why none err due = why_not h host.apps number plan given old_is none may.valid err (subst (λ (s : State). IsDueAlways (claims_of s.setup.machine plan) given err) (sym mesh_h) due)

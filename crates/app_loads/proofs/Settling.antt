@@ -1,12 +1,12 @@
 -- An application's rows and packets on a mesh.
-use Rattle.std.proofs.Common.{◌≡◌, ℕ, zero, suc, ◌+◌, ◌-◌, ◌*◌, ◌/◌, ◌%◌, ◌^◌, ◌<◌, ◌≤◌, ◌==◌, leb, Bool, true, false, List, [], ◌∷◌, ◌++◌, length, map, refl, sym, ap, ◌∙◌, subst, inl, inr, ◌⊎◌, arith, Option, None, Some, count_by, if◌then◌else◌}
+use Rattle.std.proofs.Common.{◌≡◌, ℕ, zero, suc, ◌+◌, ◌-◌, ◌*◌, ◌/◌, ◌%◌, ◌^◌, ◌<◌, ◌≤◌, ◌==◌, leb, Bool, true, false, List, [], ◌∷◌, ◌++◌, length, drop, take, map, refl, sym, ap, ◌∙◌, subst, inl, inr, ◌⊎◌, arith, Option, None, Some, count_by, if◌then◌else◌}
 use Rattle.std.specs.Option.{option_map_or}
 use Rattle.std.specs.List.{list_any, slice_get, All, Contains}
 use Rattle.std.proofs.lemmas.Bool.{cases_Bool, or_left, or_right, or_cases}
 use Rattle.std.proofs.lemmas.Bool.Decides.{nat_tests}
 use Rattle.std.proofs.lemmas.List.{length-map, length-set}
-use Rattle.std.proofs.lemmas.List.Elements.{All-contains, All-set, All-push}
-use Rattle.std.proofs.lemmas.List.Sorted.{length_permutation}
+use Rattle.std.proofs.lemmas.List.Elements.{All-contains, All-head, All-set, All-push}
+use Rattle.std.proofs.lemmas.List.Sorted.{IsPermutation-refl, length_permutation}
 use Rattle.std.proofs.lemmas.Option.{slice_get_within, same_Some}
 use Rattle.mesh_core.proofs.Moves.{chip_of-index_of}
 use Rattle.spin_base.proofs.Equality.{chip_eq_true}
@@ -34,6 +34,7 @@ use Rattle.machine_desc.proofs.TreeLemmas.{tree_cases, tree_end}
 use Rattle.tern_word.specs.declared.tables.Row.{Row}
 use Rattle.tern_word.specs.declared.tables.Table.{Table}
 use Rattle.tern_word.specs.SoundTable.{Original}
+use Rattle.machine_desc.specs.RightTables.{table_at}
 use Rattle.net_tables.specs.PlainTable.{AreOriginals, AtEach, IsPlainTable, row_of}
 use Rattle.mesh_core.specs.State.{Setup, State, IsMesh}
 use Rattle.mesh_core.proofs.Ways.{vertex_there}
@@ -133,6 +134,48 @@ rows_size m i =
     too_great : (n k : ℕ) → leb (1 + (n + k)) n ≡ false
     too_great n k = grind (arith, nat_tests)
 
+module _ (s : State) (app : LoadedApp) (can : CanSettle s app) where
+  abbrev its_machine : Description
+  its_machine = s.setup.machine
+
+  -- a range of a chip's entries is as long as nets have the chip
+  range_size : (range : Range) → Contains app.ranges range → (c : Chip) → IsInside its_machine c → range.region ≡ place_of its_machine (Rows c) → range.size ≡ count_by (has_chip its_machine c) app.plan.nets
+  range_size range has c inside region =
+      let claimed = AllZip-at_second IsRangeFor (claims_of its_machine app.plan) app.ranges can.loaded.ranges has.0 range (member_at app.ranges range has) in
+      let of_region : claimed.0.region ≡ 1 + (chip_count its_machine + index_of its_machine c) = sym claimed.2.0 ∙ region in
+      claimed.2.1
+      ∙ (row_size its_machine app.plan can.loaded.plan claimed.0 (Contains-at (claims_of its_machine app.plan) has.0 claimed.0 claimed.1) (index_of its_machine c) (index_below its_machine c inside) of_region
+      ∙ ap (λ (d : Chip). count_by (has_chip its_machine d) app.plan.nets) (chip_of-index_of its_machine c inside))
+
+  module _ (none : app.plan.nets ≡ []) where
+    no_packet : (packets : List Packet) → All (IsPacketOfApp app.plan.nets) packets → length packets ≡ 0
+    no_packet [] all = refl
+    no_packet (p ∷ packets) all =
+        let of_net = All-head (IsPacketOfApp app.plan.nets) p packets all in
+        let within = slice_get_within app.plan.nets p.net of_net.0 of_net.1 in
+        let empty = ap length none in
+        absurd (omega (arith, within, empty))
+
+    -- an application without nets leaves a mesh as it is
+    pub settled_bare : IsSettled app s s
+    settled_bare = record {
+      mesh = refl;
+      sent = subst (λ n. AreSent s.setup.spots app n s.unsent s.unsent) (sym (no_packet app.plan.packets can.loaded.plan.packets)) refl;
+      written = record {
+        all = refl;
+        long = can.long;
+        rows = λ range has c inside region.
+            let size = range_size range has c inside region ∙ ap (λ (nets : List AppNet). count_by (has_chip its_machine c) nets) none in
+            record {
+              rows = [];
+              plain = subst (λ (nets : List AppNet). IsPlainTable its_machine (nets_with nets app.blocks) c []) (sym none)
+                  (record { originals = []; originals_are = refl; one_row_each = IsPermutation-refl []; in_order = λ i j d before within. absurd (omega (arith, within)) });
+              entries = ap (λ n. take n (drop range.place (table_at its_machine s.setup.tables c))) size;
+            };
+        others = λ c k inside free. refl;
+      };
+    }
+
 module _ (s : State) (app : LoadedApp) (can : CanSettle s app) (mesh : IsMesh s) where
   abbrev m : Description
   m = s.setup.machine
@@ -174,14 +217,6 @@ module _ (s : State) (app : LoadedApp) (can : CanSettle s app) (mesh : IsMesh s)
   }
 
   module _ (rows : List Table) (rows_long : length rows ≡ m.width * m.height) (plain : AtEach m rows (IsPlainTable m (nets_of app))) where
-    range_size : (range : Range) → Contains app.ranges range → (c : Chip) → IsInside m c → range.region ≡ place_of m (Rows c) → range.size ≡ count_by (has_chip m c) app.plan.nets
-    range_size range has c inside region =
-        let claimed = AllZip-at_second IsRangeFor (claims_of m app.plan) app.ranges can.loaded.ranges has.0 range (member_at app.ranges range has) in
-        let of_region : claimed.0.region ≡ 1 + (chip_count m + index_of m c) = sym claimed.2.0 ∙ region in
-        claimed.2.1
-        ∙ (row_size m app.plan can.loaded.plan claimed.0 (Contains-at (claims_of m app.plan) has.0 claimed.0 claimed.1) (index_of m c) (index_below m c inside) of_region
-        ∙ ap (λ (d : Chip). count_by (has_chip m d) app.plan.nets) (chip_of-index_of m c inside))
-
     pub can_copy : (given : List Table) (ranges : List Range) → given ≡ rows → ranges ≡ app.ranges → CanCopy m s.setup.tables given ranges
     can_copy given ranges is_rows is_ranges = subst (λ (l : List Table). CanCopy m s.setup.tables l ranges) (sym is_rows) (subst (CanCopy m s.setup.tables rows) (sym is_ranges) (record {
       tables_long = mesh.table_list;
@@ -190,7 +225,7 @@ module _ (s : State) (app : LoadedApp) (can : CanSettle s app) (mesh : IsMesh s)
       apart = can.apart;
       there = λ range has. (All-contains (IsRangeWithin m (1 + (chip_count m + chip_count m))) app.ranges range can.loaded.within has).there;
       fit = λ range has c t inside region at.
-          let size = range_size range has c inside region in
+          let size = range_size s app can range has c inside region in
           let many = plain_count m c app.plan.nets app.blocks t.rows can.loaded.blocks.all (plain c t inside at) in
           let within = (All-contains (IsRangeWithin m (1 + (chip_count m + chip_count m))) app.ranges range can.loaded.within has).within in
           let room : range.place + range.size ≤ 1024 = subst (λ r. range.place + range.size ≤ r) (ap (region_size m) region ∙ rows_size m (index_of m c)) within in

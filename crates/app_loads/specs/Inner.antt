@@ -1,12 +1,8 @@
 -- What contracts see of the fields of a host, and what these keep.
-use Rattle.std.specs.Prelude.{◌≡◌, ◌*◌, ◌<◌, Bool, false, true, List, [], length, Option, Some, None, IfSome, is_some, slice_get}
-use Rattle.spin_base.specs.declared.chips.Spot.{Spot}
-use Rattle.machine_desc.specs.Description.{Description}
-use Rattle.machine_desc.specs.Live.{IsInside}
+use Rattle.std.specs.Prelude.{◌≡◌, ℕ, false, true, List, [], map, Option, Some, None, IfSome, is_some}
 use Rattle.mesh_core.specs.State.{State}
-use Rattle.mesh_core.specs.VertexTable.{spot_place}
 use Rattle.mesh_drain.specs.Draining.{SendAlone}
-use Rattle.app_loads.specs.Host.{Host, is_spot_taken}
+use Rattle.app_loads.specs.Host.{Host}
 use Rattle.app_loads.specs.declared.apps.Apps.TheInside.{Inside}
 use Rattle.app_loads.specs.declared.loaded.LoadedApp.{LoadedApp}
 use Rattle.app_loads.specs.Applications.{AreApps}
@@ -31,15 +27,14 @@ mesh_in None = no_mesh
 abbrev pub host_of : Inside → Host
 host_of s = record { mesh = mesh_in s.mesh; regions = frees s.regions.items; apps = s.apps.items; packets = s.packets }
 
--- The table of taken spots has, for each core of each chip, whether a loaded application has it.
-pub record TellsTaken (m : Description) (apps : List LoadedApp) (table : List Bool) : Type 0 where
-  pub long : length table ≡ 24 * (m.width * m.height)
-  pub told : (s : Spot) → IsInside m s.chip → s.core < 24 → slice_get table (spot_place m s) ≡ Some (is_spot_taken apps s)
+-- the numbers of applications, in their order
+abbrev pub numbers_of : List LoadedApp → List ℕ
+numbers_of apps = map (λ (app : LoadedApp). app.number) apps
 
--- The mesh is there, the host is one, and the table of taken spots tells them. Where senders are known, they alone have packets unsent,
--- and no copy waits.
+-- The mesh is there, the host is one, and the numbers are those of its applications. Where senders are known, they alone have packets
+-- unsent, and no copy waits.
 pub record IsHost (s : Inside) : Type 0 where
   pub there : is_some s.mesh ≡ true
   pub apps : AreApps (host_of s)
-  pub taken : TellsTaken (host_of s).mesh.setup.machine s.apps.items s.taken.items
+  pub numbers : s.numbers.items ≡ numbers_of s.apps.items
   pub rest : IfSome s.senders (λ vertices. SendAlone vertices (host_of s).mesh)

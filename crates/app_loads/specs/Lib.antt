@@ -17,7 +17,6 @@ pub mod Inner
 pub mod Joining
 pub mod Leaving
 pub mod Loading
-pub mod Marking
 pub mod Opening
 pub mod Plans
 pub mod Regions

@@ -1,21 +1,19 @@
 // The applications of a machine, and what can be asked of them.
-ghost use Rattle.std.specs.Prelude.{◌≡◌, ◌≤◌, IfOk, Some};
+ghost use Rattle.std.specs.Prelude.{◌≡◌, ◌==◌, ◌+◌, ◌<◌, ◌≤◌, ◌++◌, ◌∷◌, [], All, IfOk, OnOk, Some, vec_capacity, vec_len};
+ghost use Rattle.std.specs.List.{list_any, remove};
+ghost use Rattle.spin_base.specs.Equality.{spot_eq};
 ghost use Rattle.app_loads.specs.Applications.{AreApps};
-ghost use Rattle.app_loads.specs.Host.{is_free_spot, is_loaded};
-ghost use Rattle.app_loads.specs.Marking.{AreSpotsMarked, CanMark};
+ghost use Rattle.app_loads.specs.Host.{all_spots, is_free_spot, is_loaded, is_spot_taken};
 ghost use Rattle.app_loads.specs.Opening.{bare_host};
 
 use crate::loaded::LoadedApp;
-use crate::opening::{bare_mesh, none_taken, open_regions};
+use crate::opening::{bare_mesh, open_regions};
 use machine_desc::Machine;
 use mesh_core::Mesh;
 use range_store::Ranges;
 use spin_base::{Memory, Seq, Spot};
 use std::alloc::Global;
 use std::marker::Model;
-
-/// How many spots a chip has: its cores 0 to 17, and its six links.
-const SPOTS: usize = 24;
 
 /// A machine and the applications that are loaded on it.
 ///
@@ -28,9 +26,9 @@ pub struct Apps {
     // The regions, by their numbers.
     pub(crate) regions: Vec<Ranges>,
     pub(crate) apps: Vec<LoadedApp>,
+    // The applications' numbers, in the same order: to look for one reads four bytes an application.
+    pub(crate) numbers: Vec<u32>,
     pub(crate) packets: u32,
-    // Whether a loaded application has the spot, by the spot's place: 24 a chip.
-    pub(crate) taken: Vec<bool>,
     // Where it is known that no copy waits: the vertices that may have packets unsent.
     pub(crate) senders: Option<Seq<usize>>,
 }
@@ -62,20 +60,19 @@ impl Apps {
     {
         // The mesh comes last: no refusal after it has to drop it.
         let regions = open_regions(alloc, machine)?;
-        let taken = none_taken(alloc, machine)?;
         let mesh = bare_mesh(alloc, machine, queue)?;
         Ok(Apps {
             mesh: Some(mesh),
             regions,
             apps: Vec::new(alloc),
+            numbers: Vec::new(alloc),
             packets: 0,
-            taken,
             senders: None,
         })
     }
 
-    /// Whether a spot of a chip inside the grid is a usable core, and no loaded application has it. It takes no memory and constant
-    /// time.
+    /// Whether a spot of a chip inside the grid is a usable core, and no loaded application has it. It takes no memory, and time as
+    /// the spots of loaded applications.
     pub fn free(&self, s: Spot) -> bool
         requires { IsInside self.now.mesh.setup.machine s.chip }
         ensures { result ≡ is_free_spot self.now s }
@@ -83,16 +80,27 @@ impl Apps {
         let Some(mesh) = &self.mesh else {
             return false;
         };
-        let machine = mesh.machine();
-        machine.usable(s)
-            && !self.taken[SPOTS * machine.index(s.chip) as usize + usize::from(s.core)]
+        mesh.machine().usable(s) && !is_taken(&self.apps, s)
     }
 
     /// Whether an application of that number is loaded. It takes no memory.
     pub fn loaded(&self, number: u32) -> bool
         ensures { result ≡ is_loaded self.now.apps number }
     {
-        self.apps.iter().any(|app| app.number == number)
+        has_number(&self.numbers, number)
+    }
+
+    /// Puts the spots of all loaded applications at the back of a list.
+    ///
+    /// # Errors
+    ///
+    /// `Memory` where memory runs out.
+    pub fn push_spots(&self, spots: &mut Vec<Spot>) -> Result<(), Memory>
+        ensures spots { OnOk result (spots.new.items ≡ spots.old.items ++ all_spots self.now.apps) }
+        ensures inside { All (λ s. IsInside self.now.mesh.setup.machine s.chip)
+            (all_spots self.now.apps) }
+    {
+        push_spots(&self.apps, spots)
     }
 
     /// How many packets all loads so far had together. It takes no memory and constant time.
@@ -104,6 +112,16 @@ impl Apps {
     }
 }
 
+// Puts the spots of all these applications at the back of a list.
+fn push_spots(apps: &[LoadedApp], spots: &mut Vec<Spot>) -> Result<(), Memory>
+    ensures { OnOk result (spots.new.items ≡ spots.old.items ++ all_spots apps.now) }
+{
+    for app in apps {
+        spots.extend_from_slice(app.plan.spots.as_slice())?;
+    }
+    Ok(())
+}
+
 // Puts an item in its place. What was there is dropped here, as a value of any type: so no caller drops a whole mesh.
 pub fn put<T: Drop>(held: &mut Option<T>, item: T)
     ensures { held.new ≡ Some item }
@@ -111,12 +129,57 @@ pub fn put<T: Drop>(held: &mut Option<T>, item: T)
     *held = Some(item);
 }
 
-// Writes for each spot whether a loaded application has it.
-pub fn mark_spots(machine: &Machine, taken: &mut [bool], spots: &[Spot], now: bool)
-    requires { CanMark machine.now spots.now taken.old }
-    ensures { AreSpotsMarked machine.now now spots.now taken.old taken.new }
+// Whether the number is one of the list.
+fn has_number(numbers: &[u32], number: u32) -> bool
+    ensures { result ≡ list_any (λ other. other == number) numbers.now }
 {
-    for spot in spots {
-        taken[SPOTS * machine.index(spot.chip) as usize + usize::from(spot.core)] = now;
-    }
+    numbers.iter().any(|other| *other == number)
+}
+
+// Whether one of the applications has the spot.
+fn is_taken(apps: &[LoadedApp], spot: Spot) -> bool
+    ensures { result ≡ is_spot_taken apps.now spot }
+{
+    apps.iter().any(|app| has_spot(app, spot))
+}
+
+// Whether the spot is one of the application's.
+fn has_spot(app: &LoadedApp, spot: Spot) -> bool
+    ensures { result ≡ list_any (spot_eq spot) app.now.plan.spots }
+{
+    app.plan.spots.as_slice().iter().any(|other| spot == *other)
+}
+
+// Makes room for an application and its number.
+pub fn reserve_one(apps: &mut Vec<LoadedApp>, numbers: &mut Vec<u32>) -> Result<(), Memory>
+    ensures apps { apps.new.items ≡ apps.old.items }
+    ensures numbers { numbers.new.items ≡ numbers.old.items }
+    ensures room { OnOk result (vec_len apps.new + 1 ≤ vec_capacity apps.new) }
+    ensures number_room { OnOk result (vec_len numbers.new + 1 ≤ vec_capacity numbers.new) }
+{
+    apps.reserve(1)?;
+    numbers.reserve(1)?;
+    Ok(())
+}
+
+// Puts an application and its number at the back of the lists, which have room for them.
+pub fn add(apps: &mut Vec<LoadedApp>, numbers: &mut Vec<u32>, app: LoadedApp)
+    requires room { vec_len apps.old + 1 ≤ vec_capacity apps.old }
+    requires number_room { vec_len numbers.old + 1 ≤ vec_capacity numbers.old }
+    ensures apps { apps.new.items ≡ apps.old.items ++ app ∷ [] }
+    ensures numbers { numbers.new.items ≡ numbers.old.items ++ app.number ∷ [] }
+{
+    numbers.push_reserved(app.number);
+    apps.push_reserved(app);
+}
+
+// Takes the application at a place and its number out of the lists.
+pub fn take_out(apps: &mut Vec<LoadedApp>, numbers: &mut Vec<u32>, at: usize)
+    requires there { at < vec_len apps.old }
+    requires number_there { at < vec_len numbers.old }
+    ensures apps { apps.new.items ≡ remove apps.old.items at }
+    ensures numbers { numbers.new.items ≡ remove numbers.old.items at }
+{
+    numbers.remove(at);
+    drop(apps.remove(at));
 }

@@ -9,7 +9,7 @@ ghost use Rattle.app_loads.specs.Taking.{AreFreeAgain, AreRegionsOf, HaveRoom, I
 ghost use Rattle.app_loads.specs.Writing.{AreCopied, CanCopy};
 
 use crate::answers::{LoadErr, LoadRefusal};
-use crate::apps::{Apps, mark_spots, put};
+use crate::apps::{Apps, add, put, reserve_one};
 use crate::claims::claims_of;
 use crate::loaded::{Claim, LoadedApp, Range};
 use crate::plans::AppPlan;
@@ -44,7 +44,7 @@ impl Apps {
         if self.loaded(number) {
             return Err(LoadErr::Refused(LoadRefusal::Loaded));
         }
-        if self.apps.reserve(1).is_err() {
+        if reserve_one(&mut self.apps, &mut self.numbers).is_err() {
             return Err(LoadErr::Memory);
         }
         let Some(mesh) = self.mesh.take() else {
@@ -53,16 +53,10 @@ impl Apps {
         let (mesh, joined) = join(alloc, mesh, &mut self.regions, number, self.packets, plan);
         match joined {
             Ok(app) => {
-                mark_spots(
-                    mesh.machine(),
-                    &mut self.taken,
-                    app.plan.spots.as_slice(),
-                    true,
-                );
                 self.packets += app.plan.packets.len() as u32;
                 self.senders = with_sources(self.senders.take(), &mesh, app.plan.nets.as_slice());
                 put(&mut self.mesh, mesh);
-                self.apps.push_reserved(app);
+                add(&mut self.apps, &mut self.numbers, app);
                 Ok(())
             }
             Err(refusal) => {
@@ -195,6 +189,9 @@ fn settle(alloc: Global, mesh: Mesh, app: &LoadedApp) -> (Mesh, Result<(), Memor
     ensures settled { OnOk result.1 (IsSettled app.now mesh result.0) }
     ensures refused { OnErr result.1 (result.0 ≡ mesh) }
 {
+    if app.plan.nets.is_empty() {
+        return (mesh, Ok(()));
+    }
     let Ok(rows) = tables_of(alloc, mesh.machine(), app) else {
         return (mesh, Err(Memory));
     };

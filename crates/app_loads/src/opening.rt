@@ -1,5 +1,5 @@
 // The parts of a machine on which no application is loaded.
-ghost use Rattle.std.specs.Prelude.{◌≡◌, ◌≢◌, ◌<◌, ◌≤◌, ◌*◌, ◌++◌, ◌∷◌, [], All, AllPairs, false, filter, map, length, replicate, IfOk, OnOk};
+ghost use Rattle.std.specs.Prelude.{◌≡◌, ◌≢◌, ◌<◌, ◌≤◌, ◌*◌, ◌++◌, ◌∷◌, [], All, AllPairs, filter, map, length, replicate, IfOk, OnOk};
 ghost use Rattle.machine_desc.specs.Live.{IsSite, is_usable};
 ghost use Rattle.tcam_find.specs.Memory.{empty_memory};
 ghost use Rattle.mesh_core.specs.State.{IsMesh};
@@ -112,12 +112,4 @@ fn push_regions(
         regions.push(Ranges::new(alloc, size)?)?;
     }
     Ok(())
-}
-
-// A table of spots none of which is taken.
-pub fn none_taken(alloc: Global, machine: &Machine) -> Result<Vec<bool>, Memory>
-    ensures { IfOk result (λ taken.
-        taken.items ≡ replicate (24 * (machine.now.width * machine.now.height)) false) }
-{
-    Ok(vec![in alloc; false; 24 * machine.chips()]?)
 }

@@ -11,7 +11,7 @@ ghost use Rattle.app_loads.specs.Unloading.{HasUnloaded, IsWhyNotUnloaded, NoneW
 ghost use Rattle.app_loads.specs.Writing.{AreUnused, CanClear};
 
 use crate::answers::{Ended, UnloadErr};
-use crate::apps::{Apps, mark_spots, put};
+use crate::apps::{Apps, put, take_out};
 use crate::leaving::{Parted, least_waiting, part};
 use crate::loaded::{LoadedApp, Range};
 use crate::regions::{give_all, make_room};
@@ -52,14 +52,7 @@ impl Apps {
         );
         match left {
             Ok(ended) => {
-                let app = self.apps.remove(at);
-                mark_spots(
-                    mesh.machine(),
-                    &mut self.taken,
-                    app.plan.spots.as_slice(),
-                    false,
-                );
-                drop(app);
+                take_out(&mut self.apps, &mut self.numbers, at);
                 put(&mut self.mesh, mesh);
                 Ok(ended)
             }

@@ -1,10 +1,11 @@
 -- The cores that are free, as a machine.
-use Rattle.std.proofs.Common.{◌≡◌, ℕ, ◌+◌, ◌-◌, ◌*◌, ◌/◌, ◌%◌, ◌<◌, ◌≤◌, refl, sym, ap, ◌∙◌, subst, arith, inl, inr, List, [], ◌∷◌, ◌++◌, map, take, Bool, true, false, not, cond, Option, Some, None}
+use Rattle.std.proofs.Common.{◌≡◌, ℕ, ◌+◌, ◌-◌, ◌*◌, ◌/◌, ◌%◌, ◌<◌, ◌≤◌, refl, sym, ap, ◌∙◌, subst, arith, inl, inr, List, [], ◌∷◌, ◌++◌, map, take, Bool, true, false, not, ◌&&◌, ◌||◌, cond, Option, Some, None}
 use Rattle.std.specs.Prelude.{MatchOption}
 use Rattle.std.specs.List.{All, Contains, filter, list_any, range_with_len, slice_get}
-use Rattle.std.proofs.lemmas.Bool.{and_parts, cases_Bool, leb-true, not-true}
+use Rattle.std.proofs.lemmas.Bool.{and_from, and_parts, cases_Bool, leb-true, ltb-true, not-true, or_parts}
 use Rattle.std.proofs.lemmas.List.FromFn.{filter_of_map_range_with_len_more, get_or-map-range_with_len, length-map-range_with_len}
-use Rattle.std.proofs.lemmas.List.Elements.{All-weaker}
+use Rattle.std.proofs.lemmas.List.Elements.{All-append, All-weaker}
+use Rattle.std.proofs.lemmas.List.Folds.{list_any-append}
 use Rattle.std.proofs.lemmas.Option.{slice_get-get_or}
 use Rattle.spin_base.proofs.Members.{Contains-at, Contains-filter, Contains-from_filter, among_any, contains_among}
 use Rattle.spin_base.proofs.Places.{All-at, All-each, slice_get_there}
@@ -14,7 +15,7 @@ use Rattle.spin_base.specs.Equality.{spot_eq}
 use Rattle.spin_base.proofs.Equality.{spot_eq_same}
 use Rattle.machine_desc.specs.declared.trees.Edge.{Edge}
 use Rattle.machine_desc.specs.Description.{Description}
-use Rattle.machine_desc.specs.Live.{index_of, chip_of, IsInside, IsSite, IsUsable}
+use Rattle.machine_desc.specs.Live.{index_of, chip_of, is_usable, IsInside, IsSite, IsUsable}
 use Rattle.machine_desc.proofs.Far.{index_below}
 use Rattle.machine_desc.proofs.Live.{chip_of-inside}
 use Rattle.machine_desc.proofs.Same.{same_spot}
@@ -22,9 +23,10 @@ use Rattle.machine_desc.proofs.Sites.{usable_site}
 use Rattle.app_graph.specs.declared.graphs.Vertex.{Vertex}
 use Rattle.mesh_core.proofs.Moves.{chip_of-index_of}
 use Rattle.place_fit.specs.Placement.{HasDeviceRoom, IsCoreFor, IsPlacement, device_spot}
-use Rattle.app_loads.specs.Host.{Host, is_free_spot, is_spot_taken}
+use Rattle.app_loads.specs.declared.loaded.LoadedApp.{LoadedApp}
+use Rattle.app_loads.specs.Host.{Host, all_spots, is_free_spot, is_spot_taken}
 use Rattle.app_loads.specs.Opening.{spot_of, grid_spots}
-use Rattle.spin_apps.specs.Free.{free_machine}
+use Rattle.spin_apps.specs.Free.{free_machine, unusable_spots}
 
 -- those of one spot more that pass a test
 pub one_spot_more : (p : Spot → Bool) (m : Description) (n : ℕ) (spot : Spot) (before after : List Spot) → spot ≡ spot_of m n →
@@ -74,6 +76,22 @@ grid_inside p m = All-each (λ (s : Spot). IsInside m s.chip) (filter p (grid_sp
     let chip : k / 17 < n = omega (arith, below) in
     subst (λ (t : Spot). IsInside m t.chip) is (chip_of-inside m (k / 17) chip))
 
+-- the dead cores of the free machine are inside the grid
+pub dead_inside : (h : Host) (wide high : ℕ) → wide ≡ h.mesh.setup.machine.width → high ≡ h.mesh.setup.machine.height →
+    All (λ (s : Spot). IsInside h.mesh.setup.machine s.chip) (all_spots h.apps) →
+    All (λ (s : Spot). (s.chip.x < wide) × (s.chip.y < high)) (free_machine h).dead_cores
+dead_inside h wide high is_wide is_high inside =
+    let m : Description = h.mesh.setup.machine in
+    All-weaker (λ (s : Spot). IsInside m s.chip) (λ (s : Spot). (s.chip.x < wide) × (s.chip.y < high))
+    (λ s is. let parts = and_parts _ _ is in (subst (λ n. s.chip.x < n) (sym is_wide) (ltb-true _ _ parts.0), subst (λ n. s.chip.y < n) (sym is_high) (ltb-true _ _ parts.1)))
+    (free_machine h).dead_cores
+    (All-append (λ (s : Spot). IsInside m s.chip) (unusable_spots m) (all_spots h.apps) (grid_inside (λ (s : Spot). not (is_usable m s)) m) inside)
+
+-- whether one of the spots of applications passes a test
+any_spot : (p : Spot → Bool) (apps : List LoadedApp) → list_any p (all_spots apps) ≡ list_any (λ (app : LoadedApp). list_any p app.plan.spots) apps
+any_spot p [] = refl
+any_spot p (app ∷ apps) = list_any-append p app.plan.spots (all_spots apps) ∙ ap (λ b. list_any p app.plan.spots || b) (any_spot p apps)
+
 -- What is usable where each core that is not free is dead, is free.
 pub usable_free : (h : Host) (s : Spot) → IsUsable (free_machine h) s → is_free_spot h s ≡ true
 usable_free h s usable =
@@ -82,14 +100,17 @@ usable_free h s usable =
     let inside : IsInside m s.chip = (and_parts _ _ parts.0).0 in
     let rest = and_parts _ _ parts.1 in
     let core = and_parts _ _ rest.0 in
-    let clear : list_any (spot_eq s) (free_machine h).dead_cores ≡ false = not-true _ rest.1 in
-    elim (cases_Bool (is_free_spot h s)) [
-      | inl free ↦ free
-      | inr taken ↦
-          let has : Contains (free_machine h).dead_cores s =
-          Contains-filter (λ (t : Spot). not (is_free_spot h t)) (grid_spots m) s (on_grid m s inside (leb-true _ _ core.0) (leb-true _ _ core.1)) (ap not taken) in
-          let listed : list_any (spot_eq s) (free_machine h).dead_cores ≡ true = among_any (spot_eq s) s (free_machine h).dead_cores (contains_among s (free_machine h).dead_cores has) (spot_eq_same s) in
-          let never : true ≡ false = sym listed ∙ clear in
+    let clear : list_any (spot_eq s) (unusable_spots m ++ all_spots h.apps) ≡ false = not-true _ rest.1 in
+    let both : (list_any (spot_eq s) (unusable_spots m) || list_any (spot_eq s) (all_spots h.apps)) ≡ false = sym (list_any-append (spot_eq s) (unusable_spots m) (all_spots h.apps)) ∙ clear in
+    let none = or_parts (list_any (spot_eq s) (unusable_spots m)) (list_any (spot_eq s) (all_spots h.apps)) both in
+    let untaken : is_spot_taken h.apps s ≡ false = sym (any_spot (spot_eq s) h.apps) ∙ none.1 in
+    elim (cases_Bool (is_usable m s)) [
+      | inl is ↦ and_from (is_usable m s) (not (is_spot_taken h.apps s)) is (ap not untaken)
+      | inr is_not ↦
+          let has : Contains (unusable_spots m) s =
+          Contains-filter (λ (t : Spot). not (is_usable m t)) (grid_spots m) s (on_grid m s inside (leb-true _ _ core.0) (leb-true _ _ core.1)) (ap not is_not) in
+          let listed : list_any (spot_eq s) (unusable_spots m) ≡ true = among_any (spot_eq s) s (unusable_spots m) (contains_among s (unusable_spots m) has) (spot_eq_same s) in
+          let never : true ≡ false = sym listed ∙ none.0 in
           cc
     ]
 

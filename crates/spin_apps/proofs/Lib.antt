@@ -1,6 +1,7 @@
 mod Chain
 mod FreeSpots
 mod Joined
+mod NoVertices
 mod OneLine
 mod OneRefusal
 mod OneText

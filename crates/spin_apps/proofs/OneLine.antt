@@ -1,5 +1,5 @@
 -- On machines with the same applications a load or an unload has one answer.
-use Rattle.std.proofs.Common.{◌≡◌, ℕ, ◌≤◌, ◌==◌, ◌&&◌, not, refl, sym, ap, ◌∙◌, subst, arith, inl, inr, List, [], length, get_or, true, false, Some}
+use Rattle.std.proofs.Common.{◌≡◌, ℕ, ◌≤◌, ◌==◌, ◌++◌, refl, sym, ap, ◌∙◌, subst, arith, inl, inr, List, [], length, get_or, true, false, Some}
 use Rattle.std.specs.List.{All, AllZip, Contains, filter, slice_get}
 use Rattle.std.proofs.lemmas.Bool.{cases_Bool, cases_order, eq-eqb, true≢false}
 use Rattle.std.proofs.lemmas.List.{get_or_default}
@@ -11,7 +11,7 @@ use Rattle.spin_base.specs.declared.blocks.Block.{Block}
 use Rattle.spin_base.specs.declared.chips.Chip.{Chip}
 use Rattle.spin_base.specs.declared.chips.Spot.{Spot}
 use Rattle.machine_desc.specs.Description.{Description}
-use Rattle.machine_desc.specs.Live.{is_usable, IsSite}
+use Rattle.machine_desc.specs.Live.{IsSite}
 use Rattle.app_graph.specs.declared.graphs.Net.{Net}
 use Rattle.machine_desc.specs.declared.nets.NetPlan.{NetPlan}
 use Rattle.net_plans.proofs.CutOffLaws.{one_first_net}
@@ -30,9 +30,8 @@ use Rattle.app_loads.specs.declared.plans.AppPlan.{AppPlan}
 use Rattle.app_loads.specs.Alike.{AreAlike}
 use Rattle.app_loads.specs.Applications.{AreApps}
 use Rattle.app_loads.specs.Claims.{AreServed, IsRefusalDue, claims_of}
-use Rattle.app_loads.specs.Host.{Host, all_ranges, is_loaded, is_spot_taken, net_with}
+use Rattle.app_loads.specs.Host.{Host, all_ranges, all_spots, is_loaded, net_with}
 use Rattle.app_loads.specs.Leaving.{is_delivery_of, is_record_of, NoneUnderWay}
-use Rattle.app_loads.specs.Opening.{grid_spots}
 use Rattle.app_loads.specs.Unloading.{WaitsFor}
 use Rattle.app_loads.proofs.Alike.{alike_too, waits_too}
 use Rattle.spin_apps.specs.declared.hosts.LoadAnswer.{LoadAnswer}
@@ -40,7 +39,7 @@ use Rattle.spin_apps.specs.declared.hosts.LoadAnswer.TheVariants.{Done, NoRoom, 
 use Rattle.spin_apps.specs.declared.hosts.UnloadAnswer.{UnloadAnswer}
 use Rattle.spin_apps.specs.declared.hosts.UnloadAnswer.TheVariants.{Got, NotLoaded, Waiting}
 use Rattle.spin_apps.specs.Answers.{IsLoadAnswer, IsUnloadAnswer}
-use Rattle.spin_apps.specs.Free.{free_machine}
+use Rattle.spin_apps.specs.Free.{free_machine, unusable_spots}
 use Rattle.spin_apps.specs.Plans.{HasCutOffOnHost, IsNetFor, IsPlanFor}
 use Rattle.spin_apps.proofs.FreeSpots.{free_sites, placed_free}
 use Rattle.spin_apps.proofs.Joined.{planned_joined}
@@ -177,7 +176,7 @@ free_on m loaded = record {
   wrap = m.wrap;
   sdram = m.sdram;
   dead_chips = [];
-  dead_cores = filter (λ (s : Spot). not (is_usable m s && not (is_spot_taken loaded s))) (grid_spots m);
+  dead_cores = unusable_spots m ++ all_spots loaded;
   dead_links = [];
 }
 

@@ -11,7 +11,6 @@ use Rattle.spin_base.specs.declared.blocks.Block.{Block}
 use Rattle.spin_base.specs.declared.chips.Spot.{Spot}
 use Rattle.spin_base.specs.declared.copies.Packet.{Packet}
 use Rattle.machine_desc.specs.Description.{Description}
-use Rattle.machine_desc.specs.Live.{IsUsable}
 use Rattle.machine_desc.specs.RoutingTree.{IsRoutingTree}
 use Rattle.app_graph.specs.declared.graphs.Net.{Net}
 use Rattle.app_graph.specs.declared.graphs.Vertex.{Vertex}
@@ -137,13 +136,13 @@ module _ (h : Host) (m : Description) (job : AppJob) (spots : List Spot) (sdram 
     packets = copied;
   }
 
-  pub plan_valid : IsValidJob job → All (IsAppNet m spots) apps → IsPlan m made
+  pub plan_valid : IsValidJob job → All (IsAppNet m spots) apps → IsPlan h.mesh.setup.machine made
   plan_valid valid nets = record {
     different = placed.different;
-    usable = subst (λ (x : Description). All (IsUsable x) spots) machine (free_usable h spots (placed_free h job.graph.vertices spots placed.memory placed.is valid.cores));
+    usable = free_usable h spots (placed_free h job.graph.vertices spots placed.memory placed.is valid.cores);
     sdram = ap length bytes ∙ (length-map job.graph.vertices (λ (v : Vertex). v.sdram) ∙ sym placed.is.all);
     few_nets = (let few = valid.graph.few_nets in let as_many = AllZip-long (IsNetFor m spots) job.graph.nets apps are in omega (arith, few, as_many));
-    nets = nets;
+    nets = subst (λ (x : Description). All (IsAppNet x spots) apps) (sym machine) nets;
     packets = subst (All (IsPacketOfApp apps)) (sym copied) (packets_are m spots job.graph.nets apps job.run.packets are valid.run.packets);
   }
 
@@ -168,10 +167,10 @@ pub why_net : (m : Description) (spots : List Spot) (all : List Net) (i : ℕ) (
 why_net m spots all i net (repairs.CutOff target) at before first = record { net = net; is = at; target = first; before = before }
 why_net m spots all i net repairs.Memory at before first = tt
 
-pub may_load : (h : Host) (m : Description) (job : AppJob) (plan : AppPlan) → h.mesh.setup.machine ≡ m → IsPlanFor h job plan → IsPlan m plan →
+pub may_load : (h : Host) (job : AppJob) (plan : AppPlan) → IsPlanFor h job plan → IsPlan h.mesh.setup.machine plan →
     All (λ s. is_spot_taken h.apps s ≡ false) plan.spots → h.packets + length job.run.packets < 2 ^ 32 → MayLoad h plan
-may_load h m job plan is planned valid free numbers = record {
-  valid = subst (λ (x : Description). IsPlan x plan) (sym is) valid;
+may_load h job plan planned valid free numbers = record {
+  valid = valid;
   free = free;
   numbers = (let same = ap length planned.packets in omega (arith, same, numbers));
 }

@@ -14,16 +14,18 @@ use Rattle.spin_apps.specs.declared.hosts.Hosted.TheInside.{Inside}
 use Rattle.spin_apps.specs.declared.hosts.LoadAnswer.{LoadAnswer}
 use Rattle.spin_apps.specs.declared.hosts.LoadAnswer.TheVariants.{Done, NoRoom, CutOff, Refused}
 use Rattle.spin_apps.specs.Answers.{Answers, host_at}
+use Rattle.spin_apps.specs.Free.{unusable_spots}
 
 -- what is seen is the host of the applications
 abbrev pub hosted_of : Inside → Host
 hosted_of s = s.apps
 
--- The machine and its live links are those of the host.
+-- The machine, its live links and the cores that are not usable are those of the host.
 pub record IsHosted (s : Inside) : Type 0 where
   pub apps : AreApps s.apps
   pub machine : s.apps.mesh.setup.machine ≡ s.machine
   pub roads : AreRoadsOf s.machine s.roads
+  pub unusable : s.unusable.items ≡ unusable_spots s.machine
 
 -- what may be answered where a plan is loaded
 abbrev pub IsTaken : Host → ℕ → AppPlan → LoadAnswer → Host → Type 0

@@ -7,12 +7,13 @@ ghost use Rattle.app_loads.specs.Plans.{MayLoad};
 ghost use Rattle.spin_apps.specs.Answers.{HasDrained, IsLoadAnswer, IsUnloadAnswer};
 ghost use Rattle.spin_apps.specs.Hosting.{IsTaken};
 
+use crate::free::unusable_spots;
 use crate::plans::{PlanErr, plan_of};
 use app_loads::{AppPlan, Apps, LoadErr, LoadRefusal, UnloadErr};
 use job_requests::AppJob;
 use link_detours::Roads;
 use machine_desc::Machine;
-use spin_base::{Chip, Memory};
+use spin_base::{Chip, Memory, Spot};
 use std::alloc::Global;
 use std::marker::Model;
 
@@ -40,12 +41,13 @@ pub enum UnloadAnswer {
     Waiting { packet: u32 },
 }
 
-// A machine, its live links, and the applications on it.
+// A machine, its live links and the cores that are not usable, and the applications on it.
 #[derive(Drop)]
 pub(crate) struct Hosted {
-    machine: Machine,
-    roads: Roads,
-    apps: Apps,
+    pub(crate) machine: Machine,
+    pub(crate) roads: Roads,
+    pub(crate) unusable: Vec<Spot>,
+    pub(crate) apps: Apps,
 }
 
 impl Model for Hosted {
@@ -67,11 +69,13 @@ impl Hosted {
         ensures { IfOk result (λ hosted. hosted ≡ bare_host machine.now queue) }
     {
         let roads = Roads::of(alloc, machine)?;
+        let unusable = unusable_spots(alloc, machine)?;
         let machine = machine.copy(alloc)?;
         let apps = Apps::new(alloc, &machine, queue)?;
         Ok(Hosted {
             machine,
             roads,
+            unusable,
             apps,
         })
     }
@@ -98,7 +102,7 @@ impl Hosted {
         if self.apps.loaded(number) {
             return Ok(LoadAnswer::Refused(LoadRefusal::Loaded));
         }
-        match plan_of(alloc, &self.machine, &self.roads, &self.apps, job) {
+        match plan_of(alloc, self, job) {
             Ok(plan) => self.take(alloc, number, &plan),
             Err(PlanErr::NoRoom { vertex }) => Ok(LoadAnswer::NoRoom { vertex }),
             Err(PlanErr::CutOff { net, target }) => Ok(LoadAnswer::CutOff { net, target }),

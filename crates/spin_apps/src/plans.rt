@@ -14,8 +14,9 @@ ghost use Rattle.spin_apps.specs.Making.{IsPlaced, unplaced, unrouted, unrouted_
 ghost use Rattle.spin_apps.specs.Plans.{IsNetFor, IsPlanFor, IsWhyUnplanned};
 
 use crate::free::free_machine;
+use crate::hosts::Hosted;
 use app_graph::{Net, Vertex};
-use app_loads::{AppNet, AppPlan, Apps};
+use app_loads::{AppNet, AppPlan};
 use job_requests::AppJob;
 use link_detours::{RepairErr, Roads};
 use machine_desc::{Machine, NetPlan};
@@ -48,27 +49,20 @@ impl From<Memory> for PlanErr {
     }
 }
 
-// The plan of a job on the cores that are free. `roads` are the machine's live links.
-pub(crate) fn plan_of(
-    alloc: Global,
-    machine: &Machine,
-    roads: &Roads,
-    apps: &Apps,
-    job: &AppJob,
-) -> Result<AppPlan, PlanErr>
-    requires machine { apps.now.mesh.setup.machine ≡ machine.now }
-    requires roads { AreRoadsOf machine.now roads.now }
-    requires valid { IsValidJob job.now }
-    ensures plan { IfOk result (IsPlanFor apps.now job.now) }
-    ensures valid { IfOk result (IsPlan machine.now) }
-    ensures free { IfOk result (λ plan. All (λ s. is_spot_taken apps.now.apps s
+// The plan of a job on the cores that are free.
+pub(crate) fn plan_of(alloc: Global, hosted: &Hosted, job: &AppJob) -> Result<AppPlan, PlanErr>
+    requires { IsValidJob job.now }
+    ensures plan { IfOk result (IsPlanFor hosted.now job.now) }
+    ensures valid { IfOk result (IsPlan hosted.now.mesh.setup.machine) }
+    ensures free { IfOk result (λ plan. All (λ s. is_spot_taken hosted.now.apps s
         ≡ false) plan.spots) }
-    ensures why { IfErr result (IsWhyUnplanned apps.now job.now) }
+    ensures why { IfErr result (IsWhyUnplanned hosted.now job.now) }
 {
+    let machine = &hosted.machine;
     let sdram = bytes_of(alloc, &job.graph.vertices)?;
     let packets = copied(alloc, &job.run.packets)?;
-    let spots = placed(alloc, machine, apps, job)?;
-    match app_nets(alloc, machine, roads, &spots, &job.graph.nets) {
+    let spots = placed(alloc, hosted, job)?;
+    match app_nets(alloc, machine, &hosted.roads, &spots, &job.graph.nets) {
         Ok(nets) => Ok(AppPlan {
             spots,
             sdram,
@@ -80,13 +74,16 @@ pub(crate) fn plan_of(
 }
 
 // The cores of a job's vertices, of those that are free.
-fn placed(alloc: Global, machine: &Machine, apps: &Apps, job: &AppJob) -> Result<Seq<Spot>, PlanErr>
-    requires machine { apps.now.mesh.setup.machine ≡ machine.now }
-    requires valid { IsValidJob job.now }
-    ensures placed { IfOk result (IsPlaced apps.now job.now) }
-    ensures why { IfErr result (IsWhyUnplanned apps.now job.now) }
+fn placed(alloc: Global, hosted: &Hosted, job: &AppJob) -> Result<Seq<Spot>, PlanErr>
+    requires { IsValidJob job.now }
+    ensures placed { IfOk result (IsPlaced hosted.now job.now) }
+    ensures why { IfErr result (IsWhyUnplanned hosted.now job.now) }
 {
-    let free = free_machine(alloc, machine, apps)?;
+    if job.graph.vertices.is_empty() {
+        let _apps = &hosted.apps;
+        return Ok(Seq::new(alloc));
+    }
+    let free = free_machine(alloc, hosted)?;
     match place(alloc, &free, &job.graph) {
         Ok(placement) => Ok(placement.spots),
         Err(e) => Err(unplaced(e)),

@@ -6,12 +6,15 @@ use Rattle.net_tables.specs.PlainTable.{AreRoutedApart, AtEach, IsPlainTable}
 use Rattle.mesh_core.specs.InParts.{state_in}
 use Rattle.app_loads.specs.Host.{nets_of}
 use Rattle.app_loads.proofs.AppNets.{routed}
-use Rattle.app_loads.proofs.Settling.{parted_send, parted_mesh, parted_copy, parted_whole, parted_settled, sent_as_long}
+use Rattle.app_loads.proofs.Settling.{settled_bare, parted_send, parted_mesh, parted_copy, parted_whole, parted_settled, sent_as_long}
 use Rattle.app_loads.proofs.loads.settle.Goals as goal
 
 pub tables_of-requires-clause-routed : goal.tables_of-requires-clause-routed
 tables_of-requires-clause-routed c =
     subst (λ (m : Description). AreRoutedApart m (nets_of c.args.app.now)) (sym c.machine.ensures) (routed c.args.mesh.setup.machine c.args.app.now c.requires.loaded c.requires.apart)
+
+pub returns-then-is_empty-clause-settled : goal.returns-then-is_empty-clause-settled
+returns-then-is_empty-clause-settled c = settled_bare c.args.mesh c.args.app.now c.requires (c.is_empty.ensures.0 c.if-is_empty.true)
 
 pub returns-in_default-clause-refused : goal.returns-in_default-clause-refused
 returns-in_default-clause-refused c = refl

@@ -2,8 +2,16 @@ use Rattle.std.proofs.Common.{sym, subst, rules}
 use Rattle.machine_desc.specs.Description.{Description}
 use Rattle.place_fit.specs.Placement.{IsPlacement}
 use Rattle.spin_apps.specs.Plans.{IsWhyUnplanned}
+use Rattle.app_loads.specs.Applications.{AreApps}
+use Rattle.spin_apps.specs.Making.{IsPlaced}
+use Rattle.spin_apps.proofs.NoVertices.{placed_none}
 use Rattle.spin_apps.proofs.Planning.{why_unplaced}
 use Rattle.spin_apps.proofs.plans.placed.Goals as goal
+
+pub returns-then-is_empty-clause-placed : goal.returns-then-is_empty-clause-placed
+returns-then-is_empty-clause-placed c =
+    subst (IsPlaced c.args.hosted.now c.args.job.now) (sym c.new.ensures)
+    (placed_none c.args.hosted.now c.args.job.now (subst AreApps c.hosted.view_is c.hosted.invariant.apps) (c.is_empty.ensures.0 c.if-is_empty.true))
 
 pub returns-in-Ok-clause-placed : goal.returns-in-Ok-clause-placed
 returns-in-Ok-clause-placed c = record {
@@ -14,5 +22,5 @@ returns-in-Ok-clause-placed c = record {
 
 pub returns-clause-why : goal.returns-clause-why
 returns-clause-why c =
-    subst (IsWhyUnplanned c.args.apps.now c.args.job.now) (sym c.unplaced.ensures)
-    (why_unplaced c.args.apps.now c.in_ok-free.free c.args.job.now c.in-Err.e c.in_ok-free.ensures (search rules))
+    subst (IsWhyUnplanned c.args.hosted.now c.args.job.now) (sym c.unplaced.ensures)
+    (why_unplaced c.args.hosted.now c.in_ok-free.free c.args.job.now c.in-Err.e c.in_ok-free.ensures (search rules))

@@ -5,7 +5,6 @@ use Rattle.std.specs.Vec.{with_items}
 use Rattle.std.proofs.lemmas.List.{with_items_is}
 use Rattle.std.proofs.lemmas.Result.{IfOk-at_ok, IfErr-at_err}
 use Rattle.machine_desc.specs.Description.{Description}
-use Rattle.mesh_core.specs.State.{State}
 use Rattle.app_loads.specs.declared.loaded.LoadedApp.{LoadedApp}
 use Rattle.app_loads.specs.declared.loaded.Range.{Range}
 use Rattle.app_loads.specs.declared.plans.AppPlan.{AppPlan}
@@ -19,7 +18,7 @@ use Rattle.app_loads.specs.Plans.{MayLoad}
 use Rattle.app_loads.specs.Regions.{ShareNoPlace, AreFreeBeside}
 use Rattle.app_loads.specs.Sending.{AreWithSources}
 use Rattle.app_loads.specs.Taking.{IsDueAlways, frees}
-use Rattle.app_loads.proofs.LoadedParts.{can_join, err_host, err_same, err_why, never_none, on_ok, ok_apps, ok_host, ok_loaded, on_err, one_host, packets_fit, spots_inside, spots_numbered, still_host, table_long}
+use Rattle.app_loads.proofs.LoadedParts.{can_join, err_host, err_same, err_why, never_none, on_ok, ok_apps, ok_host, ok_loaded, on_err, one_host, packets_fit, still_host}
 use Rattle.app_loads.proofs.apps.Apps.load.Goals as goal
 
 pub returns-then-loaded-clause-why : goal.returns-then-loaded-clause-why
@@ -32,13 +31,13 @@ pub returns-then-loaded-clause-apps : goal.returns-then-loaded-clause-apps
 returns-then-loaded-clause-apps c = subst AreApps c.self.view_is c.self.invariant.apps
 
 pub invariant_of-self : goal.invariant_of-self
-invariant_of-self c = still_host c.self.inside (record { mesh = c.self.inside.mesh; regions = c.self.inside.regions; apps = c.reserve.new.self; packets = c.self.inside.packets; taken = c.self.inside.taken; senders = c.self.inside.senders }) c.self.invariant c.self.invariant.there (one_host (mesh_in c.self.inside.mesh) (mesh_in c.self.inside.mesh) (frees c.self.inside.regions.items) (frees c.self.inside.regions.items) c.reserve.new.self.items c.self.inside.apps.items c.self.inside.packets c.self.inside.packets refl refl c.reserve.ensures.items refl) refl refl
+invariant_of-self c = still_host c.self.inside (record { mesh = c.self.inside.mesh; regions = c.self.inside.regions; apps = c.reserve_one.new.apps; packets = c.self.inside.packets; numbers = c.reserve_one.new.numbers; senders = c.self.inside.senders }) c.self.invariant c.self.invariant.there (one_host (mesh_in c.self.inside.mesh) (mesh_in c.self.inside.mesh) (frees c.self.inside.regions.items) (frees c.self.inside.regions.items) c.reserve_one.new.apps.items c.self.inside.apps.items c.self.inside.packets c.self.inside.packets refl refl c.reserve_one.ensures.apps refl) c.reserve_one.ensures.numbers refl
 
 pub returns-then-is_err-clause-refused : goal.returns-then-is_err-clause-refused
-returns-then-is_err-clause-refused c = (one_host (mesh_in c.self.inside.mesh) (mesh_in c.self.inside.mesh) (frees c.self.inside.regions.items) (frees c.self.inside.regions.items) c.reserve.new.self.items c.self.inside.apps.items c.self.inside.packets c.self.inside.packets refl refl c.reserve.ensures.items refl) ∙ c.self.view_is
+returns-then-is_err-clause-refused c = (one_host (mesh_in c.self.inside.mesh) (mesh_in c.self.inside.mesh) (frees c.self.inside.regions.items) (frees c.self.inside.regions.items) c.reserve_one.new.apps.items c.self.inside.apps.items c.self.inside.packets c.self.inside.packets refl refl c.reserve_one.ensures.apps refl) ∙ c.self.view_is
 
 pub returns-then-is_err-clause-apps : goal.returns-then-is_err-clause-apps
-returns-then-is_err-clause-apps c = subst AreApps (sym (one_host (mesh_in c.self.inside.mesh) (mesh_in c.self.inside.mesh) (frees c.self.inside.regions.items) (frees c.self.inside.regions.items) c.reserve.new.self.items c.self.inside.apps.items c.self.inside.packets c.self.inside.packets refl refl c.reserve.ensures.items refl)) c.self.invariant.apps
+returns-then-is_err-clause-apps c = subst AreApps (sym (one_host (mesh_in c.self.inside.mesh) (mesh_in c.self.inside.mesh) (frees c.self.inside.regions.items) (frees c.self.inside.regions.items) c.reserve_one.new.apps.items c.self.inside.apps.items c.self.inside.packets c.self.inside.packets refl refl c.reserve_one.ensures.apps refl)) c.self.invariant.apps
 
 pub invariant_of-self-in_default : goal.invariant_of-self-in_default
 invariant_of-self-in_default c = absurd (never_none c.self.inside.mesh c.take.result c.self.invariant.there c.take.ensures.value c.in_default.is)
@@ -52,13 +51,6 @@ returns-in_default-clause-apps c = absurd (never_none c.self.inside.mesh c.take.
 pub join-mesh-requires : goal.join-mesh-requires
 join-mesh-requires c = can_join c.self.inside c.in-Some.mesh (sym c.take.ensures.value ∙ c.in-Some.is) c.self.invariant c.args.number c.args.plan.now (subst (λ (x : Host). MayLoad x c.args.plan.now) (sym c.self.view_is) c.requires) c.deref_mut.result.now c.deref_mut.ensures.value
 
-pub mark_spots-requires : goal.mark_spots-requires
-mark_spots-requires c = record {
-  long = table_long c.self.inside c.in-Some.mesh (sym c.take.ensures.value ∙ c.in-Some.is) c.self.invariant c.args.number c.args.plan.now (subst (λ (x : Host). MayLoad x c.args.plan.now) (sym c.self.view_is) c.requires) c.deref_mut.result.now c.deref_mut.ensures.value c.machine.result.now (c.machine.ensures ∙ ap (λ (s : State). s.setup.machine) (IfOk-at_ok (λ (a : LoadedApp). IsSettled a c.in-Some.mesh c.join-mesh.result.0) c.in-Ok.is c.join-mesh.ensures.settled).mesh) c.deref_mut-in-Ok.result.now c.deref_mut-in-Ok.ensures.value;
-  inside = spots_inside c.self.inside c.in-Some.mesh (sym c.take.ensures.value ∙ c.in-Some.is) c.self.invariant c.args.number c.args.plan.now (subst (λ (x : Host). MayLoad x c.args.plan.now) (sym c.self.view_is) c.requires) c.deref_mut.result.now c.deref_mut.ensures.value c.in-Ok.app (IfOk-at_ok (λ (a : LoadedApp). IsServedApp c.in-Some.mesh.setup.machine c.deref_mut.result.now c.args.number c.self.inside.packets c.args.plan.now a c.join-mesh.new.regions) c.in-Ok.is c.join-mesh.ensures.served).plan_is c.machine.result.now (c.machine.ensures ∙ ap (λ (s : State). s.setup.machine) (IfOk-at_ok (λ (a : LoadedApp). IsSettled a c.in-Some.mesh c.join-mesh.result.0) c.in-Ok.is c.join-mesh.ensures.settled).mesh) c.as_slice.result.now c.as_slice.ensures;
-  numbered = spots_numbered c.self.inside c.in-Some.mesh (sym c.take.ensures.value ∙ c.in-Some.is) c.self.invariant c.args.number c.args.plan.now (subst (λ (x : Host). MayLoad x c.args.plan.now) (sym c.self.view_is) c.requires) c.deref_mut.result.now c.deref_mut.ensures.value c.in-Ok.app (IfOk-at_ok (λ (a : LoadedApp). IsServedApp c.in-Some.mesh.setup.machine c.deref_mut.result.now c.args.number c.self.inside.packets c.args.plan.now a c.join-mesh.new.regions) c.in-Ok.is c.join-mesh.ensures.served).plan_is c.as_slice.result.now c.as_slice.ensures;
-}
-
 pub overflow_cast-self : goal.overflow_cast-self
 overflow_cast-self c =
     let fit = packets_fit c.self.inside c.in-Some.mesh (sym c.take.ensures.value ∙ c.in-Some.is) c.self.invariant c.args.number c.args.plan.now (subst (λ (x : Host). MayLoad x c.args.plan.now) (sym c.self.view_is) c.requires) c.deref_mut.result.now c.deref_mut.ensures.value in
@@ -71,26 +63,28 @@ overflow_add-self c =
     let long = c.len.ensures ∙ ap (λ (p : AppPlan). length p.packets) (IfOk-at_ok (λ (a : LoadedApp). IsServedApp c.in-Some.mesh.setup.machine c.deref_mut.result.now c.args.number c.self.inside.packets c.args.plan.now a c.join-mesh.new.regions) c.in-Ok.is c.join-mesh.ensures.served).plan_is in
     record { fits = omega (arith, fit, long) }
 
-pub push_reserved-requires : goal.push_reserved-requires
-push_reserved-requires c =
-    let room = on_ok (vec_len c.reserve.new.self + 1 ≤ vec_capacity c.reserve.new.self) c.reserve.result (sym c.is_err.ensures.value ∙ c.if-is_err.false) c.reserve.ensures.ok in
-    omega (arith, room)
+pub add-requires-clause-room : goal.add-requires-clause-room
+add-requires-clause-room c = on_ok (vec_len c.reserve_one.new.apps + 1 ≤ vec_capacity c.reserve_one.new.apps) c.reserve_one.result (sym c.is_err.ensures.value ∙ c.if-is_err.false) c.reserve_one.ensures.room
+
+pub add-requires-clause-number_room : goal.add-requires-clause-number_room
+add-requires-clause-number_room c =
+    on_ok (vec_len c.reserve_one.new.numbers + 1 ≤ vec_capacity c.reserve_one.new.numbers) c.reserve_one.result (sym c.is_err.ensures.value ∙ c.if-is_err.false) c.reserve_one.ensures.number_room
 
 pub invariant_of-self-in-Ok : goal.invariant_of-self-in-Ok
 invariant_of-self-in-Ok c =
-    ok_host c.self.inside c.in-Some.mesh (sym c.take.ensures.value ∙ c.in-Some.is) c.self.invariant c.args.number c.args.plan.now (subst (λ (x : Host). MayLoad x c.args.plan.now) (sym c.self.view_is) c.requires) c.deref_mut.result.now c.deref_mut.ensures.value (ap (λ (x : Host). is_loaded x.apps c.args.number) c.self.view_is ∙ (sym c.loaded.ensures ∙ c.if-loaded.false)) c.join-mesh.new.regions c.in-Ok.app c.join-mesh.result.0 (IfOk-at_ok (λ (a : LoadedApp). IsServedApp c.in-Some.mesh.setup.machine c.deref_mut.result.now c.args.number c.self.inside.packets c.args.plan.now a c.join-mesh.new.regions) c.in-Ok.is c.join-mesh.ensures.served) (IfOk-at_ok (λ (a : LoadedApp). IsSettled a c.in-Some.mesh c.join-mesh.result.0) c.in-Ok.is c.join-mesh.ensures.settled) (record { mesh = c.put.new.held; regions = with_items c.self.inside.regions c.join-mesh.new.regions; apps = c.push_reserved.new.self; packets = c.self.inside.packets + c.len.result; taken = with_items c.self.inside.taken c.mark_spots.new.taken; senders = c.with_sources.result }) c.put.ensures (with_items_is c.self.inside.regions c.join-mesh.new.regions (let a = c.join-mesh.auto.regions in let b = ap length c.deref_mut.ensures.value in let d = c.self.inside.regions.ok in omega (arith, a, b, d))) (c.push_reserved.ensures.items ∙ ap (λ (l : List LoadedApp). l ++ c.in-Ok.app ∷ []) c.reserve.ensures.items) (ap (λ n. c.self.inside.packets + n) (c.len.ensures ∙ ap (λ (p : AppPlan). length p.packets) (IfOk-at_ok (λ (a : LoadedApp). IsServedApp c.in-Some.mesh.setup.machine c.deref_mut.result.now c.args.number c.self.inside.packets c.args.plan.now a c.join-mesh.new.regions) c.in-Ok.is c.join-mesh.ensures.served).plan_is)) c.machine.result.now c.deref_mut-in-Ok.result.now c.mark_spots.new.taken c.as_slice.result.now (c.machine.ensures ∙ ap (λ (s : State). s.setup.machine) (IfOk-at_ok (λ (a : LoadedApp). IsSettled a c.in-Some.mesh c.join-mesh.result.0) c.in-Ok.is c.join-mesh.ensures.settled).mesh) c.deref_mut-in-Ok.ensures.value c.as_slice.ensures c.mark_spots.ensures
-    (with_items_is c.self.inside.taken c.mark_spots.new.taken (let a = c.mark_spots.ensures.long in let b = ap length c.deref_mut-in-Ok.ensures.value in let d = c.self.inside.taken.ok in omega (arith, a, b, d)))
-    c.as_slice-in-Ok.result.now c.as_slice-in-Ok.ensures
-    (subst (λ (o : Option (List ℕ)). IfSome c.with_sources.result (AreWithSources c.join-mesh.result.0 c.as_slice-in-Ok.result.now o)) c.take-in-Ok.ensures.value c.with_sources.ensures)
+    ok_host c.self.inside c.in-Some.mesh (sym c.take.ensures.value ∙ c.in-Some.is) c.self.invariant c.args.number c.args.plan.now (subst (λ (x : Host). MayLoad x c.args.plan.now) (sym c.self.view_is) c.requires) c.deref_mut.result.now c.deref_mut.ensures.value (ap (λ (x : Host). is_loaded x.apps c.args.number) c.self.view_is ∙ (sym c.loaded.ensures ∙ c.if-loaded.false)) c.join-mesh.new.regions c.in-Ok.app c.join-mesh.result.0 (IfOk-at_ok (λ (a : LoadedApp). IsServedApp c.in-Some.mesh.setup.machine c.deref_mut.result.now c.args.number c.self.inside.packets c.args.plan.now a c.join-mesh.new.regions) c.in-Ok.is c.join-mesh.ensures.served) (IfOk-at_ok (λ (a : LoadedApp). IsSettled a c.in-Some.mesh c.join-mesh.result.0) c.in-Ok.is c.join-mesh.ensures.settled) (record { mesh = c.put.new.held; regions = with_items c.self.inside.regions c.join-mesh.new.regions; apps = c.add.new.apps; packets = c.self.inside.packets + c.len.result; numbers = c.add.new.numbers; senders = c.with_sources.result }) c.put.ensures (with_items_is c.self.inside.regions c.join-mesh.new.regions (let a = c.join-mesh.auto.regions in let b = ap length c.deref_mut.ensures.value in let d = c.self.inside.regions.ok in omega (arith, a, b, d))) (c.add.ensures.apps ∙ ap (λ (l : List LoadedApp). l ++ c.in-Ok.app ∷ []) c.reserve_one.ensures.apps) (ap (λ n. c.self.inside.packets + n) (c.len.ensures ∙ ap (λ (p : AppPlan). length p.packets) (IfOk-at_ok (λ (a : LoadedApp). IsServedApp c.in-Some.mesh.setup.machine c.deref_mut.result.now c.args.number c.self.inside.packets c.args.plan.now a c.join-mesh.new.regions) c.in-Ok.is c.join-mesh.ensures.served).plan_is))
+    (c.add.ensures.numbers ∙ (ap (λ (l : List ℕ). l ++ c.in-Ok.app.number ∷ []) c.reserve_one.ensures.numbers))
+    c.as_slice.result.now c.as_slice.ensures
+    (subst (λ (o : Option (List ℕ)). IfSome c.with_sources.result (AreWithSources c.join-mesh.result.0 c.as_slice.result.now o)) c.take-in-Ok.ensures.value c.with_sources.ensures)
 
 pub invariant_of-self-in-Err : goal.invariant_of-self-in-Err
-invariant_of-self-in-Err c = err_host c.self.inside c.in-Some.mesh (sym c.take.ensures.value ∙ c.in-Some.is) c.self.invariant c.args.number c.args.plan.now (subst (λ (x : Host). MayLoad x c.args.plan.now) (sym c.self.view_is) c.requires) c.deref_mut.result.now c.deref_mut.ensures.value (record { mesh = c.put-in-Err.new.held; regions = with_items c.self.inside.regions c.join-mesh.new.regions; apps = c.reserve.new.self; packets = c.self.inside.packets; taken = c.self.inside.taken; senders = c.self.inside.senders }) c.join-mesh.result.0 (on_err (c.join-mesh.result.0 ≡ c.in-Some.mesh) c.join-mesh.result.1 c.in-Err.refusal c.in-Err.is c.join-mesh.ensures.mesh_refused) c.join-mesh.new.regions (on_err ((m : Description) (taken : List Range) → AllPairs ShareNoPlace taken → AreFreeBeside m taken (frees c.deref_mut.result.now) → AreFreeBeside m taken (frees c.join-mesh.new.regions)) c.join-mesh.result.1 c.in-Err.refusal c.in-Err.is c.join-mesh.ensures.back) c.put-in-Err.ensures (with_items_is c.self.inside.regions c.join-mesh.new.regions (let a = c.join-mesh.auto.regions in let b = ap length c.deref_mut.ensures.value in let d = c.self.inside.regions.ok in omega (arith, a, b, d))) c.reserve.ensures.items refl refl refl
+invariant_of-self-in-Err c = err_host c.self.inside c.in-Some.mesh (sym c.take.ensures.value ∙ c.in-Some.is) c.self.invariant c.args.number c.args.plan.now (subst (λ (x : Host). MayLoad x c.args.plan.now) (sym c.self.view_is) c.requires) c.deref_mut.result.now c.deref_mut.ensures.value (record { mesh = c.put-in-Err.new.held; regions = with_items c.self.inside.regions c.join-mesh.new.regions; apps = c.reserve_one.new.apps; packets = c.self.inside.packets; numbers = c.reserve_one.new.numbers; senders = c.self.inside.senders }) c.join-mesh.result.0 (on_err (c.join-mesh.result.0 ≡ c.in-Some.mesh) c.join-mesh.result.1 c.in-Err.refusal c.in-Err.is c.join-mesh.ensures.mesh_refused) c.join-mesh.new.regions (on_err ((m : Description) (taken : List Range) → AllPairs ShareNoPlace taken → AreFreeBeside m taken (frees c.deref_mut.result.now) → AreFreeBeside m taken (frees c.join-mesh.new.regions)) c.join-mesh.result.1 c.in-Err.refusal c.in-Err.is c.join-mesh.ensures.back) c.put-in-Err.ensures (with_items_is c.self.inside.regions c.join-mesh.new.regions (let a = c.join-mesh.auto.regions in let b = ap length c.deref_mut.ensures.value in let d = c.self.inside.regions.ok in omega (arith, a, b, d))) c.reserve_one.ensures.apps refl c.reserve_one.ensures.numbers refl
 
 pub returns-in-Ok-clause-loaded : goal.returns-in-Ok-clause-loaded
-returns-in-Ok-clause-loaded c = subst (λ (x : Host). HasLoaded x c.args.number c.args.plan.now (host_of (record { mesh = c.put.new.held; regions = with_items c.self.inside.regions c.join-mesh.new.regions; apps = c.push_reserved.new.self; packets = c.self.inside.packets + c.len.result; taken = with_items c.self.inside.taken c.mark_spots.new.taken; senders = c.with_sources.result }))) c.self.view_is (ok_loaded c.self.inside c.in-Some.mesh (sym c.take.ensures.value ∙ c.in-Some.is) c.self.invariant c.args.number c.args.plan.now (subst (λ (x : Host). MayLoad x c.args.plan.now) (sym c.self.view_is) c.requires) c.deref_mut.result.now c.deref_mut.ensures.value (ap (λ (x : Host). is_loaded x.apps c.args.number) c.self.view_is ∙ (sym c.loaded.ensures ∙ c.if-loaded.false)) c.join-mesh.new.regions c.in-Ok.app c.join-mesh.result.0 (IfOk-at_ok (λ (a : LoadedApp). IsServedApp c.in-Some.mesh.setup.machine c.deref_mut.result.now c.args.number c.self.inside.packets c.args.plan.now a c.join-mesh.new.regions) c.in-Ok.is c.join-mesh.ensures.served) (IfOk-at_ok (λ (a : LoadedApp). IsSettled a c.in-Some.mesh c.join-mesh.result.0) c.in-Ok.is c.join-mesh.ensures.settled) (record { mesh = c.put.new.held; regions = with_items c.self.inside.regions c.join-mesh.new.regions; apps = c.push_reserved.new.self; packets = c.self.inside.packets + c.len.result; taken = with_items c.self.inside.taken c.mark_spots.new.taken; senders = c.with_sources.result }) c.put.ensures (with_items_is c.self.inside.regions c.join-mesh.new.regions (let a = c.join-mesh.auto.regions in let b = ap length c.deref_mut.ensures.value in let d = c.self.inside.regions.ok in omega (arith, a, b, d))) (c.push_reserved.ensures.items ∙ ap (λ (l : List LoadedApp). l ++ c.in-Ok.app ∷ []) c.reserve.ensures.items) (ap (λ n. c.self.inside.packets + n) (c.len.ensures ∙ ap (λ (p : AppPlan). length p.packets) (IfOk-at_ok (λ (a : LoadedApp). IsServedApp c.in-Some.mesh.setup.machine c.deref_mut.result.now c.args.number c.self.inside.packets c.args.plan.now a c.join-mesh.new.regions) c.in-Ok.is c.join-mesh.ensures.served).plan_is)))
+returns-in-Ok-clause-loaded c = subst (λ (x : Host). HasLoaded x c.args.number c.args.plan.now (host_of (record { mesh = c.put.new.held; regions = with_items c.self.inside.regions c.join-mesh.new.regions; apps = c.add.new.apps; packets = c.self.inside.packets + c.len.result; numbers = c.add.new.numbers; senders = c.with_sources.result }))) c.self.view_is (ok_loaded c.self.inside c.in-Some.mesh (sym c.take.ensures.value ∙ c.in-Some.is) c.self.invariant c.args.number c.args.plan.now (subst (λ (x : Host). MayLoad x c.args.plan.now) (sym c.self.view_is) c.requires) c.deref_mut.result.now c.deref_mut.ensures.value (ap (λ (x : Host). is_loaded x.apps c.args.number) c.self.view_is ∙ (sym c.loaded.ensures ∙ c.if-loaded.false)) c.join-mesh.new.regions c.in-Ok.app c.join-mesh.result.0 (IfOk-at_ok (λ (a : LoadedApp). IsServedApp c.in-Some.mesh.setup.machine c.deref_mut.result.now c.args.number c.self.inside.packets c.args.plan.now a c.join-mesh.new.regions) c.in-Ok.is c.join-mesh.ensures.served) (IfOk-at_ok (λ (a : LoadedApp). IsSettled a c.in-Some.mesh c.join-mesh.result.0) c.in-Ok.is c.join-mesh.ensures.settled) (record { mesh = c.put.new.held; regions = with_items c.self.inside.regions c.join-mesh.new.regions; apps = c.add.new.apps; packets = c.self.inside.packets + c.len.result; numbers = c.add.new.numbers; senders = c.with_sources.result }) c.put.ensures (with_items_is c.self.inside.regions c.join-mesh.new.regions (let a = c.join-mesh.auto.regions in let b = ap length c.deref_mut.ensures.value in let d = c.self.inside.regions.ok in omega (arith, a, b, d))) (c.add.ensures.apps ∙ ap (λ (l : List LoadedApp). l ++ c.in-Ok.app ∷ []) c.reserve_one.ensures.apps) (ap (λ n. c.self.inside.packets + n) (c.len.ensures ∙ ap (λ (p : AppPlan). length p.packets) (IfOk-at_ok (λ (a : LoadedApp). IsServedApp c.in-Some.mesh.setup.machine c.deref_mut.result.now c.args.number c.self.inside.packets c.args.plan.now a c.join-mesh.new.regions) c.in-Ok.is c.join-mesh.ensures.served).plan_is)))
 
 pub returns-in-Ok-clause-apps : goal.returns-in-Ok-clause-apps
-returns-in-Ok-clause-apps c = ok_apps c.self.inside c.in-Some.mesh (sym c.take.ensures.value ∙ c.in-Some.is) c.self.invariant c.args.number c.args.plan.now (subst (λ (x : Host). MayLoad x c.args.plan.now) (sym c.self.view_is) c.requires) c.deref_mut.result.now c.deref_mut.ensures.value (ap (λ (x : Host). is_loaded x.apps c.args.number) c.self.view_is ∙ (sym c.loaded.ensures ∙ c.if-loaded.false)) c.join-mesh.new.regions c.in-Ok.app c.join-mesh.result.0 (IfOk-at_ok (λ (a : LoadedApp). IsServedApp c.in-Some.mesh.setup.machine c.deref_mut.result.now c.args.number c.self.inside.packets c.args.plan.now a c.join-mesh.new.regions) c.in-Ok.is c.join-mesh.ensures.served) (IfOk-at_ok (λ (a : LoadedApp). IsSettled a c.in-Some.mesh c.join-mesh.result.0) c.in-Ok.is c.join-mesh.ensures.settled) (record { mesh = c.put.new.held; regions = with_items c.self.inside.regions c.join-mesh.new.regions; apps = c.push_reserved.new.self; packets = c.self.inside.packets + c.len.result; taken = with_items c.self.inside.taken c.mark_spots.new.taken; senders = c.with_sources.result }) c.put.ensures (with_items_is c.self.inside.regions c.join-mesh.new.regions (let a = c.join-mesh.auto.regions in let b = ap length c.deref_mut.ensures.value in let d = c.self.inside.regions.ok in omega (arith, a, b, d))) (c.push_reserved.ensures.items ∙ ap (λ (l : List LoadedApp). l ++ c.in-Ok.app ∷ []) c.reserve.ensures.items) (ap (λ n. c.self.inside.packets + n) (c.len.ensures ∙ ap (λ (p : AppPlan). length p.packets) (IfOk-at_ok (λ (a : LoadedApp). IsServedApp c.in-Some.mesh.setup.machine c.deref_mut.result.now c.args.number c.self.inside.packets c.args.plan.now a c.join-mesh.new.regions) c.in-Ok.is c.join-mesh.ensures.served).plan_is))
+returns-in-Ok-clause-apps c = ok_apps c.self.inside c.in-Some.mesh (sym c.take.ensures.value ∙ c.in-Some.is) c.self.invariant c.args.number c.args.plan.now (subst (λ (x : Host). MayLoad x c.args.plan.now) (sym c.self.view_is) c.requires) c.deref_mut.result.now c.deref_mut.ensures.value (ap (λ (x : Host). is_loaded x.apps c.args.number) c.self.view_is ∙ (sym c.loaded.ensures ∙ c.if-loaded.false)) c.join-mesh.new.regions c.in-Ok.app c.join-mesh.result.0 (IfOk-at_ok (λ (a : LoadedApp). IsServedApp c.in-Some.mesh.setup.machine c.deref_mut.result.now c.args.number c.self.inside.packets c.args.plan.now a c.join-mesh.new.regions) c.in-Ok.is c.join-mesh.ensures.served) (IfOk-at_ok (λ (a : LoadedApp). IsSettled a c.in-Some.mesh c.join-mesh.result.0) c.in-Ok.is c.join-mesh.ensures.settled) (record { mesh = c.put.new.held; regions = with_items c.self.inside.regions c.join-mesh.new.regions; apps = c.add.new.apps; packets = c.self.inside.packets + c.len.result; numbers = c.add.new.numbers; senders = c.with_sources.result }) c.put.ensures (with_items_is c.self.inside.regions c.join-mesh.new.regions (let a = c.join-mesh.auto.regions in let b = ap length c.deref_mut.ensures.value in let d = c.self.inside.regions.ok in omega (arith, a, b, d))) (c.add.ensures.apps ∙ ap (λ (l : List LoadedApp). l ++ c.in-Ok.app ∷ []) c.reserve_one.ensures.apps) (ap (λ n. c.self.inside.packets + n) (c.len.ensures ∙ ap (λ (p : AppPlan). length p.packets) (IfOk-at_ok (λ (a : LoadedApp). IsServedApp c.in-Some.mesh.setup.machine c.deref_mut.result.now c.args.number c.self.inside.packets c.args.plan.now a c.join-mesh.new.regions) c.in-Ok.is c.join-mesh.ensures.served).plan_is))
 
 pub returns-in-Err-clause-why : goal.returns-in-Err-clause-why
 returns-in-Err-clause-why c =
@@ -98,7 +92,7 @@ returns-in-Err-clause-why c =
     (err_why c.self.inside c.in-Some.mesh (sym c.take.ensures.value ∙ c.in-Some.is) c.self.invariant c.args.number c.args.plan.now (subst (λ (x : Host). MayLoad x c.args.plan.now) (sym c.self.view_is) c.requires) c.deref_mut.result.now c.deref_mut.ensures.value (ap (λ (x : Host). is_loaded x.apps c.args.number) c.self.view_is ∙ (sym c.loaded.ensures ∙ c.if-loaded.false)) c.in-Err.refusal (IfErr-at_err (IsDueAlways (claims_of c.in-Some.mesh.setup.machine c.args.plan.now) c.deref_mut.result.now) c.in-Err.is c.join-mesh.ensures.due))
 
 pub returns-in-Err-clause-refused : goal.returns-in-Err-clause-refused
-returns-in-Err-clause-refused c = err_same c.self.inside c.in-Some.mesh (sym c.take.ensures.value ∙ c.in-Some.is) c.self.invariant c.args.number c.args.plan.now (subst (λ (x : Host). MayLoad x c.args.plan.now) (sym c.self.view_is) c.requires) c.deref_mut.result.now c.deref_mut.ensures.value (record { mesh = c.put-in-Err.new.held; regions = with_items c.self.inside.regions c.join-mesh.new.regions; apps = c.reserve.new.self; packets = c.self.inside.packets; taken = c.self.inside.taken; senders = c.self.inside.senders }) c.join-mesh.result.0 (on_err (c.join-mesh.result.0 ≡ c.in-Some.mesh) c.join-mesh.result.1 c.in-Err.refusal c.in-Err.is c.join-mesh.ensures.mesh_refused) c.join-mesh.new.regions (on_err ((m : Description) (taken : List Range) → AllPairs ShareNoPlace taken → AreFreeBeside m taken (frees c.deref_mut.result.now) → AreFreeBeside m taken (frees c.join-mesh.new.regions)) c.join-mesh.result.1 c.in-Err.refusal c.in-Err.is c.join-mesh.ensures.back) c.put-in-Err.ensures (with_items_is c.self.inside.regions c.join-mesh.new.regions (let a = c.join-mesh.auto.regions in let b = ap length c.deref_mut.ensures.value in let d = c.self.inside.regions.ok in omega (arith, a, b, d))) c.reserve.ensures.items refl ∙ c.self.view_is
+returns-in-Err-clause-refused c = err_same c.self.inside c.in-Some.mesh (sym c.take.ensures.value ∙ c.in-Some.is) c.self.invariant c.args.number c.args.plan.now (subst (λ (x : Host). MayLoad x c.args.plan.now) (sym c.self.view_is) c.requires) c.deref_mut.result.now c.deref_mut.ensures.value (record { mesh = c.put-in-Err.new.held; regions = with_items c.self.inside.regions c.join-mesh.new.regions; apps = c.reserve_one.new.apps; packets = c.self.inside.packets; numbers = c.reserve_one.new.numbers; senders = c.self.inside.senders }) c.join-mesh.result.0 (on_err (c.join-mesh.result.0 ≡ c.in-Some.mesh) c.join-mesh.result.1 c.in-Err.refusal c.in-Err.is c.join-mesh.ensures.mesh_refused) c.join-mesh.new.regions (on_err ((m : Description) (taken : List Range) → AllPairs ShareNoPlace taken → AreFreeBeside m taken (frees c.deref_mut.result.now) → AreFreeBeside m taken (frees c.join-mesh.new.regions)) c.join-mesh.result.1 c.in-Err.refusal c.in-Err.is c.join-mesh.ensures.back) c.put-in-Err.ensures (with_items_is c.self.inside.regions c.join-mesh.new.regions (let a = c.join-mesh.auto.regions in let b = ap length c.deref_mut.ensures.value in let d = c.self.inside.regions.ok in omega (arith, a, b, d))) c.reserve_one.ensures.apps refl ∙ c.self.view_is
 
 pub returns-in-Err-clause-apps : goal.returns-in-Err-clause-apps
-returns-in-Err-clause-apps c = subst AreApps (sym (err_same c.self.inside c.in-Some.mesh (sym c.take.ensures.value ∙ c.in-Some.is) c.self.invariant c.args.number c.args.plan.now (subst (λ (x : Host). MayLoad x c.args.plan.now) (sym c.self.view_is) c.requires) c.deref_mut.result.now c.deref_mut.ensures.value (record { mesh = c.put-in-Err.new.held; regions = with_items c.self.inside.regions c.join-mesh.new.regions; apps = c.reserve.new.self; packets = c.self.inside.packets; taken = c.self.inside.taken; senders = c.self.inside.senders }) c.join-mesh.result.0 (on_err (c.join-mesh.result.0 ≡ c.in-Some.mesh) c.join-mesh.result.1 c.in-Err.refusal c.in-Err.is c.join-mesh.ensures.mesh_refused) c.join-mesh.new.regions (on_err ((m : Description) (taken : List Range) → AllPairs ShareNoPlace taken → AreFreeBeside m taken (frees c.deref_mut.result.now) → AreFreeBeside m taken (frees c.join-mesh.new.regions)) c.join-mesh.result.1 c.in-Err.refusal c.in-Err.is c.join-mesh.ensures.back) c.put-in-Err.ensures (with_items_is c.self.inside.regions c.join-mesh.new.regions (let a = c.join-mesh.auto.regions in let b = ap length c.deref_mut.ensures.value in let d = c.self.inside.regions.ok in omega (arith, a, b, d))) c.reserve.ensures.items refl)) c.self.invariant.apps
+returns-in-Err-clause-apps c = subst AreApps (sym (err_same c.self.inside c.in-Some.mesh (sym c.take.ensures.value ∙ c.in-Some.is) c.self.invariant c.args.number c.args.plan.now (subst (λ (x : Host). MayLoad x c.args.plan.now) (sym c.self.view_is) c.requires) c.deref_mut.result.now c.deref_mut.ensures.value (record { mesh = c.put-in-Err.new.held; regions = with_items c.self.inside.regions c.join-mesh.new.regions; apps = c.reserve_one.new.apps; packets = c.self.inside.packets; numbers = c.reserve_one.new.numbers; senders = c.self.inside.senders }) c.join-mesh.result.0 (on_err (c.join-mesh.result.0 ≡ c.in-Some.mesh) c.join-mesh.result.1 c.in-Err.refusal c.in-Err.is c.join-mesh.ensures.mesh_refused) c.join-mesh.new.regions (on_err ((m : Description) (taken : List Range) → AllPairs ShareNoPlace taken → AreFreeBeside m taken (frees c.deref_mut.result.now) → AreFreeBeside m taken (frees c.join-mesh.new.regions)) c.join-mesh.result.1 c.in-Err.refusal c.in-Err.is c.join-mesh.ensures.back) c.put-in-Err.ensures (with_items_is c.self.inside.regions c.join-mesh.new.regions (let a = c.join-mesh.auto.regions in let b = ap length c.deref_mut.ensures.value in let d = c.self.inside.regions.ok in omega (arith, a, b, d))) c.reserve_one.ensures.apps refl)) c.self.invariant.apps

@@ -1,6 +1,7 @@
-use Rattle.std.proofs.Common.{refl}
+use Rattle.std.proofs.Common.{◌∙◌, ap, refl, sym}
+use Rattle.app_loads.specs.Inner.{numbers_of}
 use Rattle.app_loads.specs.Taking.{frees}
-use Rattle.app_loads.proofs.Bare.{made_apps, made_taken}
+use Rattle.app_loads.proofs.Bare.{made_apps}
 use Rattle.app_loads.proofs.apps.Apps.new.Goals as goal
 
 pub invariant_of-result : goal.invariant_of-result
@@ -8,7 +9,7 @@ invariant_of-result c = record {
   there = refl;
   apps = made_apps c.args.machine.now c.args.queue c.in_ok-mesh.mesh (frees c.in_ok-regions.regions.items) c.new.result.items c.in_ok-mesh.ensures.bare c.in_ok-regions.ensures c.new.ensures.items
       c.in_ok-mesh.ensures.valid;
-  taken = made_taken c.args.machine.now c.args.queue c.in_ok-mesh.mesh c.new.result.items c.in_ok-taken.taken.items c.in_ok-mesh.ensures.bare c.new.ensures.items c.in_ok-taken.ensures;
+  numbers = c.new-2.ensures.items ∙ ap numbers_of (sym c.new.ensures.items);
   rest = tt;
 }
 

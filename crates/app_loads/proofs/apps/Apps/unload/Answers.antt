@@ -3,7 +3,6 @@ use Rattle.std.specs.Prelude.{position}
 use Rattle.std.specs.Vec.{with_items}
 use Rattle.std.proofs.lemmas.List.{with_items_is}
 use Rattle.std.proofs.lemmas.Result.{IfOk-at_ok, IfErr-at_err}
-use Rattle.mesh_core.specs.State.{State}
 use Rattle.app_loads.specs.declared.answers.Ended.{Ended}
 use Rattle.app_loads.specs.declared.loaded.LoadedApp.{LoadedApp}
 use Rattle.app_loads.specs.declared.loaded.Range.{Range}
@@ -15,7 +14,7 @@ use Rattle.app_loads.specs.Regions.{AreFreeBeside}
 use Rattle.app_loads.specs.Removing.{HasLeft, IsWhyHere}
 use Rattle.app_loads.specs.Taking.{AreTaken, frees}
 use Rattle.app_loads.specs.Unloading.{HasUnloaded, IsWhyNotUnloaded, NoneWaits}
-use Rattle.app_loads.proofs.LeftParts.{can_leave, gone, not_loaded, ok_apps, ok_host, ok_none, ok_unloaded, on_ok_is, senders_known, spots_inside, spots_numbered, stays_host, stays_same, table_long, why_stays}
+use Rattle.app_loads.proofs.LeftParts.{can_leave, not_loaded, ok_apps, ok_host, ok_none, ok_unloaded, on_ok_is, senders_known, stays_host, stays_same, why_stays}
 use Rattle.app_loads.proofs.LoadedParts.{never_none, on_err}
 use Rattle.app_loads.proofs.apps.Apps.unload.Goals as goal
 
@@ -37,33 +36,26 @@ returns-in_default-take-clause-refused c = absurd (never_none c.self.inside.mesh
 pub returns-in_default-take-clause-apps : goal.returns-in_default-take-clause-apps
 returns-in_default-take-clause-apps c = absurd (never_none c.self.inside.mesh c.take.result c.self.invariant.there c.take.ensures.value c.in_default-take.is)
 
-pub mark_spots-requires : goal.mark_spots-requires
-mark_spots-requires c = record {
-  long = table_long c.self.inside c.in-Some-take.mesh (sym c.take.ensures.value ∙ c.in-Some-take.is) c.self.invariant c.args.number c.in-Some.at (ap (λ (x : Host). position (λ (app : LoadedApp). app.number == c.args.number) x.apps) c.self.view_is ∙ (sym c.place_of.ensures ∙ c.in-Some.is)) c.index.result.now c.index.ensures c.deref_mut.result.now c.deref_mut.ensures.value c.machine.result.now (c.machine.ensures ∙ ap (λ (s : State). s.setup.machine) (IfOk-at_ok (λ (e : Ended). HasLeft c.index.result.now c.in-Some-take.mesh e c.leave-mesh.result.0) c.in-Ok.is c.leave-mesh.ensures.left).mesh) c.deref_mut-in-Ok.result.now c.deref_mut-in-Ok.ensures.value;
-  inside = spots_inside c.self.inside c.in-Some-take.mesh (sym c.take.ensures.value ∙ c.in-Some-take.is) c.self.invariant c.args.number c.in-Some.at (ap (λ (x : Host). position (λ (app : LoadedApp). app.number == c.args.number) x.apps) c.self.view_is ∙ (sym c.place_of.ensures ∙ c.in-Some.is)) c.index.result.now c.index.ensures c.deref_mut.result.now c.deref_mut.ensures.value c.machine.result.now (c.machine.ensures ∙ ap (λ (s : State). s.setup.machine) (IfOk-at_ok (λ (e : Ended). HasLeft c.index.result.now c.in-Some-take.mesh e c.leave-mesh.result.0) c.in-Ok.is c.leave-mesh.ensures.left).mesh) c.as_slice.result.now (c.as_slice.ensures ∙ ap (λ (a : LoadedApp). a.plan.spots) (gone c.self.inside c.in-Some-take.mesh (sym c.take.ensures.value ∙ c.in-Some-take.is) c.self.invariant c.args.number c.in-Some.at (ap (λ (x : Host). position (λ (app : LoadedApp). app.number == c.args.number) x.apps) c.self.view_is ∙ (sym c.place_of.ensures ∙ c.in-Some.is)) c.index.result.now c.index.ensures c.deref_mut.result.now c.deref_mut.ensures.value c.remove-app.result c.remove-app.ensures.value));
-  numbered = spots_numbered c.self.inside c.in-Some-take.mesh (sym c.take.ensures.value ∙ c.in-Some-take.is) c.self.invariant c.args.number c.in-Some.at (ap (λ (x : Host). position (λ (app : LoadedApp). app.number == c.args.number) x.apps) c.self.view_is ∙ (sym c.place_of.ensures ∙ c.in-Some.is)) c.index.result.now c.index.ensures c.deref_mut.result.now c.deref_mut.ensures.value c.as_slice.result.now (c.as_slice.ensures ∙ ap (λ (a : LoadedApp). a.plan.spots) (gone c.self.inside c.in-Some-take.mesh (sym c.take.ensures.value ∙ c.in-Some-take.is) c.self.invariant c.args.number c.in-Some.at (ap (λ (x : Host). position (λ (app : LoadedApp). app.number == c.args.number) x.apps) c.self.view_is ∙ (sym c.place_of.ensures ∙ c.in-Some.is)) c.index.result.now c.index.ensures c.deref_mut.result.now c.deref_mut.ensures.value c.remove-app.result c.remove-app.ensures.value));
-}
-
 pub invariant_of-self-in-Ok : goal.invariant_of-self-in-Ok
-invariant_of-self-in-Ok c = ok_host c.self.inside c.in-Some-take.mesh (sym c.take.ensures.value ∙ c.in-Some-take.is) c.self.invariant c.args.number c.in-Some.at (ap (λ (x : Host). position (λ (app : LoadedApp). app.number == c.args.number) x.apps) c.self.view_is ∙ (sym c.place_of.ensures ∙ c.in-Some.is)) c.index.result.now c.index.ensures c.deref_mut.result.now c.deref_mut.ensures.value c.leave-mesh.new.regions (on_ok_is ((others : List Range) → AreTaken c.in-Some-take.mesh.setup.machine others c.index.result.now.ranges c.deref_mut.result.now → AreFreeBeside c.in-Some-take.mesh.setup.machine others (frees c.leave-mesh.new.regions)) c.leave-mesh.result.1 c.in-Ok.ended c.in-Ok.is c.leave-mesh.ensures.given) c.in-Ok.ended c.leave-mesh.result.0 (IfOk-at_ok (λ (e : Ended). HasLeft c.index.result.now c.in-Some-take.mesh e c.leave-mesh.result.0) c.in-Ok.is c.leave-mesh.ensures.left) (on_ok_is (NoneUnderWay c.in-Some-take.mesh c.index.result.now) c.leave-mesh.result.1 c.in-Ok.ended c.in-Ok.is c.leave-mesh.ensures.none) (record { mesh = c.put.new.held; regions = with_items c.self.inside.regions c.leave-mesh.new.regions; apps = c.remove-app.new.self; packets = c.self.inside.packets; taken = with_items c.self.inside.taken c.mark_spots.new.taken; senders = c.self.inside.senders }) c.put.ensures (with_items_is c.self.inside.regions c.leave-mesh.new.regions (let a = c.leave-mesh.auto.regions in let b = ap length c.deref_mut.ensures.value in let d = c.self.inside.regions.ok in omega (arith, a, b, d))) c.remove-app.ensures.items refl c.machine.result.now c.deref_mut-in-Ok.result.now c.mark_spots.new.taken c.as_slice.result.now (c.machine.ensures ∙ ap (λ (s : State). s.setup.machine) (IfOk-at_ok (λ (e : Ended). HasLeft c.index.result.now c.in-Some-take.mesh e c.leave-mesh.result.0) c.in-Ok.is c.leave-mesh.ensures.left).mesh) c.deref_mut-in-Ok.ensures.value (c.as_slice.ensures ∙ ap (λ (a : LoadedApp). a.plan.spots) (gone c.self.inside c.in-Some-take.mesh (sym c.take.ensures.value ∙ c.in-Some-take.is) c.self.invariant c.args.number c.in-Some.at (ap (λ (x : Host). position (λ (app : LoadedApp). app.number == c.args.number) x.apps) c.self.view_is ∙ (sym c.place_of.ensures ∙ c.in-Some.is)) c.index.result.now c.index.ensures c.deref_mut.result.now c.deref_mut.ensures.value c.remove-app.result c.remove-app.ensures.value)) c.mark_spots.ensures (with_items_is c.self.inside.taken c.mark_spots.new.taken (let a = c.mark_spots.ensures.long in let b = ap length c.deref_mut-in-Ok.ensures.value in let d = c.self.inside.taken.ok in omega (arith, a, b, d))) refl
+invariant_of-self-in-Ok c = ok_host c.self.inside c.in-Some-take.mesh (sym c.take.ensures.value ∙ c.in-Some-take.is) c.self.invariant c.args.number c.in-Some.at (ap (λ (x : Host). position (λ (app : LoadedApp). app.number == c.args.number) x.apps) c.self.view_is ∙ (sym c.place_of.ensures ∙ c.in-Some.is)) c.index.result.now c.index.ensures c.deref_mut.result.now c.deref_mut.ensures.value c.leave-mesh.new.regions (on_ok_is ((others : List Range) → AreTaken c.in-Some-take.mesh.setup.machine others c.index.result.now.ranges c.deref_mut.result.now → AreFreeBeside c.in-Some-take.mesh.setup.machine others (frees c.leave-mesh.new.regions)) c.leave-mesh.result.1 c.in-Ok.ended c.in-Ok.is c.leave-mesh.ensures.given) c.in-Ok.ended c.leave-mesh.result.0 (IfOk-at_ok (λ (e : Ended). HasLeft c.index.result.now c.in-Some-take.mesh e c.leave-mesh.result.0) c.in-Ok.is c.leave-mesh.ensures.left) (on_ok_is (NoneUnderWay c.in-Some-take.mesh c.index.result.now) c.leave-mesh.result.1 c.in-Ok.ended c.in-Ok.is c.leave-mesh.ensures.none) (record { mesh = c.put.new.held; regions = with_items c.self.inside.regions c.leave-mesh.new.regions; apps = c.take_out.new.apps; packets = c.self.inside.packets; numbers = c.take_out.new.numbers; senders = c.self.inside.senders }) c.put.ensures (with_items_is c.self.inside.regions c.leave-mesh.new.regions (let a = c.leave-mesh.auto.regions in let b = ap length c.deref_mut.ensures.value in let d = c.self.inside.regions.ok in omega (arith, a, b, d))) c.take_out.ensures.apps refl c.take_out.ensures.numbers refl
 
 pub invariant_of-self-in-Err : goal.invariant_of-self-in-Err
-invariant_of-self-in-Err c = stays_host c.self.inside c.in-Some-take.mesh (sym c.take.ensures.value ∙ c.in-Some-take.is) c.self.invariant c.args.number c.in-Some.at (ap (λ (x : Host). position (λ (app : LoadedApp). app.number == c.args.number) x.apps) c.self.view_is ∙ (sym c.place_of.ensures ∙ c.in-Some.is)) c.index.result.now c.index.ensures c.deref_mut.result.now c.deref_mut.ensures.value (record { mesh = c.put-in-Err.new.held; regions = with_items c.self.inside.regions c.leave-mesh.new.regions; apps = c.self.inside.apps; packets = c.self.inside.packets; taken = c.self.inside.taken; senders = c.self.inside.senders }) c.leave-mesh.result.0 (on_err (c.leave-mesh.result.0 ≡ c.in-Some-take.mesh) c.leave-mesh.result.1 c.in-Err.cause c.in-Err.is c.leave-mesh.ensures.mesh_refused) c.leave-mesh.new.regions (on_err (frees c.leave-mesh.new.regions ≡ frees c.deref_mut.result.now) c.leave-mesh.result.1 c.in-Err.cause c.in-Err.is c.leave-mesh.ensures.back) c.put-in-Err.ensures (with_items_is c.self.inside.regions c.leave-mesh.new.regions (let a = c.leave-mesh.auto.regions in let b = ap length c.deref_mut.ensures.value in let d = c.self.inside.regions.ok in omega (arith, a, b, d))) refl refl refl refl
+invariant_of-self-in-Err c = stays_host c.self.inside c.in-Some-take.mesh (sym c.take.ensures.value ∙ c.in-Some-take.is) c.self.invariant c.args.number c.in-Some.at (ap (λ (x : Host). position (λ (app : LoadedApp). app.number == c.args.number) x.apps) c.self.view_is ∙ (sym c.place_of.ensures ∙ c.in-Some.is)) c.index.result.now c.index.ensures c.deref_mut.result.now c.deref_mut.ensures.value (record { mesh = c.put-in-Err.new.held; regions = with_items c.self.inside.regions c.leave-mesh.new.regions; apps = c.self.inside.apps; packets = c.self.inside.packets; numbers = c.self.inside.numbers; senders = c.self.inside.senders }) c.leave-mesh.result.0 (on_err (c.leave-mesh.result.0 ≡ c.in-Some-take.mesh) c.leave-mesh.result.1 c.in-Err.cause c.in-Err.is c.leave-mesh.ensures.mesh_refused) c.leave-mesh.new.regions (on_err (frees c.leave-mesh.new.regions ≡ frees c.deref_mut.result.now) c.leave-mesh.result.1 c.in-Err.cause c.in-Err.is c.leave-mesh.ensures.back) c.put-in-Err.ensures (with_items_is c.self.inside.regions c.leave-mesh.new.regions (let a = c.leave-mesh.auto.regions in let b = ap length c.deref_mut.ensures.value in let d = c.self.inside.regions.ok in omega (arith, a, b, d))) refl refl refl refl
 
 pub returns-in-Ok-clause-unloaded : goal.returns-in-Ok-clause-unloaded
-returns-in-Ok-clause-unloaded c = subst (λ (x : Host). HasUnloaded x c.args.number c.in-Ok.ended (host_of (record { mesh = c.put.new.held; regions = with_items c.self.inside.regions c.leave-mesh.new.regions; apps = c.remove-app.new.self; packets = c.self.inside.packets; taken = with_items c.self.inside.taken c.mark_spots.new.taken; senders = c.self.inside.senders }))) c.self.view_is (ok_unloaded c.self.inside c.in-Some-take.mesh (sym c.take.ensures.value ∙ c.in-Some-take.is) c.self.invariant c.args.number c.in-Some.at (ap (λ (x : Host). position (λ (app : LoadedApp). app.number == c.args.number) x.apps) c.self.view_is ∙ (sym c.place_of.ensures ∙ c.in-Some.is)) c.index.result.now c.index.ensures c.deref_mut.result.now c.deref_mut.ensures.value c.leave-mesh.new.regions (on_ok_is ((others : List Range) → AreTaken c.in-Some-take.mesh.setup.machine others c.index.result.now.ranges c.deref_mut.result.now → AreFreeBeside c.in-Some-take.mesh.setup.machine others (frees c.leave-mesh.new.regions)) c.leave-mesh.result.1 c.in-Ok.ended c.in-Ok.is c.leave-mesh.ensures.given) c.in-Ok.ended c.leave-mesh.result.0 (IfOk-at_ok (λ (e : Ended). HasLeft c.index.result.now c.in-Some-take.mesh e c.leave-mesh.result.0) c.in-Ok.is c.leave-mesh.ensures.left) (on_ok_is (NoneUnderWay c.in-Some-take.mesh c.index.result.now) c.leave-mesh.result.1 c.in-Ok.ended c.in-Ok.is c.leave-mesh.ensures.none) (record { mesh = c.put.new.held; regions = with_items c.self.inside.regions c.leave-mesh.new.regions; apps = c.remove-app.new.self; packets = c.self.inside.packets; taken = with_items c.self.inside.taken c.mark_spots.new.taken; senders = c.self.inside.senders }) c.put.ensures (with_items_is c.self.inside.regions c.leave-mesh.new.regions (let a = c.leave-mesh.auto.regions in let b = ap length c.deref_mut.ensures.value in let d = c.self.inside.regions.ok in omega (arith, a, b, d))) c.remove-app.ensures.items refl)
+returns-in-Ok-clause-unloaded c = subst (λ (x : Host). HasUnloaded x c.args.number c.in-Ok.ended (host_of (record { mesh = c.put.new.held; regions = with_items c.self.inside.regions c.leave-mesh.new.regions; apps = c.take_out.new.apps; packets = c.self.inside.packets; numbers = c.take_out.new.numbers; senders = c.self.inside.senders }))) c.self.view_is (ok_unloaded c.self.inside c.in-Some-take.mesh (sym c.take.ensures.value ∙ c.in-Some-take.is) c.self.invariant c.args.number c.in-Some.at (ap (λ (x : Host). position (λ (app : LoadedApp). app.number == c.args.number) x.apps) c.self.view_is ∙ (sym c.place_of.ensures ∙ c.in-Some.is)) c.index.result.now c.index.ensures c.deref_mut.result.now c.deref_mut.ensures.value c.leave-mesh.new.regions (on_ok_is ((others : List Range) → AreTaken c.in-Some-take.mesh.setup.machine others c.index.result.now.ranges c.deref_mut.result.now → AreFreeBeside c.in-Some-take.mesh.setup.machine others (frees c.leave-mesh.new.regions)) c.leave-mesh.result.1 c.in-Ok.ended c.in-Ok.is c.leave-mesh.ensures.given) c.in-Ok.ended c.leave-mesh.result.0 (IfOk-at_ok (λ (e : Ended). HasLeft c.index.result.now c.in-Some-take.mesh e c.leave-mesh.result.0) c.in-Ok.is c.leave-mesh.ensures.left) (on_ok_is (NoneUnderWay c.in-Some-take.mesh c.index.result.now) c.leave-mesh.result.1 c.in-Ok.ended c.in-Ok.is c.leave-mesh.ensures.none) (record { mesh = c.put.new.held; regions = with_items c.self.inside.regions c.leave-mesh.new.regions; apps = c.take_out.new.apps; packets = c.self.inside.packets; numbers = c.take_out.new.numbers; senders = c.self.inside.senders }) c.put.ensures (with_items_is c.self.inside.regions c.leave-mesh.new.regions (let a = c.leave-mesh.auto.regions in let b = ap length c.deref_mut.ensures.value in let d = c.self.inside.regions.ok in omega (arith, a, b, d))) c.take_out.ensures.apps refl)
 
 pub returns-in-Ok-clause-none_waits : goal.returns-in-Ok-clause-none_waits
 returns-in-Ok-clause-none_waits c = subst (λ (x : Host). NoneWaits x c.args.number) c.self.view_is (ok_none c.self.inside c.in-Some-take.mesh (sym c.take.ensures.value ∙ c.in-Some-take.is) c.self.invariant c.args.number c.in-Some.at (ap (λ (x : Host). position (λ (app : LoadedApp). app.number == c.args.number) x.apps) c.self.view_is ∙ (sym c.place_of.ensures ∙ c.in-Some.is)) c.index.result.now c.index.ensures c.deref_mut.result.now c.deref_mut.ensures.value (on_ok_is (NoneUnderWay c.in-Some-take.mesh c.index.result.now) c.leave-mesh.result.1 c.in-Ok.ended c.in-Ok.is c.leave-mesh.ensures.none))
 
 pub returns-in-Ok-clause-apps : goal.returns-in-Ok-clause-apps
-returns-in-Ok-clause-apps c = ok_apps c.self.inside c.in-Some-take.mesh (sym c.take.ensures.value ∙ c.in-Some-take.is) c.self.invariant c.args.number c.in-Some.at (ap (λ (x : Host). position (λ (app : LoadedApp). app.number == c.args.number) x.apps) c.self.view_is ∙ (sym c.place_of.ensures ∙ c.in-Some.is)) c.index.result.now c.index.ensures c.deref_mut.result.now c.deref_mut.ensures.value c.leave-mesh.new.regions (on_ok_is ((others : List Range) → AreTaken c.in-Some-take.mesh.setup.machine others c.index.result.now.ranges c.deref_mut.result.now → AreFreeBeside c.in-Some-take.mesh.setup.machine others (frees c.leave-mesh.new.regions)) c.leave-mesh.result.1 c.in-Ok.ended c.in-Ok.is c.leave-mesh.ensures.given) c.in-Ok.ended c.leave-mesh.result.0 (IfOk-at_ok (λ (e : Ended). HasLeft c.index.result.now c.in-Some-take.mesh e c.leave-mesh.result.0) c.in-Ok.is c.leave-mesh.ensures.left) (on_ok_is (NoneUnderWay c.in-Some-take.mesh c.index.result.now) c.leave-mesh.result.1 c.in-Ok.ended c.in-Ok.is c.leave-mesh.ensures.none) (record { mesh = c.put.new.held; regions = with_items c.self.inside.regions c.leave-mesh.new.regions; apps = c.remove-app.new.self; packets = c.self.inside.packets; taken = with_items c.self.inside.taken c.mark_spots.new.taken; senders = c.self.inside.senders }) c.put.ensures (with_items_is c.self.inside.regions c.leave-mesh.new.regions (let a = c.leave-mesh.auto.regions in let b = ap length c.deref_mut.ensures.value in let d = c.self.inside.regions.ok in omega (arith, a, b, d))) c.remove-app.ensures.items refl
+returns-in-Ok-clause-apps c = ok_apps c.self.inside c.in-Some-take.mesh (sym c.take.ensures.value ∙ c.in-Some-take.is) c.self.invariant c.args.number c.in-Some.at (ap (λ (x : Host). position (λ (app : LoadedApp). app.number == c.args.number) x.apps) c.self.view_is ∙ (sym c.place_of.ensures ∙ c.in-Some.is)) c.index.result.now c.index.ensures c.deref_mut.result.now c.deref_mut.ensures.value c.leave-mesh.new.regions (on_ok_is ((others : List Range) → AreTaken c.in-Some-take.mesh.setup.machine others c.index.result.now.ranges c.deref_mut.result.now → AreFreeBeside c.in-Some-take.mesh.setup.machine others (frees c.leave-mesh.new.regions)) c.leave-mesh.result.1 c.in-Ok.ended c.in-Ok.is c.leave-mesh.ensures.given) c.in-Ok.ended c.leave-mesh.result.0 (IfOk-at_ok (λ (e : Ended). HasLeft c.index.result.now c.in-Some-take.mesh e c.leave-mesh.result.0) c.in-Ok.is c.leave-mesh.ensures.left) (on_ok_is (NoneUnderWay c.in-Some-take.mesh c.index.result.now) c.leave-mesh.result.1 c.in-Ok.ended c.in-Ok.is c.leave-mesh.ensures.none) (record { mesh = c.put.new.held; regions = with_items c.self.inside.regions c.leave-mesh.new.regions; apps = c.take_out.new.apps; packets = c.self.inside.packets; numbers = c.take_out.new.numbers; senders = c.self.inside.senders }) c.put.ensures (with_items_is c.self.inside.regions c.leave-mesh.new.regions (let a = c.leave-mesh.auto.regions in let b = ap length c.deref_mut.ensures.value in let d = c.self.inside.regions.ok in omega (arith, a, b, d))) c.take_out.ensures.apps refl
 
 pub returns-in-Err-clause-why : goal.returns-in-Err-clause-why
 returns-in-Err-clause-why c = subst (λ (x : Host). IsWhyNotUnloaded x c.args.number c.in-Err.cause) c.self.view_is (why_stays c.self.inside c.in-Some-take.mesh (sym c.take.ensures.value ∙ c.in-Some-take.is) c.self.invariant c.args.number c.in-Some.at (ap (λ (x : Host). position (λ (app : LoadedApp). app.number == c.args.number) x.apps) c.self.view_is ∙ (sym c.place_of.ensures ∙ c.in-Some.is)) c.index.result.now c.index.ensures c.deref_mut.result.now c.deref_mut.ensures.value c.in-Err.cause (IfErr-at_err (IsWhyHere c.in-Some-take.mesh c.index.result.now) c.in-Err.is c.leave-mesh.ensures.why))
 
 pub returns-in-Err-clause-refused : goal.returns-in-Err-clause-refused
-returns-in-Err-clause-refused c = (stays_same c.self.inside c.in-Some-take.mesh (sym c.take.ensures.value ∙ c.in-Some-take.is) c.self.invariant c.args.number c.in-Some.at (ap (λ (x : Host). position (λ (app : LoadedApp). app.number == c.args.number) x.apps) c.self.view_is ∙ (sym c.place_of.ensures ∙ c.in-Some.is)) c.index.result.now c.index.ensures c.deref_mut.result.now c.deref_mut.ensures.value (record { mesh = c.put-in-Err.new.held; regions = with_items c.self.inside.regions c.leave-mesh.new.regions; apps = c.self.inside.apps; packets = c.self.inside.packets; taken = c.self.inside.taken; senders = c.self.inside.senders }) c.leave-mesh.result.0 (on_err (c.leave-mesh.result.0 ≡ c.in-Some-take.mesh) c.leave-mesh.result.1 c.in-Err.cause c.in-Err.is c.leave-mesh.ensures.mesh_refused) c.leave-mesh.new.regions (on_err (frees c.leave-mesh.new.regions ≡ frees c.deref_mut.result.now) c.leave-mesh.result.1 c.in-Err.cause c.in-Err.is c.leave-mesh.ensures.back) c.put-in-Err.ensures (with_items_is c.self.inside.regions c.leave-mesh.new.regions (let a = c.leave-mesh.auto.regions in let b = ap length c.deref_mut.ensures.value in let d = c.self.inside.regions.ok in omega (arith, a, b, d))) refl refl) ∙ c.self.view_is
+returns-in-Err-clause-refused c = (stays_same c.self.inside c.in-Some-take.mesh (sym c.take.ensures.value ∙ c.in-Some-take.is) c.self.invariant c.args.number c.in-Some.at (ap (λ (x : Host). position (λ (app : LoadedApp). app.number == c.args.number) x.apps) c.self.view_is ∙ (sym c.place_of.ensures ∙ c.in-Some.is)) c.index.result.now c.index.ensures c.deref_mut.result.now c.deref_mut.ensures.value (record { mesh = c.put-in-Err.new.held; regions = with_items c.self.inside.regions c.leave-mesh.new.regions; apps = c.self.inside.apps; packets = c.self.inside.packets; numbers = c.self.inside.numbers; senders = c.self.inside.senders }) c.leave-mesh.result.0 (on_err (c.leave-mesh.result.0 ≡ c.in-Some-take.mesh) c.leave-mesh.result.1 c.in-Err.cause c.in-Err.is c.leave-mesh.ensures.mesh_refused) c.leave-mesh.new.regions (on_err (frees c.leave-mesh.new.regions ≡ frees c.deref_mut.result.now) c.leave-mesh.result.1 c.in-Err.cause c.in-Err.is c.leave-mesh.ensures.back) c.put-in-Err.ensures (with_items_is c.self.inside.regions c.leave-mesh.new.regions (let a = c.leave-mesh.auto.regions in let b = ap length c.deref_mut.ensures.value in let d = c.self.inside.regions.ok in omega (arith, a, b, d))) refl refl) ∙ c.self.view_is
 
 pub returns-in-Err-clause-apps : goal.returns-in-Err-clause-apps
-returns-in-Err-clause-apps c = subst AreApps (sym (stays_same c.self.inside c.in-Some-take.mesh (sym c.take.ensures.value ∙ c.in-Some-take.is) c.self.invariant c.args.number c.in-Some.at (ap (λ (x : Host). position (λ (app : LoadedApp). app.number == c.args.number) x.apps) c.self.view_is ∙ (sym c.place_of.ensures ∙ c.in-Some.is)) c.index.result.now c.index.ensures c.deref_mut.result.now c.deref_mut.ensures.value (record { mesh = c.put-in-Err.new.held; regions = with_items c.self.inside.regions c.leave-mesh.new.regions; apps = c.self.inside.apps; packets = c.self.inside.packets; taken = c.self.inside.taken; senders = c.self.inside.senders }) c.leave-mesh.result.0 (on_err (c.leave-mesh.result.0 ≡ c.in-Some-take.mesh) c.leave-mesh.result.1 c.in-Err.cause c.in-Err.is c.leave-mesh.ensures.mesh_refused) c.leave-mesh.new.regions (on_err (frees c.leave-mesh.new.regions ≡ frees c.deref_mut.result.now) c.leave-mesh.result.1 c.in-Err.cause c.in-Err.is c.leave-mesh.ensures.back) c.put-in-Err.ensures (with_items_is c.self.inside.regions c.leave-mesh.new.regions (let a = c.leave-mesh.auto.regions in let b = ap length c.deref_mut.ensures.value in let d = c.self.inside.regions.ok in omega (arith, a, b, d))) refl refl)) c.self.invariant.apps
+returns-in-Err-clause-apps c = subst AreApps (sym (stays_same c.self.inside c.in-Some-take.mesh (sym c.take.ensures.value ∙ c.in-Some-take.is) c.self.invariant c.args.number c.in-Some.at (ap (λ (x : Host). position (λ (app : LoadedApp). app.number == c.args.number) x.apps) c.self.view_is ∙ (sym c.place_of.ensures ∙ c.in-Some.is)) c.index.result.now c.index.ensures c.deref_mut.result.now c.deref_mut.ensures.value (record { mesh = c.put-in-Err.new.held; regions = with_items c.self.inside.regions c.leave-mesh.new.regions; apps = c.self.inside.apps; packets = c.self.inside.packets; numbers = c.self.inside.numbers; senders = c.self.inside.senders }) c.leave-mesh.result.0 (on_err (c.leave-mesh.result.0 ≡ c.in-Some-take.mesh) c.leave-mesh.result.1 c.in-Err.cause c.in-Err.is c.leave-mesh.ensures.mesh_refused) c.leave-mesh.new.regions (on_err (frees c.leave-mesh.new.regions ≡ frees c.deref_mut.result.now) c.leave-mesh.result.1 c.in-Err.cause c.in-Err.is c.leave-mesh.ensures.back) c.put-in-Err.ensures (with_items_is c.self.inside.regions c.leave-mesh.new.regions (let a = c.leave-mesh.auto.regions in let b = ap length c.deref_mut.ensures.value in let d = c.self.inside.regions.ok in omega (arith, a, b, d))) refl refl)) c.self.invariant.apps

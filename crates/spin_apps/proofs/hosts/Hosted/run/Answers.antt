@@ -9,4 +9,5 @@ invariant_of-self c = record {
   machine = ap (λ (s : State). s.setup.machine) c.drain.ensures.moved.mesh.is
       ∙ (ap (λ (u : Setup). u.machine) (setup_after c.self.inside.apps.mesh c.drain.ensures.moved.mesh.events) ∙ c.self.invariant.machine);
   roads = c.self.invariant.roads;
+  unusable = c.self.invariant.unusable;
 }

@@ -7,4 +7,5 @@ invariant_of-self c = record {
   apps = c.unload.ensures.apps;
   machine = machine_after_unload c.unload.result c.self.inside.apps c.unload.new.self c.args.number c.unload.ensures.unloaded c.unload.ensures.refused ∙ c.self.invariant.machine;
   roads = c.self.invariant.roads;
+  unusable = c.self.invariant.unusable;
 }

@@ -1,0 +1,11 @@
+-- The numbers of applications as a list.
+use Rattle.std.proofs.Common.{◌≡◌, ℕ, ◌==◌, ◌||◌, List, [], ◌∷◌, refl, ap}
+use Rattle.std.specs.List.{list_any}
+use Rattle.app_loads.specs.declared.loaded.LoadedApp.{LoadedApp}
+use Rattle.app_loads.specs.Host.{is_loaded}
+use Rattle.app_loads.specs.Inner.{numbers_of}
+
+-- a number is one of the list where it is loaded
+pub any_number : (n : ℕ) (apps : List LoadedApp) → list_any (λ other. other == n) (numbers_of apps) ≡ is_loaded apps n
+any_number n [] = refl
+any_number n (app ∷ apps) = ap (λ b. (app.number == n) || b) (any_number n apps)
