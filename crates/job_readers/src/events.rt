@@ -206,7 +206,7 @@ enum Verb {
     Collect,
 }
 
-// What an event does that begins with a word.
+// What an event does that begins with a word. The words of events at a chip come first, since most events are.
 #[tactic(auto, unfolding(crate::specs::Verbs::verb_named))]
 fn verb_named(word: &str) -> Option<Verb>
     ensures { result ≡ verb_named word.now }

@@ -130,6 +130,7 @@ pub fn may_name(text: &str) -> bool
 fn is_printable(bytes: &[u8]) -> bool
     ensures { result ≡ list_all is_printable_byte bytes.now }
 {
+    // No way out at the first that is not, so that many bytes are compared at once.
     let mut printable = true;
     for byte in bytes {
         printable &= 0x21 <= *byte && *byte <= 0x7e;
