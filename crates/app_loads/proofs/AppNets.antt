@@ -29,7 +29,7 @@ use Rattle.app_loads.specs.Applications.{IsLoadedOn, IsRangeFor}
 use Rattle.app_loads.specs.Claims.{claims_of, IsBlockOf}
 use Rattle.app_loads.specs.Host.{net_with, nets_with, nets_of}
 use Rattle.app_loads.specs.Plans.{IsAppNet, IsSpotBefore}
-use Rattle.app_loads.specs.Regions.{ShareNoPlace, range_has}
+use Rattle.app_loads.specs.Regions.{place_of, ShareNoPlace, range_has}
 use Rattle.app_loads.proofs.Blocks.{block_keys}
 use Rattle.app_loads.proofs.ClaimCases.{facts, same_net, IsKeyClaim}
 
@@ -71,15 +71,15 @@ within_keys : (key keys size index : ℕ) → keys ≤ size → index < keys →
 within_keys key keys size index many below = omega (arith, many, below)
 
 -- the range of a block is one for its claim
-range_of : (claims : List Claim) (ranges : List Range) → AllZip IsRangeFor claims ranges → (j : ℕ) (block : Block) (b : IsBlockOf claims ranges j block) → IsRangeFor b.claim b.range
-range_of claims ranges pairs j block b =
-    let ranged = AllZip-at_first IsRangeFor claims ranges pairs b.at b.claim b.is in
-    subst (IsRangeFor b.claim) (same_Some ranged.0 b.range (sym ranged.1 ∙ b.got)) ranged.2
+range_of : (m : Description) (claims : List Claim) (ranges : List Range) → AllZip (IsRangeFor m) claims ranges → (j : ℕ) (block : Block) (b : IsBlockOf claims ranges j block) → IsRangeFor m b.claim b.range
+range_of m claims ranges pairs j block b =
+    let ranged = AllZip-at_first (IsRangeFor m) claims ranges pairs b.at b.claim b.is in
+    subst (IsRangeFor m b.claim) (same_Some ranged.0 b.range (sym ranged.1 ∙ b.got)) ranged.2
 
 module _ (m : Description) (app : LoadedApp) (loaded : IsLoadedOn m app) where
   -- from the net, its block, and the claim and range of these
   made_of : (j : ℕ) (x : NetPlan) (net : AppNet) (block : Block) → slice_get app.plan.nets j ≡ Some net → slice_get app.blocks j ≡ Some block → net_with net block ≡ x →
-      (b : IsBlockOf (claims_of m app.plan) app.ranges j block) → IsKeyClaim m app.plan loaded.plan b.claim j → IsRangeFor b.claim b.range → NetFacts m app x j
+      (b : IsBlockOf (claims_of m app.plan) app.ranges j block) → IsKeyClaim m app.plan loaded.plan b.claim j → IsRangeFor m b.claim b.range → NetFacts m app x j
   made_of j x net block at_net at_block is b f for =
       let size : b.range.size ≡ 2 ^ f.e = for.1 ∙ f.size in
       let one_net : f.net ≡ net = same_Some f.net net (sym f.is ∙ at_net) in
@@ -96,7 +96,7 @@ module _ (m : Description) (app : LoadedApp) (loaded : IsLoadedOn m app) where
         its = b.its;
         range = b.range;
         got = b.got;
-        region = for.0 ∙ f.region;
+        region = for.0 ∙ ap (place_of m) f.region;
         place = b.key;
         keys = subst (λ s. (k : ℕ) → k < 2 ^ 32 → Matches block k ↔ ((block.key ≤ k) × (k < block.key + s))) (sym size) (block_keys block f.e f.few (ap (λ s. block.mask + s) (sym size) ∙ b.mask));
         enough = subst (λ s. net.keys ≤ s) (sym for.1) (subst (λ (n : AppNet). n.keys ≤ b.claim.size) one_net f.enough);
@@ -107,7 +107,7 @@ module _ (m : Description) (app : LoadedApp) (loaded : IsLoadedOn m app) where
     where
       by_claim : (net : AppNet) (block : Block) → slice_get app.plan.nets j ≡ Some net → slice_get app.blocks j ≡ Some block → net_with net block ≡ x → IsBlockOf (claims_of m app.plan) app.ranges j block → NetFacts m app x j
       by_claim net block at_net at_block is b =
-          made_of j x net block at_net at_block is b ((facts m app.plan loaded.plan b.claim (Contains-at (claims_of m app.plan) b.at b.claim b.is)).keyed j b.its) (range_of (claims_of m app.plan) app.ranges loaded.ranges j block b)
+          made_of j x net block at_net at_block is b ((facts m app.plan loaded.plan b.claim (Contains-at (claims_of m app.plan) b.at b.claim b.is)).keyed j b.its) (range_of m (claims_of m app.plan) app.ranges loaded.ranges j block b)
 
       by_parts : ((net : AppNet) × (block : Block) × (slice_get app.plan.nets j ≡ Some net) × (slice_get app.blocks j ≡ Some block) × (net_with net block ≡ x)) → NetFacts m app x j
       by_parts (net, block, at_net, at_block, is) = by_claim net block at_net at_block is (loaded.blocks.each j block at_block)

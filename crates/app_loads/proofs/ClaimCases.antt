@@ -12,7 +12,7 @@ use Rattle.spin_base.specs.declared.blocks.Block.{Block}
 use Rattle.machine_desc.specs.Description.{Description}
 use Rattle.machine_desc.specs.Live.{index_of, chip_of, IsUsable}
 use Rattle.machine_desc.proofs.Far.{index_below, live_inside}
-use Rattle.machine_desc.proofs.Live.{index_of-chip_of}
+use Rattle.machine_desc.proofs.Live.{chip_of-inside, index_of-chip_of}
 use Rattle.machine_desc.proofs.Sites.{usable_parts}
 use Rattle.key_alloc.specs.KeyBlocks.{size_of}
 use Rattle.app_loads.specs.declared.answers.LoadRefusal.TheVariants.{Loaded, MemoryOut, KeysOut, RowsOut}
@@ -20,8 +20,8 @@ use Rattle.app_loads.specs.declared.loaded.Claim.{Claim}
 use Rattle.app_loads.specs.declared.plans.AppNet.{AppNet}
 use Rattle.app_loads.specs.declared.plans.AppPlan.{AppPlan}
 use Rattle.app_loads.specs.Plans.{IsPlan, IsAppNet}
-use Rattle.app_loads.specs.declared.places.Region.TheVariants.{Memory, Rows}
-use Rattle.app_loads.specs.Regions.{chip_count, keys_place, place_of}
+use Rattle.app_loads.specs.declared.places.Region.TheVariants.{Keys, Memory, Rows}
+use Rattle.app_loads.specs.Regions.{chip_count, place_of}
 use Rattle.app_loads.specs.Claims.{claims_of, memory_claim, fixed_claim, key_claim, row_claim, has_chip, size_for}
 use Rattle.app_loads.specs.Taking.{IsFair}
 use Rattle.app_loads.proofs.Blocks.{block_aligned, block_room}
@@ -109,7 +109,7 @@ module _ (m : Description) (plan : AppPlan) (valid : IsPlan m plan) where
   n = chip_count m
 
   abbrev memory : List Claim
-  memory = gathered (memory_claim m) 0 (zip plan.spots plan.sdram)
+  memory = gathered memory_claim 0 (zip plan.spots plan.sdram)
 
   abbrev fixed : List Claim
   fixed = gathered (λ j (net : AppNet). fixed_claim j net.fixed) 0 plan.nets
@@ -124,7 +124,7 @@ module _ (m : Description) (plan : AppPlan) (valid : IsPlan m plan) where
   pub record IsKeyClaim (claim : Claim) (j : ℕ) : Type 0 where
     pub net : AppNet
     pub is : slice_get plan.nets j ≡ Some net
-    pub region : claim.region ≡ keys_place
+    pub region : claim.region ≡ Keys
     pub e : ℕ
     pub few : e ≤ 32
     pub size : claim.size ≡ 2 ^ e
@@ -141,12 +141,13 @@ module _ (m : Description) (plan : AppPlan) (valid : IsPlan m plan) where
 
   of_memory : (claim : Claim) → Among claim memory → Facts claim
   of_memory claim a =
-      let found = among_gathered (memory_claim m) claim (zip plan.spots plan.sdram) a in
-      let is = unless_zero found.1.1 (record { region = place_of m (Memory found.1.0.chip); size = found.1.1; align = 1; fixed = None; refusal = MemoryOut found.0 }) claim found.3 in
+      let found = among_gathered memory_claim claim (zip plan.spots plan.sdram) a in
+      let is = unless_zero found.1.1 (record { region = Memory found.1.0.chip; size = found.1.1; align = 1; fixed = None; refusal = MemoryOut found.0 }) claim found.3 in
       let usable = All-at (IsUsable m) plan.spots found.0 found.1.0 valid.usable (zip-first_at plan.spots plan.sdram found.0 found.1 found.2) in
-      let below = index_below m found.1.0.chip (live_inside m found.1.0.chip (usable_parts m found.1.0 usable).0) in
+      let inside = live_inside m found.1.0.chip (usable_parts m found.1.0 usable).0 in
+      let below = index_below m found.1.0.chip inside in
       subst Facts (sym is.0) (record {
-        fair = record { there = omega (arith, below); some = is.1; step = omega arith; fixed = tt };
+        fair = record { region = inside; there = omega (arith, below); some = is.1; step = omega arith; fixed = tt };
         keyed = λ j e. absurd (never found.0 j e);
         due = λ e. cc;
       })
@@ -171,7 +172,7 @@ module _ (m : Description) (plan : AppPlan) (valid : IsPlan m plan) where
           let pos = pow_pos f.0 in
           let many = f.3 in
           subst Facts (sym here) (record {
-            fair = record { there = omega arith; some = omega (arith, size, pos); step = omega arith; fixed = (omega arith, omega (arith, size, room)) };
+            fair = record { region = tt; there = omega arith; some = omega (arith, size, pos); step = omega arith; fixed = (omega arith, omega (arith, size, room)) };
             keyed = λ i e'. record {
               net = net;
               is = ap (slice_get plan.nets) (sym (same_net j i e')) ∙ is;
@@ -199,7 +200,7 @@ module _ (m : Description) (plan : AppPlan) (valid : IsPlan m plan) where
           let pos = pow_pos s.0 in
           let many = s.3 in
           subst Facts (sym here) (record {
-            fair = record { there = omega arith; some = omega (arith, size, pos); step = omega (arith, size, pos); fixed = tt };
+            fair = record { region = tt; there = omega arith; some = omega (arith, size, pos); step = omega (arith, size, pos); fixed = tt };
             keyed = λ i e'. record {
               net = net;
               is = ap (slice_get plan.nets) (sym (same_net j i e')) ∙ is;
@@ -218,10 +219,10 @@ module _ (m : Description) (plan : AppPlan) (valid : IsPlan m plan) where
       let found = among_flat (row_claim m plan.nets) claim (range_with_len 0 n) a in
       let i : ℕ = found.0 in
       let below = (among_range i 0 n found.1).1 in
-      let is = unless_zero (count_by (has_chip m (chip_of m i)) plan.nets) (record { region = place_of m (Rows (chip_of m i)); size = count_by (has_chip m (chip_of m i)) plan.nets; align = 1; fixed = None; refusal = RowsOut (chip_of m i) }) claim found.2 in
+      let is = unless_zero (count_by (has_chip m (chip_of m i)) plan.nets) (record { region = Rows (chip_of m i); size = count_by (has_chip m (chip_of m i)) plan.nets; align = 1; fixed = None; refusal = RowsOut (chip_of m i) }) claim found.2 in
       let index = index_of-chip_of m i in
       subst Facts (sym is.0) (record {
-        fair = record { there = omega (arith, below, index); some = is.1; step = omega arith; fixed = tt };
+        fair = record { region = chip_of-inside m i (omega (arith, below)); there = omega (arith, below, index); some = is.1; step = omega arith; fixed = tt };
         keyed = λ j e. absurd (never (chip_of m i) j e);
         due = λ e. cc;
       })
@@ -247,14 +248,14 @@ module _ (m : Description) (plan : AppPlan) (valid : IsPlan m plan) where
     where
       by_fixed : (net : AppNet) → slice_get plan.nets j ≡ Some net → (o : Option Block) → net.fixed ≡ o → (claim : Claim) × Contains (claims_of m plan) claim × (claim.refusal ≡ KeysOut j)
       by_fixed net is (Some block) e =
-          let claim : Claim = record { region = keys_place; size = size_of block; align = 1; fixed = Some block.key; refusal = KeysOut j } in (
+          let claim : Claim = record { region = Keys; size = size_of block; align = 1; fixed = Some block.key; refusal = KeysOut j } in (
             claim,
             among_contains claim (claims_of m plan) (among_right claim memory (fixed ++ (keys ++ rows)) (among_left claim fixed (keys ++ rows)
                 (gathered_among (λ i (x : AppNet). fixed_claim i x.fixed) claim plan.nets j net is (subst (λ o. Among claim (fixed_claim j o)) (sym e) (inl refl))))),
             refl,
           )
       by_fixed net is None e =
-          let claim : Claim = record { region = keys_place; size = size_for net.keys; align = size_for net.keys; fixed = None; refusal = KeysOut j } in (
+          let claim : Claim = record { region = Keys; size = size_for net.keys; align = size_for net.keys; fixed = None; refusal = KeysOut j } in (
             claim,
             among_contains claim (claims_of m plan) (among_right claim memory (fixed ++ (keys ++ rows)) (among_right claim fixed (keys ++ rows) (among_left claim keys rows
                 (gathered_among (λ i (x : AppNet). key_claim i x.keys x.fixed) claim plan.nets j net is (subst (λ o. Among claim (key_claim j net.keys o)) (sym e) (inl refl)))))),
@@ -263,10 +264,10 @@ module _ (m : Description) (plan : AppPlan) (valid : IsPlan m plan) where
 
   -- each chip of a tree has a claim
   pub chip_claim : (i : ℕ) → i < n → 0 < count_by (has_chip m (chip_of m i)) plan.nets →
-      (claim : Claim) × Contains (claims_of m plan) claim × (claim.region ≡ place_of m (Rows (chip_of m i))) × (claim.size ≡ count_by (has_chip m (chip_of m i)) plan.nets)
+      (claim : Claim) × Contains (claims_of m plan) claim × (place_of m claim.region ≡ place_of m (Rows (chip_of m i))) × (claim.size ≡ count_by (has_chip m (chip_of m i)) plan.nets)
   chip_claim i below some =
       let rows_there : ℕ = count_by (has_chip m (chip_of m i)) plan.nets in
-      let claim : Claim = record { region = place_of m (Rows (chip_of m i)); size = rows_there; align = 1; fixed = None; refusal = RowsOut (chip_of m i) } in (
+      let claim : Claim = record { region = Rows (chip_of m i); size = rows_there; align = 1; fixed = None; refusal = RowsOut (chip_of m i) } in (
         claim,
         among_contains claim (claims_of m plan) (among_right claim memory (fixed ++ (keys ++ rows)) (among_right claim fixed (keys ++ rows) (among_right claim keys rows
             (flat_among (row_claim m plan.nets) claim (range_with_len 0 n) i (range_among i 0 n (omega arith) (omega (arith, below))) (in_unless rows_there claim some))))),
@@ -275,14 +276,14 @@ module _ (m : Description) (plan : AppPlan) (valid : IsPlan m plan) where
       )
 
   -- a claim of entries has as many as nets have the chip
-  pub row_size : (claim : Claim) → Contains (claims_of m plan) claim → (i : ℕ) → i < n → claim.region ≡ 1 + (n + i) → claim.size ≡ count_by (has_chip m (chip_of m i)) plan.nets
+  pub row_size : (claim : Claim) → Contains (claims_of m plan) claim → (i : ℕ) → i < n → place_of m claim.region ≡ 1 + (n + i) → claim.size ≡ count_by (has_chip m (chip_of m i)) plan.nets
   row_size claim has i below region = elim (among_either claim memory (fixed ++ (keys ++ rows)) (contains_among claim (claims_of m plan) has)) [
     | inl a ↦ (
-        let found = among_gathered (memory_claim m) claim (zip plan.spots plan.sdram) a in
-        let is = unless_zero found.1.1 (record { region = place_of m (Memory found.1.0.chip); size = found.1.1; align = 1; fixed = None; refusal = MemoryOut found.0 }) claim found.3 in
+        let found = among_gathered memory_claim claim (zip plan.spots plan.sdram) a in
+        let is = unless_zero found.1.1 (record { region = Memory found.1.0.chip; size = found.1.1; align = 1; fixed = None; refusal = MemoryOut found.0 }) claim found.3 in
         let usable = All-at (IsUsable m) plan.spots found.0 found.1.0 valid.usable (zip-first_at plan.spots plan.sdram found.0 found.1 found.2) in
         let low = index_below m found.1.0.chip (live_inside m found.1.0.chip (usable_parts m found.1.0 usable).0) in
-        let r : claim.region ≡ 1 + index_of m found.1.0.chip = ap (λ (x : Claim). x.region) is.0 in
+        let r : place_of m claim.region ≡ 1 + index_of m found.1.0.chip = ap (λ (x : Claim). place_of m x.region) is.0 in
         absurd (omega (arith, r, region, low))
         )
     | inr b ↦ elim (among_either claim fixed (keys ++ rows) b) [
@@ -291,8 +292,8 @@ module _ (m : Description) (plan : AppPlan) (valid : IsPlan m plan) where
         | inl a ↦ (let k = keys_region_of claim a in absurd (omega (arith, k, region)))
         | inr a ↦ (
             let found = among_flat (row_claim m plan.nets) claim (range_with_len 0 n) a in
-            let is = unless_zero (count_by (has_chip m (chip_of m found.0)) plan.nets) (record { region = place_of m (Rows (chip_of m found.0)); size = count_by (has_chip m (chip_of m found.0)) plan.nets; align = 1; fixed = None; refusal = RowsOut (chip_of m found.0) }) claim found.2 in
-            let r : claim.region ≡ 1 + (n + index_of m (chip_of m found.0)) = ap (λ (x : Claim). x.region) is.0 in
+            let is = unless_zero (count_by (has_chip m (chip_of m found.0)) plan.nets) (record { region = Rows (chip_of m found.0); size = count_by (has_chip m (chip_of m found.0)) plan.nets; align = 1; fixed = None; refusal = RowsOut (chip_of m found.0) }) claim found.2 in
+            let r : place_of m claim.region ≡ 1 + (n + index_of m (chip_of m found.0)) = ap (λ (x : Claim). place_of m x.region) is.0 in
             let index = index_of-chip_of m found.0 in
             let same : found.0 ≡ i = omega (arith, r, region, index) in
             ap (λ (x : Claim). x.size) is.0 ∙ ap (λ k. count_by (has_chip m (chip_of m k)) plan.nets) same
@@ -301,18 +302,18 @@ module _ (m : Description) (plan : AppPlan) (valid : IsPlan m plan) where
     ]
   ]
     where
-      fixed_region : (claim : Claim) → Among claim fixed → claim.region ≡ 0
+      fixed_region : (claim : Claim) → Among claim fixed → place_of m claim.region ≡ 0
       fixed_region claim a = let found = among_gathered (λ j (net : AppNet). fixed_claim j net.fixed) claim plan.nets a in by_fixed found.0 found.1.fixed found.3
         where
-          by_fixed : (j : ℕ) (o : Option Block) → Among claim (fixed_claim j o) → claim.region ≡ 0
+          by_fixed : (j : ℕ) (o : Option Block) → Among claim (fixed_claim j o) → place_of m claim.region ≡ 0
           by_fixed j None a' = absurd a'
           by_fixed j (Some block) (inr none) = absurd none
-          by_fixed j (Some block) (inl here) = ap (λ (x : Claim). x.region) here
+          by_fixed j (Some block) (inl here) = ap (λ (x : Claim). place_of m x.region) here
 
-      keys_region_of : (claim : Claim) → Among claim keys → claim.region ≡ 0
+      keys_region_of : (claim : Claim) → Among claim keys → place_of m claim.region ≡ 0
       keys_region_of claim a = let found = among_gathered (λ j (net : AppNet). key_claim j net.keys net.fixed) claim plan.nets a in by_fixed found.0 found.1.keys found.1.fixed found.3
         where
-          by_fixed : (j k : ℕ) (o : Option Block) → Among claim (key_claim j k o) → claim.region ≡ 0
+          by_fixed : (j k : ℕ) (o : Option Block) → Among claim (key_claim j k o) → place_of m claim.region ≡ 0
           by_fixed j k (Some block) a' = absurd a'
           by_fixed j k None (inr none) = absurd none
-          by_fixed j k None (inl here) = ap (λ (x : Claim). x.region) here
+          by_fixed j k None (inl here) = ap (λ (x : Claim). place_of m x.region) here

@@ -103,13 +103,13 @@ size_is keys size some few power enough half_below = by_power power.0 power.1
 -- ---- all claims
 
 pub claims_joined : (m : Description) (plan : AppPlan) (spots : List Spot) (sdram : List ℕ) (fixed keys rows : List AppNet) (x0 x1 x2 x3 x4 : List Claim) → x0 ≡ [] → spots ≡ plan.spots → sdram ≡ plan.sdram →
-    x1 ≡ x0 ++ gathered (memory_claim m) 0 (zip spots sdram) → fixed ≡ plan.nets → x2 ≡ x1 ++ gathered (λ j (net : AppNet). fixed_claim j net.fixed) 0 fixed → keys ≡ plan.nets →
+    x1 ≡ x0 ++ gathered memory_claim 0 (zip spots sdram) → fixed ≡ plan.nets → x2 ≡ x1 ++ gathered (λ j (net : AppNet). fixed_claim j net.fixed) 0 fixed → keys ≡ plan.nets →
     x3 ≡ x2 ++ gathered (λ j (net : AppNet). key_claim j net.keys net.fixed) 0 keys → rows ≡ plan.nets → x4 ≡ x3 ++ flat_map (row_claim m rows) (range_with_len 0 (chip_count m)) →
     x4 ≡ claims_of m plan
 claims_joined m plan spots sdram fixed keys rows x0 x1 x2 x3 x4 e0 is_spots is_sdram e1 is_fixed e2 is_keys e3 is_rows e4 =
-    joined (gathered (memory_claim m) 0 (zip plan.spots plan.sdram)) (gathered (λ j (net : AppNet). fixed_claim j net.fixed) 0 plan.nets) (gathered (λ j (net : AppNet). key_claim j net.keys net.fixed) 0 plan.nets)
+    joined (gathered memory_claim 0 (zip plan.spots plan.sdram)) (gathered (λ j (net : AppNet). fixed_claim j net.fixed) 0 plan.nets) (gathered (λ j (net : AppNet). key_claim j net.keys net.fixed) 0 plan.nets)
     (flat_map (row_claim m plan.nets) (range_with_len 0 (chip_count m))) x0 x1 x2 x3 x4 e0
-    (e1 ∙ (ap (λ l. x0 ++ gathered (memory_claim m) 0 (zip l sdram)) is_spots ∙ ap (λ l. x0 ++ gathered (memory_claim m) 0 (zip plan.spots l)) is_sdram))
+    (e1 ∙ (ap (λ l. x0 ++ gathered memory_claim 0 (zip l sdram)) is_spots ∙ ap (λ l. x0 ++ gathered memory_claim 0 (zip plan.spots l)) is_sdram))
     (e2 ∙ ap (λ l. x1 ++ gathered (λ j (net : AppNet). fixed_claim j net.fixed) 0 l) is_fixed)
     (e3 ∙ ap (λ l. x2 ++ gathered (λ j (net : AppNet). key_claim j net.keys net.fixed) 0 l) is_keys)
     (e4 ∙ ap (λ l. x3 ++ flat_map (row_claim m l) (range_with_len 0 (chip_count m))) is_rows)

@@ -19,7 +19,7 @@ use Rattle.app_loads.specs.Applications.{IsLoadedOn, IsRangeFor}
 use Rattle.app_loads.specs.Claims.{claims_of, fixed_claim, has_chip, key_claim, memory_claim, row_claim}
 use Rattle.app_loads.specs.Plans.{IsPlan}
 use Rattle.app_loads.specs.declared.places.Region.TheVariants.{Memory, Rows}
-use Rattle.app_loads.specs.Regions.{chip_count, place_of}
+use Rattle.app_loads.specs.Regions.{chip_count}
 use Rattle.app_loads.proofs.FewSpots.{few_spots}
 
 one_unless : (b : Bool) (claim : Claim) → length (if b then [] else claim ∷ []) ≤ 1
@@ -53,21 +53,21 @@ few_mapped f one (x ∷ xs) =
 module _ (m : Description) (size : HasSize m) (plan : AppPlan) (valid : IsPlan m plan) where
   pub few_claims : length (claims_of m plan) ≤ 262144
   few_claims =
-      let memory : List Claim = gathered (memory_claim m) 0 (zip plan.spots plan.sdram) in
+      let memory : List Claim = gathered memory_claim 0 (zip plan.spots plan.sdram) in
       let fixed : List Claim = gathered (λ j (net : AppNet). fixed_claim j net.fixed) 0 plan.nets in
       let keys : List Claim = gathered (λ j (net : AppNet). key_claim j net.keys net.fixed) 0 plan.nets in
       let rows : List Claim = flat_map (row_claim m plan.nets) (range_with_len 0 (chip_count m)) in
       let first = length-append memory (fixed ++ (keys ++ rows)) in
       let second = length-append fixed (keys ++ rows) in
       let third = length-append keys rows in
-      let of_memory : length memory ≤ length (zip plan.spots plan.sdram) = few_gathered (memory_claim m) (λ j need.
-      one_unless (need.1 == 0) (record { region = place_of m (Memory need.0.chip); size = need.1; align = 1; fixed = None; refusal = MemoryOut j })) 0 (zip plan.spots plan.sdram)
+      let of_memory : length memory ≤ length (zip plan.spots plan.sdram) = few_gathered memory_claim (λ j need.
+      one_unless (need.1 == 0) (record { region = Memory need.0.chip; size = need.1; align = 1; fixed = None; refusal = MemoryOut j })) 0 (zip plan.spots plan.sdram)
       in
       let of_fixed : length fixed ≤ length plan.nets = few_gathered (λ j (net : AppNet). fixed_claim j net.fixed) (λ j net. one_fixed j net.fixed) 0 plan.nets in
       let of_keys : length keys ≤ length plan.nets = few_gathered (λ j (net : AppNet). key_claim j net.keys net.fixed) (λ j net. one_of_keys j net.keys net.fixed) 0 plan.nets in
       let of_rows : length rows ≤ length (range_with_len 0 (chip_count m)) = few_mapped (row_claim m plan.nets) (λ i.
       let long : ℕ = count_by (has_chip m (chip_of m i)) plan.nets in
-      one_unless (long == 0) (record { region = place_of m (Rows (chip_of m i)); size = long; align = 1; fixed = None; refusal = RowsOut (chip_of m i) })) (range_with_len 0 (chip_count m))
+      one_unless (long == 0) (record { region = Rows (chip_of m i); size = long; align = 1; fixed = None; refusal = RowsOut (chip_of m i) })) (range_with_len 0 (chip_count m))
       in
       let pairs = length-zip plan.spots plan.sdram in
       let spots = few_spots m plan.spots valid.different valid.usable in
@@ -79,6 +79,6 @@ module _ (m : Description) (size : HasSize m) (plan : AppPlan) (valid : IsPlan m
 -- an application has as few
 pub few_ranges : (m : Description) → HasSize m → (app : LoadedApp) → IsLoadedOn m app → length app.ranges ≤ 262144
 few_ranges m size app is =
-    let same = AllZip-long IsRangeFor (claims_of m app.plan) app.ranges is.ranges in
+    let same = AllZip-long (IsRangeFor m) (claims_of m app.plan) app.ranges is.ranges in
     let few = few_claims m size app.plan is.plan in
     omega (arith, same, few)

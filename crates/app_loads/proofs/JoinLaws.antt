@@ -25,8 +25,8 @@ zipped R (x ∷ xs) (y ∷ ys) long each = (each 0 x y refl refl, zipped R xs ys
 pub loaded_from : (m : Description) (taken : List Range) (new : List Region) (plan : AppPlan) (app : LoadedApp) → IsPlan m plan → app.plan ≡ plan → AreServed m taken (claims_of m plan) app.ranges → AreTaken m taken app.ranges new → AreBlocks (claims_of m plan) app.ranges plan.nets app.blocks → IsLoadedOn m app
 loaded_from m taken new plan app valid is served have blocks = record {
   plan = subst (IsPlan m) (sym is) valid;
-  ranges = subst (λ (p : AppPlan). AllZip IsRangeFor (claims_of m p) app.ranges) (sym is)
-      (zipped IsRangeFor (claims_of m plan) app.ranges served.all (λ i claim range p q. let w = served.first.each i claim range p q in (w.region, w.size)));
+  ranges = subst (λ (p : AppPlan). AllZip (IsRangeFor m) (claims_of m p) app.ranges) (sym is)
+      (zipped (IsRangeFor m) (claims_of m plan) app.ranges served.all (λ i claim range p q. let w = served.first.each i claim range p q in (w.region, w.size)));
   within = subst (λ n. All (IsRangeWithin m n) app.ranges) (sym (length-map new free_places_in) ∙ have.free.all) have.within;
   blocks = subst (λ (p : AppPlan). AreBlocks (claims_of m p) app.ranges p.nets app.blocks) (sym is) blocks;
 }
@@ -35,10 +35,10 @@ pub can_settle : (s : State) (old new : List Region) (number first : ℕ) (plan 
 can_settle s old new number first plan app can served =
     let m = s.setup.machine in
     let own = can.of_machine in
-    let taken = served.taken m own.taken own.apart own.free in
+    let taken = served.taken own.taken own.apart own.free in
     let numbers = can.numbers in
     record {
-      loaded = loaded_from m own.taken new plan app can.valid served.plan_is (served.served m own.taken own.apart own.free) taken served.blocks;
+      loaded = loaded_from m own.taken new plan app can.valid served.plan_is (served.served own.taken own.apart own.free) taken served.blocks;
       apart = AllPairs-right ShareNoPlace own.taken app.ranges taken.apart;
       numbers = subst (λ n. n + length app.plan.packets < 2 ^ 32) (sym served.first_is) (subst (λ (p : AppPlan). first + length p.packets < 2 ^ 32) (sym served.plan_is) numbers);
       vertices = can.vertices;

@@ -161,10 +161,10 @@ module _ (h : Host) (apps : AreApps h) (number : ℕ) (plan : AppPlan) (may : Ma
   nets_are = flat_more nets_of h.apps app
 
   taken_now : AreTaken m (all_ranges h.apps) app.ranges new
-  taken_now = served.taken m (all_ranges h.apps) apps.apart before_free
+  taken_now = served.taken (all_ranges h.apps) apps.apart before_free
 
   served_now : AreServed m (all_ranges h.apps) (claims_of m plan) app.ranges
-  served_now = served.served m (all_ranges h.apps) apps.apart before_free
+  served_now = served.served (all_ranges h.apps) apps.apart before_free
 
   on : IsLoadedOn m app
   on = loaded_from m (all_ranges h.apps) new plan app may.valid served.plan_is served_now taken_now served.blocks
@@ -318,9 +318,9 @@ module _ (h : Host) (apps : AreApps h) (number : ℕ) (plan : AppPlan) (may : Ma
 
 -- why an application is not loaded
 pub why_not : (h : Host) (apps : AreApps h) (number : ℕ) (plan : AppPlan) (old : List Region) → frees old ≡ h.regions → is_loaded h.apps number ≡ false → IsPlan h.mesh.setup.machine plan → (err : LoadErr) →
-    IsDueAlways (claims_of h.mesh.setup.machine plan) old err → IsWhyNotLoaded h number plan err
+    IsDueAlways h.mesh.setup.machine (claims_of h.mesh.setup.machine plan) old err → IsWhyNotLoaded h number plan err
 why_not h apps number plan old same none valid Memory due = tt
-why_not h apps number plan old same none valid (Refused refusal) due = by_kind refusal (due h.mesh.setup.machine (all_ranges h.apps) apps.apart (subst (AreFreeBeside h.mesh.setup.machine (all_ranges h.apps)) (sym same) apps.free))
+why_not h apps number plan old same none valid (Refused refusal) due = by_kind refusal (due (all_ranges h.apps) apps.apart (subst (AreFreeBeside h.mesh.setup.machine (all_ranges h.apps)) (sym same) apps.free))
   where
     by_kind : (e : LoadRefusal) → IsRefusalDue h.mesh.setup.machine (all_ranges h.apps) (claims_of h.mesh.setup.machine plan) e → IsLoadRefusal h number plan e
     by_kind Loaded d = absurd ((facts h.mesh.setup.machine plan valid d.claim (Contains-at (claims_of h.mesh.setup.machine plan) (length d.ranges) d.claim d.is)).due d.refusal_is)

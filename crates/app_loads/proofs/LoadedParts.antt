@@ -2,17 +2,15 @@
 use Rattle.std.proofs.Common.{◌≡◌, ℕ, ◌+◌, ◌^◌, ◌<◌, true, false, List, [], ◌∷◌, ◌++◌, length, refl, sym, ap, ◌∙◌, subst, inl, Option, None, Some, Result, Ok, Err, OnOk, OnErr}
 use Rattle.std.proofs.lemmas.List.{map-append}
 use Rattle.std.specs.Prelude.{IfSome, is_err, is_some}
-use Rattle.std.specs.List.{AllPairs, Contains}
+use Rattle.std.specs.List.{Contains}
 use Rattle.std.proofs.lemmas.List.Elements.{All-contains}
 use Rattle.spin_base.proofs.Members.{among_contains, among_right}
-use Rattle.machine_desc.specs.Description.{Description}
 use Rattle.range_store.specs.Views.{Region}
 use Rattle.mesh_core.specs.State.{State}
 use Rattle.mesh_drain.specs.Draining.{SendAlone}
 use Rattle.app_loads.specs.declared.answers.LoadErr.{LoadErr}
 use Rattle.app_loads.specs.declared.apps.Apps.TheInside.{Inside}
 use Rattle.app_loads.specs.declared.loaded.LoadedApp.{LoadedApp}
-use Rattle.app_loads.specs.declared.loaded.Range.{Range}
 use Rattle.app_loads.specs.declared.plans.AppNet.{AppNet}
 use Rattle.app_loads.specs.declared.plans.AppPlan.{AppPlan}
 use Rattle.app_loads.specs.Applications.{AreApps, IsLoadedOn}
@@ -22,8 +20,8 @@ use Rattle.app_loads.specs.Inner.{host_of, IsHost, mesh_in, numbers_of}
 use Rattle.app_loads.specs.Joining.{CanJoin, IsServedApp, IsSettled}
 use Rattle.app_loads.specs.Loading.{HasLoaded, IsWhyNotLoaded}
 use Rattle.app_loads.specs.Plans.{MayLoad}
-use Rattle.app_loads.specs.Regions.{ShareNoPlace, AreFreeBeside}
-use Rattle.app_loads.specs.Taking.{IsDueAlways, frees}
+use Rattle.app_loads.specs.Regions.{AreFreeBeside}
+use Rattle.app_loads.specs.Taking.{AreFreeAgain, IsDueAlways, frees}
 use Rattle.app_loads.proofs.LoadedHost.{apps_now, loaded_host, none_unsent, same_frees, why_not}
 use Rattle.app_loads.specs.Sending.{AreWithSources}
 use Rattle.app_loads.proofs.Resting.{with_alone}
@@ -112,16 +110,16 @@ module _ (i : Inside) (mesh : State) (is : i.mesh ≡ Some mesh) (host : IsHost 
             (subst (λ (l : List LoadedApp). Contains l app) (sym j_apps) (among_contains app (i.apps.items ++ app ∷ []) (among_right app i.apps.items (app ∷ []) (inl refl))))
 
   module _ (j : Inside) (result : State) (refused : result ≡ mesh) (new : List Region)
-      (back : (m : Description) (taken : List Range) → AllPairs ShareNoPlace taken → AreFreeBeside m taken (frees given) → AreFreeBeside m taken (frees new))
+      (back : AreFreeAgain mesh.setup.machine given new)
       (j_mesh : j.mesh ≡ Some result) (j_regions : j.regions.items ≡ new) (j_apps : j.apps.items ≡ i.apps.items) (j_packets : j.packets ≡ i.packets) where
     pub err_same : host_of j ≡ host_of i
     err_same =
         one_host (mesh_in j.mesh) h.mesh (frees j.regions.items) h.regions j.apps.items h.apps j.packets h.packets (ap mesh_in j_mesh ∙ (refused ∙ sym mesh_h))
         (ap frees j_regions ∙ same_frees h.mesh.setup.machine (all_ranges h.apps) (frees new) h.regions
-        (back h.mesh.setup.machine (all_ranges h.apps) host.apps.apart (subst (AreFreeBeside h.mesh.setup.machine (all_ranges h.apps)) (sym old_is) host.apps.free)) host.apps.free) j_apps j_packets
+        (subst (λ (s : State). AreFreeAgain s.setup.machine given new) (sym mesh_h) back (all_ranges h.apps) host.apps.apart (subst (AreFreeBeside h.mesh.setup.machine (all_ranges h.apps)) (sym old_is) host.apps.free)) host.apps.free) j_apps j_packets
 
     pub err_host : j.numbers.items ≡ i.numbers.items → j.senders ≡ i.senders → IsHost j
     err_host numbers senders = still_host i j host (ap is_some j_mesh) err_same numbers senders
 
-  pub err_why : is_loaded h.apps number ≡ false → (err : LoadErr) → IsDueAlways (claims_of mesh.setup.machine plan) given err → IsWhyNotLoaded h number plan err
-  err_why none err due = why_not h host.apps number plan given old_is none may.valid err (subst (λ (s : State). IsDueAlways (claims_of s.setup.machine plan) given err) (sym mesh_h) due)
+  pub err_why : is_loaded h.apps number ≡ false → (err : LoadErr) → IsDueAlways mesh.setup.machine (claims_of mesh.setup.machine plan) given err → IsWhyNotLoaded h number plan err
+  err_why none err due = why_not h host.apps number plan given old_is none may.valid err (subst (λ (s : State). IsDueAlways s.setup.machine (claims_of s.setup.machine plan) given err) (sym mesh_h) due)

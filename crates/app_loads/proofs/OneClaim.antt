@@ -20,8 +20,8 @@ use Rattle.app_loads.specs.declared.loaded.Range.{Range}
 use Rattle.app_loads.specs.declared.plans.AppNet.{AppNet}
 use Rattle.app_loads.specs.declared.plans.AppPlan.{AppPlan}
 use Rattle.app_loads.specs.Claims.{claims_of, fixed_claim, has_chip, IsBlockOf, key_claim, memory_claim, row_claim, size_for}
-use Rattle.app_loads.specs.declared.places.Region.TheVariants.{Memory, Rows}
-use Rattle.app_loads.specs.Regions.{chip_count, keys_place, place_of}
+use Rattle.app_loads.specs.declared.places.Region.TheVariants.{Keys, Memory, Rows}
+use Rattle.app_loads.specs.Regions.{chip_count}
 
 -- whether a claim is for the keys of a net
 abbrev names_net : ℕ → LoadRefusal → Bool
@@ -63,10 +63,10 @@ module _ (n : ℕ) where
   -- each net claims its own keys once
   its_own : (j k : ℕ) (o : Option Block) → count_by is_for (fixed_claim j o) + count_by is_for (key_claim j k o) ≡ (if j == n then 1 else 0)
   its_own j k (Some block) =
-      let one = count_by-cons is_for (record { region = keys_place; size = size_of block; align = 1; fixed = Some block.key; refusal = refusals.KeysOut j }) [] in
+      let one = count_by-cons is_for (record { region = Keys; size = size_of block; align = 1; fixed = Some block.key; refusal = refusals.KeysOut j }) [] in
       omega (arith, one)
   its_own j k None =
-      let one = count_by-cons is_for (record { region = keys_place; size = size_for k; align = size_for k; fixed = None; refusal = refusals.KeysOut j }) [] in
+      let one = count_by-cons is_for (record { region = Keys; size = size_for k; align = size_for k; fixed = None; refusal = refusals.KeysOut j }) [] in
       omega (arith, one)
 
   none_above : (j : ℕ) (nets : List AppNet) → n < j → count_by is_for (fixed j nets) + count_by is_for (keys j nets) ≡ 0
@@ -104,17 +104,17 @@ module _ (n : ℕ) where
   module _ (m : Description) (plan : AppPlan) where
     one_claim : count_by is_for (claims_of m plan) ≤ 1
     one_claim =
-        let memory : List Claim = gathered (memory_claim m) 0 (zip plan.spots plan.sdram) in
+        let memory : List Claim = gathered memory_claim 0 (zip plan.spots plan.sdram) in
         let rows : List Claim = flat_map (row_claim m plan.nets) (range_with_len 0 (chip_count m)) in
         let first = count_by-append is_for memory (fixed 0 plan.nets ++ (keys 0 plan.nets ++ rows)) in
         let second = count_by-append is_for (fixed 0 plan.nets) (keys 0 plan.nets ++ rows) in
         let third = count_by-append is_for (keys 0 plan.nets) rows in
-        let none : count_by is_for memory ≡ 0 = none_gathered (memory_claim m) (λ j need.
-        none_unless (need.1 == 0) (record { region = place_of m (Memory need.0.chip); size = need.1; align = 1; fixed = None; refusal = refusals.MemoryOut j }) refl) 0 (zip plan.spots plan.sdram)
+        let none : count_by is_for memory ≡ 0 = none_gathered memory_claim (λ j need.
+        none_unless (need.1 == 0) (record { region = Memory need.0.chip; size = need.1; align = 1; fixed = None; refusal = refusals.MemoryOut j }) refl) 0 (zip plan.spots plan.sdram)
         in
         let no_row : count_by is_for rows ≡ 0 = none_mapped (row_claim m plan.nets) (λ i.
         let long : ℕ = count_by (has_chip m (chip_of m i)) plan.nets in
-        none_unless (long == 0) (record { region = place_of m (Rows (chip_of m i)); size = long; align = 1; fixed = None; refusal = refusals.RowsOut (chip_of m i) }) refl) (range_with_len 0 (chip_count m))
+        none_unless (long == 0) (record { region = Rows (chip_of m i); size = long; align = 1; fixed = None; refusal = refusals.RowsOut (chip_of m i) }) refl) (range_with_len 0 (chip_count m))
         in
         let one = at_most_one 0 plan.nets in
         omega (arith, first, second, third, none, no_row, one)

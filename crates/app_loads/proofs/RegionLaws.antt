@@ -7,7 +7,7 @@ use Rattle.range_store.specs.Regions.{AreRuns, IsFirstFit, HasNoFit, is_hole_ran
 use Rattle.app_loads.specs.declared.loaded.Claim.{Claim}
 use Rattle.app_loads.specs.declared.loaded.Range.{Range}
 use Rattle.app_loads.specs.Host.{Free}
-use Rattle.app_loads.specs.Regions.{IsFreeBeside}
+use Rattle.app_loads.specs.Regions.{IsFreeBeside, place_of}
 use Rattle.app_loads.specs.Claims.{IsLeastOpenRange}
 use Rattle.app_loads.specs.Taking.{free_places_in, ServesClaim, RefusesClaim}
 use Rattle.app_loads.proofs.Taking.{taken_more, least_from_fit, refused_from_fit, least_from_fixed, refused_from_fixed}
@@ -19,7 +19,7 @@ module _ (claim : Claim) (before after : Region) (some : 0 < claim.size) (size :
       IfOk r (λ o. IfSome o (ServesClaim claim before after))
   by_take (Ok (Some place)) none found free = λ m taken beside. (
     least_from_fit m taken claim (free_places_in before) place none beside some found,
-    taken_more m taken claim.region (free_places_in before) (free_places_in after) (record { region = claim.region; place = place; size = claim.size }) refl beside size runs free,
+    taken_more m taken (place_of m claim.region) (free_places_in before) (free_places_in after) (record { region = place_of m claim.region; place = place; size = claim.size }) refl beside size runs free,
   )
   by_take (Ok None) none found free = tt
   by_take (Err e) none found free = tt
@@ -35,10 +35,10 @@ module _ (claim : Claim) (before after : Region) (some : 0 < claim.size) (size :
       IfOk r (λ o. IfSome o (λ p. (k : ℕ) → is_free after.holes k ≡ (is_free before.holes k && not (in_range place claim.size k)))) →
       IfOk r (λ o. IfSome o (ServesClaim claim before after))
   by_fixed (Ok (Some p)) place is aligned found free = λ m taken beside.
-      subst (λ q. (let range : Range = record { region = claim.region; place = q; size = claim.size } in
-      IsLeastOpenRange m taken claim range × IsFreeBeside m (taken ++ range ∷ []) claim.region (free_places_in after))) (sym found.0) (
+      subst (λ q. (let range : Range = record { region = place_of m claim.region; place = q; size = claim.size } in
+      IsLeastOpenRange m taken claim range × IsFreeBeside m (taken ++ range ∷ []) (place_of m claim.region) (free_places_in after))) (sym found.0) (
         least_from_fixed m taken claim (free_places_in before) place is aligned beside some found.1,
-        taken_more m taken claim.region (free_places_in before) (free_places_in after) (record { region = claim.region; place = place; size = claim.size }) refl beside size runs free,
+        taken_more m taken (place_of m claim.region) (free_places_in before) (free_places_in after) (record { region = place_of m claim.region; place = place; size = claim.size }) refl beside size runs free,
       )
   by_fixed (Ok None) place is aligned found free = tt
   by_fixed (Err e) place is aligned found free = tt
@@ -58,11 +58,11 @@ module _ (claim : Claim) (before other : Region) (same : (other.holes ≡ before
   same_free = one_free other.size before.size other.holes before.holes same.0 same.1
 
   pub serves_same : (r : Result (Option ℕ) Memory) (after : Region) → IfOk r (λ o. IfSome o (ServesClaim claim other after)) → IfOk r (λ o. IfSome o (ServesClaim claim before after))
-  serves_same (Ok (Some place)) after serves = λ m taken beside. serves m taken (subst (IsFreeBeside m taken claim.region) (sym same_free) beside)
+  serves_same (Ok (Some place)) after serves = λ m taken beside. serves m taken (subst (IsFreeBeside m taken (place_of m claim.region)) (sym same_free) beside)
   serves_same (Ok None) after serves = tt
   serves_same (Err e) after serves = tt
 
   pub refuses_same : (r : Result (Option ℕ) Memory) → IfOk r (λ o. IfNone o (RefusesClaim claim other)) → IfOk r (λ o. IfNone o (RefusesClaim claim before))
   refuses_same (Ok (Some place)) refuses = tt
-  refuses_same (Ok None) refuses = λ m taken beside. refuses m taken (subst (IsFreeBeside m taken claim.region) (sym same_free) beside)
+  refuses_same (Ok None) refuses = λ m taken beside. refuses m taken (subst (IsFreeBeside m taken (place_of m claim.region)) (sym same_free) beside)
   refuses_same (Err e) refuses = tt

@@ -191,7 +191,7 @@ module _ (m : Description) (tables : List (List Entry)) (apps : List LoadedApp) 
         let counted : 0 < count_by (has_chip m (chip_of m i)) app.plan.nets =
         subst (λ (d : Chip). 0 < count_by (has_chip m d) app.plan.nets) (sym back) (some_counted (has_chip m c) app.plan.nets f.net (contains_among f.net app.plan.nets (Contains-at app.plan.nets own.in_app.0 f.net f.at_net)) on_net) in
         let claimed = chip_claim m app.plan load.plan i (index_below m c inside) counted in
-        let ranged = AllZip-at_first IsRangeFor (claims_of m app.plan) app.ranges load.ranges claimed.1.0 claimed.0 (member_at (claims_of m app.plan) claimed.0 claimed.1) in
+        let ranged = AllZip-at_first (IsRangeFor m) (claims_of m app.plan) app.ranges load.ranges claimed.1.0 claimed.0 (member_at (claims_of m app.plan) claimed.0 claimed.1) in
         let range : Range = ranged.0 in
         let region : range.region ≡ place_of m (Rows c) = ranged.2.0 ∙ (claimed.2 ∙ ap (λ d. place_of m (Rows d)) back) in
         let r = rows_at app own.in_apps range (Contains-at app.ranges claimed.1.0 range ranged.1) c inside region in

@@ -15,12 +15,12 @@ use Rattle.app_loads.specs.declared.plans.AppPlan.{AppPlan}
 use Rattle.app_loads.specs.Claims.{AreServed, claims_of}
 use Rattle.app_loads.specs.Joining.{AreKeyed}
 use Rattle.app_loads.specs.Plans.{IsPlan}
-use Rattle.app_loads.specs.Regions.{chip_count, region_size}
+use Rattle.app_loads.specs.Regions.{chip_count, place_of, region_size}
 use Rattle.app_loads.specs.Taking.{AreRegionsOf, CanServe, IsFair, free_places_in}
 use Rattle.app_loads.proofs.ClaimCases.{facts, net_claim}
 
-pub can_serve : (m : Description) (plan : AppPlan) (regions : List Region) (claims : List Claim) → IsPlan m plan → AreRegionsOf m regions → claims ≡ claims_of m plan → CanServe claims regions
-can_serve m plan regions claims valid own is = (m, own, subst (All (IsFair m (length regions))) (sym is) (All-each (IsFair m (length regions)) (claims_of m plan) fair))
+pub can_serve : (m : Description) (plan : AppPlan) (regions : List Region) (claims : List Claim) → IsPlan m plan → AreRegionsOf m regions → claims ≡ claims_of m plan → CanServe m claims regions
+can_serve m plan regions claims valid own is = (own, subst (All (IsFair m (length regions))) (sym is) (All-each (IsFair m (length regions)) (claims_of m plan) fair))
   where
     long : length regions ≡ 1 + (chip_count m + chip_count m)
     long = sym (length-map regions free_places_in) ∙ own.free.all
@@ -38,7 +38,7 @@ module _ (m : Description) (plan : AppPlan) (valid : IsPlan m plan) (taken range
         let least : 2 ^ f.e ≤ 2 ^ 32 = pow_mono f.few in
         let pos = pow_pos f.e in
         let claimed = f.size in
-        let within = subst (λ r. range.place + claim.size ≤ r) (ap (region_size m) f.region) open'.may.within in
+        let within = subst (λ r. range.place + claim.size ≤ r) (ap (λ r. region_size m (place_of m r)) f.region) open'.may.within in
         let below = slice_get_within plan.nets net f.net f.is in (
           record {
             power = (f.e, size ∙ claimed);

@@ -20,7 +20,7 @@ use Rattle.app_loads.specs.declared.answers.LoadErr.TheVariants.{Memory, Refused
 use Rattle.app_loads.specs.declared.loaded.Claim.{Claim}
 use Rattle.app_loads.specs.declared.loaded.Range.{Range}
 use Rattle.app_loads.specs.Host.{Free}
-use Rattle.app_loads.specs.Regions.{AreFreeBeside, IsFreeBeside, ShareNoPlace, range_has, is_taken, region_size, IsRangeWithin}
+use Rattle.app_loads.specs.Regions.{AreFreeBeside, IsFreeBeside, ShareNoPlace, place_of, range_has, is_taken, region_size, IsRangeWithin}
 use Rattle.app_loads.specs.Claims.{IsLeastOpenRange, IsOpenRange, IsRefusalDue}
 use Rattle.app_loads.specs.Taking.{free_places_in, frees, range_at, ServesClaim, RefusesClaim, IsFair, IsFairFor, HaveRoom, CanServe, HaveServed, AreTaken, AreTakenAlways, AreServedAlways, IsDueAlways, IsDueOf}
 use Rattle.std.proofs.Math.Bool.{or-false}
@@ -96,13 +96,13 @@ pub by_taken : (ranges : List Range) (region k : ℕ) → is_taken ranges region
 by_taken ranges region k e = let found = any_among (range_has region k) ranges e in (found.0, among_contains found.0 ranges found.1, found.2)
 
 -- the free places beside one range more
-free_beside_more : (m : Description) (taken : List Range) (old : List Region) (claim : Claim) (before after : Region) (range : Range) → range.region ≡ claim.region →
-    AreFreeBeside m taken (frees old) → slice_get old claim.region ≡ Some before → IsFreeBeside m (taken ++ range ∷ []) claim.region (free_places_in after) →
-    AreFreeBeside m (taken ++ range ∷ []) (frees (slice_set old claim.region after))
+free_beside_more : (m : Description) (taken : List Range) (old : List Region) (claim : Claim) (before after : Region) (range : Range) → range.region ≡ (place_of m claim.region) →
+    AreFreeBeside m taken (frees old) → slice_get old (place_of m claim.region) ≡ Some before → IsFreeBeside m (taken ++ range ∷ []) (place_of m claim.region) (free_places_in after) →
+    AreFreeBeside m (taken ++ range ∷ []) (frees (slice_set old (place_of m claim.region) after))
 free_beside_more m taken old claim before after range its beside at here = record {
-  all = ap length (map-set free_places_in old claim.region after) ∙ (length-set (frees old) claim.region (free_places_in after) ∙ beside.all);
+  all = ap length (map-set free_places_in old (place_of m claim.region) after) ∙ (length-set (frees old) (place_of m claim.region) (free_places_in after) ∙ beside.all);
   each = λ region f is.
-      elim (set_cases (frees old) claim.region region (free_places_in before) (free_places_in after) f (slice_get-mapped free_places_in old claim.region before at) (sym (ap (λ l. slice_get l region) (map-set free_places_in old claim.region after)) ∙ is)) [
+      elim (set_cases (frees old) (place_of m claim.region) region (free_places_in before) (free_places_in after) f (slice_get-mapped free_places_in old (place_of m claim.region) before at) (sym (ap (λ l. slice_get l region) (map-set free_places_in old (place_of m claim.region) after)) ∙ is)) [
         | inl mine ↦ subst (λ (g : Free). IsFreeBeside m (taken ++ range ∷ []) region g) (sym mine.1) (subst (λ r. IsFreeBeside m (taken ++ range ∷ []) r (free_places_in after)) (sym mine.0) here)
         | inr other ↦
             let was = beside.each region f other.1 in
@@ -115,27 +115,27 @@ free_beside_more m taken old claim before after range its beside at here = recor
 }
 
 -- a range that is open for a claim shares no place with those that are taken
-apart_from_open : (m : Description) (taken : List Range) (claim : Claim) (place : ℕ) → IsOpenRange m taken claim place → (other : Range) → Contains taken other → ShareNoPlace other (range_at claim place)
+apart_from_open : (m : Description) (taken : List Range) (claim : Claim) (place : ℕ) → IsOpenRange m taken claim place → (other : Range) → Contains taken other → ShareNoPlace other (range_at m claim place)
 apart_from_open m taken claim place may other has region k in_other in_mine =
-    let parts = and_parts (claim.region == region) (in_range place claim.size k) in_mine in
-    let region_is : claim.region ≡ region = eqb-true claim.region region parts.0 in
-    clash (taken_by taken claim.region k other has (subst (λ r. range_has r k other ≡ true) (sym region_is) in_other)) (may.untaken k parts.1)
+    let parts = and_parts ((place_of m claim.region) == region) (in_range place claim.size k) in_mine in
+    let region_is : (place_of m claim.region) ≡ region = eqb-true (place_of m claim.region) region parts.0 in
+    clash (taken_by taken (place_of m claim.region) k other has (subst (λ r. range_has r k other ≡ true) (sym region_is) in_other)) (may.untaken k parts.1)
 
 -- ---- one claim more is served
 
-module _ (claims : List Claim) (old mid : List Region) (ranges : List Range) (so_far : HaveServed claims old ranges mid)
-    (claim : Claim) (is : slice_get claims (length ranges) ≡ Some claim) (before : Region) (at : slice_get mid claim.region ≡ Some before) where
+module _ (m : Description) (claims : List Claim) (old mid : List Region) (ranges : List Range) (so_far : HaveServed m claims old ranges mid)
+    (claim : Claim) (is : slice_get claims (length ranges) ≡ Some claim) (before : Region) (at : slice_get mid (place_of m claim.region) ≡ Some before) where
   -- what was taken
-  beside_in : (m : Description) (taken : List Range) → AreFreeBeside m taken (frees mid) → IsFreeBeside m taken claim.region (free_places_in before)
-  beside_in m taken free = free.each claim.region (free_places_in before) (slice_get-mapped free_places_in mid claim.region before at)
+  beside_in : (taken : List Range) → AreFreeBeside m taken (frees mid) → IsFreeBeside m taken (place_of m claim.region) (free_places_in before)
+  beside_in taken free = free.each (place_of m claim.region) (free_places_in before) (slice_get-mapped free_places_in mid (place_of m claim.region) before at)
 
-  pub served_more : (after : Region) (place : ℕ) (new : List Region) → 0 < claim.size → new ≡ slice_set mid claim.region after → ServesClaim claim before after place → of_region claim.region ranges + 1 ≤ after.spare →
-      HaveServed claims old (ranges ++ range_at claim place ∷ []) new
+  pub served_more : (after : Region) (place : ℕ) (new : List Region) → 0 < claim.size → new ≡ slice_set mid (place_of m claim.region) after → ServesClaim claim before after place → of_region (place_of m claim.region) ranges + 1 ≤ after.spare →
+      HaveServed m claims old (ranges ++ range_at m claim place ∷ []) new
   served_more after place new some set serves spare = record {
-    served = λ m taken apart free.
-        let was = so_far.served m taken apart free in
-        let t = so_far.taken m taken apart free in
-        let now = serves m (taken ++ ranges) (beside_in m (taken ++ ranges) t.free) in
+    served = λ taken apart free.
+        let was = so_far.served taken apart free in
+        let t = so_far.taken taken apart free in
+        let now = serves m (taken ++ ranges) (beside_in (taken ++ ranges) t.free) in
         record {
           few = let w = slice_get_within claims (length ranges) claim is in omega (arith, w, length_push ranges r);
           each = λ i c' r' is_c is_r. elim (slice_get-push_cases ranges r r' i is_r) [
@@ -149,73 +149,73 @@ module _ (claims : List Claim) (old mid : List Region) (ranges : List Range) (so
                 (subst (λ (c'' : Claim). IsLeastOpenRange m (taken ++ ranges) c'' r') same_claim (subst (λ (r'' : Range). IsLeastOpenRange m (taken ++ ranges) claim r'') new_one.1 now.0))
           ];
         };
-    taken = λ m taken apart free.
-        let t = so_far.taken m taken apart free in
-        let now = serves m (taken ++ ranges) (beside_in m (taken ++ ranges) t.free) in
+    taken = λ taken apart free.
+        let t = so_far.taken taken apart free in
+        let now = serves m (taken ++ ranges) (beside_in (taken ++ ranges) t.free) in
         let assoc : (taken ++ ranges) ++ r ∷ [] ≡ taken ++ (ranges ++ r ∷ []) = append_assoc taken ranges (r ∷ []) in
-        let long : length new ≡ length mid = ap length set ∙ length-set mid claim.region after in
+        let long : length new ≡ length mid = ap length set ∙ length-set mid (place_of m claim.region) after in
         record {
           within = All-append (IsRangeWithin m (length new)) ranges (r ∷ []) (subst (λ n. All (IsRangeWithin m n) ranges) (sym long) t.within)
-              (All-cons (IsRangeWithin m (length new)) r [] (record { there = subst (λ n. claim.region < n) (sym long) (slice_get_within mid claim.region before at); some = some; within = now.0.may.within }) (All-nil (IsRangeWithin m (length new))));
+              (All-cons (IsRangeWithin m (length new)) r [] (record { there = subst (λ n. (place_of m claim.region) < n) (sym long) (slice_get_within mid (place_of m claim.region) before at); some = some; within = now.0.may.within }) (All-nil (IsRangeWithin m (length new))));
           apart = subst (AllPairs ShareNoPlace) assoc (pairs_with_last ShareNoPlace (taken ++ ranges) r t.apart (apart_from_open m (taken ++ ranges) claim place now.0.may));
           free = subst (λ l. AreFreeBeside m l (frees new)) assoc
               (subst (λ l. AreFreeBeside m ((taken ++ ranges) ++ r ∷ []) (frees l)) (sym set)
               (free_beside_more m (taken ++ ranges) mid claim before after r refl t.free at now.1));
         };
-    room = λ i region is_region. elim (set_cases mid claim.region i before after region at (sym (ap (λ l. slice_get l i) set) ∙ is_region)) [
+    room = λ i region is_region. elim (set_cases mid (place_of m claim.region) i before after region at (sym (ap (λ l. slice_get l i) set) ∙ is_region)) [
       | inl mine ↦
           let more = more_here ranges r in
           let same : region.spare ≡ after.spare = ap (λ (x : Region). x.spare) mine.1 in
-          let counted : of_region i (ranges ++ r ∷ []) ≡ of_region claim.region (ranges ++ r ∷ []) = ap (λ n. of_region n (ranges ++ r ∷ [])) mine.0 in
+          let counted : of_region i (ranges ++ r ∷ []) ≡ of_region (place_of m claim.region) (ranges ++ r ∷ []) = ap (λ n. of_region n (ranges ++ r ∷ [])) mine.0 in
           omega (arith, more, spare, same, counted)
       | inr other ↦
           let was = so_far.room i region other.1 in
           let same = none_elsewhere ranges r i other.0 in
           omega (arith, was, same)
     ];
-    long = ap length set ∙ (length-set mid claim.region after ∙ so_far.long);
+    long = ap length set ∙ (length-set mid (place_of m claim.region) after ∙ so_far.long);
   }
     where
       r : Range
-      r = range_at claim place
+      r = range_at m claim place
 
   -- the claim is refused
-  pub due_here : RefusesClaim claim before → (m : Description) (taken : List Range) → AllPairs ShareNoPlace taken → AreFreeBeside m taken (frees old) → IsRefusalDue m taken claims claim.refusal
-  due_here refuses m taken apart free = record {
+  pub due_here : RefusesClaim claim before → (taken : List Range) → AllPairs ShareNoPlace taken → AreFreeBeside m taken (frees old) → IsRefusalDue m taken claims claim.refusal
+  due_here refuses taken apart free = record {
     ranges = ranges;
-    before = so_far.served m taken apart free;
+    before = so_far.served taken apart free;
     claim = claim;
     is = is;
-    refused = refuses m (taken ++ ranges) (beside_in m (taken ++ ranges) (so_far.taken m taken apart free).free);
+    refused = refuses m (taken ++ ranges) (beside_in (taken ++ ranges) (so_far.taken taken apart free).free);
     refusal_is = refl;
   }
 
   -- and nothing of it is taken
-  pub taken_still : (after : Region) (new : List Region) → new ≡ slice_set mid claim.region after → free_places_in after ≡ free_places_in before → AreTakenAlways old ranges new
-  taken_still after new set same m taken apart free =
-      let t = so_far.taken m taken apart free in
-      let long : length new ≡ length mid = ap length set ∙ length-set mid claim.region after in
+  pub taken_still : (after : Region) (new : List Region) → new ≡ slice_set mid (place_of m claim.region) after → free_places_in after ≡ free_places_in before → AreTakenAlways m old ranges new
+  taken_still after new set same taken apart free =
+      let t = so_far.taken taken apart free in
+      let long : length new ≡ length mid = ap length set ∙ length-set mid (place_of m claim.region) after in
       record {
         within = subst (λ n. All (IsRangeWithin m n) ranges) (sym long) t.within;
         apart = t.apart;
-        free = subst (λ l. AreFreeBeside m (taken ++ ranges) l) (sym (ap frees set ∙ (map-set free_places_in mid claim.region after ∙ (ap (slice_set (frees mid) claim.region) same ∙ set-slice_get (frees mid) claim.region (free_places_in before) (slice_get-mapped free_places_in mid claim.region before at))))) t.free;
+        free = subst (λ l. AreFreeBeside m (taken ++ ranges) l) (sym (ap frees set ∙ (map-set free_places_in mid (place_of m claim.region) after ∙ (ap (slice_set (frees mid) (place_of m claim.region)) same ∙ set-slice_get (frees mid) (place_of m claim.region) (free_places_in before) (slice_get-mapped free_places_in mid (place_of m claim.region) before at))))) t.free;
       }
 
-  pub room_still : (after : Region) (new : List Region) → new ≡ slice_set mid claim.region after → ((n : ℕ) → n ≤ of_region claim.region ranges → n ≤ before.spare → n ≤ after.spare) → HaveRoom ranges new
-  room_still after new set more i region is_region = elim (set_cases mid claim.region i before after region at (sym (ap (λ l. slice_get l i) set) ∙ is_region)) [
+  pub room_still : (after : Region) (new : List Region) → new ≡ slice_set mid (place_of m claim.region) after → ((n : ℕ) → n ≤ of_region (place_of m claim.region) ranges → n ≤ before.spare → n ≤ after.spare) → HaveRoom ranges new
+  room_still after new set more i region is_region = elim (set_cases mid (place_of m claim.region) i before after region at (sym (ap (λ l. slice_get l i) set) ∙ is_region)) [
     | inl mine ↦
-        let was = more (of_region claim.region ranges) (omega arith) (so_far.room claim.region before at) in
+        let was = more (of_region (place_of m claim.region) ranges) (omega arith) (so_far.room (place_of m claim.region) before at) in
         let same : region.spare ≡ after.spare = ap (λ (x : Region). x.spare) mine.1 in
-        let counted : of_region i ranges ≡ of_region claim.region ranges = ap (λ n. of_region n ranges) mine.0 in
+        let counted : of_region i ranges ≡ of_region (place_of m claim.region) ranges = ap (λ n. of_region n ranges) mine.0 in
         omega (arith, was, same, counted)
     | inr other ↦ so_far.room i region other.1
   ]
 
 -- nothing is served yet
-pub none_served : (claims : List Claim) (regions : List Region) (ranges : List Range) → ranges ≡ [] → HaveServed claims regions ranges regions
-none_served claims regions ranges none = subst (λ l. HaveServed claims regions l regions) (sym none) (record {
-  served = λ m taken apart free. record { few = omega arith; each = λ i c r is_c is_r. absurd (none-some r is_r) };
-  taken = λ m taken apart free. record {
+pub none_served : (m : Description) (claims : List Claim) (regions : List Region) (ranges : List Range) → ranges ≡ [] → HaveServed m claims regions ranges regions
+none_served m claims regions ranges none = subst (λ l. HaveServed m claims regions l regions) (sym none) (record {
+  served = λ taken apart free. record { few = omega arith; each = λ i c r is_c is_r. absurd (none-some r is_r) };
+  taken = λ taken apart free. record {
     within = All-nil (IsRangeWithin m (length regions));
     apart = subst (AllPairs ShareNoPlace) (sym (append-nil taken)) apart;
     free = subst (λ l. AreFreeBeside m l (frees regions)) (sym (append-nil taken)) free;
@@ -403,36 +403,43 @@ all_back m others ranges i regions end free = subst (λ l. AreFreeBeside m l (fr
 
 -- ---- the claims of a list, in a loop
 
-module _ (claims : List Claim) (old mid : List Region) (ranges : List Range) (i : ℕ) (d : Claim) (e : Region) (below : i < length claims) (each_one : length ranges ≡ i)
-    (so_far : HaveServed claims old ranges mid) (can : CanServe claims old) where
+module _ (m : Description) (claims : List Claim) (old mid : List Region) (ranges : List Range) (i : ℕ) (d : Claim) (e : Region) (below : i < length claims) (each_one : length ranges ≡ i)
+    (so_far : HaveServed m claims old ranges mid) (can : CanServe m claims old) (at : ℕ) (at_is : at ≡ place_of m (get_or claims i d).region) where
   abbrev claim : Claim
   claim = get_or claims i d
 
   abbrev before' : Region
-  before' = get_or mid claim.region e
+  before' = get_or mid at e
+
+  -- the claim's range from a place on
+  abbrev range_here : ℕ → Range
+  range_here place = record { region = at; place = place; size = claim.size }
+
+  listed : (place : ℕ) → ranges ++ range_here place ∷ [] ≡ ranges ++ range_at m claim place ∷ []
+  listed place = ap (λ r. ranges ++ record { region = r; place = place; size = claim.size } ∷ []) at_is
 
   is_claim : slice_get claims (length ranges) ≡ Some claim
   is_claim = ap (slice_get claims) each_one ∙ slice_get-get_or claims i d below
 
-  fair : IsFair can.0 (length old) claim
-  fair = can.2 i d below
+  fair : IsFair m (length old) claim
+  fair = can.1 i d below
 
-  pub claim_there : claim.region < length mid
-  claim_there = subst (λ n. claim.region < n) (sym so_far.long) fair.there
+  pub claim_there : at < length mid
+  claim_there = let there = fair.there in let long = so_far.long in omega (arith, there, long, at_is)
 
-  at_claim : slice_get mid claim.region ≡ Some before'
-  at_claim = slice_get-get_or mid claim.region e claim_there
+  at_claim : slice_get mid (place_of m claim.region) ≡ Some before'
+  at_claim = ap (slice_get mid) (sym at_is) ∙ slice_get-get_or mid at e claim_there
 
   pub claim_some : 0 < claim.size
   claim_some = fair.some
 
   pub claim_fixed : IfSome claim.fixed (λ p. (p % claim.align ≡ 0) × (p + claim.size ≤ before'.size))
   claim_fixed =
-      let t = so_far.taken can.0 can.1.taken can.1.apart can.1.free in
-      let size = (beside_in claims old mid ranges so_far claim is_claim before' at_claim can.0 (can.1.taken ++ ranges) t.free).size in
+      let t = so_far.taken can.0.taken can.0.apart can.0.free in
+      let size = (beside_in m claims old mid ranges so_far claim is_claim before' at_claim (can.0.taken ++ ranges) t.free).size in
       within_size claim.fixed size fair.fixed
     where
-      within_size : (o : Option ℕ) → before'.size ≡ region_size can.0 claim.region → IfSome o (λ p. (p % claim.align ≡ 0) × (p + claim.size ≤ region_size can.0 claim.region)) →
+      within_size : (o : Option ℕ) → before'.size ≡ region_size m (place_of m claim.region) → IfSome o (λ p. (p % claim.align ≡ 0) × (p + claim.size ≤ region_size m (place_of m claim.region))) →
           IfSome o (λ p. (p % claim.align ≡ 0) × (p + claim.size ≤ before'.size))
       within_size (Some p) size f = (f.0, let w = f.1 in omega (arith, w, size))
       within_size None size f = tt
@@ -442,43 +449,43 @@ module _ (claims : List Claim) (old mid : List Region) (ranges : List Range) (i 
 
   -- what is counted of the claim's region
   module _ (counts : List ℕ) (f : ℕ) (long : length counts ≡ length old) (counted : (k n : ℕ) → slice_get counts k ≡ Some n → n ≡ of_region k ranges) where
-    pub count_there : claim.region < length counts
-    count_there = let there = fair.there in omega (arith, there, long)
+    pub count_there : at < length counts
+    count_there = let there = fair.there in omega (arith, there, long, at_is)
 
-    pub count_held : get_or counts claim.region f ≡ of_region claim.region ranges
-    count_held = counted claim.region (get_or counts claim.region f) (slice_get-get_or counts claim.region f count_there)
+    pub count_held : get_or counts at f ≡ of_region at ranges
+    count_held = counted at (get_or counts at f) (slice_get-get_or counts at f count_there)
 
     -- which are fewer than the claims
-    pub few_held : length claims ≤ 262144 → get_or counts claim.region f < 262144
+    pub few_held : length claims ≤ 262144 → get_or counts at f < 262144
     few_held few =
         let held = count_held in
-        let some : of_region claim.region ranges ≤ length ranges = count_by-le-length (λ (range : Range). range.region == claim.region) ranges in
+        let some : of_region at ranges ≤ length ranges = count_by-le-length (λ (range : Range). range.region == at) ranges in
         omega (arith, below, each_one, few, held, some)
 
-    pub counts_more : (place : ℕ) (list : List Range) → list ≡ ranges ++ range_at claim place ∷ [] → (next : ℕ) → next ≡ get_or counts claim.region f + 1 →
-        (k n : ℕ) → slice_get (slice_set counts claim.region next) k ≡ Some n → n ≡ of_region k list
-    counts_more place list pushed next is k n at =
-        counted_push ranges (range_at claim place) counts (get_or counts claim.region f) next (slice_get-get_or counts claim.region f count_there) counted is k n at ∙ ap (of_region k) (sym pushed)
+    pub counts_more : (place : ℕ) (list : List Range) → list ≡ ranges ++ range_here place ∷ [] → (next : ℕ) → next ≡ get_or counts at f + 1 →
+        (k n : ℕ) → slice_get (slice_set counts at next) k ≡ Some n → n ≡ of_region k list
+    counts_more place list pushed next is k n got =
+        counted_push ranges (range_at m claim place) counts (get_or counts at f) next (ap (slice_get counts) (sym at_is) ∙ slice_get-get_or counts at f count_there) counted is k n (ap (λ x. slice_get (slice_set counts x next) k) (sym at_is) ∙ got) ∙ ap (of_region k) (sym (pushed ∙ listed place))
 
-  pub claim_served : (after : Region) (place : ℕ) (list : List Range) (held : ℕ) → held ≡ of_region claim.region ranges → list ≡ ranges ++ range_at claim place ∷ [] → ServesClaim claim before' after place →
-      held + 1 ≤ after.spare → HaveServed claims old list (slice_set mid claim.region after)
+  pub claim_served : (after : Region) (place : ℕ) (list : List Range) (held : ℕ) → held ≡ of_region at ranges → list ≡ ranges ++ range_here place ∷ [] → ServesClaim claim before' after place →
+      held + 1 ≤ after.spare → HaveServed m claims old list (slice_set mid at after)
   claim_served after place list held counted pushed serves spare =
-      subst (λ l. HaveServed claims old l (slice_set mid claim.region after)) (sym pushed)
-      (served_more claims old mid ranges so_far claim is_claim before' at_claim after place (slice_set mid claim.region after) claim_some refl serves (omega (arith, spare, counted)))
+      subst (λ l. HaveServed m claims old l (slice_set mid at after)) (sym (pushed ∙ listed place))
+      (served_more m claims old mid ranges so_far claim is_claim before' at_claim after place (slice_set mid at after) claim_some (ap (λ k. slice_set mid k after) at_is) serves (let same = ap (λ k. of_region k ranges) at_is in omega (arith, spare, counted, same)))
 
-  pub claim_due : (err : LoadErr) → IsDueOf claim before' err → IsDueAlways claims old err
+  pub claim_due : (err : LoadErr) → IsDueOf claim before' err → IsDueAlways m claims old err
   claim_due Memory due = tt
-  claim_due (Refused refusal) due = λ m taken apart free. subst (IsRefusalDue m taken claims) (sym due.0) (due_here claims old mid ranges so_far claim is_claim before' at_claim due.1 m taken apart free)
+  claim_due (Refused refusal) due = λ taken apart free. subst (IsRefusalDue m taken claims) (sym due.0) (due_here m claims old mid ranges so_far claim is_claim before' at_claim due.1 taken apart free)
 
-  pub claim_taken : (after : Region) → free_places_in after ≡ free_places_in before' → AreTakenAlways old ranges (slice_set mid claim.region after)
-  claim_taken after same = taken_still claims old mid ranges so_far claim is_claim before' at_claim after (slice_set mid claim.region after) refl same
+  pub claim_taken : (after : Region) → free_places_in after ≡ free_places_in before' → AreTakenAlways m old ranges (slice_set mid at after)
+  claim_taken after same = taken_still m claims old mid ranges so_far claim is_claim before' at_claim after (slice_set mid at after) (ap (λ k. slice_set mid k after) at_is) same
 
-  pub claim_room : (after : Region) (held : ℕ) → held ≡ of_region claim.region ranges → ((n : ℕ) → n ≤ held → n ≤ before'.spare → n ≤ after.spare) → HaveRoom ranges (slice_set mid claim.region after)
+  pub claim_room : (after : Region) (held : ℕ) → held ≡ of_region at ranges → ((n : ℕ) → n ≤ held → n ≤ before'.spare → n ≤ after.spare) → HaveRoom ranges (slice_set mid at after)
   claim_room after held counted stays =
-      room_still claims old mid ranges so_far claim is_claim before' at_claim after (slice_set mid claim.region after) refl (λ n le. stays n (omega (arith, le, counted)))
+      room_still m claims old mid ranges so_far claim is_claim before' at_claim after (slice_set mid at after) (ap (λ k. slice_set mid k after) at_is) (λ n le. stays n (let same = ap (λ k. of_region k ranges) at_is in omega (arith, le, counted, same)))
 
-pub all_served : (claims : List Claim) (old mid : List Region) (ranges : List Range) (i : ℕ) → length claims ≤ i → length ranges ≡ i → HaveServed claims old ranges mid → AreServedAlways claims old ranges
-all_served claims old mid ranges i end each_one so_far m taken apart free =
-    let first = so_far.served m taken apart free in
+pub all_served : (m : Description) (claims : List Claim) (old mid : List Region) (ranges : List Range) (i : ℕ) → length claims ≤ i → length ranges ≡ i → HaveServed m claims old ranges mid → AreServedAlways m claims old ranges
+all_served m claims old mid ranges i end each_one so_far taken apart free =
+    let first = so_far.served taken apart free in
     let few = first.few in
     record { first = first; all = omega (arith, end, each_one, few) }

@@ -141,8 +141,8 @@ module _ (s : State) (app : LoadedApp) (can : CanSettle s app) where
   -- a range of a chip's entries is as long as nets have the chip
   range_size : (range : Range) → Contains app.ranges range → (c : Chip) → IsInside its_machine c → range.region ≡ place_of its_machine (Rows c) → range.size ≡ count_by (has_chip its_machine c) app.plan.nets
   range_size range has c inside region =
-      let claimed = AllZip-at_second IsRangeFor (claims_of its_machine app.plan) app.ranges can.loaded.ranges has.0 range (member_at app.ranges range has) in
-      let of_region : claimed.0.region ≡ 1 + (chip_count its_machine + index_of its_machine c) = sym claimed.2.0 ∙ region in
+      let claimed = AllZip-at_second (IsRangeFor its_machine) (claims_of its_machine app.plan) app.ranges can.loaded.ranges has.0 range (member_at app.ranges range has) in
+      let of_region : place_of its_machine claimed.0.region ≡ 1 + (chip_count its_machine + index_of its_machine c) = sym claimed.2.0 ∙ region in
       claimed.2.1
       ∙ (row_size its_machine app.plan can.loaded.plan claimed.0 (Contains-at (claims_of its_machine app.plan) has.0 claimed.0 claimed.1) (index_of its_machine c) (index_below its_machine c inside) of_region
       ∙ ap (λ (d : Chip). count_by (has_chip its_machine d) app.plan.nets) (chip_of-index_of its_machine c inside))

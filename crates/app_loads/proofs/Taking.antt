@@ -8,7 +8,7 @@ use Rattle.range_store.specs.Regions.{AreRuns, IsFirstFit, HasNoFit, is_hole_ran
 use Rattle.app_loads.specs.declared.loaded.Claim.{Claim}
 use Rattle.app_loads.specs.declared.loaded.Range.{Range}
 use Rattle.app_loads.specs.Host.{Free}
-use Rattle.app_loads.specs.Regions.{IsFreeBeside, range_has, is_taken}
+use Rattle.app_loads.specs.Regions.{IsFreeBeside, place_of, range_has, is_taken}
 use Rattle.app_loads.specs.Claims.{IsOpenRange, IsLeastOpenRange, IsRefusedClaim}
 use Rattle.range_store.proofs.HolePlaces.{clash, free_in_range, range_of_free}
 
@@ -35,19 +35,19 @@ taken_more m taken region before after range its beside size runs free = record 
     here : (k : ℕ) → range_has region k range ≡ in_range range.place range.size k
     here k = ap (λ r. (r == region) && in_range range.place range.size k) its ∙ here_too region (in_range range.place range.size k)
 
-module _ (m : Description) (taken : List Range) (claim : Claim) (f : Free) (beside : IsFreeBeside m taken claim.region f) (some : 0 < claim.size) where
+module _ (m : Description) (taken : List Range) (claim : Claim) (f : Free) (beside : IsFreeBeside m taken (place_of m claim.region) f) (some : 0 < claim.size) where
   -- a range that lies in a hole may be taken
   pub open_from_hole : (p : ℕ) → p % claim.align ≡ 0 → IfSome claim.fixed (λ q. p ≡ q) → is_hole_range f.holes p claim.size ≡ true → IsOpenRange m taken claim p
   open_from_hole p aligned fixed fits =
-      let at : (k : ℕ) → p ≤ k → k < p + claim.size → (ltb k f.size ≡ true) × (not (is_taken taken claim.region k) ≡ true) =
-      λ k low high. and_parts (ltb k f.size) (not (is_taken taken claim.region k)) (sym (beside.free k) ∙ free_in_range f.holes p claim.size k fits low high) in
+      let at : (k : ℕ) → p ≤ k → k < p + claim.size → (ltb k f.size ≡ true) × (not (is_taken taken (place_of m claim.region) k) ≡ true) =
+      λ k low high. and_parts (ltb k f.size) (not (is_taken taken (place_of m claim.region) k)) (sym (beside.free k) ∙ free_in_range f.holes p claim.size k fits low high) in
       let last = ltb-true (p + claim.size - 1) f.size (at (p + claim.size - 1) (omega (arith, some)) (omega (arith, some))).0 in
       let size = beside.size in
       record {
         aligned = aligned;
         fixed = fixed;
         within = omega (arith, last, size, some);
-        untaken = λ k mine. let i = in_facts p claim.size k mine in not-true (is_taken taken claim.region k) (at k i.0 i.1).1;
+        untaken = λ k mine. let i = in_facts p claim.size k mine in not-true (is_taken taken (place_of m claim.region) k) (at k i.0 i.1).1;
       }
 
   -- and one that may be taken lies in a hole
@@ -57,12 +57,12 @@ module _ (m : Description) (taken : List Range) (claim : Claim) (f : Free) (besi
       let within = o.within in
       range_of_free 0 f.size f.holes p claim.size beside.runs some
       (λ k low high.
-      beside.free k ∙ free_of (ltb k f.size) (is_taken taken claim.region k) (lt-ltb k f.size (omega (arith, within, size, high)))
+      beside.free k ∙ free_of (ltb k f.size) (is_taken taken (place_of m claim.region) k) (lt-ltb k f.size (omega (arith, within, size, high)))
       (o.untaken k (in_from p claim.size k low high)))
 
 -- the first fit is the least range
-pub least_from_fit : (m : Description) (taken : List Range) (claim : Claim) (f : Free) (place : ℕ) → claim.fixed ≡ None → IsFreeBeside m taken claim.region f → 0 < claim.size →
-    IsFirstFit f.holes claim.size claim.align place → IsLeastOpenRange m taken claim (record { region = claim.region; place = place; size = claim.size })
+pub least_from_fit : (m : Description) (taken : List Range) (claim : Claim) (f : Free) (place : ℕ) → claim.fixed ≡ None → IsFreeBeside m taken (place_of m claim.region) f → 0 < claim.size →
+    IsFirstFit f.holes claim.size claim.align place → IsLeastOpenRange m taken claim (record { region = place_of m claim.region; place = place; size = claim.size })
 least_from_fit m taken claim f place none beside some fit = record {
   region = refl;
   size = refl;
@@ -70,14 +70,14 @@ least_from_fit m taken claim f place none beside some fit = record {
   least = λ q o. fit.least q o.aligned (hole_from_open m taken claim f beside some q o);
 }
 
-pub refused_from_fit : (m : Description) (taken : List Range) (claim : Claim) (f : Free) → IsFreeBeside m taken claim.region f → 0 < claim.size →
+pub refused_from_fit : (m : Description) (taken : List Range) (claim : Claim) (f : Free) → IsFreeBeside m taken (place_of m claim.region) f → 0 < claim.size →
     HasNoFit f.holes claim.size claim.align → IsRefusedClaim m taken claim
 refused_from_fit m taken claim f beside some none q o = clash (hole_from_open m taken claim f beside some q o) (none q o.aligned)
 
 -- the fixed range is the least one
 pub least_from_fixed : (m : Description) (taken : List Range) (claim : Claim) (f : Free) (place : ℕ) → claim.fixed ≡ Some place → place % claim.align ≡ 0 →
-    IsFreeBeside m taken claim.region f → 0 < claim.size → is_hole_range f.holes place claim.size ≡ true →
-    IsLeastOpenRange m taken claim (record { region = claim.region; place = place; size = claim.size })
+    IsFreeBeside m taken (place_of m claim.region) f → 0 < claim.size → is_hole_range f.holes place claim.size ≡ true →
+    IsLeastOpenRange m taken claim (record { region = place_of m claim.region; place = place; size = claim.size })
 least_from_fixed m taken claim f place is aligned beside some fits = record {
   region = refl;
   size = refl;
@@ -86,7 +86,7 @@ least_from_fixed m taken claim f place is aligned beside some fits = record {
 }
 
 pub refused_from_fixed : (m : Description) (taken : List Range) (claim : Claim) (f : Free) (place : ℕ) → claim.fixed ≡ Some place →
-    IsFreeBeside m taken claim.region f → 0 < claim.size → is_hole_range f.holes place claim.size ≡ false → IsRefusedClaim m taken claim
+    IsFreeBeside m taken (place_of m claim.region) f → 0 < claim.size → is_hole_range f.holes place claim.size ≡ false → IsRefusedClaim m taken claim
 refused_from_fixed m taken claim f place is beside some none q o =
     let e : q ≡ place = subst (λ o'. IfSome o' (λ p. q ≡ p)) is o.fixed in
     clash (hole_from_open m taken claim f beside some q o) (ap (λ p. is_hole_range f.holes p claim.size) e ∙ none)

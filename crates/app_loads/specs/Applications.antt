@@ -26,14 +26,14 @@ use Rattle.app_loads.specs.Opening.{usable_spots}
 use Rattle.app_loads.specs.Plans.{IsPlan}
 
 -- a range is of the region of its claim, and as long as was asked for
-abbrev pub IsRangeFor : Claim → Range → Type 0
-IsRangeFor claim range = (range.region ≡ claim.region) × (range.size ≡ claim.size)
+abbrev pub IsRangeFor : Description → Claim → Range → Type 0
+IsRangeFor m claim range = (range.region ≡ place_of m claim.region) × (range.size ≡ claim.size)
 
 -- An application that is loaded has a plan for the machine, a range for each claim of the plan, within its region, and a block for
 -- each net.
 pub record IsLoadedOn (m : Description) (app : LoadedApp) : Type 0 where
   pub plan : IsPlan m app.plan
-  pub ranges : AllZip IsRangeFor (claims_of m app.plan) app.ranges
+  pub ranges : AllZip (IsRangeFor m) (claims_of m app.plan) app.ranges
   pub within : All (IsRangeWithin m (1 + (chip_count m + chip_count m))) app.ranges
   pub blocks : AreBlocks (claims_of m app.plan) app.ranges app.plan.nets app.blocks
 

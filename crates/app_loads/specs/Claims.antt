@@ -19,17 +19,17 @@ use Rattle.app_loads.specs.declared.plans.AppNet.{AppNet}
 use Rattle.app_loads.specs.declared.plans.AppPlan.{AppPlan}
 use Rattle.app_loads.specs.declared.loaded.Claim.{Claim}
 use Rattle.app_loads.specs.declared.loaded.Range.{Range}
-use Rattle.app_loads.specs.declared.places.Region.TheVariants.{Memory, Rows}
-use Rattle.app_loads.specs.Regions.{region_size, is_taken, chip_count, keys_place, place_of}
+use Rattle.app_loads.specs.declared.places.Region.TheVariants.{Keys, Memory, Rows}
+use Rattle.app_loads.specs.Regions.{region_size, is_taken, chip_count, place_of}
 
 -- A vertex asks for its bytes in the memory of its chip, and for nothing where it needs none.
-abbrev pub memory_claim : Description → ℕ → Spot × ℕ → List Claim
-memory_claim m vertex need =
-    if need.1 == 0 then [] else record { region = place_of m (Memory need.0.chip); size = need.1; align = 1; fixed = None; refusal = MemoryOut vertex } ∷ []
+abbrev pub memory_claim : ℕ → Spot × ℕ → List Claim
+memory_claim vertex need =
+    if need.1 == 0 then [] else record { region = Memory need.0.chip; size = need.1; align = 1; fixed = None; refusal = MemoryOut vertex } ∷ []
 
 -- A net with a fixed block asks for that block's keys.
 abbrev pub fixed_claim : ℕ → Option Block → List Claim
-fixed_claim net (Some block) = record { region = keys_place; size = size_of block; align = 1; fixed = Some block.key; refusal = KeysOut net } ∷ []
+fixed_claim net (Some block) = record { region = Keys; size = size_of block; align = 1; fixed = Some block.key; refusal = KeysOut net } ∷ []
 fixed_claim net None = []
 
 -- the least power of two, up to 2^32, that is not below a number of keys
@@ -39,7 +39,7 @@ size_for keys = unwrap_or (find (nat_le keys) (map (λ n. 2 ^ n) (range_with_len
 -- Any other net asks for so many keys from a multiple of their number on.
 abbrev pub key_claim : ℕ → ℕ → Option Block → List Claim
 key_claim net keys (Some block) = []
-key_claim net keys None = record { region = keys_place; size = size_for keys; align = size_for keys; fixed = None; refusal = KeysOut net } ∷ []
+key_claim net keys None = record { region = Keys; size = size_for keys; align = size_for keys; fixed = None; refusal = KeysOut net } ∷ []
 
 -- whether a net's tree has the chip
 abbrev pub has_chip : Description → Chip → AppNet → Bool
@@ -48,7 +48,7 @@ has_chip m c net = chip_eq c net.tree.root || list_any (λ (e : Edge). option_ma
 -- So many entries of the chip of an index are asked for, where there are any.
 abbrev pub entries_claim : Description → ℕ → ℕ → List Claim
 entries_claim m i rows =
-    if rows == 0 then [] else record { region = place_of m (Rows (chip_of m i)); size = rows; align = 1; fixed = None; refusal = RowsOut (chip_of m i) } ∷ []
+    if rows == 0 then [] else record { region = Rows (chip_of m i); size = rows; align = 1; fixed = None; refusal = RowsOut (chip_of m i) } ∷ []
 
 -- A chip is asked for as many entries as nets have it in their trees.
 abbrev pub row_claim : Description → List AppNet → ℕ → List Claim
@@ -58,7 +58,7 @@ row_claim m nets i = entries_claim m i (count_by (has_chip m (chip_of m i)) nets
 -- chip by chip, in that order.
 abbrev pub claims_of : Description → AppPlan → List Claim
 claims_of m plan =
-    gathered (memory_claim m) 0 (zip plan.spots plan.sdram)
+    gathered memory_claim 0 (zip plan.spots plan.sdram)
     ++ (gathered (λ j (net : AppNet). fixed_claim j net.fixed) 0 plan.nets
     ++ (gathered (λ j (net : AppNet). key_claim j net.keys net.fixed) 0 plan.nets
     ++ flat_map (row_claim m plan.nets) (range_with_len 0 (chip_count m))))
@@ -68,12 +68,12 @@ claims_of m plan =
 pub record IsOpenRange (m : Description) (taken : List Range) (claim : Claim) (place : ℕ) : Type 0 where
   pub aligned : place % claim.align ≡ 0
   pub fixed : IfSome claim.fixed (λ p. place ≡ p)
-  pub within : place + claim.size ≤ region_size m claim.region
-  pub untaken : (k : ℕ) → in_range place claim.size k ≡ true → is_taken taken claim.region k ≡ false
+  pub within : place + claim.size ≤ region_size m (place_of m claim.region)
+  pub untaken : (k : ℕ) → in_range place claim.size k ≡ true → is_taken taken (place_of m claim.region) k ≡ false
 
 -- It gets the least such range.
 pub record IsLeastOpenRange (m : Description) (taken : List Range) (claim : Claim) (range : Range) : Type 0 where
-  pub region : range.region ≡ claim.region
+  pub region : range.region ≡ place_of m claim.region
   pub size : range.size ≡ claim.size
   pub may : IsOpenRange m taken claim range.place
   pub least : (q : ℕ) → IsOpenRange m taken claim q → range.place ≤ q

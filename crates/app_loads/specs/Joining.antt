@@ -77,8 +77,8 @@ pub record IsServedApp (m : Description) (old : List Region) (number first : ℕ
   pub number_is : app.number ≡ number
   pub plan_is : app.plan ≡ plan
   pub first_is : app.first ≡ first
-  pub served : AreServedAlways (claims_of m plan) old app.ranges
-  pub taken : AreTakenAlways old app.ranges new
+  pub served : AreServedAlways m (claims_of m plan) old app.ranges
+  pub taken : AreTakenAlways m old app.ranges new
   pub blocks : AreBlocks (claims_of m plan) app.ranges plan.nets app.blocks
 
 -- The mesh has its rows and packets.

@@ -3,7 +3,7 @@ ghost use Rattle.std.specs.Prelude.{◌≡◌, ◌+◌, ◌*◌, ◌-◌, ◌^�
 ghost use Rattle.std.specs.List.{flat_map, range_with_len};
 ghost use Rattle.std.specs.List.Sorted.{IsPermutation};
 ghost use Rattle.spin_base.specs.Gathered.{gathered};
-ghost use Rattle.machine_desc.specs.Live.{IsInside, IsUsable};
+ghost use Rattle.machine_desc.specs.Live.{IsInside};
 ghost use Rattle.app_graph.specs.ValidGraph.{IsFixedFor};
 ghost use Rattle.app_loads.specs.declared.plans.AppNet.{AppNet as ANet};
 ghost use Rattle.app_loads.specs.Claims.{claims_of, memory_claim, fixed_claim, key_claim, entries_claim, row_claim, size_for};
@@ -13,7 +13,7 @@ ghost use Rattle.app_loads.specs.Regions.{chip_count};
 
 use crate::answers::LoadRefusal;
 use crate::loaded::Claim;
-use crate::places::{KEYS, Region};
+use crate::places::Region;
 use crate::plans::{AppNet, AppPlan};
 use machine_desc::{Edge, Machine};
 use spin_base::{Block, Memory, Spot};
@@ -33,12 +33,7 @@ pub fn claims_of(alloc: Global, machine: &Machine, plan: &AppPlan) -> Result<Vec
     let chips = machine.chips();
     prove!(plan.spots.len() <= 24 * chips);
     let mut claims = Vec::new(alloc);
-    claim_memory(
-        &mut claims,
-        machine,
-        plan.spots.as_slice(),
-        plan.sdram.as_slice(),
-    )?;
+    claim_memory(&mut claims, plan.spots.as_slice(), plan.sdram.as_slice())?;
     claim_fixed(&mut claims, plan.nets.as_slice())?;
     claim_keys(&mut claims, plan.nets.as_slice())?;
     claim_rows(alloc, &mut claims, machine, plan.nets.as_slice())?;
@@ -46,39 +41,26 @@ pub fn claims_of(alloc: Global, machine: &Machine, plan: &AppPlan) -> Result<Vec
 }
 
 // Each vertex's memory.
-fn claim_memory(
-    claims: &mut Vec<Claim>,
-    machine: &Machine,
-    spots: &[Spot],
-    sdram: &[u32],
-) -> Result<(), Memory>
-    requires usable { All (IsUsable machine.now) spots.now }
+fn claim_memory(claims: &mut Vec<Claim>, spots: &[Spot], sdram: &[u32]) -> Result<(), Memory>
     requires each { length sdram.now ≡ length spots.now }
     requires few { length spots.now < 2 ^ 32 }
     ensures { OnOk result (claims.new.items ≡ claims.old.items
-        ++ gathered (memory_claim machine.now) 0 (zip spots.now sdram.now)) }
+        ++ gathered memory_claim 0 (zip spots.now sdram.now)) }
 {
     for (vertex, spot) in spots.iter().enumerate() {
-        push_memory(claims, machine, vertex as u32, *spot, sdram[vertex])?;
+        push_memory(claims, vertex as u32, *spot, sdram[vertex])?;
     }
     Ok(())
 }
 
 // A vertex's memory, if it needs some.
-fn push_memory(
-    claims: &mut Vec<Claim>,
-    machine: &Machine,
-    vertex: u32,
-    spot: Spot,
-    bytes: u32,
-) -> Result<(), Memory>
-    requires { IsInside machine.now spot.chip }
+fn push_memory(claims: &mut Vec<Claim>, vertex: u32, spot: Spot, bytes: u32) -> Result<(), Memory>
     ensures { OnOk result (claims.new.items ≡ claims.old.items
-        ++ memory_claim machine.now vertex (spot, bytes)) }
+        ++ memory_claim vertex (spot, bytes)) }
 {
     if bytes > 0 {
         claims.push(Claim {
-            region: Region::Memory(spot.chip).place(machine),
+            region: Region::Memory(spot.chip),
             size: u64::from(bytes),
             align: 1,
             fixed: None,
@@ -106,7 +88,7 @@ fn push_fixed(claims: &mut Vec<Claim>, net: u32, fixed: Option<Block>) -> Result
 {
     if let Some(block) = fixed {
         claims.push(Claim {
-            region: KEYS,
+            region: Region::Keys,
             size: ALL_KEYS - u64::from(block.mask),
             align: 1,
             fixed: Some(u64::from(block.key)),
@@ -142,7 +124,7 @@ fn push_keys(
     if fixed.is_none() {
         let size = size_for(keys);
         claims.push(Claim {
-            region: KEYS,
+            region: Region::Keys,
             size,
             align: size,
             fixed: None,
@@ -205,7 +187,7 @@ fn push_rows(
 {
     let chip = machine.chip_at(index);
     claims.push(Claim {
-        region: Region::Rows(chip).place(machine),
+        region: Region::Rows(chip),
         size: rows,
         align: 1,
         fixed: None,

@@ -1,5 +1,6 @@
 // An application that is loaded, and what it holds.
 use crate::answers::LoadRefusal;
+use crate::places::Region;
 use crate::plans::AppPlan;
 use spin_base::{Block, Seq};
 
@@ -13,10 +14,10 @@ pub struct Range {
 }
 
 /// What a plan asks a region for: so many places from a multiple of `align` on, or from the fixed place on; and the refusal where
-/// the region has none. The region is named as in a range.
+/// the region has none.
 #[derive(Clone, Copy)]
 pub struct Claim {
-    pub region: usize,
+    pub region: Region,
     pub size: u64,
     pub align: u64,
     pub fixed: Option<u64>,

@@ -80,9 +80,9 @@ fn join(
     ensures served { IfOk result.1 (λ app.
         IsServedApp mesh.setup.machine regions.old number first plan.now app regions.new) }
     ensures settled { IfOk result.1 (λ app. IsSettled app mesh result.0) }
-    ensures due { IfErr result.1 (IsDueAlways (claims_of mesh.setup.machine plan.now) regions.old) }
+    ensures due { IfErr result.1 (IsDueAlways mesh.setup.machine (claims_of mesh.setup.machine plan.now) regions.old) }
     ensures mesh_refused { OnErr result.1 (result.0 ≡ mesh) }
-    ensures back { OnErr result.1 (AreFreeAgain regions.old regions.new) }
+    ensures back { OnErr result.1 (AreFreeAgain mesh.setup.machine regions.old regions.new) }
 {
     let app = match serve(alloc, mesh.machine(), regions, number, first, plan) {
         Ok(app) => app,
@@ -113,13 +113,13 @@ fn serve(
     ensures served { IfOk result (λ app.
         IsServedApp machine.now regions.old number first plan.now app regions.new) }
     ensures room { IfOk result (λ app. HaveRoom app.ranges regions.new) }
-    ensures due { IfErr result (IsDueAlways (claims_of machine.now plan.now) regions.old) }
-    ensures back { OnErr result (AreFreeAgain regions.old regions.new) }
+    ensures due { IfErr result (IsDueAlways machine.now (claims_of machine.now plan.now) regions.old) }
+    ensures back { OnErr result (AreFreeAgain machine.now regions.old regions.new) }
 {
     let Ok(claims) = claims_of(alloc, machine, plan) else {
         return Err(LoadErr::Memory);
     };
-    let ranges = match take_all(alloc, regions, &claims) {
+    let ranges = match take_all(alloc, machine, regions, &claims) {
         Ok(ranges) => ranges,
         Err(refusal) => return Err(refusal),
     };

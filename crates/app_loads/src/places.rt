@@ -6,7 +6,7 @@ use machine_desc::Machine;
 use spin_base::Chip;
 
 // Where the keys stand in the list of regions.
-pub const KEYS: usize = 0;
+const KEYS: usize = 0;
 
 /// All places of one kind on a machine (this project's own).
 #[derive(Clone, Copy)]

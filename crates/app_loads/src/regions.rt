@@ -8,6 +8,7 @@ ghost use Rattle.app_loads.specs.Taking.{free_places_in, frees, ServesClaim, Ref
 
 use crate::answers::LoadErr;
 use crate::loaded::{Claim, Range};
+use machine_desc::Machine;
 use range_store::Ranges;
 use spin_base::Memory;
 use std::alloc::Global;
@@ -15,16 +16,17 @@ use std::alloc::Global;
 // Serves the claims in order. At the first that cannot be served all is given back.
 pub fn take_all(
     alloc: Global,
+    machine: &Machine,
     regions: &mut [Ranges],
     claims: &[Claim],
 ) -> Result<Vec<Range>, LoadErr>
-    requires can { CanServe claims.now regions.old }
+    requires can { CanServe machine.now claims.now regions.old }
     requires few { length claims.now ≤ 262144 }
-    ensures served { IfOk result (λ ranges. AreServedAlways claims.now regions.old ranges.items) }
-    ensures taken { IfOk result (λ ranges. AreTakenAlways regions.old ranges.items regions.new) }
+    ensures served { IfOk result (λ ranges. AreServedAlways machine.now claims.now regions.old ranges.items) }
+    ensures taken { IfOk result (λ ranges. AreTakenAlways machine.now regions.old ranges.items regions.new) }
     ensures room { IfOk result (λ ranges. HaveRoom ranges.items regions.new) }
-    ensures refused { IfErr result (IsDueAlways claims.now regions.old) }
-    ensures back { OnErr result (AreFreeAgain regions.old regions.new) }
+    ensures refused { IfErr result (IsDueAlways machine.now claims.now regions.old) }
+    ensures back { OnErr result (AreFreeAgain machine.now regions.old regions.new) }
 {
     let Ok(mut ranges) = Vec::with_capacity(alloc, claims.len()) else {
         return Err(LoadErr::Memory);
@@ -32,7 +34,7 @@ pub fn take_all(
     let Ok(mut counts) = vec![in alloc; 0u32; regions.len()] else {
         return Err(LoadErr::Memory);
     };
-    match take_each(regions, &mut counts, claims, &mut ranges) {
+    match take_each(machine, regions, &mut counts, claims, &mut ranges) {
         Ok(()) => Ok(ranges),
         Err(refusal) => {
             give_all(regions, &ranges);
@@ -44,23 +46,24 @@ pub fn take_all(
 // Serves the claims in order, up to the first that cannot be served, and puts their ranges into the list, which has room for all. It
 // counts the ranges of each region.
 fn take_each(
+    machine: &Machine,
     regions: &mut [Ranges],
     counts: &mut [u32],
     claims: &[Claim],
     ranges: &mut Vec<Range>,
 ) -> Result<(), LoadErr>
-    requires can { CanServe claims.now regions.old }
+    requires can { CanServe machine.now claims.now regions.old }
     requires counts { counts.old ≡ replicate (length regions.old) 0 }
     requires none { ranges.old.items ≡ [] }
     requires room { length claims.now ≤ vec_capacity ranges.old }
     requires few { length claims.now ≤ 262144 }
-    ensures served { OnOk result (AreServedAlways claims.now regions.old ranges.new.items) }
-    ensures refused { IfErr result (IsDueAlways claims.now regions.old) }
-    ensures taken { AreTakenAlways regions.old ranges.new.items regions.new }
+    ensures served { OnOk result (AreServedAlways machine.now claims.now regions.old ranges.new.items) }
+    ensures refused { IfErr result (IsDueAlways machine.now claims.now regions.old) }
+    ensures taken { AreTakenAlways machine.now regions.old ranges.new.items regions.new }
     ensures room { HaveRoom ranges.new.items regions.new }
 {
     for claim in claims {
-        let at = claim.region;
+        let at = claim.region.place(machine);
         let held = counts[at];
         match take_claim(&mut regions[at], claim, held) {
             Ok(place) => {

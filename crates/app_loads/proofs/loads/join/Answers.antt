@@ -4,7 +4,7 @@ use Rattle.app_loads.specs.declared.loaded.Range.{Range}
 use Rattle.app_loads.specs.Claims.{claims_of}
 use Rattle.app_loads.specs.Joining.{IsServedApp}
 use Rattle.app_loads.specs.Plans.{IsPlan}
-use Rattle.app_loads.specs.Taking.{AreRegionsOf, AreTaken, HaveRoom, IsDueAlways}
+use Rattle.app_loads.specs.Taking.{AreFreeAgain, AreRegionsOf, AreTaken, HaveRoom, IsDueAlways}
 use Rattle.app_loads.proofs.JoinLaws.{can_settle}
 use Rattle.app_loads.proofs.loads.join.Goals as goal
 
@@ -15,13 +15,13 @@ pub serve-requires-clause-regions : goal.serve-requires-clause-regions
 serve-requires-clause-regions c = subst (λ (m : Description). AreRegionsOf m c.args.regions.now) (sym c.machine.ensures) c.requires.of_machine
 
 pub returns-in-Err-clause-due : goal.returns-in-Err-clause-due
-returns-in-Err-clause-due c = subst (λ (m : Description). IsDueAlways (claims_of m c.args.plan.now) c.args.regions.now c.in-Err.refusal) c.machine.ensures c.in-Err.ensures.due
+returns-in-Err-clause-due c = subst (λ (m : Description). IsDueAlways m (claims_of m c.args.plan.now) c.args.regions.now c.in-Err.refusal) c.machine.ensures c.in-Err.ensures.due
 
 pub returns-in-Err-clause-mesh_refused : goal.returns-in-Err-clause-mesh_refused
 returns-in-Err-clause-mesh_refused c = refl
 
 pub returns-in-Err-clause-back : goal.returns-in-Err-clause-back
-returns-in-Err-clause-back c = c.in-Err.ensures.back
+returns-in-Err-clause-back c = subst (λ (m : Description). AreFreeAgain m c.args.regions.now c.serve.new.regions) c.machine.ensures c.in-Err.ensures.back
 
 pub settle-mesh-requires : goal.settle-mesh-requires
 settle-mesh-requires c =
@@ -38,12 +38,12 @@ give_all-requires-clause-taken c =
       c.args.mesh.setup.machine,
       own.taken,
       subst (λ (l : List Range). AreTaken c.args.mesh.setup.machine own.taken l c.serve.new.regions) (sym c.as_slice.ensures)
-          (c.in-Ok.ensures.served.taken c.args.mesh.setup.machine own.taken own.apart own.free),
+          ((subst (λ (m : Description). IsServedApp m c.args.regions.now c.args.number c.args.first c.args.plan.now c.in-Ok.app c.serve.new.regions) c.machine.ensures c.in-Ok.ensures.served).taken own.taken own.apart own.free),
     )
 
 pub give_all-requires-clause-room : goal.give_all-requires-clause-room
 give_all-requires-clause-room c = subst (λ (l : List Range). HaveRoom l c.serve.new.regions) (sym c.as_slice.ensures) c.in-Ok.ensures.room
 
 pub returns-in-Err-settled-clause-back : goal.returns-in-Err-settled-clause-back
-returns-in-Err-settled-clause-back c m taken apart free =
-    c.give_all.ensures.free m taken (subst (λ (l : List Range). AreTaken m taken l c.serve.new.regions) (sym c.as_slice.ensures) (c.in-Ok.ensures.served.taken m taken apart free))
+returns-in-Err-settled-clause-back c taken apart free =
+    c.give_all.ensures.free c.args.mesh.setup.machine taken (subst (λ (l : List Range). AreTaken c.args.mesh.setup.machine taken l c.serve.new.regions) (sym c.as_slice.ensures) ((subst (λ (m : Description). IsServedApp m c.args.regions.now c.args.number c.args.first c.args.plan.now c.in-Ok.app c.serve.new.regions) c.machine.ensures c.in-Ok.ensures.served).taken taken apart free))

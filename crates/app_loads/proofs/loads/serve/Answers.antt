@@ -14,7 +14,7 @@ pub app_of-requires : goal.app_of-requires
 app_of-requires c =
     let own = c.requires.regions in
     let served = subst (λ (l : List Claim). AreServed c.args.machine.now own.taken l c.in-Ok-take_all.ranges.items) (c.deref.ensures.value ∙ c.in-Ok.ensures.claims)
-    (c.in-Ok-take_all.ensures.served c.args.machine.now own.taken own.apart own.free) in
+    (c.in-Ok-take_all.ensures.served own.taken own.apart own.free) in
     subst (λ (l : List Claim). AreKeyed l c.deref-3.result.now (length c.args.plan.now.nets)) (sym (c.deref-2.ensures.value ∙ c.in-Ok.ensures.claims))
     (subst (λ (l : List Range). AreKeyed (claims_of c.args.machine.now c.args.plan.now) l (length c.args.plan.now.nets)) (sym c.deref-3.ensures.value)
     (keyed_from c.args.machine.now c.args.plan.now c.requires.plan own.taken c.in-Ok-take_all.ranges.items served))
@@ -28,9 +28,9 @@ returns-in-Ok-app_of-clause-served c =
       number_is = made.number;
       plan_is = made.plan;
       first_is = made.first;
-      served = subst (λ (l : List Range). AreServedAlways (claims_of c.args.machine.now c.args.plan.now) c.args.regions.now l) (sym ranges)
-          (subst (λ (l : List Claim). AreServedAlways l c.args.regions.now c.in-Ok-take_all.ranges.items) (c.deref.ensures.value ∙ c.in-Ok.ensures.claims) c.in-Ok-take_all.ensures.served);
-      taken = subst (λ (l : List Range). AreTakenAlways c.args.regions.now l c.take_all.new.regions) (sym ranges) c.in-Ok-take_all.ensures.taken;
+      served = subst (λ (l : List Range). AreServedAlways c.args.machine.now (claims_of c.args.machine.now c.args.plan.now) c.args.regions.now l) (sym ranges)
+          (subst (λ (l : List Claim). AreServedAlways c.args.machine.now l c.args.regions.now c.in-Ok-take_all.ranges.items) (c.deref.ensures.value ∙ c.in-Ok.ensures.claims) c.in-Ok-take_all.ensures.served);
+      taken = subst (λ (l : List Range). AreTakenAlways c.args.machine.now c.args.regions.now l c.take_all.new.regions) (sym ranges) c.in-Ok-take_all.ensures.taken;
       blocks = subst (λ (l : List Claim). AreBlocks l c.in-Ok-app_of.app.ranges c.args.plan.now.nets c.in-Ok-app_of.app.blocks) claims
           (subst (λ (l : List Range). AreBlocks c.deref-2.result.now l c.args.plan.now.nets c.in-Ok-app_of.app.blocks) (sym made.ranges) made.blocks);
     }
@@ -41,9 +41,9 @@ give_all-requires-clause-taken c =
       c.args.machine.now,
       own.taken,
       subst (λ (l : List Range). AreTaken c.args.machine.now own.taken l c.take_all.new.regions) (sym c.deref-in-Err-app_of.ensures.value)
-          (c.in-Ok-take_all.ensures.taken c.args.machine.now own.taken own.apart own.free),
+          (c.in-Ok-take_all.ensures.taken own.taken own.apart own.free),
     )
 
 pub returns-clause-back : goal.returns-clause-back
-returns-clause-back c m taken apart free =
-    c.give_all.ensures.free m taken (subst (λ (l : List Range). AreTaken m taken l c.take_all.new.regions) (sym c.deref-in-Err-app_of.ensures.value) (c.in-Ok-take_all.ensures.taken m taken apart free))
+returns-clause-back c taken apart free =
+    c.give_all.ensures.free c.args.machine.now taken (subst (λ (l : List Range). AreTaken c.args.machine.now taken l c.take_all.new.regions) (sym c.deref-in-Err-app_of.ensures.value) (c.in-Ok-take_all.ensures.taken taken apart free))

@@ -2,6 +2,7 @@ use Rattle.std.proofs.Common.{None, ◌∙◌, ap, arith, length, refl, sym}
 use Rattle.std.specs.List.{slice_get}
 use Rattle.std.proofs.lemmas.List.{length-replicate, length-set}
 use Rattle.app_loads.specs.declared.answers.LoadRefusal.TheVariants.{Loaded}
+use Rattle.app_loads.specs.declared.places.Region.TheVariants.{Keys}
 use Rattle.app_loads.specs.declared.loaded.Claim.{Claim}
 use Rattle.app_loads.proofs.Serving.{few_held, pushed_long, claim_fair, claim_served, claim_due, claim_taken, claim_room, count_held, counts_more, none_counted, none_served, of_region, all_served}
 use Rattle.app_loads.proofs.regions.take_each.Goals as goal
@@ -10,32 +11,32 @@ pub loop-claim-init : goal.loop-claim-init
 loop-claim-init c = record {
   each_one = ap length c.requires.none;
   room = c.requires.room;
-  served = none_served c.args.claims.now c.args.regions.now c.args.ranges.now.items c.requires.none;
+  served = none_served c.args.machine.now c.args.claims.now c.args.regions.now c.args.ranges.now.items c.requires.none;
   counts = ap length c.requires.counts ∙ length-replicate (length c.args.regions.now) 0;
   counted = λ k n at. none_counted (length c.args.regions.now) k n (ap (λ l. slice_get l k) (sym c.requires.counts) ∙ at) ∙ ap (of_region k) (sym c.requires.none);
 }
 
 pub take_claim-requires-clause-fair : goal.take_claim-requires-clause-fair
 take_claim-requires-clause-fair c =
-    claim_fair c.args.claims.now c.args.regions.now c.loop-claim.regions c.loop-claim.ranges.items c.loop-claim.claim-index _ c.index-regions-at.result c.loop-claim-test.true
-    c.loop-claim.invariant.each_one c.loop-claim.invariant.served c.requires.can
+    claim_fair c.args.machine.now c.args.claims.now c.args.regions.now c.loop-claim.regions c.loop-claim.ranges.items c.loop-claim.claim-index _ c.index-regions-at.result c.loop-claim-test.true
+    c.loop-claim.invariant.each_one c.loop-claim.invariant.served c.requires.can c.place-at.result c.place-at.ensures
 
 pub returns-in-Err-clause-refused : goal.returns-in-Err-clause-refused
 returns-in-Err-clause-refused c =
-    claim_due c.args.claims.now c.args.regions.now c.loop-claim.regions c.loop-claim.ranges.items c.loop-claim.claim-index _ c.index-regions-at.result c.loop-claim-test.true
-    c.loop-claim.invariant.each_one c.loop-claim.invariant.served c.requires.can c.in-Err.refusal c.in-Err.ensures.refused
+    claim_due c.args.machine.now c.args.claims.now c.args.regions.now c.loop-claim.regions c.loop-claim.ranges.items c.loop-claim.claim-index _ c.index-regions-at.result c.loop-claim-test.true
+    c.loop-claim.invariant.each_one c.loop-claim.invariant.served c.requires.can c.place-at.result c.place-at.ensures c.in-Err.refusal c.in-Err.ensures.refused
 
 pub returns-in-Err-clause-taken : goal.returns-in-Err-clause-taken
 returns-in-Err-clause-taken c =
-    claim_taken c.args.claims.now c.args.regions.now c.loop-claim.regions c.loop-claim.ranges.items c.loop-claim.claim-index _ c.index-regions-at.result c.loop-claim-test.true
-    c.loop-claim.invariant.each_one c.loop-claim.invariant.served c.requires.can c.take_claim.new.region c.in-Err.ensures.unchanged
+    claim_taken c.args.machine.now c.args.claims.now c.args.regions.now c.loop-claim.regions c.loop-claim.ranges.items c.loop-claim.claim-index _ c.index-regions-at.result c.loop-claim-test.true
+    c.loop-claim.invariant.each_one c.loop-claim.invariant.served c.requires.can c.place-at.result c.place-at.ensures c.take_claim.new.region c.in-Err.ensures.unchanged
 
 pub returns-in-Err-clause-room : goal.returns-in-Err-clause-room
 returns-in-Err-clause-room c =
-    claim_room c.args.claims.now c.args.regions.now c.loop-claim.regions c.loop-claim.ranges.items c.loop-claim.claim-index _ c.index-regions-at.result c.loop-claim-test.true
-    c.loop-claim.invariant.each_one c.loop-claim.invariant.served c.requires.can c.take_claim.new.region _
-    (count_held c.args.claims.now c.args.regions.now c.loop-claim.regions c.loop-claim.ranges.items c.loop-claim.claim-index _ c.index-regions-at.result c.loop-claim-test.true
-    c.loop-claim.invariant.each_one c.loop-claim.invariant.served c.requires.can c.loop-claim.counts _ c.loop-claim.invariant.counts c.loop-claim.invariant.counted)
+    claim_room c.args.machine.now c.args.claims.now c.args.regions.now c.loop-claim.regions c.loop-claim.ranges.items c.loop-claim.claim-index _ c.index-regions-at.result c.loop-claim-test.true
+    c.loop-claim.invariant.each_one c.loop-claim.invariant.served c.requires.can c.place-at.result c.place-at.ensures c.take_claim.new.region _
+    (count_held c.args.machine.now c.args.claims.now c.args.regions.now c.loop-claim.regions c.loop-claim.ranges.items c.loop-claim.claim-index _ c.index-regions-at.result c.loop-claim-test.true
+    c.loop-claim.invariant.each_one c.loop-claim.invariant.served c.requires.can c.place-at.result c.place-at.ensures c.loop-claim.counts _ c.loop-claim.invariant.counts c.loop-claim.invariant.counted)
     c.in-Err.ensures.room_stays
 
 pub loop-claim-preserved : goal.loop-claim-preserved
@@ -43,34 +44,37 @@ loop-claim-preserved c =
     let long = c.loop-claim.invariant.each_one in
     let kept = c.push_reserved.ensures.capacity in
     let room = c.loop-claim.invariant.room in
-    let held = count_held c.args.claims.now c.args.regions.now c.loop-claim.regions c.loop-claim.ranges.items c.loop-claim.claim-index _ c.index-regions-at.result c.loop-claim-test.true
-    c.loop-claim.invariant.each_one c.loop-claim.invariant.served c.requires.can c.loop-claim.counts _ c.loop-claim.invariant.counts c.loop-claim.invariant.counted in
+    let held = count_held c.args.machine.now c.args.claims.now c.args.regions.now c.loop-claim.regions c.loop-claim.ranges.items c.loop-claim.claim-index _ c.index-regions-at.result c.loop-claim-test.true
+    c.loop-claim.invariant.each_one c.loop-claim.invariant.served c.requires.can c.place-at.result c.place-at.ensures c.loop-claim.counts _ c.loop-claim.invariant.counts c.loop-claim.invariant.counted in
     record {
       each_one = let more = pushed_long c.loop-claim.ranges.items c.push_reserved.new.self.items _ c.push_reserved.ensures.items in omega (arith, more, long);
       room = omega (arith, kept, room);
-      served = claim_served c.args.claims.now c.args.regions.now c.loop-claim.regions c.loop-claim.ranges.items c.loop-claim.claim-index _ c.index-regions-at.result c.loop-claim-test.true
-          c.loop-claim.invariant.each_one c.loop-claim.invariant.served c.requires.can c.take_claim.new.region c.in-Ok.place c.push_reserved.new.self.items _ held c.push_reserved.ensures.items c.in-Ok.ensures.taken
+      served = claim_served c.args.machine.now c.args.claims.now c.args.regions.now c.loop-claim.regions c.loop-claim.ranges.items c.loop-claim.claim-index _ c.index-regions-at.result c.loop-claim-test.true
+          c.loop-claim.invariant.each_one c.loop-claim.invariant.served c.requires.can c.place-at.result c.place-at.ensures c.take_claim.new.region c.in-Ok.place c.push_reserved.new.self.items _ held c.push_reserved.ensures.items c.in-Ok.ensures.taken
           c.in-Ok.ensures.room;
       counts = length-set c.loop-claim.counts _ _ ∙ c.loop-claim.invariant.counts;
-      counted = counts_more c.args.claims.now c.args.regions.now c.loop-claim.regions c.loop-claim.ranges.items c.loop-claim.claim-index _ c.index-regions-at.result c.loop-claim-test.true
-          c.loop-claim.invariant.each_one c.loop-claim.invariant.served c.requires.can c.loop-claim.counts _ c.loop-claim.invariant.counts c.loop-claim.invariant.counted
+      counted = counts_more c.args.machine.now c.args.claims.now c.args.regions.now c.loop-claim.regions c.loop-claim.ranges.items c.loop-claim.claim-index _ c.index-regions-at.result c.loop-claim-test.true
+          c.loop-claim.invariant.each_one c.loop-claim.invariant.served c.requires.can c.place-at.result c.place-at.ensures c.loop-claim.counts _ c.loop-claim.invariant.counts c.loop-claim.invariant.counted
           c.in-Ok.place c.push_reserved.new.self.items c.push_reserved.ensures.items _ refl;
     }
 
 pub returns-clause-served : goal.returns-clause-served
 returns-clause-served c =
-    all_served c.args.claims.now c.args.regions.now c.loop-claim.regions c.loop-claim.ranges.items c.loop-claim.claim-index c.loop-claim-test.false c.loop-claim.invariant.each_one c.loop-claim.invariant.served
+    all_served c.args.machine.now c.args.claims.now c.args.regions.now c.loop-claim.regions c.loop-claim.ranges.items c.loop-claim.claim-index c.loop-claim-test.false c.loop-claim.invariant.each_one c.loop-claim.invariant.served
 
 pub take_claim-requires-clause-few : goal.take_claim-requires-clause-few
 take_claim-requires-clause-few c =
-    let none : Claim = record { region = 0; size = 0; align = 0; fixed = None; refusal = Loaded } in
-    let few = few_held c.args.claims.now c.args.regions.now c.loop-claim.regions c.loop-claim.ranges.items c.loop-claim.claim-index none c.index-regions-at.result c.loop-claim-test.true
-    c.loop-claim.invariant.each_one c.loop-claim.invariant.served c.requires.can c.loop-claim.counts 0 c.loop-claim.invariant.counts c.loop-claim.invariant.counted c.requires.few in
+    let none : Claim = record { region = Keys; size = 0; align = 0; fixed = None; refusal = Loaded } in
+    let few = few_held c.args.machine.now c.args.claims.now c.args.regions.now c.loop-claim.regions c.loop-claim.ranges.items c.loop-claim.claim-index none c.index-regions-at.result c.loop-claim-test.true
+    c.loop-claim.invariant.each_one c.loop-claim.invariant.served c.requires.can c.place-at.result c.place-at.ensures c.loop-claim.counts 0 c.loop-claim.invariant.counts c.loop-claim.invariant.counted c.requires.few in
     omega (arith, few)
 
 pub overflow_add-counts : goal.overflow_add-counts
 overflow_add-counts c =
-    let none : Claim = record { region = 0; size = 0; align = 0; fixed = None; refusal = Loaded } in
-    let few = few_held c.args.claims.now c.args.regions.now c.loop-claim.regions c.loop-claim.ranges.items c.loop-claim.claim-index none c.index-regions-at.result c.loop-claim-test.true
-    c.loop-claim.invariant.each_one c.loop-claim.invariant.served c.requires.can c.loop-claim.counts 0 c.loop-claim.invariant.counts c.loop-claim.invariant.counted c.requires.few in
+    let none : Claim = record { region = Keys; size = 0; align = 0; fixed = None; refusal = Loaded } in
+    let few = few_held c.args.machine.now c.args.claims.now c.args.regions.now c.loop-claim.regions c.loop-claim.ranges.items c.loop-claim.claim-index none c.index-regions-at.result c.loop-claim-test.true
+    c.loop-claim.invariant.each_one c.loop-claim.invariant.served c.requires.can c.place-at.result c.place-at.ensures c.loop-claim.counts 0 c.loop-claim.invariant.counts c.loop-claim.invariant.counted c.requires.few in
     omega (arith, few)
+
+pub place-at-requires : goal.place-at-requires
+place-at-requires c = (c.requires.can.1 c.loop-claim.claim-index _ c.loop-claim-test.true).region

@@ -9,7 +9,7 @@ abbrev pub invariant-loop-claim : goal.invariant-loop-claim
 invariant-loop-claim l = record {
   each_one : length l.ranges.items ≡ l.claim-index;
   room : length l.claims ≤ l.ranges.cap;
-  served : HaveServed l.claims l.fn.regions l.ranges.items l.regions;
+  served : HaveServed l.machine l.claims l.fn.regions l.ranges.items l.regions;
   counts : length l.counts ≡ length l.fn.regions;
   counted : (k n : ℕ) → slice_get l.counts k ≡ Some n → n ≡ of_region k l.ranges.items;
 }
