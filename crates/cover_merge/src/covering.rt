@@ -9,7 +9,7 @@ ghost use Rattle.cover_merge.specs.Covering.{Covers, HasNoChosen, HasNoLegalPair
 ghost use Rattle.cover_merge.specs.Merges.{sets_of};
 
 use crate::applying::apply;
-use crate::carrying::{carry, renew};
+use crate::carrying::{carry, carry_joined, renew, touch};
 use crate::choosing::chosen;
 use crate::keeping::{forget_met, forget_near, forget_own};
 use crate::knowing::{Known, known_of};
@@ -107,11 +107,19 @@ fn merge_at(
     let rows = table.rows.as_slice();
     let members = places.as_slice();
     let merged = merged_block(rows, members);
+    touch(rows, known, members, merged, now);
     forget(rows, known, members, merged);
-    carry_numbers(rows, &mut known.numbers, members)?;
-    carry(rows, &mut known.guards, members, merged, now)?;
+    carry_numbers(rows, &mut known.numbers, members);
+    carry_joined(rows, &mut known.joined, members, merged);
+    carry(rows, &mut known.guards, members, merged, now);
     apply(alloc, table, places)?;
-    renew(alloc, table.rows.as_slice(), &mut known.guards, merged, now)
+    renew(
+        alloc,
+        table.rows.as_slice(),
+        &mut known.guards,
+        &known.joined,
+        merged,
+    )
 }
 
 // Forgets what is kept of routes that the merge of the rows at the places does not leave alone.
@@ -124,7 +132,9 @@ fn forget(rows: &[Row], known: &mut Known, places: &[u32], merged: Block)
     ensures one_route { length known.new.kept.items ≡ length known.new.routes.items }
     ensures guards { known.new.guards.items ≡ known.old.guards.items }
     ensures numbers { known.new.numbers.items ≡ known.old.numbers.items }
+    ensures joined { known.new.joined.items ≡ known.old.joined.items }
     ensures routes { known.new.routes.items ≡ known.old.routes.items }
+    ensures latest { known.new.latest.items ≡ known.old.latest.items }
 {
     let own = known.numbers[places[0] as usize] as usize;
     forget_own(&mut known.kept, own);
