@@ -16,3 +16,4 @@ mod LinkLemmas
 mod RefineLemmas
 mod SiftLemmas
 mod TriedLemmas
+mod PairLemmas

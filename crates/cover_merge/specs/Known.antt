@@ -28,11 +28,17 @@ pub record IsKnown (rows : List Row) (known : Known) : Type 0 where
   pub guards : AreGuards rows known.guards.items
   pub joined : AreJoined rows known.joined.items
   pub one_time : length known.latest.items ≡ length known.routes.items
-  pub latest : AreNoLater known.numbers.items known.latest.items known.guards.items
+  pub latest : AreNoLater known.routes.items known.latest.items rows known.guards.items
   pub once : IsEachOnce known.routes.items
   pub numbers : AreNumbers known.routes.items rows known.numbers.items
   pub one_route : length known.kept.items ≡ length known.routes.items
   pub kept : AreRoutesKept known.routes.items rows known.kept.items
+
+-- the rows have the same routes, and the same is kept of each
+pub record HasSameRoutes (old new : Known) : Type 0 where
+  pub numbers : new.numbers.items ≡ old.numbers.items
+  pub routes : new.routes.items ≡ old.routes.items
+  pub kept : new.kept.items ≡ old.kept.items
 
 -- What is still kept was kept before, and passes the test.
 pub record AreStillKept (P : ℕ → Kept → Type 0) (old new : List (Option Kept)) : Type 0 where

@@ -1,11 +1,11 @@
 // Guards of rows: whether a row can be merged, without a look at the rows behind it.
-ghost use Rattle.std.specs.Prelude.{◌≡◌, ◌<◌, ◌≤◌, ◌^◌, ◌↔◌, ◌⊎◌, ◌∷◌, [], ℕ, suc, true, List, IfOk, IsTrue, drop, length, slice_index_or};
+ghost use Rattle.std.specs.Prelude.{◌≡◌, ◌<◌, ◌≤◌, ◌^◌, ◌↔◌, ◌∷◌, [], ℕ, suc, true, List, All, IfOk, OnOk, IsTrue, drop, length, slice_index_or};
 ghost use Rattle.tern_word.specs.declared.tables.Row.{Row as ARow};
 ghost use Rattle.tern_word.specs.Ternary.{generality};
 ghost use Rattle.tern_word.specs.SoundTable.{HoldsItsAliases, IsOrdered, IsSound, Misses};
-ghost use Rattle.cover_merge.specs.Merge.{has_row, place_for, SameRoute, IsMergeSet, IsLegal, IsClearOf, PassesUp};
-ghost use Rattle.cover_merge.specs.Guards.{IsRival, HasRival, IsGuardAt, AreGuards, IsSilent, IsOriginal, AreNextJoined};
-ghost use Rattle.cover_merge.specs.Tried.{IsFresh, IsHeld, IsHolder, IsRefusedAt, AreTried, AreTriedUpTo, IsTriedNow};
+ghost use Rattle.cover_merge.specs.Merge.{has_row, place_for, SameRoute, IsMergeSet, IsLegal, IsClearOf, PassesUp, PassesDown};
+ghost use Rattle.cover_merge.specs.Guards.{IsRival, HasRival, IsGuardAt, AreGuards, AreJoined, AreJoinedFrom, IsSilent, IsOriginal};
+ghost use Rattle.cover_merge.specs.Tried.{IsFresh, IsTriedNow};
 
 use crate::merged_block;
 use spin_base::{Block, Memory};
