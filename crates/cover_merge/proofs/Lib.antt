@@ -8,11 +8,13 @@ mod ChooseLemmas
 mod CoverLemmas
 pub mod Determined
 mod GuardLemmas
+mod JoinedLemmas
 mod KeepLemmas
 mod KeptLemmas
 mod KeptLemmasMoved
 mod KeptLemmasSteps
 mod LinkLemmas
 mod RefineLemmas
+mod ReplaceLemmas
 mod SiftLemmas
 mod TriedLemmas
