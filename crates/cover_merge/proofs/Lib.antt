@@ -8,12 +8,14 @@ mod ChooseLemmas
 mod CoverLemmas
 pub mod Determined
 mod GuardLemmas
+mod JoinedLemmas
 mod KeepLemmas
 mod KeptLemmas
 mod KeptLemmasMoved
 mod KeptLemmasSteps
 mod LinkLemmas
 mod RefineLemmas
+mod ReplaceLemmas
 mod SiftLemmas
 mod TriedLemmas
 mod PairLemmas

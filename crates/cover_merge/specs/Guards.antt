@@ -1,5 +1,5 @@
 -- What is known of the rows behind a row. It saves looking at all of them in each up-check.
-use Rattle.std.specs.Prelude.{◌≡◌, ℕ, suc, ◌<◌, ◌≤◌, Bool, false, List, ◌∷◌, All, AllPairs, length, drop, slice_get, slice_index_or, Some}
+use Rattle.std.specs.Prelude.{◌≡◌, ℕ, suc, ◌<◌, ◌≤◌, ◌-◌, Bool, false, List, ◌∷◌, All, AllPairs, length, drop, slice_get, slice_index_or, Some}
 use Rattle.spin_base.specs.declared.blocks.Block.{Block}
 use Rattle.tern_word.specs.declared.tables.Alias.{Alias}
 use Rattle.tern_word.specs.declared.tables.Row.{Row}
@@ -54,6 +54,10 @@ pub record IsOriginal (row : Row) : Type 0 where
 pub record AreJoined (rows : List Row) (joined : List Bool) : Type 0 where
   pub one_each : length joined ≡ length rows
   pub original : (s : ℕ) (d : Row) (e : Bool) → s < length joined → slice_index_or joined s e ≡ false → IsOriginal (slice_index_or rows s d)
+
+-- the last of the places, and n where there is none
+abbrev pub last_or : List ℕ → ℕ → ℕ
+last_or places n = slice_index_or places (length places - 1) n
 
 -- The places, in descending order, of rows from place s on; all others of these are original.
 pub record AreJoinedFrom (rows : List Row) (s : ℕ) (places : List ℕ) : Type 0 where

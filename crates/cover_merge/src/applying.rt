@@ -1,5 +1,5 @@
 // The table after a merge.
-ghost use Rattle.std.specs.Prelude.{◌≡◌, ◌<◌, ◌≤◌, ◌^◌, All, AllPairs, IfOk, OnOk, OnErr, length, insert, not};
+ghost use Rattle.std.specs.Prelude.{◌≡◌, ◌<◌, ◌≤◌, ◌^◌, ◌++◌, ◌∷◌, [], All, AllPairs, IfOk, OnOk, OnErr, length, slice_index, insert, not};
 ghost use Rattle.tern_word.specs.SoundTable.{IsOrdered};
 ghost use Rattle.cover_merge.specs.Merge.{IsMergeSet, after, has_row, kept, merged_row, picked, rows_at};
 ghost use Rattle.cover_merge.specs.Aliases.{aliases_at};
@@ -104,6 +104,8 @@ pub(crate) fn replace_all<T: Copy>(items: &mut Vec<T>, places: &[u32], place: u3
 
 // The place of this number, or that behind all.
 fn next_place(places: &[u32], i: usize, place: u32) -> usize
+    requires { i ≤ length places.now }
+    ensures { result ≡ slice_index (places.now ++ place ∷ []) i }
 {
     if i < places.len() {
         places[i] as usize

@@ -1,10 +1,10 @@
 // Guards of rows: whether a row can be merged, without a look at the rows behind it.
-ghost use Rattle.std.specs.Prelude.{◌≡◌, ◌<◌, ◌≤◌, ◌^◌, ◌↔◌, ◌∷◌, [], ℕ, suc, true, List, All, IfOk, OnOk, IsTrue, drop, length, slice_index_or};
+ghost use Rattle.std.specs.Prelude.{◌≡◌, ◌<◌, ◌≤◌, ◌^◌, ◌↔◌, ◌⊎◌, ◌∷◌, [], ℕ, suc, true, List, All, IfOk, OnOk, IsTrue, drop, take, length, slice_index_or};
 ghost use Rattle.tern_word.specs.declared.tables.Row.{Row as ARow};
 ghost use Rattle.tern_word.specs.Ternary.{generality};
 ghost use Rattle.tern_word.specs.SoundTable.{HoldsItsAliases, IsOrdered, IsSound, Misses};
 ghost use Rattle.cover_merge.specs.Merge.{has_row, place_for, SameRoute, IsMergeSet, IsLegal, IsClearOf, PassesUp, PassesDown};
-ghost use Rattle.cover_merge.specs.Guards.{IsRival, HasRival, IsGuardAt, AreGuards, AreJoined, AreJoinedFrom, IsSilent, IsOriginal};
+ghost use Rattle.cover_merge.specs.Guards.{IsRival, HasRival, IsGuardAt, AreGuards, IsSilent, IsOriginal, AreJoined, AreJoinedFrom, last_or};
 ghost use Rattle.cover_merge.specs.Tried.{IsFresh, IsTriedNow};
 
 use crate::merged_block;
@@ -49,6 +49,7 @@ pub(crate) fn unknown(now: usize) -> Guard
 
 /// The guards of all rows. None was tried.
 pub(crate) fn guards_of(alloc: Global, rows: &[Row], joined: &[bool]) -> Result<Vec<Guard>, Memory>
+    requires few { length rows.now < 2 ^ 32 }
     requires sound { IsSound rows.now }
     requires joined { AreJoined rows.now joined.now }
     ensures guards { IfOk result (λ v. AreGuards rows.now v.items) }
@@ -121,6 +122,13 @@ pub(crate) fn guard_of(rows: &[Row], behind: &[u32], s: usize, guard: Guard) -> 
 
 // How many of the places are left from the first row on that meets an alias of row `s`; they are passed from the last.
 fn next_to_meet(rows: &[Row], behind: &[u32], s: usize) -> usize
+    requires sound { IsSound rows.now }
+    requires joined { AreJoinedFrom rows.now (suc s) behind.now }
+    requires inside { s < length rows.now }
+    ensures bound { result ≤ length behind.now }
+    ensures missed { (r : ℕ) (d : ARow) → s < r
+        → r < last_or (take result behind.now) (length rows.now)
+        → Misses (slice_index_or rows.now r d).block (slice_index_or rows.now s d) }
 {
     let mut left = behind.len();
     while left > 0 {
@@ -134,6 +142,10 @@ fn next_to_meet(rows: &[Row], behind: &[u32], s: usize) -> usize
 
 // The generality of the first rival of row `s` at one of the places, the last of which is the first.
 fn first_rival(rows: &[Row], places: &[u32], s: usize) -> u32
+    requires row { s < length rows.now }
+    requires behind { All (λ r. (s < r) × (r < length rows.now)) places.now }
+    ensures { (d : ARow) → result ≤ 32
+        → HasRival (slice_index_or rows.now s d) result (drop (suc s) rows.now) }
 {
     let mut left = places.len();
     while left > 0 {
@@ -158,6 +170,10 @@ fn is_rival(row: &Row, later: &Row) -> bool
 
 // The generality of the row at the last of the places: none at or behind it has a lesser one.
 fn general_of(rows: &[Row], places: &[u32]) -> u32
+    requires ordered { IsOrdered rows.now }
+    requires inside { All (λ r. r < length rows.now) places.now }
+    ensures { (k : ℕ) (d : ARow) → last_or places.now (length rows.now) ≤ k → k < length rows.now
+        → result ≤ generality (slice_index_or rows.now k d).block }
 {
     match places.last() {
         Some(place) => generality(rows[*place as usize].block),
