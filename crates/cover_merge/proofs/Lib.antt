@@ -19,3 +19,4 @@ mod ReplaceLemmas
 mod SiftLemmas
 mod TriedLemmas
 mod PairLemmas
+mod RenewLemmas

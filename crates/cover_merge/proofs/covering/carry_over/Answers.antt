@@ -1,8 +1,12 @@
 -- All that is known is carried over.
 use Rattle.std.proofs.Common.{◌∙◌, ap, sym, subst, length, get_or}
+use Rattle.cover_merge.specs.Guards.{AreGuards}
 use Rattle.cover_merge.specs.Links.{AreNumbers, IsEachOnce, place_of_route}
 use Rattle.cover_merge.specs.Tried.{AreNoLater}
 use Rattle.cover_merge.proofs.covering.carry_over.Goals as goal
+
+pub carry-requires-clause-guards : goal.carry-requires-clause-guards
+carry-requires-clause-guards c = subst (AreGuards c.args.rows.now) (sym c.forget.ensures.guards) c.touch.ensures.known.guards
 
 pub returns : goal.returns
 returns c =
