@@ -1,10 +1,11 @@
 // Guards from one merge to the next: only those of rows that the merge meets are found anew.
-ghost use Rattle.std.specs.Prelude.{◌≡◌, ◌<◌, ◌≤◌, ◌^◌, ◌⊎◌, OnOk, length, slice_index_or};
+ghost use Rattle.std.specs.Prelude.{◌≡◌, ◌<◌, ◌^◌, ℕ, suc, List, All, OnOk, MatchBool, ⊤, length, slice_index, slice_index_or};
 ghost use Rattle.tern_word.specs.declared.tables.Row.{Row as ARow};
-ghost use Rattle.tern_word.specs.SoundTable.{IsOrdered, IsSound, Misses};
-ghost use Rattle.cover_merge.specs.Merge.{IsMergeSet, after, merged_block};
-ghost use Rattle.cover_merge.specs.Guards.{AreGuards, AreGuardsBut, AreNextJoined, IsGuardAt};
-ghost use Rattle.cover_merge.specs.Tried.{AreTouched, AreTriedUpTo, IsFresh, IsNoLaxer, IsLeftClear};
+ghost use Rattle.tern_word.specs.SoundTable.{HoldsItsAliases, IsOrdered, IsSound, Misses};
+ghost use Rattle.cover_merge.specs.Merge.{IsLegal, IsMergeSet, after, merged_block};
+ghost use Rattle.cover_merge.specs.Guards.{AreGuards, AreGuardsBut, AreJoined, AreJoinedFrom};
+ghost use Rattle.cover_merge.specs.Known.{IsKnown};
+ghost use Rattle.cover_merge.specs.Tried.{AreTouched, AreTriedUpTo, HaveSameTimes, IsRenewedAt, LosesNone};
 
 use crate::applying::replace_all;
 use crate::guards::{Guard, add_joined, changed, guard_of, is_missed, place_in, unknown};
