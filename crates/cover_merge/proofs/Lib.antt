@@ -19,3 +19,4 @@ mod RenewLemmas
 mod ReplaceLemmas
 mod SiftLemmas
 mod TriedLemmas
+mod PairLemmas

@@ -5,6 +5,7 @@ use Rattle.tern_word.specs.SoundTable.{Misses}
 use Rattle.cover_merge.specs.Merge.{has_row}
 use Rattle.cover_merge.specs.Covering.{IsLegalPair}
 use Rattle.cover_merge.specs.Guards.{IsGuardAt}
+use Rattle.cover_merge.specs.Links.{place_of_route}
 use Rattle.cover_merge.specs.declared.guards.Guard.{Guard}
 
 -- a row is no legal pair with a later one that has not changed since the row was tried
@@ -30,6 +31,11 @@ LosesNone rows places s = (r : ℕ) (d : Row) → has_row places r ≡ true → 
 abbrev pub AreTouched : List ℕ → ℕ → List Row → List Guard → Type 0
 AreTouched places now rows guards = (s : ℕ) (e : Guard) → s < length guards → (LosesNone rows places s) ⊎ (IsFresh now (slice_index_or guards s e))
 
+-- row s loses none, or changed now; the other rows are as they were
+pub record IsTouchedAt (places : List ℕ) (now : ℕ) (rows : List Row) (s : ℕ) (old new : List Guard) : Type 0 where
+  pub own : (e : Guard) → (LosesNone rows places s) ⊎ (IsFresh now (slice_index_or new s e))
+  pub others : (k : ℕ) (e : Guard) → k ≢ s → slice_index_or new k e ≡ slice_index_or old k e
+
 -- the same guard, of a row that was tried now
 pub record IsTriedNow (now : ℕ) (old new : Guard) : Type 0 where
   pub rival : new.rival ≡ old.rival
@@ -49,9 +55,9 @@ pub record IsRenewedAt (rows : List Row) (s : ℕ) (old new : List Guard) : Type
   pub times : HaveSameTimes old new
   pub others : (k : ℕ) (e : Guard) → k ≢ s → slice_index_or new k e ≡ slice_index_or old k e
 
--- no row changed later than is said of its route, by its number
-abbrev pub AreNoLater : List ℕ → List ℕ → List Guard → Type 0
-AreNoLater numbers latest guards = (s : ℕ) (e : Guard) → s < length guards → (slice_index_or guards s e).changed ≤ slice_index latest (slice_index numbers s)
+-- no row changed later than is said of its route
+abbrev pub AreNoLater : List ℕ → List ℕ → List Row → List Guard → Type 0
+AreNoLater routes latest rows guards = (s : ℕ) (d : Row) (e : Guard) → s < length guards → (slice_index_or guards s e).changed ≤ slice_index latest (place_of_route routes (slice_index_or rows s d).route.bits)
 
 -- The next row behind row k of its route that changed at the time or later is that at the place, and there is none where
 -- the place is not in the table.

@@ -4,8 +4,9 @@ ghost use Rattle.tern_word.specs.declared.tables.Row.{Row as ARow};
 ghost use Rattle.tern_word.specs.SoundTable.{HoldsItsAliases, IsOrdered, IsSound, Misses};
 ghost use Rattle.cover_merge.specs.Merge.{IsLegal, IsMergeSet, after, merged_block};
 ghost use Rattle.cover_merge.specs.Guards.{AreGuards, AreGuardsBut, AreJoined, AreJoinedFrom};
-ghost use Rattle.cover_merge.specs.Known.{IsKnown};
-ghost use Rattle.cover_merge.specs.Tried.{AreTouched, AreTriedUpTo, HaveSameTimes, IsRenewedAt, LosesNone};
+ghost use Rattle.cover_merge.specs.Known.{HasSameRoutes, IsKnown};
+ghost use Rattle.cover_merge.specs.Links.{place_of_route};
+ghost use Rattle.cover_merge.specs.Tried.{AreNoLater, AreTouched, AreTriedUpTo, HaveSameTimes, IsRenewedAt, IsTouchedAt, LosesNone};
 
 use crate::applying::replace_all;
 use crate::guards::{Guard, add_joined, changed, guard_of, is_missed, place_in, unknown};
@@ -34,6 +35,10 @@ pub(crate) fn carry(
     ensures guards { AreGuardsBut merged (after rows.now places.now) guards.new.items }
     ensures one_each { length guards.new.items ≡ length (after rows.now places.now) }
     ensures marks { AreTriedUpTo now (after rows.now places.now) guards.new.items }
+    ensures latest { (routes latest : List ℕ) → AreNoLater routes latest rows.now guards.old.items
+        → ((d : ARow) → slice_index latest (place_of_route routes
+        (slice_index_or rows.now (slice_index places.now 0) d).route.bits) ≡ now)
+        → AreNoLater routes latest (after rows.now places.now) guards.new.items }
 {
     let place = place_in(rows, generality(merged));
     replace_all(guards, places, place, unknown(now));
@@ -58,22 +63,41 @@ pub(crate) fn touch(rows: &[Row], known: &mut Known, places: &[u32], merged: Blo
     requires sound { IsSound rows.now }
     requires known { IsKnown rows.now known.old }
     requires marks { AreTriedUpTo now rows.now known.old.guards.items }
-    requires set { IsMergeSet rows.now places.now }
-    requires merged { merged ≡ merged_block rows.now places.now }
+    requires merge { (IsMergeSet rows.now places.now) × (merged ≡ merged_block rows.now places.now) }
     ensures known { IsKnown rows.now known.new }
     ensures marks { AreTriedUpTo now rows.now known.new.guards.items }
     ensures touched { AreTouched places.now now rows.now known.new.guards.items }
-    ensures own { slice_index known.new.latest.items (slice_index known.new.numbers.items (slice_index places.now 0)) ≡ now }
+    ensures own { (d : ARow) → slice_index known.new.latest.items (place_of_route known.new.routes.items
+        (slice_index_or rows.now (slice_index places.now 0) d).route.bits) ≡ now }
+    ensures same { HasSameRoutes known.old known.new }
 {
     let own = known.numbers[places[0] as usize];
     known.latest[own as usize] = now;
     for s in 0..rows.len() {
-        if loses(rows, places, merged, s) {
-            let number = known.numbers[s];
-            known.guards[s] = changed(known.guards[s], now);
-            known.latest[number as usize] = now;
-        }
+        touch_at(rows, known, places, merged, now, s);
     }
+}
+
+// Says of row `s` that it changed now, where it loses a row behind it.
+fn touch_at(rows: &[Row], known: &mut Known, places: &[u32], merged: Block, now: usize, s: usize)
+    requires sound { IsSound rows.now }
+    requires known { IsKnown rows.now known.old }
+    requires marks { AreTriedUpTo now rows.now known.old.guards.items }
+    requires merge { (IsMergeSet rows.now places.now) × (merged ≡ merged_block rows.now places.now) }
+    requires inside { s < length rows.now }
+    ensures known { IsKnown rows.now known.new }
+    ensures marks { AreTriedUpTo now rows.now known.new.guards.items }
+    ensures touched { IsTouchedAt places.now now rows.now s known.old.guards.items known.new.guards.items }
+    ensures times { (c : ℕ) → slice_index known.old.latest.items c ≡ now
+        → slice_index known.new.latest.items c ≡ now }
+    ensures same { HasSameRoutes known.old known.new }
+{
+    if !loses(rows, places, merged, s) {
+        return;
+    }
+    let number = known.numbers[s] as usize;
+    known.latest[number] = now;
+    known.guards[s] = changed(known.guards[s], now);
 }
 
 // Whether a row at one of the places behind row `s` meets an alias of it.

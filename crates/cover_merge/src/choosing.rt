@@ -1,8 +1,8 @@
 // Which rows are merged next.
-ghost use Rattle.std.specs.Prelude.{◌≡◌, ◌<◌, ◌^◌, ◌==◌, ℕ, suc, [], ◌∷◌, IfOk, OnOk, IsTrue, MatchOption, length, slice_index, slice_index_or};
+ghost use Rattle.std.specs.Prelude.{◌≡◌, ◌<◌, ◌^◌, ◌==◌, ℕ, suc, [], ◌∷◌, All, IfOk, OnOk, IsTrue, MatchOption, length, slice_index, slice_index_or};
 ghost use Rattle.tern_word.specs.SoundTable.{IsSound};
 ghost use Rattle.cover_merge.specs.Guards.{AreGuards};
-ghost use Rattle.cover_merge.specs.Tried.{IsRefusedAt, AreTried, AreTriedUpTo, IsNextSince, AreNewerFrom};
+ghost use Rattle.cover_merge.specs.Tried.{AreTried, AreTriedUpTo, IsNextSince, AreNewerFrom};
 ghost use Rattle.cover_merge.specs.declared.guards.Guard.{Guard as AGuard};
 ghost use Rattle.cover_merge.specs.Links.{AreLinks, AreNexts, IsFirstOfRoute};
 ghost use Rattle.cover_merge.specs.Kept.{IsKept};

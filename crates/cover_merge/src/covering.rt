@@ -3,7 +3,7 @@ ghost use Rattle.std.specs.Prelude.{◌≡◌, ◌<◌, ◌≤◌, ◌^◌, ◌�
 ghost use Rattle.tern_word.specs.SoundTable.{IsSound, served};
 ghost use Rattle.std.specs.List.Sorted.{IsPermutation};
 ghost use Rattle.cover_merge.specs.Merge.{IsLegal, IsMergeSet, after, merged_block};
-ghost use Rattle.cover_merge.specs.Known.{AreRoutesKept, IsKnown};
+ghost use Rattle.cover_merge.specs.Known.{AreRoutesKept, IsCarried, IsKnown};
 ghost use Rattle.cover_merge.specs.Tried.{AreTriedUpTo};
 ghost use Rattle.cover_merge.specs.Covering.{Covers, HasNoChosen, HasNoLegalPair, HasRoutesOf, IsChosen};
 ghost use Rattle.cover_merge.specs.Merges.{sets_of};
@@ -107,11 +107,7 @@ fn merge_at(
     let rows = table.rows.as_slice();
     let members = places.as_slice();
     let merged = merged_block(rows, members);
-    touch(rows, known, members, merged, now);
-    forget(rows, known, members, merged);
-    carry_numbers(rows, &mut known.numbers, members);
-    carry_joined(rows, &mut known.joined, members, merged);
-    carry(rows, &mut known.guards, members, merged, now);
+    carry_over(rows, known, members, merged, now);
     apply(alloc, table, places)?;
     renew(
         alloc,
@@ -120,6 +116,23 @@ fn merge_at(
         &known.joined,
         merged,
     )
+}
+
+// Carries over what is known to the table after the merge of the rows at the places. Guards of rows with an alias that the
+// merged block meets may be wrong there.
+fn carry_over(rows: &[Row], known: &mut Known, places: &[u32], merged: Block, now: usize)
+    requires few { length rows.now < 2 ^ 32 }
+    requires sound { IsSound rows.now }
+    requires known { (IsKnown rows.now known.old) × (AreTriedUpTo now rows.now known.old.guards.items) }
+    requires merge { (IsMergeSet rows.now places.now) × (IsLegal rows.now places.now) }
+    requires merged { merged ≡ merged_block rows.now places.now }
+    ensures { IsCarried merged now (after rows.now places.now) known.new }
+{
+    touch(rows, known, places, merged, now);
+    forget(rows, known, places, merged);
+    carry_numbers(rows, &mut known.numbers, places);
+    carry_joined(rows, &mut known.joined, places, merged);
+    carry(rows, &mut known.guards, places, merged, now);
 }
 
 // Forgets what is kept of routes that the merge of the rows at the places does not leave alone.
