@@ -132,7 +132,7 @@ joined_tail r rows b bs are = record {
 }
 
 joined_cons : (r : Row) (rows : List Row) (b : Bool) (bs : List Bool) → (b ≡ false → IsOriginal r) → AreJoined rows bs → AreJoined (r ∷ rows) (b ∷ bs)
-joined_cons r rows b bs first rest = record { one_each = omega (arith, rest.one_each); original = each; }
+joined_cons r rows b bs first rest = record { one_each = omega (arith, rest.one_each); original = each }
   where
     each : (s : ℕ) (d : Row) (e : Bool) → s < length (b ∷ bs) → get_or (b ∷ bs) s e ≡ false → IsOriginal (get_or (r ∷ rows) s d)
     each zero d e within unsaid = first unsaid
@@ -196,4 +196,4 @@ told_set rows gs s g inside told e = subst (IsGuardAt rows s) (sym (get_or-set_a
 -- a guard that was found anew has the times of the old one
 pub fresh_found : (gs : List Guard) (s : ℕ) (old new : Guard) → s < length gs → old ≡ get_or gs s old → new.tried ≡ old.tried → new.changed ≡ old.changed → All (IsFresh 0) gs → IsFresh 0 new
 fresh_found gs s old new inside read tried changed fresh =
-    let was : IsFresh 0 old = subst (IsFresh 0) (sym read) (fresh s old inside) in record { tried = tried ∙ was.tried; changed = changed ∙ was.changed; }
+    let was : IsFresh 0 old = subst (IsFresh 0) (sym read) (fresh s old inside) in record { tried = tried ∙ was.tried; changed = changed ∙ was.changed }

@@ -15,6 +15,7 @@ mod KeptLemmasMoved
 mod KeptLemmasSteps
 mod LinkLemmas
 mod RefineLemmas
+mod RenewLemmas
 mod ReplaceLemmas
 mod SiftLemmas
 mod TriedLemmas

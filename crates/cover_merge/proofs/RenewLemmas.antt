@@ -12,7 +12,7 @@ use Rattle.cover_merge.specs.Tried.{HaveSameTimes, IsRenewedAt}
 use Rattle.cover_merge.proofs.JoinedLemmas.{told_set}
 
 pub times_stay : (gs : List Guard) → HaveSameTimes gs gs
-times_stay gs = record { one_each = refl; tried = λ s e within. refl; changed = λ s e within. refl; }
+times_stay gs = record { one_each = refl; tried = λ s e within. refl; changed = λ s e within. refl }
 
 pub times_on : (old mid new : List Guard) → HaveSameTimes old mid → HaveSameTimes mid new → HaveSameTimes old new
 times_on old mid new first next = record {
@@ -42,10 +42,10 @@ module _ (rows : List Row) (gs : List Guard) (s : ℕ) (inside : s < length gs) 
   renewed_set old g read tried changed told = record {
     guard = told_set rows gs s g inside told;
     times = record {
-        one_each = length-set gs s g;
-        tried = λ k e within. number_set (λ (x : Guard). x.tried) gs s old g inside read tried k e;
-        changed = λ k e within. number_set (λ (x : Guard). x.changed) gs s old g inside read changed k e;
-      };
+      one_each = length-set gs s g;
+      tried = λ k e within. number_set (λ (x : Guard). x.tried) gs s old g inside read tried k e;
+      changed = λ k e within. number_set (λ (x : Guard). x.changed) gs s old g inside read changed k e;
+    };
     others = λ k e apart. get_or-set_other gs s k g e apart;
   }
 

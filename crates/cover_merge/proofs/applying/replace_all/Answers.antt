@@ -17,9 +17,11 @@ copy_within-requires-clause-start_le_end g c =
     (get_or c.args.places.now c.loop-i.i 0 + 1) c.next_place-to.result refl c.next_place-to.ensures).1
 
 pub copy_within-requires-clause-in_bounds : goal.copy_within-requires-clause-in_bounds
-copy_within-requires-clause-in_bounds g c = omega (arith,
-    (starts c.args.places.now c.args.place c.requires.ascending c.requires.before c.args.item c.args.items.now.items c.requires.place c.loop-i.i c.loop-i-test.true c.loop-i.items.items c.loop-i.items.items c.loop-i.invariant
-    (get_or c.args.places.now c.loop-i.i 0 + 1) c.next_place-to.result refl c.next_place-to.ensures).2)
+copy_within-requires-clause-in_bounds g c = omega (
+  arith,
+  (starts c.args.places.now c.args.place c.requires.ascending c.requires.before c.args.item c.args.items.now.items c.requires.place c.loop-i.i c.loop-i-test.true c.loop-i.items.items c.loop-i.items.items c.loop-i.invariant
+      (get_or c.args.places.now c.loop-i.i 0 + 1) c.next_place-to.result refl c.next_place-to.ensures).2,
+)
 
 pub copy_within-requires-clause-dest_in_bounds : goal.copy_within-requires-clause-dest_in_bounds
 copy_within-requires-clause-dest_in_bounds g c = subst (λ n. get_or c.args.places.now c.loop-i.i 0 + 1 - 1 - c.loop-i.i + (c.next_place-to.result - (get_or c.args.places.now c.loop-i.i 0 + 1)) ≤ n) (sym c.loop-i.items.ok.0)

@@ -4,7 +4,7 @@ use Rattle.cover_merge.proofs.JoinedLemmas.{original_more}
 use Rattle.cover_merge.proofs.guards.joined_of.Goals as goal
 
 pub loop-s-init : goal.loop-s-init
-loop-s-init c = record { as_many = ap length c.in_ok-joined.ensures.items; original = λ k d e within unsaid. absurd (omega (arith, within, ap length c.in_ok-joined.ensures.items)); }
+loop-s-init c = record { as_many = ap length c.in_ok-joined.ensures.items; original = λ k d e within unsaid. absurd (omega (arith, within, ap length c.in_ok-joined.ensures.items)) }
 
 pub loop-s-preserved : goal.loop-s-preserved
 loop-s-preserved c =
@@ -15,4 +15,4 @@ loop-s-preserved c =
     }
 
 pub returns : goal.returns
-returns c = record { one_each = omega (arith, c.loop-s.invariant.as_many, c.loop-s-test.false, c.loop-s.auto.s-end); original = c.loop-s.invariant.original; }
+returns c = record { one_each = omega (arith, c.loop-s.invariant.as_many, c.loop-s-test.false, c.loop-s.auto.s-end); original = c.loop-s.invariant.original }

@@ -8,7 +8,7 @@ use Rattle.cover_merge.proofs.JoinedLemmas.{missed_all, missed_more}
 use Rattle.cover_merge.proofs.guards.next_to_meet.Goals as goal
 
 pub loop-left-init : goal.loop-left-init
-loop-left-init c = record { within = omega arith; missed = λ k d from within. absurd (omega (arith, from, within)); }
+loop-left-init c = record { within = omega arith; missed = λ k d from within. absurd (omega (arith, from, within)) }
 
 pub bounds-behind-left : goal.bounds-behind-left
 bounds-behind-left c = omega (arith, c.loop-left-test.true, c.loop-left.invariant.within)
