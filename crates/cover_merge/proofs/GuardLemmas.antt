@@ -1,8 +1,8 @@
 -- What guards tell of the up-check.
-use Rattle.std.proofs.Common.{◌≡◌, ℕ, zero, suc, ◌+◌, ◌-◌, ◌<◌, ◌≤◌, ◌⊎◌, ◌↔◌, IsTrue, Bool, true, false, List, [], ◌∷◌, ◌++◌, length, get_or, drop, sym, ap, subst, ◌∙◌, length-append, length-drop, get_or-drop, set, arith, inl, inr}
+use Rattle.std.proofs.Common.{◌≡◌, ℕ, zero, suc, ◌+◌, ◌-◌, ◌<◌, ◌≤◌, ◌⊎◌, ◌↔◌, IsTrue, Bool, true, false, List, [], ◌∷◌, length, get_or, drop, sym, ap, subst, ◌∙◌, length-drop, get_or-drop, set, arith, inl, inr}
 use Rattle.std.specs.Prelude.{bit_and}
 use Rattle.std.proofs.lemmas.Bool.{cases_order, cases_lt, false_from_ne_true}
-use Rattle.std.proofs.lemmas.List.{get_or_append_left, get_or_default, get_or_push}
+use Rattle.std.proofs.lemmas.List.{get_or_default}
 use Rattle.std.proofs.lemmas.Option.{get_or_from_slice_get, slice_get_within}
 use Rattle.std.proofs.lemmas.List.Elements.{pair_read}
 use Rattle.spin_base.specs.declared.blocks.Block.{Block}
@@ -16,7 +16,7 @@ use Rattle.cover_merge.proofs.Positions.{has-place, place_for-above, place_for-b
 use Rattle.cover_merge.proofs.Answering.{answers_no, fails}
 use Rattle.cover_merge.proofs.Legal.{up_from_legal, down_from_legal, legal_from_checks}
 use Rattle.cover_merge.specs.declared.guards.Guard.{Guard}
-use Rattle.cover_merge.specs.Guards.{IsRival, HasRival, here, behind, IsGuardAt, AreGuards, IsOriginal}
+use Rattle.cover_merge.specs.Guards.{IsRival, HasRival, here, behind, IsGuardAt, IsOriginal}
 
 -- ---- rivals by their places
 

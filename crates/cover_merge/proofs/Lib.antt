@@ -20,4 +20,3 @@ mod ReplaceLemmas
 mod SiftLemmas
 mod TriedLemmas
 mod PairLemmas
-mod RenewLemmas

@@ -1,6 +1,6 @@
 -- A pair of rows that is legal after a merge was legal before it, where neither loses a row behind it by the merge.
 use Rattle.std.proofs.Common.{◌≡◌, ◌==◌, ◌||◌, ℕ, zero, suc, ◌<◌, ◌≤◌, ◌⊎◌, true, false, List, [], ◌∷◌, length, get_or, inl, inr, refl, sym, ap, ◌∙◌, subst, arith}
-use Rattle.std.specs.Prelude.{All, not, insert, map, slice_get}
+use Rattle.std.specs.Prelude.{All, insert, map, slice_get}
 use Rattle.std.specs.List.{cons_option}
 use Rattle.std.proofs.lemmas.Bool.{cases_Bool, cases_lt}
 use Rattle.std.proofs.lemmas.List.Elements.{All-nil, All-cons}
@@ -11,19 +11,18 @@ use Rattle.tern_word.specs.declared.tables.Row.{Row}
 use Rattle.tern_word.specs.Ternary.{generality, merge_of}
 use Rattle.tern_word.specs.SoundTable.{IsSound, Misses}
 use Rattle.tern_word.proofs.BlockLaws.{generality-merge}
-use Rattle.cover_merge.specs.Merge.{has_row, rows_at, merged_row, merged_block, place_for, insert_place, after, SameRoute, IsOneRoute, IsMergeSet, IsLegal, PassesUp, PassesUpCheck, PassesDown, PassesDownCheck}
+use Rattle.cover_merge.specs.Merge.{has_row, rows_at, merged_row, merged_block, place_for, insert_place, after, SameRoute, IsMergeSet, IsLegal, PassesUp, PassesUpCheck, PassesDown, PassesDownCheck}
 use Rattle.cover_merge.specs.Covering.{IsLegalPair}
-use Rattle.cover_merge.specs.Guards.{AreGuards}
 use Rattle.cover_merge.specs.declared.guards.Guard.{Guard}
 use Rattle.cover_merge.specs.Links.{place_of_route}
 use Rattle.cover_merge.specs.Tried.{AreTriedUpTo, AreTouched, AreNoLater, IsFresh, LosesNone}
-use Rattle.cover_merge.proofs.Lists.{AllPairs-nil, All-from_map, AllPairs-head}
+use Rattle.cover_merge.proofs.Lists.{All-from_map}
 use Rattle.cover_merge.proofs.Positions.{has-at, has-place, rows_at-has, place_for-le, place_for-below, place_for-above}
 use Rattle.cover_merge.proofs.Legal.{Misses-members, legal_from_checks, up_from_legal, down_from_legal}
 use Rattle.cover_merge.proofs.ApplyLemmas.{left, after_is, block_is, route_is}
 use Rattle.cover_merge.proofs.TriedLemmas.{all_before}
 use Rattle.cover_merge.proofs.KeptLemmasMoved.{moved, merged_at, item_moved, item_merged, item_onto}
-use Rattle.cover_merge.proofs.KeptLemmas.{from_less, to_less, same_test, get_to, to_inside, slice_to, before_to}
+use Rattle.cover_merge.proofs.KeptLemmas.{from_less, to_less, same_test, get_to, slice_to, before_to}
 
 -- the merge of the blocks of rows
 abbrev block_of : List Row → Block

@@ -1,5 +1,5 @@
 -- Pairs that were tried stay illegal until one of their rows loses a row behind it.
-use Rattle.std.proofs.Common.{◌≡◌, ◌≢◌, ℕ, suc, ◌+◌, ◌-◌, ◌<◌, ◌≤◌, ◌⊎◌, true, false, List, [], ◌∷◌, ◌++◌, length, get_or, take, drop, inl, inr, refl, sym, ap, ◌∙◌, subst, set, length-take, length-drop, get_or-take, get_or-drop, arith}
+use Rattle.std.proofs.Common.{◌≡◌, ◌≢◌, ℕ, suc, ◌+◌, ◌-◌, ◌<◌, ◌≤◌, ◌⊎◌, true, false, List, [], ◌∷◌, length, get_or, take, drop, inl, inr, refl, sym, ap, ◌∙◌, subst, set, length-take, length-drop, get_or-take, get_or-drop, arith}
 use Rattle.std.specs.Prelude.{All, not}
 use Rattle.std.proofs.lemmas.List.Elements.{All-head}
 use Rattle.std.proofs.lemmas.Bool.{cases_Bool, cases_lt, cases_eq, cases_order}
@@ -15,7 +15,7 @@ use Rattle.cover_merge.specs.declared.guards.Guard.{Guard}
 use Rattle.cover_merge.specs.Guards.{HasRival, IsGuardAt, AreGuards}
 use Rattle.cover_merge.specs.Links.{IsNextOfRoute, place_of_route}
 use Rattle.cover_merge.specs.Covering.{IsLegalPair}
-use Rattle.cover_merge.specs.Tried.{AreTried, AreTriedUpTo, AreNoLater, HaveSameTimes, IsFresh, IsTriedNow, LosesNone, IsNextSince, AreNewerFrom}
+use Rattle.cover_merge.specs.Tried.{AreTried, AreTriedUpTo, AreNoLater, HaveSameTimes, IsFresh, IsTriedNow, IsNextSince, AreNewerFrom}
 use Rattle.cover_merge.proofs.CarryLemmas.{guard_set}
 
 -- ---- one guard in place of another

@@ -2,7 +2,6 @@
 use Rattle.std.proofs.Common.{◌<◌, ◌∙◌, subst, get_or, arith}
 use borrow.Author.Count.{below_more}
 use Rattle.std.proofs.lemmas.List.{get_or_default}
-use Rattle.tern_word.specs.declared.tables.Row.{Row}
 use Rattle.tern_word.specs.SoundTable.{Misses}
 use Rattle.cover_merge.proofs.Positions.{has-place}
 use Rattle.cover_merge.proofs.CarryLemmas.{narrower_misses, member_lies}

@@ -1,5 +1,5 @@
 -- One more guard, from the last on.
-use Rattle.std.proofs.Common.{◌≡◌, ◌<◌, ◌-◌, ◌∙◌, suc, length, sym, subst, arith}
+use Rattle.std.proofs.Common.{◌≡◌, ◌-◌, ◌∙◌, suc, length, sym, subst, arith}
 use Rattle.cover_merge.specs.Guards.{AreJoinedFrom}
 use Rattle.cover_merge.proofs.JoinedLemmas.{guards_down, joined_none}
 use Rattle.cover_merge.proofs.RenewLemmas.{but_renewed, times_on, times_stay}

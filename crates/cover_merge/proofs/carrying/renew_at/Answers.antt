@@ -1,5 +1,5 @@
 -- The guard is found anew where the merge meets the row.
-use Rattle.std.proofs.Common.{◌<◌, length, subst, sym, arith}
+use Rattle.std.proofs.Common.{arith}
 use Rattle.cover_merge.proofs.RenewLemmas.{renewed_set, renewed_stay}
 use Rattle.cover_merge.proofs.carrying.renew_at.Goals as goal
 

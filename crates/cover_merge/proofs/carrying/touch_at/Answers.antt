@@ -1,9 +1,8 @@
 -- The row changed now, and so did its route.
-use Rattle.std.proofs.Common.{◌≡◌, ◌≢◌, ◌⊎◌, ◌∙◌, ◌<◌, inl, inr, refl, sym, ap, subst, set, length, get_or, arith}
+use Rattle.std.proofs.Common.{◌≡◌, ◌∙◌, ◌<◌, inl, inr, refl, sym, ap, subst, set, length, get_or, arith}
 use Rattle.std.proofs.lemmas.Bool.{cases_eq}
 use Rattle.std.proofs.lemmas.Grind.{get_or-set_at}
 use Rattle.std.proofs.lemmas.List.{get_or_default, get_or-set_other, length-set}
-use Rattle.cover_merge.specs.Links.{place_of_route}
 use Rattle.cover_merge.specs.Tried.{IsFresh}
 use Rattle.cover_merge.proofs.LinkLemmas.{as_many, number_at}
 use Rattle.cover_merge.proofs.TriedLemmas.{fresh_put, guard_kept, latest_put, guard_no_later}

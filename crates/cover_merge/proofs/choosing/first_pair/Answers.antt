@@ -1,10 +1,8 @@
 -- The first row with a partner is the first of the first pair.
-use Rattle.std.proofs.Common.{◌≡◌, ◌∙◌, ℕ, ◌<◌, refl, sym, ap, set, subst, length, length-set, get_or, arith}
+use Rattle.std.proofs.Common.{◌∙◌, ℕ, ◌<◌, refl, sym, ap, set, subst, length, length-set, get_or, arith}
 use Rattle.std.specs.Prelude.{MatchOption}
-use Rattle.std.proofs.lemmas.List.{get_or_default}
 use borrow.Author.Count.{below_more}
 use Rattle.cover_merge.specs.Guards.{AreGuards}
-use Rattle.cover_merge.specs.Links.{place_of_route}
 use Rattle.cover_merge.specs.Tried.{AreTried, AreNewerFrom}
 use Rattle.cover_merge.specs.Covering.{IsLegalPair, IsFirstPartner}
 use Rattle.cover_merge.proofs.ChooseLemmas.{first_found, no_pair}

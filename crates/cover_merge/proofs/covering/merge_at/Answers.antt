@@ -4,7 +4,7 @@ use Rattle.spin_base.specs.declared.blocks.Block.{Block}
 use Rattle.tern_word.specs.declared.tables.Row.{Row}
 use Rattle.cover_merge.specs.declared.knowing.Known.{Known}
 use Rattle.cover_merge.specs.Merge.{IsLegal, IsMergeSet, after}
-use Rattle.cover_merge.specs.Guards.{AreGuards, AreGuardsBut, AreJoined}
+use Rattle.cover_merge.specs.Guards.{AreGuards, AreJoined}
 use Rattle.cover_merge.specs.Known.{IsCarried, AreRoutesKept}
 use Rattle.cover_merge.specs.Links.{AreNumbers}
 use Rattle.cover_merge.specs.Tried.{AreTriedUpTo, AreNoLater}

@@ -1,5 +1,5 @@
 -- The place goes to those behind where the row is joined.
-use Rattle.std.proofs.Common.{◌++◌, ◌∷◌, [], sym, subst}
+use Rattle.std.proofs.Common.{sym, subst}
 use Rattle.cover_merge.specs.Guards.{AreJoinedFrom}
 use Rattle.cover_merge.proofs.JoinedLemmas.{joined_more, joined_stay}
 use Rattle.cover_merge.proofs.guards.add_joined.Goals as goal

@@ -1,5 +1,5 @@
 -- The row that was read is a rival.
-use Rattle.std.proofs.Common.{◌-◌, ◌<◌, ◌≤◌, get_or, length, arith}
+use Rattle.std.proofs.Common.{◌-◌, ◌<◌, get_or, length, arith}
 use Rattle.cover_merge.proofs.GuardLemmas.{rival_found}
 use Rattle.cover_merge.proofs.guards.first_rival.Goals as goal
 

@@ -1,5 +1,5 @@
 -- No row at or behind the last place has a lesser generality than the row there.
-use Rattle.std.proofs.Common.{◌-◌, ◌<◌, ◌≤◌, ◌∙◌, length, arith, sym, ap, subst}
+use Rattle.std.proofs.Common.{◌<◌, ◌∙◌, length, arith, sym, ap}
 use Rattle.std.specs.Option.{option_copied}
 use Rattle.cover_merge.proofs.GuardLemmas.{general_behind}
 use Rattle.cover_merge.proofs.JoinedLemmas.{last_found, last_inside, none_last}

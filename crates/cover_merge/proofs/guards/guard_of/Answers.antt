@@ -1,6 +1,5 @@
 -- The two numbers that were found are a guard.
-use Rattle.std.proofs.Common.{ℕ, ◌<◌, ◌≤◌, length, take, suc, arith}
-use Rattle.std.specs.Prelude.{All}
+use Rattle.std.proofs.Common.{◌<◌, ◌≤◌, length, take, suc, arith}
 use Rattle.std.proofs.lemmas.List.Elements.{All-take, All-weaker}
 use Rattle.cover_merge.specs.Guards.{last_or}
 use Rattle.cover_merge.proofs.GuardLemmas.{guard_made}

@@ -1,5 +1,5 @@
 -- A row that stands before owes nothing; one behind is clear where it misses the aliases, or is of the set.
-use Rattle.std.proofs.Common.{◌<◌, get_or, refl, arith}
+use Rattle.std.proofs.Common.{get_or, refl, arith}
 use Rattle.std.proofs.lemmas.List.{get_or_default}
 use Rattle.cover_merge.proofs.Answering.{clear_from, answer_of}
 use Rattle.cover_merge.proofs.guards.is_clear_behind.Goals as goal

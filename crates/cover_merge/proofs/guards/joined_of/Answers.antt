@@ -1,5 +1,5 @@
 -- One row more.
-use Rattle.std.proofs.Common.{◌≡◌, ◌<◌, ◌∙◌, length, length-append, ap, not, ◌∷◌, [], ◌++◌, arith}
+use Rattle.std.proofs.Common.{length, length-append, ap, not, ◌∷◌, [], arith}
 use Rattle.cover_merge.proofs.JoinedLemmas.{original_more}
 use Rattle.cover_merge.proofs.guards.joined_of.Goals as goal
 

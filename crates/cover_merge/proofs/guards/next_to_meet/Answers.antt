@@ -1,8 +1,5 @@
 -- A row passed is missed. Where all are, so are the original rows between them.
-use Rattle.std.proofs.Common.{◌-◌, ◌<◌, ◌≤◌, ℕ, get_or, length, inl, inr, arith, sym, subst}
-use Rattle.std.proofs.lemmas.Bool.{cases_lt}
-use Rattle.tern_word.specs.declared.tables.Row.{Row}
-use Rattle.tern_word.specs.SoundTable.{Misses}
+use Rattle.std.proofs.Common.{◌-◌, ◌<◌, get_or, length, arith}
 use Rattle.cover_merge.proofs.GuardLemmas.{missed_read}
 use Rattle.cover_merge.proofs.JoinedLemmas.{missed_all, missed_more}
 use Rattle.cover_merge.proofs.guards.next_to_meet.Goals as goal

@@ -1,5 +1,5 @@
 -- One row more is missed, or nothing is kept of its route.
-use Rattle.std.proofs.Common.{◌≡◌, ◌<◌, ◌+◌, inl, inr, get_or, arith}
+use Rattle.std.proofs.Common.{◌≡◌, ◌+◌, inl, inr, get_or, arith}
 use Rattle.std.proofs.lemmas.Bool.{cases_eq}
 use Rattle.tern_word.specs.SoundTable.{Misses}
 use Rattle.cover_merge.specs.Known.{MissesAllOf}

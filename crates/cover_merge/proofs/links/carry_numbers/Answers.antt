@@ -1,5 +1,5 @@
 -- The merge has the number of its first row.
-use Rattle.std.proofs.Common.{◌≡◌, ◌∙◌, ◌<◌, ◌≤◌, ap, sym, subst, length, arith}
+use Rattle.std.proofs.Common.{◌≡◌, ◌∙◌, ◌<◌, ap, sym, subst, arith}
 use Rattle.std.specs.Prelude.{All}
 use Rattle.tern_word.specs.Ternary.{generality}
 use Rattle.cover_merge.specs.Merge.{after, insert_place, place_for}
