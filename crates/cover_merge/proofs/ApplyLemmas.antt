@@ -41,7 +41,7 @@ left places i xs = picked (λ k. not (has_row places k)) i xs
 pub kept_in : {X : Type 0} (places : List ℕ) (j : ℕ) (x : X) (xs : List X) → has_row places j ≡ false → left places j (x ∷ xs) ≡ x ∷ left places (suc j) xs
 kept_in places j x xs e = ap (λ b. cond (not b) (x ∷ left places (suc j) xs) (left places (suc j) xs)) e
 
-kept_out : {X : Type 0} (places : List ℕ) (j : ℕ) (x : X) (xs : List X) → has_row places j ≡ true → left places j (x ∷ xs) ≡ left places (suc j) xs
+pub kept_out : {X : Type 0} (places : List ℕ) (j : ℕ) (x : X) (xs : List X) → has_row places j ≡ true → left places j (x ∷ xs) ≡ left places (suc j) xs
 kept_out places j x xs e = ap (λ b. cond (not b) (x ∷ left places (suc j) xs) (left places (suc j) xs)) e
 
 -- where no place is left, all are kept

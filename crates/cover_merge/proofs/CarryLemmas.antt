@@ -1,9 +1,9 @@
 -- What guards tell stays true in the table after a merge.
-use Rattle.std.proofs.Common.{◌≡◌, ◌≢◌, ℕ, zero, suc, ◌+◌, ◌<◌, ◌⊎◌, Bool, true, false, cond, List, [], ◌∷◌, length, get_or, take, drop, inl, inr, refl, sym, ap, ◌∙◌, subst, set, length-append, length-drop, length-take, arith}
+use Rattle.std.proofs.Common.{◌≡◌, ℕ, zero, suc, ◌+◌, ◌<◌, Bool, true, false, cond, List, [], ◌∷◌, length, get_or, take, drop, inl, inr, refl, sym, ap, ◌∙◌, subst, set, length-append, length-drop, length-take, arith}
 use Rattle.std.specs.Prelude.{All, not, insert, map}
 use mathlib.Core.Bool.{true≢false}
 use Rattle.std.proofs.lemmas.List.Elements.{All-cons, All-append, All-take, All-drop}
-use Rattle.std.proofs.lemmas.Bool.{cases_lt, cases_eq}
+use Rattle.std.proofs.lemmas.Bool.{cases_eq}
 use Rattle.std.proofs.lemmas.Grind.{get_or-set_at}
 use Rattle.std.proofs.lemmas.List.{get_or-set_other, length-set}
 use Rattle.std.proofs.lemmas.List.Edits.{get_or-insert_below}
@@ -124,22 +124,6 @@ guard_set rows gs new s g inside is each told = subst (AreGuards rows) (sym is) 
 
 pub length_kept : (gs new : List Guard) (s n : ℕ) (g : Guard) → new ≡ set gs s g → length gs ≡ n → length new ≡ n
 length_kept gs new s n g is same = ap length is ∙ length-set gs s g ∙ same
-
--- one guard found anew, and the guards before it
-pub done_more : (rows : List Row) (gs new : List Guard) (s : ℕ) (g : Guard) → s < length gs → new ≡ set gs s g → IsGuardAt rows s g → ((k : ℕ) (e : Guard) → k < s → IsGuardAt rows k (get_or gs k e)) → (k : ℕ) (e : Guard) → k < s + 1 → IsGuardAt rows k (get_or new k e)
-done_more rows gs new s g inside is told before k e less = subst (λ l. IsGuardAt rows k (get_or l k e)) (sym is) (elim (cases_lt k s) [
-  | inl earlier ↦ subst (IsGuardAt rows k) (sym (get_or-set_other gs s k g e (λ same. omega (arith, same, earlier)))) (before k e earlier)
-  | inr last ↦
-      let same : k ≡ s = omega arith in
-      subst (IsGuardAt rows k) (sym (get_or-set_at gs s k g e same inside)) (subst (λ i. IsGuardAt rows i g) (sym same) told)
-])
-
-pub but_set : (b : Block) (rows : List Row) (gs new : List Guard) (s : ℕ) (g : Guard) → s < length gs → new ≡ set gs s g → IsGuardAt rows s g → AreGuardsBut b rows gs → AreGuardsBut b rows new
-but_set b rows gs new s g inside is told each k e within misses = subst (λ l. IsGuardAt rows k (get_or l k e)) (sym is) (by_case (cases_eq k s))
-  where
-    by_case : (k ≡ s) ⊎ (k ≢ s) → IsGuardAt rows k (get_or (set gs s g) k e)
-    by_case (inl same) = subst (IsGuardAt rows k) (sym (get_or-set_at gs s k g e same inside)) (subst (λ i. IsGuardAt rows i g) (sym same) told)
-    by_case (inr apart) = subst (IsGuardAt rows k) (sym (get_or-set_other gs s k g e apart)) (each k e (omega (arith, ap length is, length-set gs s g, within)) misses)
 
 -- ---- the table after a merge
 

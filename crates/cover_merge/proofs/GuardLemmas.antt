@@ -1,8 +1,8 @@
 -- What guards tell of the up-check.
-use Rattle.std.proofs.Common.{◌≡◌, ℕ, zero, suc, ◌+◌, ◌-◌, ◌<◌, ◌≤◌, ◌⊎◌, ◌↔◌, IsTrue, Bool, true, false, List, [], ◌∷◌, ◌++◌, length, get_or, drop, sym, ap, subst, ◌∙◌, length-append, length-drop, get_or-drop, set, arith, inl, inr}
+use Rattle.std.proofs.Common.{◌≡◌, ℕ, zero, suc, ◌+◌, ◌-◌, ◌<◌, ◌≤◌, ◌⊎◌, ◌↔◌, IsTrue, Bool, true, false, List, [], ◌∷◌, length, get_or, drop, sym, ap, subst, ◌∙◌, length-drop, get_or-drop, set, arith, inl, inr}
 use Rattle.std.specs.Prelude.{bit_and}
 use Rattle.std.proofs.lemmas.Bool.{cases_order, cases_lt, false_from_ne_true}
-use Rattle.std.proofs.lemmas.List.{get_or_append_left, get_or_default, get_or_push}
+use Rattle.std.proofs.lemmas.List.{get_or_default}
 use Rattle.std.proofs.lemmas.Option.{get_or_from_slice_get, slice_get_within}
 use Rattle.std.proofs.lemmas.List.Elements.{pair_read}
 use Rattle.spin_base.specs.declared.blocks.Block.{Block}
@@ -16,7 +16,7 @@ use Rattle.cover_merge.proofs.Positions.{has-place, place_for-above, place_for-b
 use Rattle.cover_merge.proofs.Answering.{answers_no, fails}
 use Rattle.cover_merge.proofs.Legal.{up_from_legal, down_from_legal, legal_from_checks}
 use Rattle.cover_merge.specs.declared.guards.Guard.{Guard}
-use Rattle.cover_merge.specs.Guards.{IsRival, HasRival, here, behind, IsGuardAt, AreGuards, IsOriginal, IsNextJoined}
+use Rattle.cover_merge.specs.Guards.{IsRival, HasRival, here, behind, IsGuardAt, IsOriginal}
 
 -- ---- rivals by their places
 
@@ -99,17 +99,6 @@ rival_found rows s r a b e g low inside after is_a is_b rival level d =
     (subst (λ (x : Row). generality x.block ≤ g) (sym same) (subst (λ (x : Row). generality x.block ≤ g) (get_or_default rows r e d inside) (omega (arith, level))))
     (subst (IsRival (get_or rows s d)) (sym same) (pair_read rows IsRival s r a b low inside is_a is_b rival d))
 
--- guards of the rows so far, and one more
-pub guards_more : (rows : List Row) (done : List Guard) (guard : Guard) → AreGuards rows done → IsGuardAt rows (length done) guard → AreGuards rows (done ++ guard ∷ [])
-guards_more rows done guard each last s e inside =
-    let count = length-append done (guard ∷ []) in
-    elim (cases_lt s (length done)) [
-      | inl before ↦ subst (IsGuardAt rows s) (sym (get_or_append_left done (guard ∷ []) e s before)) (each s e before)
-      | inr after ↦
-          let same : s ≡ length done = omega (arith, count, inside, after) in
-          subst (IsGuardAt rows s) (sym (get_or_push done guard e s (sym same))) (subst (λ i. IsGuardAt rows i guard) (sym same) last)
-    ]
-
 -- ---- rows that are not original
 
 -- a row that is original meets no alias of an earlier one
@@ -122,17 +111,6 @@ original_misses rows sound s r d less inside own k e within meets =
     let apart : Intersects first.block own.alias.block → ⊥ = subst (λ (a : Alias). Intersects first.block a.block → ⊥) (get_or_from_slice_get later.aliases own.at own.alias own.alias own.found)
     (sound.unmet s r d less inside own.at own.alias (slice_get_within later.aliases own.at own.alias own.found)) in
     apart (Intersects-sym own.alias.block first.block (Intersects-wider own.alias.block alias first.block lies (record { key = meets.key; small = meets.small; first = ap (bit_and meets.key) own.mask ∙ meets.first ∙ sym own.key; second = meets.second })))
-
--- rows up to the next that is not original are missed
-pub missed_next : (rows : List Row) (s r next : ℕ) → IsSound rows → s < r → r < length rows → IsNextJoined rows r next → ((d : Row) → Misses (get_or rows r d).block (get_or rows s d)) → ((k : ℕ) (d : Row) → s < k → k < r → k < length rows → Misses (get_or rows k d).block (get_or rows s d))
-    → (k : ℕ) (d : Row) → s < k → k < next → k < length rows → Misses (get_or rows k d).block (get_or rows s d)
-missed_next rows s r next sound after inside joined missed before k d from less within = elim (cases_order k r) [
-  | inl at ↦ subst (λ i. Misses (get_or rows i d).block (get_or rows s d)) (sym at) (missed d)
-  | inr apart ↦ elim apart [
-    | inl earlier ↦ before k d from earlier within
-    | inr later ↦ original_misses rows sound s k d from within (joined.between k d later less within)
-  ]
-]
 
 -- ---- the place behind the rows of a generality
 

@@ -209,6 +209,16 @@ left_set P Q old now new c v inside is before others here = record {
         let was = before.each k it (sym (get_or-set_other now c k v None apart) ∙ found) in
         (was.0, others k it apart was.1)
 
+-- what is still kept after two steps
+pub left_twice : (P Q R : ℕ → Kept → Type 0) (old now new : List (Option Kept)) → AreStillKept P old now → AreStillKept Q now new → ((k : ℕ) (it : Kept) → P k it → Q k it → R k it) → AreStillKept R old new
+left_twice P Q R old now new first second both = record {
+  one_each = second.one_each ∙ first.one_each;
+  each = λ k it found.
+      let later = second.each k it found in
+      let before = first.each k it later.0 in
+      (before.0, both k it before.1 later.1);
+}
+
 -- one row more
 module _ (b : Block) (rows : List Row) (numbers : List ℕ) (s k : ℕ) (old : MissesAllOf b rows numbers s k) where
   pub misses_others : k ≢ get_or numbers s 0 → MissesAllOf b rows numbers (s + 1) k

@@ -111,10 +111,10 @@ module _ (rows : List Row) (merge : List ℕ) (sound : IsSound rows) (set : IsMe
 
   -- ---- places
 
-  to_less : (j k : ℕ) → has_row merge j ≡ false → j < k → to j < to k
+  pub to_less : (j k : ℕ) → has_row merge j ≡ false → j < k → to j < to k
   to_less j k out less = moved_less rows merge sound.ordered set j k out less
 
-  from_less : (j k : ℕ) → has_row merge k ≡ false → to j < to k → j < k
+  pub from_less : (j k : ℕ) → has_row merge k ≡ false → to j < to k → j < k
   from_less j k out less = elim (cases_order j k) [
     | inl same ↦ absurd (omega (arith, ap to same, less))
     | inr apart ↦ elim apart [
@@ -123,7 +123,7 @@ module _ (rows : List Row) (merge : List ℕ) (sound : IsSound rows) (set : IsMe
     ]
   ]
 
-  same_test : (s k : ℕ) → has_row merge s ≡ false → has_row merge k ≡ false → (to s == to k) ≡ (s == k)
+  pub same_test : (s k : ℕ) → has_row merge s ≡ false → has_row merge k ≡ false → (to s == to k) ≡ (s == k)
   same_test s k out gone = elim (cases_order s k) [
     | inl same ↦ eq-eqb (to s) (to k) (ap to same) ∙ sym (eq-eqb s k same)
     | inr apart ↦ elim apart [
@@ -132,24 +132,24 @@ module _ (rows : List Row) (merge : List ℕ) (sound : IsSound rows) (set : IsMe
     ]
   ]
 
-  get_to : (s : ℕ) (d : Row) → s < length rows → has_row merge s ≡ false → get_or new (to s) d ≡ get_or rows s d
+  pub get_to : (s : ℕ) (d : Row) → s < length rows → has_row merge s ≡ false → get_or new (to s) d ≡ get_or rows s d
   get_to s d inside out = (moved_get rows merge sound.ordered set s d inside out).1
 
-  to_inside : (s : ℕ) → s < length rows → has_row merge s ≡ false → to s < length new
+  pub to_inside : (s : ℕ) → s < length rows → has_row merge s ≡ false → to s < length new
   to_inside s inside out = (moved_get rows merge sound.ordered set s (merged_row rows merge) inside out).0
 
-  slice_to : (s : ℕ) → s < length rows → has_row merge s ≡ false → slice_get new (to s) ≡ slice_get rows s
+  pub slice_to : (s : ℕ) → s < length rows → has_row merge s ≡ false → slice_get new (to s) ≡ slice_get rows s
   slice_to s inside out =
       let d = merged_row rows merge in
       slice_get-get_or new (to s) d (to_inside s inside out) ∙ ap Some (get_to s d inside out) ∙ sym (slice_get-get_or rows s d inside)
 
   -- a row stands before an insertion place where it stood before it
-  before_to : (g k : ℕ) → k < length rows → has_row merge k ≡ false → k < place_for rows g → to k < place_for new g
+  pub before_to : (g k : ℕ) → k < length rows → has_row merge k ≡ false → k < place_for rows g → to k < place_for new g
   before_to g k inside out before =
       let d = merged_row rows merge in
       place_for-above new g legal.ordered (to k) d (to_inside k inside out) (subst (λ (r : Row). generality r.block ≤ g) (sym (get_to k d inside out)) (place_for-below rows g sound.ordered k d before))
 
-  before_from : (g k : ℕ) → k < length rows → has_row merge k ≡ false → to k < place_for new g → k < place_for rows g
+  pub before_from : (g k : ℕ) → k < length rows → has_row merge k ≡ false → to k < place_for new g → k < place_for rows g
   before_from g k inside out before =
       let d = merged_row rows merge in
       place_for-above rows g sound.ordered k d inside (subst (λ (r : Row). generality r.block ≤ g) (get_to k d inside out) (place_for-below new g legal.ordered (to k) d before))

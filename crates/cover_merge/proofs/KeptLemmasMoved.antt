@@ -10,7 +10,7 @@ use Rattle.tern_word.specs.SoundTable.{IsOrdered}
 use Rattle.cover_merge.specs.Merge.{has_row, picked, kept, merge_rows, merged_row, merged_block, insert_place, after, IsMergeSet}
 use Rattle.cover_merge.specs.Covering.{places_of}
 use Rattle.cover_merge.proofs.Positions.{has-at, All-has, place_for-le}
-use Rattle.cover_merge.proofs.ApplyLemmas.{none_from, members_before, after_is, route_is}
+use Rattle.cover_merge.proofs.ApplyLemmas.{left, none_from, members_before, after_is, route_is}
 
 -- ---- the place of a picked item
 
@@ -177,6 +177,10 @@ places_put bits i n (x ∷ xs) (suc p) m at le other =
 abbrev pub moved : List Row → List ℕ → ℕ → ℕ
 moved rows merge k = rank (λ j. not (has_row merge j)) (put (insert_place rows merge) k)
 
+-- the place of the merged row
+abbrev pub merged_at : List Row → List ℕ → ℕ
+merged_at rows merge = rank (λ j. not (has_row merge j)) (insert_place rows merge)
+
 module _ (rows : List Row) (merge : List ℕ) (ordered : IsOrdered rows) (set : IsMergeSet rows merge) where
   abbrev p : ℕ
   p = insert_place rows merge
@@ -206,46 +210,67 @@ module _ (rows : List Row) (merge : List ℕ) (ordered : IsOrdered rows) (set : 
   pub moved_less : (j k : ℕ) → has_row merge j ≡ false → j < k → moved rows merge j < moved rows merge k
   moved_less j k out less = rank_less q (put p j) (put p k) (put_less p j k less) (stays_put j out)
 
-  grown_length : length grown ≡ suc (length rows)
-  grown_length = omega (arith, length-insert rows p (merged_row rows merge) p_le)
+  -- of any list that has an item for each row, such as their guards
+  module _ {X : Type 0} (xs : List X) (m : X) (same : length xs ≡ length rows) where
+    in_xs : p ≤ length xs
+    in_xs = omega (arith, p_le, same)
 
-  put_within : (k : ℕ) → k < length rows → put p k < length grown
-  put_within k within = elim (cases_lt k p) [
-    | inl low ↦ omega (arith, grown_length, put_low p k low)
-    | inr high ↦ omega (arith, grown_length, put_high p k high)
-  ]
+    longer : length (insert xs p m) ≡ suc (length xs)
+    longer = omega (arith, length-insert xs p m in_xs)
+
+    put_within : (k : ℕ) → k < length xs → put p k < length (insert xs p m)
+    put_within k within = elim (cases_lt k p) [
+      | inl low ↦ omega (arith, longer, put_low p k low, within)
+      | inr high ↦ omega (arith, longer, put_high p k high, within)
+    ]
+
+    pub item_moved : (k : ℕ) (d : X) → k < length xs → has_row merge k ≡ false → (moved rows merge k < length (left merge 0 (insert xs p m))) × (get_or (left merge 0 (insert xs p m)) (moved rows merge k) d ≡ get_or xs k d)
+    item_moved k d within out =
+        let found = picked_get q 0 (insert xs p m) (put p k) (put p k) (moved rows merge k) d (omega arith) (omega arith) (put_within k within) (stays_put k out) in
+        (found.0, found.1 ∙ put_get xs p k m d in_xs)
+
+    pub item_merged : (d : X) → (merged_at rows merge < length (left merge 0 (insert xs p m))) × (get_or (left merge 0 (insert xs p m)) (merged_at rows merge) d ≡ m)
+    item_merged d =
+        let found = picked_get q 0 (insert xs p m) p p (merged_at rows merge) d (omega arith) (omega arith) (omega (arith, longer, in_xs)) (not_from_false (has_row merge p) (none_behind p (omega arith))) in
+        (found.0, found.1 ∙ get_or-insert_at xs p m d in_xs)
+
+    -- each item after the merge is one that moved, or the one that was put in
+    pub item_onto : (l : ℕ) → l < length (left merge 0 (insert xs p m)) → ((k : ℕ) × (k < length xs) × (has_row merge k ≡ false) × (moved rows merge k ≡ l)) ⊎ (l ≡ merged_at rows merge)
+    item_onto l within = by_place (picked_onto q 0 (insert xs p m) l within)
+      where
+        by_place : (k : ℕ) × (j : ℕ) × (j ≡ 0 + k) × (k < length (insert xs p m)) × (q j ≡ true) × (rank q j ≡ rank q 0 + l)
+            → ((k : ℕ) × (k < length xs) × (has_row merge k ≡ false) × (moved rows merge k ≡ l)) ⊎ (l ≡ merged_at rows merge)
+        by_place (k, j, at, inside, pass, rank_is) = elim (cases_eq j p) [
+          | inl equal ↦ inr (omega (arith, rank_is, ap (rank q) equal))
+          | inr apart ↦
+              let from = put_onto p j apart in
+              inl (from.0, small from.0 from.1, out from.0 from.1 (cases_lt from.0 p), ap (rank q) from.1 ∙ omega (arith, rank_is))
+        ]
+          where
+            small : (i : ℕ) → put p i ≡ j → i < length xs
+            small i is = elim (cases_lt i p) [
+              | inl low ↦ omega (arith, low, in_xs)
+              | inr high ↦ omega (arith, put_high p i high, is, at, inside, longer)
+            ]
+
+            out : (i : ℕ) → put p i ≡ j → (i < p) ⊎ (p ≤ i) → has_row merge i ≡ false
+            out i is (inl low) = not-true (has_row merge i) (ap q (sym (put_low p i low) ∙ is) ∙ pass)
+            out i is (inr high) = none_behind i high
 
   pub moved_get : (k : ℕ) (d : Row) → k < length rows → has_row merge k ≡ false → (moved rows merge k < length (after rows merge)) × (get_or (after rows merge) (moved rows merge k) d ≡ get_or rows k d)
   moved_get k d within out =
-      let found = picked_get q 0 grown (put p k) (put p k) (moved rows merge k) d (omega arith) (omega arith) (put_within k within) (stays_put k out) in
-      subst (λ l. (moved rows merge k < length l) × (get_or l (moved rows merge k) d ≡ get_or rows k d)) (after_is rows merge ordered set)
-      (found.0, found.1 ∙ put_get rows p k (merged_row rows merge) d p_le)
+      subst (λ l. (moved rows merge k < length l) × (get_or l (moved rows merge k) d ≡ get_or rows k d)) (after_is rows merge ordered set) (item_moved rows (merged_row rows merge) refl k d within out)
 
   -- each row after the merge is one that moved, or the merged one
   pub moved_onto : (l : ℕ) → l < length (after rows merge) → ((k : ℕ) × (k < length rows) × (has_row merge k ≡ false) × (moved rows merge k ≡ l)) ⊎ ((d : Row) → get_or (after rows merge) l d ≡ merged_row rows merge)
-  moved_onto l within = by_place (picked_onto q 0 grown l (subst (λ x. l < length x) (sym (after_is rows merge ordered set)) within))
+  moved_onto l within = by_case (item_onto rows (merged_row rows merge) refl l (subst (λ x. l < length x) (sym (after_is rows merge ordered set)) within))
     where
-      by_place : (k : ℕ) × (j : ℕ) × (j ≡ 0 + k) × (k < length grown) × (q j ≡ true) × (rank q j ≡ rank q 0 + l)
+      by_case : ((k : ℕ) × (k < length rows) × (has_row merge k ≡ false) × (moved rows merge k ≡ l)) ⊎ (l ≡ merged_at rows merge)
           → ((k : ℕ) × (k < length rows) × (has_row merge k ≡ false) × (moved rows merge k ≡ l)) ⊎ ((d : Row) → get_or (after rows merge) l d ≡ merged_row rows merge)
-      by_place (k, j, at, inside, pass, rank_is) = elim (cases_eq j p) [
-        | inl same ↦ inr (λ d.
-            subst (λ x. get_or x l d ≡ merged_row rows merge) (after_is rows merge ordered set)
-            ((picked_get q 0 grown k j l d at rank_is inside pass).1
-            ∙ ap (λ n. get_or grown n d) (omega (arith, at, same)) ∙ get_or-insert_at rows p (merged_row rows merge) d p_le))
-        | inr apart ↦
-            let from = put_onto p j apart in
-            inl (from.0, small from.0 from.1, out from.0 from.1 (cases_lt from.0 p), ap (rank q) from.1 ∙ omega (arith, rank_is))
-      ]
-        where
-          small : (i : ℕ) → put p i ≡ j → i < length rows
-          small i is = elim (cases_lt i p) [
-            | inl low ↦ omega (arith, low, p_le)
-            | inr high ↦ omega (arith, put_high p i high, is, at, inside, grown_length)
-          ]
-
-          out : (i : ℕ) → put p i ≡ j → (i < p) ⊎ (p ≤ i) → has_row merge i ≡ false
-          out i is (inl low) = not-true (has_row merge i) (ap q (sym (put_low p i low) ∙ is) ∙ pass)
-          out i is (inr high) = none_behind i high
+      by_case (inl one) = inl one
+      by_case (inr is) = inr (λ d.
+          ap (λ n. get_or (after rows merge) n d) is
+          ∙ subst (λ x. get_or x (merged_at rows merge) d ≡ merged_row rows merge) (after_is rows merge ordered set) (item_merged rows (merged_row rows merge) refl d).1)
 
   -- the places of a route of which no row was merged
   pub moved_places : (bits : ℕ) → ((s : ℕ) (d : Row) → has_row merge s ≡ true → (get_or rows s d).route.bits ≢ bits) → places_of bits 0 (after rows merge) ≡ map (moved rows merge) (places_of bits 0 rows)

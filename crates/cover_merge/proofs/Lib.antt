@@ -8,11 +8,15 @@ mod ChooseLemmas
 mod CoverLemmas
 pub mod Determined
 mod GuardLemmas
+mod JoinedLemmas
 mod KeepLemmas
 mod KeptLemmas
 mod KeptLemmasMoved
 mod KeptLemmasSteps
 mod LinkLemmas
 mod RefineLemmas
+mod RenewLemmas
+mod ReplaceLemmas
 mod SiftLemmas
 mod TriedLemmas
+mod PairLemmas

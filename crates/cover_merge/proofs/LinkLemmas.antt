@@ -156,7 +156,7 @@ module _ (routes : List ℕ) (rows : List Row) (numbers : List ℕ) (are : AreNu
   pub as_many : length numbers ≡ length rows
   as_many = ap length are.each ∙ numbers_length routes rows
 
-  number_at : (k : ℕ) (d : Row) → k < length rows → get_or numbers k 0 ≡ place_of_route routes (get_or rows k d).route.bits
+  pub number_at : (k : ℕ) (d : Row) → k < length rows → get_or numbers k 0 ≡ place_of_route routes (get_or rows k d).route.bits
   number_at k d inside = ap (λ l. get_or l k 0) are.each ∙ numbers_read routes rows k d inside
 
   -- the route of a row stands at its number

@@ -1,10 +1,11 @@
 -- What is known of the rows behind a row. It saves looking at all of them in each up-check.
-use Rattle.std.specs.Prelude.{◌≡◌, ℕ, suc, ◌<◌, ◌≤◌, List, ◌∷◌, All, length, drop, slice_get, slice_index, slice_index_or, Some}
+use Rattle.std.specs.Prelude.{◌≡◌, ℕ, suc, ◌<◌, ◌≤◌, ◌-◌, Bool, false, List, ◌∷◌, All, AllPairs, length, drop, slice_get, slice_index_or, Some}
 use Rattle.spin_base.specs.declared.blocks.Block.{Block}
 use Rattle.tern_word.specs.declared.tables.Alias.{Alias}
 use Rattle.tern_word.specs.declared.tables.Row.{Row}
 use Rattle.tern_word.specs.Ternary.{generality}
 use Rattle.tern_word.specs.SoundTable.{Misses}
+use Rattle.cover_merge.specs.Merge.{has_row}
 use Rattle.cover_merge.specs.declared.guards.Guard.{Guard}
 
 -- A later row is a rival of a row where it has another route and meets an alias of it.
@@ -49,12 +50,17 @@ pub record IsOriginal (row : Row) : Type 0 where
   pub key : alias.block.key ≡ row.block.key
   pub mask : alias.block.mask ≡ row.block.mask
 
--- the next row behind row k that is not original is that at the place or behind it
-pub record IsNextJoined (rows : List Row) (k place : ℕ) : Type 0 where
-  pub behind : k < place
-  pub between : (j : ℕ) (d : Row) → k < j → j < place → j < length rows → IsOriginal (slice_index_or rows j d)
+-- each row that is not said to be joined is original
+pub record AreJoined (rows : List Row) (joined : List Bool) : Type 0 where
+  pub one_each : length joined ≡ length rows
+  pub original : (s : ℕ) (d : Row) (e : Bool) → s < length joined → slice_index_or joined s e ≡ false → IsOriginal (slice_index_or rows s d)
 
--- for each row such a place
-pub record AreNextJoined (rows : List Row) (places : List ℕ) : Type 0 where
-  pub one_each : length places ≡ length rows
-  pub next : (k : ℕ) → k < length rows → IsNextJoined rows k (slice_index places k)
+-- the last of the places, and n where there is none
+abbrev pub last_or : List ℕ → ℕ → ℕ
+last_or places n = slice_index_or places (length places - 1) n
+
+-- The places, in descending order, of rows from place s on; all others of these are original.
+pub record AreJoinedFrom (rows : List Row) (s : ℕ) (places : List ℕ) : Type 0 where
+  pub descending : AllPairs (λ a b. b < a) places
+  pub inside : All (λ r. (s ≤ r) × (r < length rows)) places
+  pub original : (r : ℕ) (d : Row) → s ≤ r → r < length rows → has_row places r ≡ false → IsOriginal (slice_index_or rows r d)

@@ -4,9 +4,10 @@ use Rattle.spin_base.specs.declared.blocks.Block.{Block}
 use Rattle.tern_word.specs.declared.tables.Row.{Row}
 use Rattle.tern_word.specs.Ternary.{Intersects, generality}
 use Rattle.tern_word.specs.SoundTable.{Misses}
-use Rattle.cover_merge.specs.Guards.{AreGuards}
+use Rattle.cover_merge.specs.Guards.{AreGuards, AreGuardsBut, AreJoined}
 use Rattle.cover_merge.specs.Kept.{IsKept}
 use Rattle.cover_merge.specs.Links.{IsEachOnce, AreNumbers}
+use Rattle.cover_merge.specs.Tried.{AreNoLater, AreTriedUpTo}
 use Rattle.cover_merge.specs.declared.keeping.Kept.{Kept}
 use Rattle.cover_merge.specs.declared.keeping.Most.{Most}
 use Rattle.cover_merge.specs.declared.knowing.Known.{Known}
@@ -20,14 +21,38 @@ AreRoutesKept routes rows kept =
 abbrev pub AreAllKept : List ℕ → List (Option Kept) → Type 0
 AreAllKept routes kept = (c : ℕ) → c < length routes → (it : Kept) × (slice_index_or kept c None ≡ Some it)
 
--- Each row has its guard, its number, and its route, of which something may be kept.
+-- Each row has its guard, its number, whether it is joined, and its route, of which something may be kept, with when a row
+-- of it last changed.
 pub record IsKnown (rows : List Row) (known : Known) : Type 0 where
   pub one_each : length known.guards.items ≡ length rows
   pub guards : AreGuards rows known.guards.items
+  pub joined : AreJoined rows known.joined.items
+  pub one_time : length known.latest.items ≡ length known.routes.items
+  pub latest : AreNoLater known.routes.items known.latest.items rows known.guards.items
   pub once : IsEachOnce known.routes.items
   pub numbers : AreNumbers known.routes.items rows known.numbers.items
   pub one_route : length known.kept.items ≡ length known.routes.items
   pub kept : AreRoutesKept known.routes.items rows known.kept.items
+
+-- The same of the table after a merge of this block, but for guards of rows of which the block meets an alias; and which
+-- pairs were tried.
+pub record IsCarried (block : Block) (now : ℕ) (rows : List Row) (known : Known) : Type 0 where
+  pub one_each : length known.guards.items ≡ length rows
+  pub guards : AreGuardsBut block rows known.guards.items
+  pub joined : AreJoined rows known.joined.items
+  pub one_time : length known.latest.items ≡ length known.routes.items
+  pub latest : AreNoLater known.routes.items known.latest.items rows known.guards.items
+  pub once : IsEachOnce known.routes.items
+  pub numbers : AreNumbers known.routes.items rows known.numbers.items
+  pub one_route : length known.kept.items ≡ length known.routes.items
+  pub kept : AreRoutesKept known.routes.items rows known.kept.items
+  pub marks : AreTriedUpTo now rows known.guards.items
+
+-- the rows have the same routes, and the same is kept of each
+pub record HasSameRoutes (old new : Known) : Type 0 where
+  pub numbers : new.numbers.items ≡ old.numbers.items
+  pub routes : new.routes.items ≡ old.routes.items
+  pub kept : new.kept.items ≡ old.kept.items
 
 -- What is still kept was kept before, and passes the test.
 pub record AreStillKept (P : ℕ → Kept → Type 0) (old new : List (Option Kept)) : Type 0 where

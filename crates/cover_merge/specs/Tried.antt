@@ -1,72 +1,40 @@
--- Which pairs of rows were tried and stay refused. It saves trying them again after each merge.
-use Rattle.std.specs.Prelude.{◌≡◌, ℕ, suc, ◌<◌, ◌≤◌, ◌⊎◌, List, All, length, slice_index, slice_index_or}
-use Rattle.spin_base.specs.declared.blocks.Block.{Block}
+-- Which pairs of rows were tried and are still not legal. It saves trying them again after each merge.
+use Rattle.std.specs.Prelude.{◌≡◌, ◌≢◌, ℕ, suc, ◌<◌, ◌≤◌, ◌⊎◌, true, List, All, length, slice_index, slice_index_or}
 use Rattle.tern_word.specs.declared.tables.Row.{Row}
-use Rattle.tern_word.specs.Ternary.{generality, merge_two}
 use Rattle.tern_word.specs.SoundTable.{Misses}
+use Rattle.cover_merge.specs.Merge.{has_row}
+use Rattle.cover_merge.specs.Covering.{IsLegalPair}
+use Rattle.cover_merge.specs.Guards.{IsGuardAt}
+use Rattle.cover_merge.specs.Links.{place_of_route}
 use Rattle.cover_merge.specs.declared.guards.Guard.{Guard}
 
--- the block meets an alias of a row of greater generality
-abbrev pub HasMet : List Row → Block → Type 0
-HasMet rows b = All (λ (x : Row). generality b < generality x.block → Misses b x) rows → ⊥
-
--- A third row of the route of two rows, by its block, meets an alias of one of them.
-pub record IsHolder (row first second x : Row) : Type 0 where
-  pub same : x.route.bits ≡ row.route.bits
-  pub not_first : x.block ≡ first.block → ⊥
-  pub not_second : x.block ≡ second.block → ⊥
-  pub meets : Misses x.block row → ⊥
-
--- one of at most generality n does
-abbrev pub IsHeld : List Row → Row → Row → Row → ℕ → Type 0
-IsHeld rows row first second n = All (λ (x : Row). generality x.block ≤ n → IsHolder row first second x → ⊥) rows → ⊥
-
--- the merge of two rows meets an alias of a row of greater generality, or a third row of their route and of at most its
--- generality meets an alias of one of them
-abbrev pub IsStuck : List Row → Row → Row → Type 0
-IsStuck rows r s =
-    (HasMet rows (merge_two r.block s.block)) ⊎ ((IsHeld rows r r s (generality (merge_two r.block s.block))) ⊎ (IsHeld rows s r s (generality (merge_two r.block s.block))))
-
--- Two rows of one route are refused where one of them has a rival of at most the generality of their merge, or where
--- they are stuck. The numbers are the generalities of their first rivals.
-abbrev pub IsRefusedPair : List Row → Row → ℕ → Row → ℕ → Type 0
-IsRefusedPair rows r m s n =
-    r.route.bits ≡ s.route.bits → (m ≤ generality (merge_two r.block s.block)) ⊎ ((n ≤ generality (merge_two r.block s.block)) ⊎ IsStuck rows r s)
-
--- A merge of this block and route leaves a row untouched where it misses the row, or is of another route.
-abbrev pub IsLeftClear : ℕ → Block → Row → Type 0
-IsLeftClear bits block row = row.route.bits ≡ bits → Misses block row
-
--- the same of the rows at two places, by what their guards tell
-abbrev pub IsRefusedAt : List Row → List Guard → ℕ → ℕ → Type 0
-IsRefusedAt rows guards i j = (d : Row) (e : Guard) → IsRefusedPair rows (slice_index_or rows i d) (slice_index_or guards i e).rival (slice_index_or rows j d) (slice_index_or guards j e).rival
-
--- a row is refused with each later one that has not changed since the row was tried
+-- a row is no legal pair with a later one that has not changed since the row was tried
 abbrev pub AreTried : List Row → List Guard → Type 0
 AreTried rows guards =
-    (i j : ℕ) (d : Row) (e : Guard) → i < j → j < length guards → (slice_index_or guards j e).changed < (slice_index_or guards i e).tried
-    → IsRefusedPair rows (slice_index_or rows i d) (slice_index_or guards i e).rival (slice_index_or rows j d) (slice_index_or guards j e).rival
+    (i j : ℕ) (e : Guard) → i < j → j < length guards → (slice_index_or guards j e).changed < (slice_index_or guards i e).tried → IsLegalPair rows i j → ⊥
 
--- and no row was tried later than now
+-- and no row was tried or changed later than now
 pub record AreTriedUpTo (now : ℕ) (rows : List Row) (guards : List Guard) : Type 0 where
   pub tried : AreTried rows guards
-  pub bound : All (λ (g : Guard). g.tried ≤ now) guards
+  pub bound : All (λ (g : Guard). (g.tried ≤ now) × (g.changed ≤ now)) guards
 
 -- the guard of a row that changed now and was not tried
 pub record IsFresh (now : ℕ) (guard : Guard) : Type 0 where
   pub tried : guard.tried ≡ 0
   pub changed : guard.changed ≡ now
 
--- each row is untouched, or changed now
-abbrev pub AreTouched : ℕ → Block → ℕ → List Row → List Guard → Type 0
-AreTouched bits block now rows guards =
-    (s : ℕ) (d : Row) (e : Guard) → s < length guards → (IsLeftClear bits block (slice_index_or rows s d)) ⊎ (IsFresh now (slice_index_or guards s e))
+-- No row of the set behind row s meets an alias of it. So what stands between this row and a merge does not go with the set.
+abbrev pub LosesNone : List Row → List ℕ → ℕ → Type 0
+LosesNone rows places s = (r : ℕ) (d : Row) → has_row places r ≡ true → s < r → Misses (slice_index_or rows r d).block (slice_index_or rows s d)
 
--- the guard of a row whose first rival is no more general than before
-pub record IsNoLaxer (old new : Guard) : Type 0 where
-  pub rival : new.rival ≤ old.rival
-  pub tried : new.tried ≡ old.tried
-  pub changed : new.changed ≡ old.changed
+-- each row loses none, or changed now
+abbrev pub AreTouched : List ℕ → ℕ → List Row → List Guard → Type 0
+AreTouched places now rows guards = (s : ℕ) (e : Guard) → s < length guards → (LosesNone rows places s) ⊎ (IsFresh now (slice_index_or guards s e))
+
+-- row s loses none, or changed now; the other rows are as they were
+pub record IsTouchedAt (places : List ℕ) (now : ℕ) (rows : List Row) (s : ℕ) (old new : List Guard) : Type 0 where
+  pub own : (e : Guard) → (LosesNone rows places s) ⊎ (IsFresh now (slice_index_or new s e))
+  pub others : (k : ℕ) (e : Guard) → k ≢ s → slice_index_or new k e ≡ slice_index_or old k e
 
 -- the same guard, of a row that was tried now
 pub record IsTriedNow (now : ℕ) (old new : Guard) : Type 0 where
@@ -74,6 +42,22 @@ pub record IsTriedNow (now : ℕ) (old new : Guard) : Type 0 where
   pub clear : new.clear ≡ old.clear
   pub changed : new.changed ≡ old.changed
   pub tried : new.tried ≡ now
+
+-- the rows were tried and changed when they were
+pub record HaveSameTimes (old new : List Guard) : Type 0 where
+  pub one_each : length new ≡ length old
+  pub tried : (s : ℕ) (e : Guard) → s < length old → (slice_index_or new s e).tried ≡ (slice_index_or old s e).tried
+  pub changed : (s : ℕ) (e : Guard) → s < length old → (slice_index_or new s e).changed ≡ (slice_index_or old s e).changed
+
+-- the guard of row s tells of it, and the others and all times are as they were
+pub record IsRenewedAt (rows : List Row) (s : ℕ) (old new : List Guard) : Type 0 where
+  pub guard : (e : Guard) → IsGuardAt rows s (slice_index_or new s e)
+  pub times : HaveSameTimes old new
+  pub others : (k : ℕ) (e : Guard) → k ≢ s → slice_index_or new k e ≡ slice_index_or old k e
+
+-- no row changed later than is said of its route
+abbrev pub AreNoLater : List ℕ → List ℕ → List Row → List Guard → Type 0
+AreNoLater routes latest rows guards = (s : ℕ) (d : Row) (e : Guard) → s < length guards → (slice_index_or guards s e).changed ≤ slice_index latest (place_of_route routes (slice_index_or rows s d).route.bits)
 
 -- The next row behind row k of its route that changed at the time or later is that at the place, and there is none where
 -- the place is not in the table.

@@ -1,5 +1,5 @@
 // The table after a merge.
-ghost use Rattle.std.specs.Prelude.{◌≡◌, ◌<◌, ◌≤◌, ◌^◌, All, AllPairs, IfOk, OnOk, OnErr, length, insert, not};
+ghost use Rattle.std.specs.Prelude.{◌≡◌, ◌<◌, ◌≤◌, ◌^◌, ◌++◌, ◌∷◌, [], All, AllPairs, IfOk, OnOk, OnErr, length, slice_index, insert, not};
 ghost use Rattle.tern_word.specs.SoundTable.{IsOrdered};
 ghost use Rattle.cover_merge.specs.Merge.{IsMergeSet, after, has_row, kept, merged_row, picked, rows_at};
 ghost use Rattle.cover_merge.specs.Aliases.{aliases_at};
@@ -69,8 +69,8 @@ fn put_in(rows: &mut Vec<Row>, merged: Row, place: u32, places: &[u32]) -> Resul
     Ok(())
 }
 
-/// Takes out the items at the places, the last first.
-pub(crate) fn take_out_all<T: Drop>(items: &mut Vec<T>, places: &[u32])
+// Takes out the items at the places, the last first.
+fn take_out_all<T: Drop>(items: &mut Vec<T>, places: &[u32])
     requires ascending { AllPairs (λ s t. s < t) places.now }
     requires in_range { All (λ s. s < length items.old.items) places.now }
     ensures { items.new.items ≡ picked (λ k. not (has_row places.now k)) 0 items.old.items }
@@ -79,5 +79,37 @@ pub(crate) fn take_out_all<T: Drop>(items: &mut Vec<T>, places: &[u32])
     while i > 0 {
         i -= 1;
         let _ = items.remove(places[i] as usize);
+    }
+}
+
+/// Puts the item in at the place, and takes out those at the places, which are before it. Each item moves once.
+pub(crate) fn replace_all<T: Copy>(items: &mut Vec<T>, places: &[u32], place: u32, item: T)
+    requires some { 0 < length places.now }
+    requires ascending { AllPairs (λ s t. s < t) places.now }
+    requires before { All (λ s. s < place) places.now }
+    requires place { place ≤ length items.old.items }
+    ensures { items.new.items ≡ picked (λ k. not (has_row places.now k)) 0 (insert items.old.items place item) }
+{
+    for i in 0..places.len() {
+        let from = places[i] as usize + 1;
+        let to = next_place(places, i + 1, place);
+        items.copy_within(from..to, from - 1 - i);
+    }
+    items[place as usize - places.len()] = item;
+    let len = items.len();
+    let gap = places.len() - 1;
+    items.copy_within(place as usize..len, place as usize - gap);
+    items.truncate(len - gap);
+}
+
+// The place of this number, or that behind all.
+fn next_place(places: &[u32], i: usize, place: u32) -> usize
+    requires { i ≤ length places.now }
+    ensures { result ≡ slice_index (places.now ++ place ∷ []) i }
+{
+    if i < places.len() {
+        places[i] as usize
+    } else {
+        place as usize
     }
 }

@@ -1,15 +1,15 @@
 // Which rows are merged next.
-ghost use Rattle.std.specs.Prelude.{◌≡◌, ◌<◌, ◌^◌, ◌==◌, ℕ, suc, [], ◌∷◌, IfOk, OnOk, IsTrue, MatchOption, length, slice_index, slice_index_or};
+ghost use Rattle.std.specs.Prelude.{◌≡◌, ◌<◌, ◌^◌, ◌==◌, ℕ, suc, [], ◌∷◌, All, IfOk, OnOk, IsTrue, MatchOption, length, slice_index, slice_index_or};
 ghost use Rattle.tern_word.specs.SoundTable.{IsSound};
 ghost use Rattle.cover_merge.specs.Guards.{AreGuards};
-ghost use Rattle.cover_merge.specs.Tried.{IsRefusedAt, AreTried, AreTriedUpTo, IsNextSince, AreNewerFrom};
+ghost use Rattle.cover_merge.specs.Tried.{AreTried, AreTriedUpTo, IsNextSince, AreNewerFrom};
 ghost use Rattle.cover_merge.specs.declared.guards.Guard.{Guard as AGuard};
 ghost use Rattle.cover_merge.specs.Links.{AreLinks, AreNexts, IsFirstOfRoute};
 ghost use Rattle.cover_merge.specs.Kept.{IsKept};
 ghost use Rattle.cover_merge.specs.Known.{AreAllKept, IsKnown};
 ghost use Rattle.cover_merge.specs.Covering.{places_of, IsFirstPartner, IsLargest, HasNoLargest, IsLegalPair, HasNoLegalPair, IsFirstLegalPair, IsChosen, HasNoChosen};
 
-use crate::guards::{Guard, marked, try_pair};
+use crate::guards::{Guard, is_legal_pair, marked};
 use crate::keeping::{Kept, most_of};
 use crate::knowing::Known;
 use crate::links::{Links, links_of};
@@ -40,7 +40,7 @@ pub(crate) fn chosen(
     keep_all(alloc, table, known, &links)?;
     match largest(alloc, table, known, &links)? {
         Some(set) => Ok(Some(set)),
-        None => first_pair(alloc, table, &mut known.guards, &links, now),
+        None => first_pair(alloc, table, known, &links, now),
     }
 }
 
@@ -130,35 +130,47 @@ fn places_from(alloc: Global, rows: &[Row], links: &Links, first: u32) -> Result
     Ok(Seq::from_vec(places))
 }
 
-// The first legal pair. A row whose pairs are all refused until a row changes is marked.
+// The first legal pair. A row that is no legal pair with a later one is marked, and is not tried again until a row of its
+// route changes.
 fn first_pair(
     alloc: Global,
     table: &Table,
-    guards: &mut Vec<Guard>,
+    known: &mut Known,
     links: &Links,
     now: usize,
 ) -> Result<Option<Seq<u32>>, Memory>
     requires few { length table.now.rows < 2 ^ 32 }
     requires sound { IsSound table.now.rows }
-    requires one_each { length guards.old.items ≡ length table.now.rows }
-    requires guards { AreGuards table.now.rows guards.old.items }
-    requires marks { AreTriedUpTo now table.now.rows guards.old.items }
+    requires known { IsKnown table.now.rows known.old }
+    requires marks { AreTriedUpTo now table.now.rows known.old.guards.items }
     requires links { AreNexts table.now.rows links.now.next.items }
     ensures found { IfOk result (λ found. MatchOption found (HasNoLegalPair table.now.rows) (λ set.
         IsFirstLegalPair table.now.rows set)) }
-    ensures one_each { OnOk result (length guards.new.items ≡ length table.now.rows) }
-    ensures guards { OnOk result (AreGuards table.now.rows guards.new.items) }
-    ensures marks { OnOk result (AreTriedUpTo now table.now.rows guards.new.items) }
+    ensures known { OnOk result (IsKnown table.now.rows known.new) }
+    ensures marks { OnOk result (AreTriedUpTo now table.now.rows known.new.guards.items) }
 {
-    let newer = newer_of(alloc, table, guards, links)?;
+    let newer = newer_of(alloc, table, &known.guards, links)?;
     for i in 0..table.rows.len() {
-        let search = partner(table, guards, links, &newer, i as u32);
-        if let Some(j) = search.place {
+        if is_settled(known, i) {
+            continue;
+        }
+        if let Some(j) = partner(table, &known.guards, links, &newer, i as u32) {
             return Ok(Some(two_places(alloc, i as u32, j)?));
         }
-        guards[i] = marked(guards[i], search.settled, now);
+        known.guards[i] = marked(known.guards[i], now);
     }
     Ok(None)
+}
+
+// Whether no row of the route of row `i` changed since this row was tried: then it is no legal pair with a later one.
+fn is_settled(known: &Known, i: usize) -> bool
+    requires inside { i < length known.now.guards.items }
+    requires one_each { length known.now.numbers.items ≡ length known.now.guards.items }
+    requires below { All (λ c. c < length known.now.latest.items) known.now.numbers.items }
+    ensures { IsTrue result → (e : AGuard) → slice_index known.now.latest.items (slice_index known.now.numbers.items i)
+        < (slice_index_or known.now.guards.items i e).tried }
+{
+    known.latest[known.numbers[i] as usize] < known.guards[i].tried
 }
 
 // For each row the next of its route that changed later.
@@ -267,15 +279,8 @@ fn two_places(alloc: Global, i: u32, j: u32) -> Result<Seq<u32>, Memory>
     Ok(set)
 }
 
-// The partner of a row, where there is one, and whether each of its pairs is refused until a row changes.
-#[derive(Clone, Copy)]
-struct Search {
-    place: Option<u32>,
-    settled: bool,
-}
-
 // The first row behind row `i` that can be merged with it: only those of its route can that changed since it was tried.
-fn partner(table: &Table, guards: &[Guard], links: &Links, newer: &[u32], i: u32) -> Search
+fn partner(table: &Table, guards: &[Guard], links: &Links, newer: &[u32], i: u32) -> Option<u32>
     requires few { length table.now.rows < 2 ^ 32 }
     requires sound { IsSound table.now.rows }
     requires one_each { length guards.now ≡ length table.now.rows }
@@ -285,27 +290,16 @@ fn partner(table: &Table, guards: &[Guard], links: &Links, newer: &[u32], i: u32
     requires newer { AreNewerFrom 0 table.now.rows guards.now newer.now }
     requires places { length newer.now ≡ length table.now.rows }
     requires inside { i < length table.now.rows }
-    ensures place { MatchOption result.place ((b : ℕ) → IsLegalPair table.now.rows i b
+    ensures { MatchOption result ((b : ℕ) → IsLegalPair table.now.rows i b
         → ⊥) (λ j. IsFirstPartner table.now.rows i j) }
-    ensures settled { IsTrue result.settled → (b : ℕ) → i < b → b < length table.now.rows
-        → IsRefusedAt table.now.rows guards.now i b }
 {
     let tried = tried_at(guards, i as usize);
-    let mut settled = true;
     let mut j = next_to_try(table, guards, links, newer, i, tried);
     while (j as usize) < table.rows.len() {
-        let trial = try_pair(table, guards, i, j);
-        if trial.legal {
-            return Search {
-                place: Some(j),
-                settled: false,
-            };
+        if is_legal_pair(table, guards, i, j) {
+            return Some(j);
         }
-        settled &= trial.lasting;
         j = next_to_try(table, guards, links, newer, j, tried);
     }
-    Search {
-        place: None,
-        settled,
-    }
+    None
 }

@@ -3,13 +3,13 @@ ghost use Rattle.std.specs.Prelude.{◌≡◌, ◌<◌, ◌≤◌, ◌^◌, ◌�
 ghost use Rattle.tern_word.specs.SoundTable.{IsSound, served};
 ghost use Rattle.std.specs.List.Sorted.{IsPermutation};
 ghost use Rattle.cover_merge.specs.Merge.{IsLegal, IsMergeSet, after, merged_block};
-ghost use Rattle.cover_merge.specs.Known.{AreRoutesKept, IsKnown};
+ghost use Rattle.cover_merge.specs.Known.{AreRoutesKept, IsCarried, IsKnown};
 ghost use Rattle.cover_merge.specs.Tried.{AreTriedUpTo};
 ghost use Rattle.cover_merge.specs.Covering.{Covers, HasNoChosen, HasNoLegalPair, HasRoutesOf, IsChosen};
 ghost use Rattle.cover_merge.specs.Merges.{sets_of};
 
 use crate::applying::apply;
-use crate::carrying::{carry, renew};
+use crate::carrying::{carry, carry_joined, renew, touch};
 use crate::choosing::chosen;
 use crate::keeping::{forget_met, forget_near, forget_own};
 use crate::knowing::{Known, known_of};
@@ -107,11 +107,32 @@ fn merge_at(
     let rows = table.rows.as_slice();
     let members = places.as_slice();
     let merged = merged_block(rows, members);
-    forget(rows, known, members, merged);
-    carry_numbers(rows, &mut known.numbers, members)?;
-    carry(rows, &mut known.guards, members, merged, now)?;
+    carry_over(rows, known, members, merged, now);
     apply(alloc, table, places)?;
-    renew(alloc, table.rows.as_slice(), &mut known.guards, merged, now)
+    renew(
+        alloc,
+        table.rows.as_slice(),
+        &mut known.guards,
+        &known.joined,
+        merged,
+    )
+}
+
+// Carries over what is known to the table after the merge of the rows at the places. Guards of rows with an alias that the
+// merged block meets may be wrong there.
+fn carry_over(rows: &[Row], known: &mut Known, places: &[u32], merged: Block, now: usize)
+    requires few { length rows.now < 2 ^ 32 }
+    requires sound { IsSound rows.now }
+    requires known { (IsKnown rows.now known.old) × (AreTriedUpTo now rows.now known.old.guards.items) }
+    requires merge { (IsMergeSet rows.now places.now) × (IsLegal rows.now places.now) }
+    requires merged { merged ≡ merged_block rows.now places.now }
+    ensures { IsCarried merged now (after rows.now places.now) known.new }
+{
+    touch(rows, known, places, merged, now);
+    forget(rows, known, places, merged);
+    carry_numbers(rows, &mut known.numbers, places);
+    carry_joined(rows, &mut known.joined, places, merged);
+    carry(rows, &mut known.guards, places, merged, now);
 }
 
 // Forgets what is kept of routes that the merge of the rows at the places does not leave alone.
@@ -124,7 +145,9 @@ fn forget(rows: &[Row], known: &mut Known, places: &[u32], merged: Block)
     ensures one_route { length known.new.kept.items ≡ length known.new.routes.items }
     ensures guards { known.new.guards.items ≡ known.old.guards.items }
     ensures numbers { known.new.numbers.items ≡ known.old.numbers.items }
+    ensures joined { known.new.joined.items ≡ known.old.joined.items }
     ensures routes { known.new.routes.items ≡ known.old.routes.items }
+    ensures latest { known.new.latest.items ≡ known.old.latest.items }
 {
     let own = known.numbers[places[0] as usize] as usize;
     forget_own(&mut known.kept, own);

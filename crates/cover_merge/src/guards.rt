@@ -1,16 +1,16 @@
 // Guards of rows: whether a row can be merged, without a look at the rows behind it.
-ghost use Rattle.std.specs.Prelude.{◌≡◌, ◌<◌, ◌≤◌, ◌^◌, ◌↔◌, ◌⊎◌, ◌∷◌, [], ℕ, suc, true, List, IfOk, IsTrue, drop, length, slice_index_or};
+ghost use Rattle.std.specs.Prelude.{◌≡◌, ◌<◌, ◌≤◌, ◌^◌, ◌↔◌, ◌⊎◌, ◌∷◌, [], ℕ, suc, true, List, All, IfOk, OnOk, IsTrue, drop, take, length, slice_index_or};
 ghost use Rattle.tern_word.specs.declared.tables.Row.{Row as ARow};
 ghost use Rattle.tern_word.specs.Ternary.{generality};
 ghost use Rattle.tern_word.specs.SoundTable.{HoldsItsAliases, IsOrdered, IsSound, Misses};
-ghost use Rattle.cover_merge.specs.Merge.{has_row, place_for, SameRoute, IsMergeSet, IsLegal, IsClearOf, PassesUp};
-ghost use Rattle.cover_merge.specs.Guards.{IsRival, HasRival, IsGuardAt, AreGuards, IsSilent, IsOriginal, AreNextJoined};
-ghost use Rattle.cover_merge.specs.Tried.{IsFresh, IsHeld, IsHolder, IsRefusedAt, AreTried, AreTriedUpTo, IsTriedNow};
+ghost use Rattle.cover_merge.specs.Merge.{has_row, place_for, SameRoute, IsMergeSet, IsLegal, IsClearOf, PassesUp, PassesDown};
+ghost use Rattle.cover_merge.specs.Guards.{IsRival, HasRival, IsGuardAt, AreGuards, IsSilent, IsOriginal, AreJoined, AreJoinedFrom, last_or};
+ghost use Rattle.cover_merge.specs.Tried.{IsFresh, IsTriedNow};
 
-use crate::{is_clear, merged_block, passes_down};
+use crate::merged_block;
 use spin_base::{Block, Memory};
 use std::alloc::Global;
-use tern_word::{Row, Table, generality, intersects, merge_two, misses};
+use tern_word::{Row, Table, generality, intersects, misses};
 
 /// What is known of the rows behind a row: the generality of the first of another route that meets an alias of it, and
 /// that of the first of any route; 33 where there is none. 33 and 0 say nothing. And when the row was last tried with all
@@ -47,42 +47,48 @@ pub(crate) fn unknown(now: usize) -> Guard
     }
 }
 
-/// The guards of all rows.
-pub(crate) fn guards_of(alloc: Global, rows: &[Row]) -> Result<Vec<Guard>, Memory>
+/// The guards of all rows. None was tried.
+pub(crate) fn guards_of(alloc: Global, rows: &[Row], joined: &[bool]) -> Result<Vec<Guard>, Memory>
+    requires few { length rows.now < 2 ^ 32 }
     requires sound { IsSound rows.now }
+    requires joined { AreJoined rows.now joined.now }
     ensures guards { IfOk result (λ v. AreGuards rows.now v.items) }
     ensures one_each { IfOk result (λ v. length v.items ≡ length rows.now) }
-    ensures marks { IfOk result (λ v. AreTriedUpTo 0 rows.now v.items) }
+    ensures fresh { IfOk result (λ v. All (IsFresh 0) v.items) }
 {
-    let joined = joined_behind(alloc, rows)?;
-    let mut guards = Vec::with_capacity(alloc, rows.len())?;
-    for s in 0..rows.len() {
-        guards.push(guard_of(rows, &joined, s, 0))?;
+    let mut guards = vec![in alloc; unknown(0); rows.len()]?;
+    let mut behind = Vec::new(alloc);
+    let mut s = rows.len();
+    while s > 0 {
+        s -= 1;
+        guards[s] = guard_of(rows, &behind, s, guards[s]);
+        add_joined(&mut behind, joined, s)?;
     }
     Ok(guards)
 }
 
-/// For each row the place of the next one that is not original: no row between meets an alias of it, since the table is
-/// sound.
-pub(crate) fn joined_behind(alloc: Global, rows: &[Row]) -> Result<Vec<usize>, Memory>
-    ensures { IfOk result (λ v. AreNextJoined rows.now v.items) }
+/// Which rows are not original, or may be such.
+pub(crate) fn joined_of(alloc: Global, rows: &[Row]) -> Result<Vec<bool>, Memory>
+    ensures { IfOk result (λ v. AreJoined rows.now v.items) }
 {
-    let mut joined = vec![in alloc; 0usize; rows.len()]?;
-    let mut next = rows.len();
-    let mut k = rows.len();
-    while k > 0 {
-        k -= 1;
-        joined[k] = next;
-        next = joined_from(&rows[k], k, next);
+    let mut joined = Vec::with_capacity(alloc, rows.len())?;
+    for s in 0..rows.len() {
+        joined.push(!is_original(&rows[s]))?;
     }
     Ok(joined)
 }
 
-// The place of the row where it is not original, and else the next one.
-fn joined_from(row: &Row, place: usize, next: usize) -> usize
-    ensures { (result ≡ place) ⊎ ((result ≡ next) × (IsOriginal row.now)) }
+/// Adds the place of row `s`, where it is not original, to those of the rows behind it.
+pub(crate) fn add_joined(behind: &mut Vec<u32>, joined: &[bool], s: usize) -> Result<(), Memory>
+    requires inside { s < length joined.now }
+    requires few { length joined.now < 2 ^ 32 }
+    ensures { OnOk result ((rows : List ARow) → AreJoined rows joined.now → AreJoinedFrom rows (suc s) behind.old.items
+        → AreJoinedFrom rows s behind.new.items) }
 {
-    if is_original(row) { next } else { place }
+    if joined[s] {
+        behind.push(s as u32)?;
+    }
+    Ok(())
 }
 
 // Whether the row's first alias is its block: then the row is original.
@@ -95,50 +101,56 @@ fn is_original(row: &Row) -> bool
     }
 }
 
-/// The guard of row `s`, which changed now.
-pub(crate) fn guard_of(rows: &[Row], joined: &[usize], s: usize, now: usize) -> Guard
+/// The guard of row `s` found anew, of a row that was tried and changed when it was. `behind` are the places of the rows
+/// behind it that are not original, the last first.
+pub(crate) fn guard_of(rows: &[Row], behind: &[u32], s: usize, guard: Guard) -> Guard
     requires sound { IsSound rows.now }
-    requires joined { AreNextJoined rows.now joined.now }
+    requires joined { AreJoinedFrom rows.now (suc s) behind.now }
     requires inside { s < length rows.now }
     ensures guard { IsGuardAt rows.now s result }
-    ensures fresh { IsFresh now result }
+    ensures tried { result.tried ≡ guard.tried }
+    ensures changed { result.changed ≡ guard.changed }
 {
-    let met = next_to_meet(rows, joined, s);
+    let left = next_to_meet(rows, behind, s);
     Guard {
-        rival: first_rival(rows, s, met),
-        clear: general_from(rows, met),
-        tried: 0,
-        changed: now,
+        rival: first_rival(rows, &behind[..left], s),
+        clear: general_of(rows, &behind[..left]),
+        tried: guard.tried,
+        changed: guard.changed,
     }
 }
 
-// The place of the first row behind row `s` that meets an alias of it, and the number of rows where there is none.
-fn next_to_meet(rows: &[Row], joined: &[usize], s: usize) -> usize
+// How many of the places are left from the first row on that meets an alias of row `s`; they are passed from the last.
+fn next_to_meet(rows: &[Row], behind: &[u32], s: usize) -> usize
     requires sound { IsSound rows.now }
-    requires joined { AreNextJoined rows.now joined.now }
+    requires joined { AreJoinedFrom rows.now (suc s) behind.now }
     requires inside { s < length rows.now }
-    ensures behind { s < result }
-    ensures missed { (r : ℕ) (d : ARow) → s < r → r < result
+    ensures bound { result ≤ length behind.now }
+    ensures missed { (r : ℕ) (d : ARow) → s < r
+        → r < last_or (take result behind.now) (length rows.now)
         → Misses (slice_index_or rows.now r d).block (slice_index_or rows.now s d) }
 {
-    let mut r = joined[s];
-    while r < rows.len() {
-        if !misses(rows[r].block, &rows[s]) {
-            return r;
+    let mut left = behind.len();
+    while left > 0 {
+        if !is_missed(rows[behind[left - 1] as usize].block, &rows[s]) {
+            return left;
         }
-        r = joined[r];
+        left -= 1;
     }
-    rows.len()
+    0
 }
 
-// The generality of the first rival of row `s`, from place `from` on.
-fn first_rival(rows: &[Row], s: usize, from: usize) -> u32
-    requires inside { s < length rows.now }
-    requires behind { s < from }
+// The generality of the first rival of row `s` at one of the places, the last of which is the first.
+fn first_rival(rows: &[Row], places: &[u32], s: usize) -> u32
+    requires row { s < length rows.now }
+    requires behind { All (λ r. (s < r) × (r < length rows.now)) places.now }
     ensures { (d : ARow) → result ≤ 32
         → HasRival (slice_index_or rows.now s d) result (drop (suc s) rows.now) }
 {
-    for r in from..rows.len() {
+    let mut left = places.len();
+    while left > 0 {
+        left -= 1;
+        let r = places[left] as usize;
         if is_rival(&rows[s], &rows[r]) {
             return generality(rows[r].block);
         }
@@ -156,16 +168,17 @@ fn is_rival(row: &Row, later: &Row) -> bool
     !misses(later.block, row)
 }
 
-// The generality of the row at the place: none at or behind it has a lesser one.
-fn general_from(rows: &[Row], place: usize) -> u32
+// The generality of the row at the last of the places: none at or behind it has a lesser one.
+fn general_of(rows: &[Row], places: &[u32]) -> u32
     requires ordered { IsOrdered rows.now }
-    ensures { (k : ℕ) (d : ARow) → place ≤ k → k < length rows.now
+    requires inside { All (λ r. r < length rows.now) places.now }
+    ensures { (k : ℕ) (d : ARow) → last_or places.now (length rows.now) ≤ k → k < length rows.now
         → result ≤ generality (slice_index_or rows.now k d).block }
 {
-    if place < rows.len() {
-        return generality(rows[place].block);
+    match places.last() {
+        Some(place) => generality(rows[*place as usize].block),
+        None => NONE,
     }
-    NONE
 }
 
 // The guard at the place, which says nothing where there is none.
@@ -193,7 +206,7 @@ pub(crate) fn is_missed(block: Block, row: &Row) -> bool
 /// places behind it are of rows of its route.
 pub(crate) fn passes(rows: &[Row], guards: &[Guard], places: &[u32], s: u32, general: u32) -> bool
     requires few { length rows.now < 2 ^ 32 }
-    requires ordered { IsOrdered rows.now }
+    requires sound { IsSound rows.now }
     requires guards { AreGuards rows.now guards.now }
     requires inside { s < length rows.now }
     requires one_route { (r : ℕ) → s < r → has_row places.now r ≡ true → SameRoute rows.now s r }
@@ -229,6 +242,7 @@ fn place_below(rows: &[Row], clear: u32) -> u32
 fn passes_from(rows: &[Row], places: &[u32], s: u32, from: u32, p: u32) -> bool
     requires within { s < length rows.now }
     requires place { p ≤ length rows.now }
+    requires holds { All HoldsItsAliases rows.now }
     requires cleared { (r : ℕ) → s < r → r < from → IsClearOf rows.now places.now s r }
     ensures { IsTrue result ↔ PassesUp rows.now places.now s p }
 {
@@ -244,12 +258,13 @@ fn passes_from(rows: &[Row], places: &[u32], s: u32, from: u32, p: u32) -> bool
 fn is_clear_behind(rows: &[Row], places: &[u32], s: u32, r: u32) -> bool
     requires row { r < length rows.now }
     requires member { s < length rows.now }
+    requires holds { All HoldsItsAliases rows.now }
     ensures { IsTrue result ↔ (s < r → IsClearOf rows.now places.now s r) }
 {
     if r <= s {
         return true;
     }
-    is_clear(rows, places, s, r)
+    is_missed(rows[r as usize].block, &rows[s as usize]) || places.contains(&r)
 }
 
 /// The number of rows whose generality is at most `general`: the place behind them.
@@ -289,131 +304,44 @@ pub(crate) fn is_legal_pair(table: &Table, guards: &[Guard], i: u32, j: u32) -> 
     if !passes(rows, guards, &[i, j], j, general) {
         return false;
     }
-    passes_down(rows, merged, place_in(rows, general))
+    passes_behind(rows, merged, place_in(rows, general))
 }
 
-/// What a try of two rows tells: whether their merge is legal, and whether it is refused until one of the two changes.
-#[derive(Clone, Copy)]
-pub(crate) struct Trial {
-    pub(crate) legal: bool,
-    pub(crate) lasting: bool,
-}
-
-/// Tries two rows of one route.
-pub(crate) fn try_pair(table: &Table, guards: &[Guard], i: u32, j: u32) -> Trial
-    requires few { length table.now.rows < 2 ^ 32 }
-    requires sound { IsSound table.now.rows }
-    requires one_each { length guards.now ≡ length table.now.rows }
-    requires guards { AreGuards table.now.rows guards.now }
-    requires tried { AreTried table.now.rows guards.now }
-    requires set { IsMergeSet table.now.rows (i ∷ j ∷ []) }
-    ensures legal { IsTrue result.legal ↔ IsLegal table.now.rows (i ∷ j ∷ []) }
-    ensures lasting { IsTrue result.lasting → IsRefusedAt table.now.rows guards.now i j }
+// Whether the block meets no alias of a row at or after place `p`.
+fn passes_behind(rows: &[Row], block: Block, p: u32) -> bool
+    requires { All HoldsItsAliases rows.now }
+    ensures { IsTrue result ↔ PassesDown rows.now block p }
 {
-    if is_refused(table, guards, i, j) {
-        return Trial {
-            legal: false,
-            lasting: true,
-        };
-    }
-    Trial {
-        legal: is_legal_pair(table, guards, i, j),
-        lasting: false,
-    }
-}
-
-// Whether the merge of two rows is refused until one of them changes: then it is. They were tried since, or one has a
-// rival or a third row of their route that the merge comes to stand behind, or the merge meets an alias of a row that it
-// comes to stand before.
-fn is_refused(table: &Table, guards: &[Guard], i: u32, j: u32) -> bool
-    requires few { length table.now.rows < 2 ^ 32 }
-    requires sound { IsSound table.now.rows }
-    requires one_each { length guards.now ≡ length table.now.rows }
-    requires tried { AreTried table.now.rows guards.now }
-    requires set { IsMergeSet table.now.rows (i ∷ j ∷ []) }
-    ensures { IsTrue result → IsRefusedAt table.now.rows guards.now i j }
-{
-    let first = guards[i as usize];
-    let second = guards[j as usize];
-    if second.changed < first.tried {
-        return true;
-    }
-    let rows = table.rows.as_slice();
-    let merged = merge_two(rows[i as usize].block, rows[j as usize].block);
-    let general = generality(merged);
-    if first.rival <= general {
-        return true;
-    }
-    if second.rival <= general {
-        return true;
-    }
-    if is_held(rows, i, j, i, first.clear, general) {
-        return true;
-    }
-    if is_held(rows, i, j, j, second.clear, general) {
-        return true;
-    }
-    !passes_down(rows, merged, place_in(rows, general))
-}
-
-// Whether a third row of the route of a pair, of generality at most `general`, meets an alias of row `s`: then one does. It
-// looks at no row of a generality below `clear`.
-fn is_held(rows: &[Row], i: u32, j: u32, s: u32, clear: u32, general: u32) -> bool
-    requires few { length rows.now < 2 ^ 32 }
-    requires ordered { IsOrdered rows.now }
-    requires first { i < length rows.now }
-    requires second { j < length rows.now }
-    requires inside { s < length rows.now }
-    ensures { IsTrue result → (d : ARow) → IsHeld rows.now (slice_index_or rows.now s d)
-        (slice_index_or rows.now i d) (slice_index_or rows.now j d) general }
-{
-    if general < clear {
-        return false;
-    }
-    for r in place_below(rows, clear)..place_in(rows, general) {
-        if holds(rows, i, j, s, r) {
-            return true;
+    for r in p as usize..rows.len() {
+        if !is_missed(block, &rows[r]) {
+            return false;
         }
-    }
-    false
-}
-
-// Whether row `r` is another row of the route of a pair than both, and meets an alias of row `s`: then it is.
-fn holds(rows: &[Row], i: u32, j: u32, s: u32, r: u32) -> bool
-    requires first { i < length rows.now }
-    requires second { j < length rows.now }
-    requires inside { s < length rows.now }
-    requires row { r < length rows.now }
-    ensures { IsTrue result → (d : ARow) → IsHolder (slice_index_or rows.now s d)
-        (slice_index_or rows.now i d) (slice_index_or rows.now j d) (slice_index_or rows.now r d) }
-{
-    let block = rows[r as usize].block;
-    if misses(block, &rows[s as usize]) {
-        return false;
-    }
-    if rows[r as usize].route.bits != rows[s as usize].route.bits {
-        return false;
-    }
-    if block == rows[i as usize].block {
-        return false;
-    }
-    if block == rows[j as usize].block {
-        return false;
     }
     true
 }
 
-/// The guard of a row that was tried now, where each pair of it is refused until it changes.
-pub(crate) fn marked(guard: Guard, settled: bool, now: usize) -> Guard
-    ensures { (result ≡ guard) ⊎ ((IsTrue settled) × (IsTriedNow now guard result)) }
+/// The guard of a row that was tried now with all later ones of its route, and is no legal pair with any.
+pub(crate) fn marked(guard: Guard, now: usize) -> Guard
+    ensures { IsTriedNow now guard result }
 {
-    if settled {
-        return Guard {
-            rival: guard.rival,
-            clear: guard.clear,
-            tried: now,
-            changed: guard.changed,
-        };
+    Guard {
+        rival: guard.rival,
+        clear: guard.clear,
+        tried: now,
+        changed: guard.changed,
     }
-    guard
+}
+
+/// The guard of a row that changed now.
+pub(crate) fn changed(guard: Guard, now: usize) -> Guard
+    ensures rival { result.rival ≡ guard.rival }
+    ensures clear { result.clear ≡ guard.clear }
+    ensures fresh { IsFresh now result }
+{
+    Guard {
+        rival: guard.rival,
+        clear: guard.clear,
+        tried: 0,
+        changed: now,
+    }
 }

@@ -113,18 +113,18 @@ pub(crate) fn forget_met(rows: &[Row], numbers: &[u32], kept: &mut Vec<Option<Ke
         kept.old.items kept.new.items }
 {
     for s in 0..rows.len() {
-        let number = numbers[s] as usize;
-        kept[number] = missed(kept[number], &rows[s], merged);
+        forget_where_met(&rows[s], merged, kept, numbers[s] as usize);
     }
 }
 
-// What is kept, where the block meets no alias of the row.
-fn missed(kept: Option<Kept>, row: &Row, merged: Block) -> Option<Kept>
-    requires { HoldsItsAliases row.now }
-    ensures { (it : AKept) → result ≡ Some it → (kept ≡ Some it) × (Misses merged row.now) }
+// Forgets what is kept of the route of this number, where the block meets an alias of the row.
+fn forget_where_met(row: &Row, merged: Block, kept: &mut Vec<Option<Kept>>, number: usize)
+    requires holds { HoldsItsAliases row.now }
+    requires inside { number < length kept.old.items }
+    ensures { AreStillKept (λ c it. c ≡ number → Misses merged row.now) kept.old.items kept.new.items }
 {
     if is_missed(merged, row) {
-        return kept;
+        return;
     }
-    None
+    kept[number] = None;
 }

@@ -4,20 +4,23 @@ ghost use Rattle.tern_word.specs.SoundTable.{IsSound};
 ghost use Rattle.cover_merge.specs.Known.{IsKnown};
 ghost use Rattle.cover_merge.specs.Tried.{AreTriedUpTo};
 
-use crate::guards::{Guard, guards_of};
+use crate::guards::{Guard, guards_of, joined_of};
 use crate::keeping::Kept;
 use crate::links::{numbers_of, routes_of};
 use spin_base::Memory;
 use std::alloc::Global;
 use tern_word::Row;
 
-/// A guard and the number of its route for each row, and for each route its bits and what is kept of it.
+/// A guard, the number of its route, and whether it is not original, for each row; and for each route its bits, what is
+/// kept of it, and when a row of it last changed.
 #[derive(Drop)]
 pub(crate) struct Known {
     pub(crate) guards: Vec<Guard>,
     pub(crate) numbers: Vec<u32>,
+    pub(crate) joined: Vec<bool>,
     pub(crate) routes: Vec<u32>,
     pub(crate) kept: Vec<Option<Kept>>,
+    pub(crate) latest: Vec<usize>,
 }
 
 /// What is known of a table before any merge.
@@ -27,14 +30,18 @@ pub(crate) fn known_of(alloc: Global, rows: &[Row]) -> Result<Known, Memory>
     ensures known { IfOk result (IsKnown rows.now) }
     ensures marks { IfOk result (λ known. AreTriedUpTo 0 rows.now known.guards.items) }
 {
-    let guards = guards_of(alloc, rows)?;
+    let joined = joined_of(alloc, rows)?;
+    let guards = guards_of(alloc, rows, &joined)?;
     let routes = routes_of(alloc, rows)?;
     let numbers = numbers_of(alloc, rows, &routes)?;
     let kept = vec![in alloc; None::<Kept>; routes.len()]?;
+    let latest = vec![in alloc; 0usize; routes.len()]?;
     Ok(Known {
         guards,
         numbers,
+        joined,
         routes,
         kept,
+        latest,
     })
 }

@@ -4,7 +4,7 @@ ghost use Rattle.tern_word.specs.SoundTable.{IsOrdered};
 ghost use Rattle.cover_merge.specs.Merge.{IsMergeSet, after};
 ghost use Rattle.cover_merge.specs.Links.{place_of_route, AreRoutes, IsRouteAdded, IsEachOnce, AreNumbers, IsAhead, AreLinks};
 
-use crate::applying::take_out_all;
+use crate::applying::replace_all;
 use crate::guards::place_in;
 use crate::merged_block;
 use spin_base::Memory;
@@ -66,23 +66,17 @@ fn number_of(routes: &[u32], bits: u32) -> usize
 }
 
 /// The numbers of the rows of the table after the merge of the rows at the places.
-pub(crate) fn carry_numbers(
-    rows: &[Row],
-    numbers: &mut Vec<u32>,
-    places: &[u32],
-) -> Result<(), Memory>
+pub(crate) fn carry_numbers(rows: &[Row], numbers: &mut Vec<u32>, places: &[u32])
     requires few { length rows.now < 2 ^ 32 }
     requires ordered { IsOrdered rows.now }
     requires one_each { length numbers.old.items ≡ length rows.now }
     requires set { IsMergeSet rows.now places.now }
-    ensures { OnOk result ((routes : List ℕ) → AreNumbers routes rows.now numbers.old.items
-        → AreNumbers routes (after rows.now places.now) numbers.new.items) }
+    ensures { (routes : List ℕ) → AreNumbers routes rows.now numbers.old.items
+        → AreNumbers routes (after rows.now places.now) numbers.new.items }
 {
     let place = place_in(rows, generality(merged_block(rows, places)));
     let number = numbers[places[0] as usize];
-    numbers.insert(place as usize, number)?;
-    take_out_all(numbers, places);
-    Ok(())
+    replace_all(numbers, places, place, number);
 }
 
 /// The next row of the route of each row, and the first row of each route.

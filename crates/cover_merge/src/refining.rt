@@ -107,7 +107,7 @@ fn sift(
     set: &mut Vec<u32>,
 ) -> Result<Option<Block>, Memory>
     requires few { length rows.now < 2 ^ 32 }
-    requires ordered { IsOrdered rows.now }
+    requires sound { IsSound rows.now }
     requires guards { AreGuards rows.now guards.now }
     requires set { IsMergeSet rows.now set.old.items }
     ensures one_route { IfOk result (λ found. IsOneRoute rows.now set.new.items) }

@@ -1,37 +1,54 @@
 -- The guards hold in the table after the merge, but for rows that the merged block meets.
-use Rattle.std.proofs.Common.{◌≡◌, ◌∙◌, ap, refl, sym, subst, length, get_or}
-use Rattle.std.specs.Prelude.{insert}
-use Rattle.cover_merge.specs.Merge.{after}
+use Rattle.std.proofs.Common.{◌∙◌, ◌<◌, ap, sym, subst, length, arith}
+use Rattle.std.specs.Prelude.{All}
 use Rattle.tern_word.specs.Ternary.{generality}
-use Rattle.cover_merge.specs.Merge.{place_for}
+use Rattle.cover_merge.specs.Merge.{after, place_for}
 use Rattle.cover_merge.specs.Guards.{AreGuardsBut}
-use Rattle.cover_merge.specs.Tried.{AreTouched}
-use Rattle.cover_merge.proofs.ApplyLemmas.{left}
+use Rattle.cover_merge.specs.Tried.{AreTriedUpTo, AreNoLater}
+use Rattle.cover_merge.proofs.ApplyLemmas.{members_before}
 use Rattle.cover_merge.proofs.CarryLemmas.{carried, carried_length}
-use Rattle.cover_merge.proofs.TriedLemmas.{marks_carried}
+use Rattle.cover_merge.proofs.PairLemmas.{marks_carried, latest_carried}
 use Rattle.cover_merge.proofs.carrying.carry.Goals as goal
+
+pub replace_all-requires-clause-place : goal.replace_all-requires-clause-place
+replace_all-requires-clause-place c = omega (arith, c.place_in-place.ensures.bound, c.requires.one_each)
+
+pub replace_all-requires-clause-before : goal.replace_all-requires-clause-before
+replace_all-requires-clause-before c =
+    let rows = c.args.rows.now in
+    subst (λ n. All (λ t. t < n) c.args.places.now) (sym (c.place_in-place.ensures.value ∙ ap (place_for rows) (c.generality.ensures.value ∙ ap generality c.requires.merged)))
+    (members_before rows c.args.places.now c.requires.sound.ordered c.requires.merge.0)
 
 pub returns-clause-guards : goal.returns-clause-guards
 returns-clause-guards c =
     let rows = c.args.rows.now in
-    let now : c.take_out_all.new.items.items ≡ left c.args.places.now 0 (insert c.touch.new.guards.items c.place_in-place.result c.unknown.result) = c.take_out_all.ensures ∙ ap (left c.args.places.now 0) c.in_ok-insert.ensures.items in
-    subst (AreGuardsBut c.args.merged (after rows c.args.places.now)) (sym now)
-    (carried rows c.args.places.now c.requires.ordered c.requires.set c.args.merged c.requires.merged c.generality.result c.place_in-place.result c.generality.ensures.value c.place_in-place.ensures.value c.unknown.result c.unknown.ensures.silent
-    c.touch.new.guards.items c.touch.ensures.one_each c.touch.ensures.guards)
+    let places = c.args.places.now in
+    subst (AreGuardsBut c.args.merged (after rows places)) (sym c.replace_all.ensures)
+    (carried rows places c.requires.sound.ordered c.requires.merge.0 c.args.merged c.requires.merged c.generality.result c.place_in-place.result c.generality.ensures.value c.place_in-place.ensures.value c.unknown.result c.unknown.ensures.silent
+    c.args.guards.now.items c.requires.one_each c.requires.guards)
 
 pub returns-clause-one_each : goal.returns-clause-one_each
 returns-clause-one_each c =
     let rows = c.args.rows.now in
-    let now : c.take_out_all.new.items.items ≡ left c.args.places.now 0 (insert c.touch.new.guards.items c.place_in-place.result c.unknown.result) = c.take_out_all.ensures ∙ ap (left c.args.places.now 0) c.in_ok-insert.ensures.items in
-    ap length now
-    ∙ carried_length rows c.args.places.now c.requires.ordered c.requires.set c.args.merged c.requires.merged c.generality.result c.place_in-place.result c.generality.ensures.value c.place_in-place.ensures.value c.unknown.result c.unknown.ensures.silent
-    c.touch.new.guards.items c.touch.ensures.one_each
+    let places = c.args.places.now in
+    ap length c.replace_all.ensures
+    ∙ carried_length rows places c.requires.sound.ordered c.requires.merge.0 c.args.merged c.requires.merged c.generality.result c.place_in-place.result c.generality.ensures.value c.place_in-place.ensures.value c.unknown.result c.unknown.ensures.silent
+    c.args.guards.now.items c.requires.one_each
 
 pub returns-clause-marks : goal.returns-clause-marks
 returns-clause-marks c =
     let rows = c.args.rows.now in
-    let bits = (get_or rows (get_or c.args.places.now 0 0) c.index-rows-places.result).route.bits in
-    marks_carried rows c.args.places.now c.requires.ordered c.requires.set bits c.index-rows-places.result refl c.args.now c.place_in-place.result c.unknown.result c.touch.new.guards.items c.take_out_all.new.items.items
+    let places = c.args.places.now in
+    subst (AreTriedUpTo c.args.now (after rows places)) (sym c.replace_all.ensures)
+    (marks_carried rows places c.requires.sound c.requires.merge.0 c.requires.merge.1 c.args.guards.now.items c.unknown.result c.requires.one_each c.place_in-place.result
     (c.place_in-place.ensures.value ∙ ap (place_for rows) (c.generality.ensures.value ∙ ap generality c.requires.merged))
-    c.unknown.ensures.fresh c.touch.ensures.one_each c.touch.ensures.marks
-    (subst (λ b. AreTouched bits b c.args.now rows c.touch.new.guards.items) c.requires.merged c.touch.ensures.touched) (c.take_out_all.ensures ∙ ap (left c.args.places.now 0) c.in_ok-insert.ensures.items)
+    c.args.now c.unknown.ensures.fresh c.requires.touched c.requires.marks)
+
+pub returns-clause-latest : goal.returns-clause-latest
+returns-clause-latest c routes latest old own =
+    let rows = c.args.rows.now in
+    let places = c.args.places.now in
+    subst (AreNoLater routes latest (after rows places)) (sym c.replace_all.ensures)
+    (latest_carried rows places c.requires.sound c.requires.merge.0 c.requires.merge.1 c.args.guards.now.items c.unknown.result c.requires.one_each c.place_in-place.result
+    (c.place_in-place.ensures.value ∙ ap (place_for rows) (c.generality.ensures.value ∙ ap generality c.requires.merged))
+    c.args.now c.unknown.ensures.fresh routes latest old own)

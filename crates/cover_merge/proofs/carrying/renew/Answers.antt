@@ -1,30 +1,57 @@
--- One more guard is found anew, or stays.
-use Rattle.std.proofs.Common.{◌<◌, refl, set, sym, subst, arith, length}
-use Rattle.cover_merge.specs.Guards.{IsGuardAt, AreNextJoined}
-use Rattle.cover_merge.proofs.CarryLemmas.{but_set, done_more, length_kept}
-use Rattle.cover_merge.proofs.TriedLemmas.{fresh_set}
+-- One more guard, from the last on.
+use Rattle.std.proofs.Common.{◌≡◌, ◌-◌, ◌∙◌, suc, length, sym, subst, arith}
+use Rattle.cover_merge.specs.Guards.{AreJoinedFrom}
+use Rattle.cover_merge.proofs.JoinedLemmas.{guards_down, joined_none}
+use Rattle.cover_merge.proofs.RenewLemmas.{but_renewed, times_on, times_stay}
 use Rattle.cover_merge.proofs.carrying.renew.Goals as goal
 
-pub renewed-requires-clause-joined : goal.renewed-requires-clause-joined
-renewed-requires-clause-joined c = subst (AreNextJoined c.args.rows.now) (sym c.deref.ensures.value) c.in_ok-joined.ensures
+pub loop-s-init : goal.loop-s-init
+loop-s-init c = record {
+  one_each = c.requires.one_each;
+  within = omega arith;
+  behind = subst (AreJoinedFrom c.args.rows.now (length c.args.rows.now)) (sym c.new-behind.ensures.items) (joined_none c.args.rows.now (length c.args.rows.now) (omega arith));
+  done = λ k e from within. absurd (omega (arith, from, within, c.requires.one_each));
+  rest = c.requires.guards;
+  times = times_stay c.args.guards.now.items;
+}
 
-pub renewed-requires-clause-guard : goal.renewed-requires-clause-guard
-renewed-requires-clause-guard c misses =
-    subst (IsGuardAt c.args.rows.now c.loop-s.s) (sym c.index.ensures) (c.loop-s.invariant.rest c.loop-s.s c.index.result.now (omega (arith, c.loop-s.invariant.one_each, c.loop-s-test.true)) misses)
+pub renew_at-requires-clause-joined : goal.renew_at-requires-clause-joined
+renew_at-requires-clause-joined c =
+    let at : c.loop-s.s ≡ suc (c.loop-s.s - 1) = omega (arith, c.loop-s-test.true) in
+    subst (λ n. AreJoinedFrom c.args.rows.now n c.deref.result.now) at (subst (AreJoinedFrom c.args.rows.now c.loop-s.s) (sym c.deref.ensures.value) c.loop-s.invariant.behind)
+
+pub renew_at-requires-clause-inside : goal.renew_at-requires-clause-inside
+renew_at-requires-clause-inside c = omega (arith, c.loop-s-test.true, c.loop-s.invariant.within)
+
+pub renew_at-requires-clause-one_each : goal.renew_at-requires-clause-one_each
+renew_at-requires-clause-one_each c = c.loop-s.invariant.one_each
+
+pub renew_at-requires-clause-guards : goal.renew_at-requires-clause-guards
+renew_at-requires-clause-guards c = c.loop-s.invariant.rest
+
+pub add_joined-requires-clause-inside : goal.add_joined-requires-clause-inside
+add_joined-requires-clause-inside c = omega (arith, c.loop-s-test.true, c.requires.joined.one_each, c.loop-s.invariant.within)
 
 pub loop-s-preserved : goal.loop-s-preserved
 loop-s-preserved c =
     let rows = c.args.rows.now in
     let gs = c.loop-s.guards.items in
-    let s = c.loop-s.s in
-    let g = c.renewed.result in
+    let new = c.renew_at.new.guards.items in
+    let at = c.loop-s.s - 1 in
     let old = c.loop-s.invariant in
-    let inside : s < length gs = omega (arith, old.one_each, c.loop-s-test.true) in record {
-      one_each = length_kept gs (set gs s g) s _ g refl old.one_each;
-      done = done_more rows gs (set gs s g) s g inside refl c.renewed.ensures.guard old.done;
-      rest = but_set c.args.merged rows gs (set gs s g) s g inside refl c.renewed.ensures.guard old.rest;
-      marks = fresh_set c.args.now rows gs s g c.index.result.now inside c.index.ensures old.marks (set gs s g) refl c.renewed.ensures.marks;
+    let some = c.loop-s-test.true in
+    let told = c.renew_at.ensures in
+    let next : c.loop-s.s ≡ suc at = omega (arith, some) in record {
+      one_each = told.times.one_each ∙ old.one_each;
+      within = omega (arith, old.within);
+      behind = c.in_ok-add_joined.ensures rows c.requires.joined (subst (λ n. AreJoinedFrom rows n c.loop-s.behind.items) next old.behind);
+      done = guards_down rows gs new c.loop-s.s some told.times.one_each told.guard told.others old.done;
+      rest = but_renewed c.args.merged rows gs new at old.rest told;
+      times = times_on c.args.guards.now.items gs new old.times told.times;
     }
 
 pub returns-clause-guards : goal.returns-clause-guards
-returns-clause-guards c k e within = c.loop-s.invariant.done k e (omega (arith, within, c.loop-s.invariant.one_each, c.loop-s-test.false))
+returns-clause-guards c s e within = c.loop-s.invariant.done s e (omega (arith, c.loop-s-test.false)) within
+
+pub returns-clause-times : goal.returns-clause-times
+returns-clause-times c = c.loop-s.invariant.times

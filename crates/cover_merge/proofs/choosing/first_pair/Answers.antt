@@ -1,55 +1,92 @@
 -- The first row with a partner is the first of the first pair.
-use Rattle.std.proofs.Common.{ℕ, ◌<◌, IsTrue, refl, sym, set, subst, length, arith}
+use Rattle.std.proofs.Common.{◌∙◌, ℕ, ◌<◌, refl, sym, ap, set, subst, length, length-set, get_or, arith}
 use Rattle.std.specs.Prelude.{MatchOption}
 use borrow.Author.Count.{below_more}
 use Rattle.cover_merge.specs.Guards.{AreGuards}
-use Rattle.cover_merge.specs.Tried.{IsRefusedAt, AreTried, AreNewerFrom}
+use Rattle.cover_merge.specs.Tried.{AreTried, AreNewerFrom}
 use Rattle.cover_merge.specs.Covering.{IsLegalPair, IsFirstPartner}
 use Rattle.cover_merge.proofs.ChooseLemmas.{first_found, no_pair}
-use Rattle.cover_merge.proofs.CarryLemmas.{length_kept}
-use Rattle.cover_merge.proofs.TriedLemmas.{tried_set, marked_guard, newer_kept}
+use Rattle.cover_merge.proofs.LinkLemmas.{as_many, number_at}
+use Rattle.cover_merge.proofs.TriedLemmas.{marked_put, guard_kept, guard_no_later, newer_kept, settled_none}
 use Rattle.cover_merge.proofs.choosing.first_pair.Goals as goal
 
 pub loop-i-init : goal.loop-i-init
 loop-i-init c = record {
   none = λ a less. absurd (omega (arith, less));
-  one_each = c.requires.one_each;
-  told = c.requires.guards;
-  newer = subst (λ l. AreNewerFrom 0 c.args.table.now.rows l c.in_ok-newer.newer.items) c.deref.ensures.value c.in_ok-newer.ensures.newer;
+  known = c.requires.known;
   marks = c.requires.marks;
+  newer = subst (λ l. AreNewerFrom 0 c.args.table.now.rows l c.in_ok-newer.newer.items) c.deref.ensures.value c.in_ok-newer.ensures.newer;
 }
 
-pub partner-search-requires-clause-newer : goal.partner-search-requires-clause-newer
-partner-search-requires-clause-newer c =
+pub is_settled-requires-clause-one_each : goal.is_settled-requires-clause-one_each
+is_settled-requires-clause-one_each c =
+    let old = c.loop-i.invariant.known in as_many c.loop-i.known.routes.items c.args.table.now.rows c.loop-i.known.numbers.items old.numbers ∙ sym old.one_each
+
+pub is_settled-requires-clause-below : goal.is_settled-requires-clause-below
+is_settled-requires-clause-below c k d within = omega (arith, c.loop-i.invariant.known.numbers.below k d within, c.loop-i.invariant.known.one_time)
+
+pub is_settled-requires-clause-inside : goal.is_settled-requires-clause-inside
+is_settled-requires-clause-inside c = omega (arith, c.loop-i.invariant.known.one_each, c.len-i-end.ensures, c.loop-i-test.true)
+
+pub loop-i-preserved-then-is_settled : goal.loop-i-preserved-then-is_settled
+loop-i-preserved-then-is_settled c =
+    let rows = c.args.table.now.rows in
+    let known = c.loop-i.known in
+    let old = c.loop-i.invariant in
+    let i = c.loop-i.i in
+    let inside : i < length rows = omega (arith, c.len-i-end.ensures, c.loop-i-test.true) in record {
+      none = below_more (λ a. (b : ℕ) → IsLegalPair rows a b → ⊥) i old.none
+          (settled_none known.routes.items known.latest.items rows known.guards.items i old.known.one_each old.marks.tried old.known.latest
+          (λ d e. omega (arith, c.is_settled.ensures c.if-is_settled.true e, ap (λ n. get_or known.latest.items n 0) (number_at known.routes.items rows known.numbers.items old.known.numbers i d inside))));
+      known = old.known;
+      marks = old.marks;
+      newer = old.newer;
+    }
+
+pub partner-requires-clause-newer : goal.partner-requires-clause-newer
+partner-requires-clause-newer c =
     subst (λ l. AreNewerFrom 0 c.args.table.now.rows l c.deref-in-loop-i-2.result.now) (sym c.deref-in-loop-i.ensures.value)
-    (subst (AreNewerFrom 0 c.args.table.now.rows c.loop-i.guards.items) (sym c.deref-in-loop-i-2.ensures.value) c.loop-i.invariant.newer)
+    (subst (AreNewerFrom 0 c.args.table.now.rows c.loop-i.known.guards.items) (sym c.deref-in-loop-i-2.ensures.value) c.loop-i.invariant.newer)
 
-pub partner-search-requires-clause-guards : goal.partner-search-requires-clause-guards
-partner-search-requires-clause-guards c = subst (AreGuards c.args.table.now.rows) (sym c.deref-in-loop-i.ensures.value) c.loop-i.invariant.told
+pub partner-requires-clause-guards : goal.partner-requires-clause-guards
+partner-requires-clause-guards c = subst (AreGuards c.args.table.now.rows) (sym c.deref-in-loop-i.ensures.value) c.loop-i.invariant.known.guards
 
-pub partner-search-requires-clause-tried : goal.partner-search-requires-clause-tried
-partner-search-requires-clause-tried c = subst (AreTried c.args.table.now.rows) (sym c.deref-in-loop-i.ensures.value) c.loop-i.invariant.marks.tried
+pub partner-requires-clause-tried : goal.partner-requires-clause-tried
+partner-requires-clause-tried c = subst (AreTried c.args.table.now.rows) (sym c.deref-in-loop-i.ensures.value) c.loop-i.invariant.marks.tried
 
 pub returns-in-Some-clause-found : goal.returns-in-Some-clause-found
 returns-in-Some-clause-found c =
     let rows = c.args.table.now.rows in
     first_found rows c.in_ok-two_places.field-0 c.loop-i.i c.in-Some.j c.in_ok-two_places.ensures c.loop-i.invariant.none
-    (subst (λ o. MatchOption o ((b : ℕ) → IsLegalPair rows c.loop-i.i b → ⊥) (λ j. IsFirstPartner rows c.loop-i.i j)) c.in-Some.is c.partner-search.ensures.place)
+    (subst (λ o. MatchOption o ((b : ℕ) → IsLegalPair rows c.loop-i.i b → ⊥) (λ j. IsFirstPartner rows c.loop-i.i j)) c.in-Some.is c.partner.ensures)
 
 pub loop-i-preserved : goal.loop-i-preserved
 loop-i-preserved c =
     let rows = c.args.table.now.rows in
-    let gs = c.loop-i.guards.items in
+    let known = c.loop-i.known in
+    let gs = known.guards.items in
+    let i = c.loop-i.i in
+    let g = c.marked.result in
+    let was = c.index.result.now in
+    let mark = c.marked.ensures in
     let old = c.loop-i.invariant in
-    let inside : c.loop-i.i < length gs = omega (arith, old.one_each, c.len-i-end.ensures, c.loop-i-test.true) in
-    let settled : IsTrue c.partner-search.result.settled → (b : ℕ) → c.loop-i.i < b → b < length rows → IsRefusedAt rows gs c.loop-i.i b =
-    λ is b behind within. subst (λ l. IsRefusedAt rows l c.loop-i.i b) c.deref-in-loop-i.ensures.value (c.partner-search.ensures.settled is b behind within) in record {
-      none = below_more (λ a. (b : ℕ) → IsLegalPair rows a b → ⊥) c.loop-i.i old.none
-          (subst (λ o. MatchOption o ((b : ℕ) → IsLegalPair rows c.loop-i.i b → ⊥) (λ j. IsFirstPartner rows c.loop-i.i j)) c.in_default.is c.partner-search.ensures.place);
-      one_each = length_kept gs (set gs c.loop-i.i c.marked.result) c.loop-i.i _ c.marked.result refl old.one_each;
-      told = marked_guard c.args.now rows gs (set gs c.loop-i.i c.marked.result) c.loop-i.i c.marked.result c.index.result.now c.partner-search.result.settled inside c.index.ensures refl c.marked.ensures old.told;
-      newer = newer_kept c.args.now rows gs (set gs c.loop-i.i c.marked.result) c.in_ok-newer.newer.items c.loop-i.i c.marked.result c.index.result.now c.partner-search.result.settled inside c.index.ensures refl c.marked.ensures old.newer;
-      marks = tried_set c.args.now rows gs c.loop-i.i c.marked.result c.index.result.now inside c.index.ensures old.marks (set gs c.loop-i.i c.marked.result) refl c.partner-search.result.settled settled old.one_each c.marked.ensures;
+    let inside : i < length gs = omega (arith, old.known.one_each, c.len-i-end.ensures, c.loop-i-test.true) in
+    let none : (b : ℕ) → IsLegalPair rows i b → ⊥ = subst (λ o. MatchOption o ((b : ℕ) → IsLegalPair rows i b → ⊥) (λ j. IsFirstPartner rows i j)) c.in_default.is c.partner.ensures in record {
+      none = below_more (λ a. (b : ℕ) → IsLegalPair rows a b → ⊥) i old.none none;
+      known = record {
+        one_each = length-set gs i g ∙ old.known.one_each;
+        guards = guard_kept rows gs i g was inside c.index.ensures mark.rival mark.clear old.known.guards;
+        joined = old.known.joined;
+        one_time = old.known.one_time;
+        latest = guard_no_later known.routes.items known.latest.items rows gs c.args.now old.marks.bound i g inside
+            (λ d. omega (arith, mark.changed, ap (λ x. x.changed) c.index.ensures, old.known.latest i d was inside)) old.known.latest;
+        once = old.known.once;
+        numbers = old.known.numbers;
+        one_route = old.known.one_route;
+        kept = old.known.kept;
+      };
+      marks = marked_put c.args.now rows gs i g inside old.marks was c.index.ensures mark none;
+      newer = newer_kept c.args.now rows gs (set gs i g) c.in_ok-newer.newer.items i g was inside c.index.ensures refl mark old.newer;
     }
 
 pub returns-clause-found : goal.returns-clause-found

@@ -1,8 +1,7 @@
 -- No row passed is a legal pair with row i, and the row at hand has its route.
-use Rattle.std.proofs.Common.{◌≡◌, ◌-◌, ℕ, ◌<◌, IsTrue, length, get_or}
+use Rattle.std.proofs.Common.{◌≡◌, ◌-◌, ℕ, ◌<◌, length, get_or}
 use Rattle.tern_word.specs.declared.tables.Row.{Row}
 use Rattle.cover_merge.specs.Covering.{IsLegalPair}
-use Rattle.cover_merge.specs.Tried.{IsRefusedAt}
 use Rattle.cover_merge.proofs.choosing.partner.Given as goal
 
 abbrev pub invariant-loop-j : goal.invariant-loop-j
@@ -10,7 +9,6 @@ invariant-loop-j l = record {
   behind : l.i < l.j;
   same : (d : Row) → l.j < length l.table.rows → (get_or l.table.rows l.j d).route.bits ≡ (get_or l.table.rows l.i d).route.bits;
   none : (b : ℕ) → l.i < b → b < l.j → IsLegalPair l.table.rows l.i b → ⊥;
-  refused : IsTrue l.settled → (b : ℕ) → l.i < b → b < l.j → b < length l.table.rows → IsRefusedAt l.table.rows l.guards l.i b;
 }
 
 abbrev pub decreases-loop-j : goal.decreases-loop-j

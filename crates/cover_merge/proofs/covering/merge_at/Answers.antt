@@ -1,57 +1,71 @@
 -- The table of which all is known is that after the merge.
-use Rattle.std.proofs.Common.{◌≡◌, ◌∙◌, ap, sym, subst, length}
+use Rattle.std.proofs.Common.{◌≡◌, ◌∙◌, ℕ, List, ap, sym, subst, length, arith}
+use Rattle.spin_base.specs.declared.blocks.Block.{Block}
+use Rattle.tern_word.specs.declared.tables.Row.{Row}
+use Rattle.cover_merge.specs.declared.knowing.Known.{Known}
 use Rattle.cover_merge.specs.Merge.{IsLegal, IsMergeSet, after}
-use Rattle.cover_merge.specs.Guards.{AreGuards, AreGuardsBut}
-use Rattle.cover_merge.specs.Known.{AreRoutesKept}
-use Rattle.cover_merge.specs.Links.{AreNumbers, IsEachOnce}
-use Rattle.cover_merge.specs.Tried.{AreTriedUpTo}
-use Rattle.cover_merge.proofs.ApplyLemmas.{both_ok}
+use Rattle.cover_merge.specs.Guards.{AreGuards, AreJoined}
+use Rattle.cover_merge.specs.Known.{IsCarried, AreRoutesKept}
+use Rattle.cover_merge.specs.Links.{AreNumbers}
+use Rattle.cover_merge.specs.Tried.{AreTriedUpTo, AreNoLater}
+use Rattle.cover_merge.proofs.ApplyLemmas.{on_ok, both_ok}
+use Rattle.cover_merge.proofs.CoverLemmas.{shorter}
+use Rattle.cover_merge.proofs.TriedLemmas.{same_times, same_latest}
 use Rattle.cover_merge.proofs.covering.merge_at.Goals as goal
 
-pub renew-requires-clause-one_each : goal.renew-requires-clause-one_each
-renew-requires-clause-one_each c =
-    let read : after c.as_slice-rows.result.now c.as_slice-members.result.now ≡ c.as_slice.result.now =
-    ap (λ l. after l c.as_slice-members.result.now) c.as_slice-rows.ensures ∙ ap (after c.args.table.now.rows) c.as_slice-members.ensures ∙ sym (c.as_slice.ensures ∙ c.in_ok-apply.ensures.ok) in
-    c.in_ok-carry.ensures.one_each ∙ ap length read
-
-pub renew-requires-clause-guards : goal.renew-requires-clause-guards
-renew-requires-clause-guards c =
-    let read : after c.as_slice-rows.result.now c.as_slice-members.result.now ≡ c.as_slice.result.now =
-    ap (λ l. after l c.as_slice-members.result.now) c.as_slice-rows.ensures ∙ ap (after c.args.table.now.rows) c.as_slice-members.ensures ∙ sym (c.as_slice.ensures ∙ c.in_ok-apply.ensures.ok) in
-    subst (λ l. AreGuardsBut c.merged_block-merged.result l c.carry.new.guards.items) read c.in_ok-carry.ensures.guards
-
-pub renew-requires-clause-marks : goal.renew-requires-clause-marks
-renew-requires-clause-marks c =
-    let read : after c.as_slice-rows.result.now c.as_slice-members.result.now ≡ c.as_slice.result.now =
-    ap (λ l. after l c.as_slice-members.result.now) c.as_slice-rows.ensures ∙ ap (after c.args.table.now.rows) c.as_slice-members.ensures ∙ sym (c.as_slice.ensures ∙ c.in_ok-apply.ensures.ok) in
-    subst (λ l. AreTriedUpTo c.args.now l c.carry.new.guards.items) read c.in_ok-carry.ensures.marks
-
-pub forget-requires-clause-merge : goal.forget-requires-clause-merge
-forget-requires-clause-merge c =
+pub carry_over-requires-clause-merge : goal.carry_over-requires-clause-merge
+carry_over-requires-clause-merge c =
     let rows = c.args.table.now.rows in
     subst (λ l. (IsMergeSet l c.as_slice-members.result.now) × (IsLegal l c.as_slice-members.result.now)) (sym c.as_slice-rows.ensures)
     (subst (λ p. (IsMergeSet rows p) × (IsLegal rows p)) (sym c.as_slice-members.ensures) c.requires.merge)
 
-pub carry-requires-clause-guards : goal.carry-requires-clause-guards
-carry-requires-clause-guards c =
-    subst (AreGuards c.as_slice-rows.result.now) (sym c.forget.ensures.guards) (subst (λ l. AreGuards l c.args.known.now.guards.items) (sym c.as_slice-rows.ensures) c.requires.known.guards)
+-- what was carried over is known of the table after the merge
+carried : (block : Block) (now : ℕ) (rows read new table : List Row) (places members : List ℕ) (known : Known) → read ≡ rows → members ≡ places → table ≡ new → new ≡ after rows places → IsCarried block now (after read members) known
+    → IsCarried block now table known
+carried block now rows read new table places members known is_read is_members is_table is_new =
+    subst (λ l. IsCarried block now l known) (ap (λ l. after l members) is_read ∙ ap (after rows) is_members ∙ sym (is_table ∙ is_new))
+
+pub renew-requires-clause-few : goal.renew-requires-clause-few
+renew-requires-clause-few c =
+    omega (arith, c.requires.few, ap length (c.as_slice.ensures ∙ c.in_ok-apply.ensures.ok), shorter c.args.table.now.rows c.args.places.now c.requires.merge.0)
+
+pub renew-requires-clause-one_each : goal.renew-requires-clause-one_each
+renew-requires-clause-one_each c = (carried c.merged_block-merged.result c.args.now c.args.table.now.rows c.as_slice-rows.result.now c.apply.new.table.rows c.as_slice.result.now c.args.places.now c.as_slice-members.result.now c.carry_over.new.known
+    c.as_slice-rows.ensures c.as_slice-members.ensures c.as_slice.ensures c.in_ok-apply.ensures.ok c.carry_over.ensures).one_each
+
+pub renew-requires-clause-guards : goal.renew-requires-clause-guards
+renew-requires-clause-guards c = (carried c.merged_block-merged.result c.args.now c.args.table.now.rows c.as_slice-rows.result.now c.apply.new.table.rows c.as_slice.result.now c.args.places.now c.as_slice-members.result.now c.carry_over.new.known
+    c.as_slice-rows.ensures c.as_slice-members.ensures c.as_slice.ensures c.in_ok-apply.ensures.ok c.carry_over.ensures).guards
+
+pub renew-requires-clause-joined : goal.renew-requires-clause-joined
+renew-requires-clause-joined c = subst (AreJoined c.as_slice.result.now) (sym c.deref.ensures.value) (carried c.merged_block-merged.result c.args.now c.args.table.now.rows c.as_slice-rows.result.now c.apply.new.table.rows c.as_slice.result.now c.args.places.now c.as_slice-members.result.now c.carry_over.new.known
+    c.as_slice-rows.ensures c.as_slice-members.ensures c.as_slice.ensures c.in_ok-apply.ensures.ok c.carry_over.ensures).joined
 
 pub returns-clause-known : goal.returns-clause-known
 returns-clause-known c =
-    let old = c.args.known.now in
-    let new = c.forget.new.known in
-    let table = c.apply.new.table.rows in
-    let read : after c.as_slice-rows.result.now c.as_slice-members.result.now ≡ table =
-    ap (λ l. after l c.as_slice-members.result.now) c.as_slice-rows.ensures ∙ ap (after c.args.table.now.rows) c.as_slice-members.ensures ∙ sym c.in_ok-apply.ensures.ok in
-    let before : AreNumbers new.routes.items c.as_slice-rows.result.now new.numbers.items =
-    subst (λ l. AreNumbers l c.as_slice-rows.result.now new.numbers.items) (sym c.forget.ensures.routes)
-    (subst (λ l. AreNumbers old.routes.items c.as_slice-rows.result.now l) (sym c.forget.ensures.numbers) (subst (λ l. AreNumbers old.routes.items l old.numbers.items) (sym c.as_slice-rows.ensures) c.requires.known.numbers)) in
+    let old = carried c.merged_block-merged.result c.args.now c.args.table.now.rows c.as_slice-rows.result.now c.apply.new.table.rows c.as_slice.result.now c.args.places.now c.as_slice-members.result.now c.carry_over.new.known
+    c.as_slice-rows.ensures c.as_slice-members.ensures c.as_slice.ensures c.in_ok-apply.ensures.ok c.carry_over.ensures in
+    let table = c.as_slice.ensures in
+    let known = c.carry_over.new.known in
     both_ok c.renew.result _ _ _
-    (λ one_each guards. record {
-      one_each = one_each ∙ ap length c.as_slice.ensures;
-      guards = subst (λ l. AreGuards l c.renew.new.guards.items) c.as_slice.ensures guards;
-      once = subst IsEachOnce (sym c.forget.ensures.routes) c.requires.known.once;
-      numbers = subst (λ l. AreNumbers new.routes.items l c.carry_numbers.new.numbers.items) read (c.in_ok-carry_numbers.ensures new.routes.items before);
-      one_route = c.forget.ensures.one_route;
-      kept = subst (λ l. AreRoutesKept new.routes.items l new.kept.items) read c.forget.ensures.kept;
-    }) c.renew.ensures.one_each c.renew.ensures.guards
+    (λ guards times. record {
+      one_each = times.one_each ∙ old.one_each ∙ ap length table;
+      guards = subst (λ l. AreGuards l c.renew.new.guards.items) table guards;
+      joined = subst (λ l. AreJoined l known.joined.items) table old.joined;
+      one_time = old.one_time;
+      latest = same_latest known.routes.items known.latest.items c.apply.new.table.rows known.guards.items c.renew.new.guards.items times
+          (subst (λ l. AreNoLater known.routes.items known.latest.items l known.guards.items) table old.latest);
+      once = old.once;
+      numbers = subst (λ l. AreNumbers known.routes.items l known.numbers.items) table old.numbers;
+      one_route = old.one_route;
+      kept = subst (λ l. AreRoutesKept known.routes.items l known.kept.items) table old.kept;
+    }) c.renew.ensures.guards c.renew.ensures.times
+
+pub returns-clause-marks : goal.returns-clause-marks
+returns-clause-marks c =
+    let old = carried c.merged_block-merged.result c.args.now c.args.table.now.rows c.as_slice-rows.result.now c.apply.new.table.rows c.as_slice.result.now c.args.places.now c.as_slice-members.result.now c.carry_over.new.known
+    c.as_slice-rows.ensures c.as_slice-members.ensures c.as_slice.ensures c.in_ok-apply.ensures.ok c.carry_over.ensures in
+    let known = c.carry_over.new.known in
+    on_ok c.renew.result _ _
+    (λ times. same_times c.args.now c.apply.new.table.rows known.guards.items c.renew.new.guards.items times (subst (λ l. AreTriedUpTo c.args.now l known.guards.items) c.as_slice.ensures old.marks))
+    c.renew.ensures.times

@@ -1,7 +1,7 @@
 -- A pair is legal where both rows pass the up-check, and the merge the down-check.
 use Rattle.std.proofs.Common.{◌<◌, ◌∷◌, [], length, arith, sym, subst}
 use Rattle.std.specs.Prelude.{All}
-use Rattle.tern_word.specs.SoundTable.{IsOrdered}
+use Rattle.tern_word.specs.SoundTable.{HoldsItsAliases, IsSound}
 use Rattle.cover_merge.proofs.Positions.{has-at}
 use Rattle.cover_merge.specs.Guards.{AreGuards}
 use Rattle.cover_merge.specs.Merge.{SameRoute}
@@ -35,20 +35,23 @@ returns-then-not-passes-2 c =
 pub returns : goal.returns
 returns c =
     pair_told c.as_slice-rows.result.now c.args.table.now.rows c.as_slice-rows.ensures c.args.i c.args.j c.requires.set c.requires.sound c.merged_block-merged.result c.merged_block-merged.ensures c.generality-general.result c.generality-general.ensures.value
-    c.passes_down.result c.place_in.result (c.passes.ensures.0 c.if-not-passes.false) (c.passes-2.ensures.0 c.if-not-passes-2.false) c.place_in.ensures.value c.passes_down.ensures
+    c.passes_behind.result c.place_in.result (c.passes.ensures.0 c.if-not-passes.false) (c.passes-2.ensures.0 c.if-not-passes-2.false) c.place_in.ensures.value c.passes_behind.ensures
 
 pub merged_block-merged-requires-clause-in_range : goal.merged_block-merged-requires-clause-in_range
 merged_block-merged-requires-clause-in_range c =
     subst (λ l. All (λ s. s < length l) (c.args.i ∷ c.args.j ∷ [])) (sym c.as_slice-rows.ensures) c.requires.set.set.in_range
 
-pub passes-requires-clause-ordered : goal.passes-requires-clause-ordered
-passes-requires-clause-ordered c = subst IsOrdered (sym c.as_slice-rows.ensures) c.requires.sound.ordered
+pub passes-requires-clause-sound : goal.passes-requires-clause-sound
+passes-requires-clause-sound c = subst IsSound (sym c.as_slice-rows.ensures) c.requires.sound
 
 pub passes-requires-clause-inside : goal.passes-requires-clause-inside
 passes-requires-clause-inside c = subst (λ l. c.args.i < length l) (sym c.as_slice-rows.ensures) (c.requires.set.set.in_range 0 0 (omega arith))
 
-pub passes-requires-2-clause-ordered : goal.passes-requires-2-clause-ordered
-passes-requires-2-clause-ordered c = subst IsOrdered (sym c.as_slice-rows.ensures) c.requires.sound.ordered
+pub passes-requires-2-clause-sound : goal.passes-requires-2-clause-sound
+passes-requires-2-clause-sound c = subst IsSound (sym c.as_slice-rows.ensures) c.requires.sound
+
+pub passes_behind-requires : goal.passes_behind-requires
+passes_behind-requires c = subst (All HoldsItsAliases) (sym c.as_slice-rows.ensures) c.requires.sound.inside
 
 pub passes-requires-2-clause-inside : goal.passes-requires-2-clause-inside
 passes-requires-2-clause-inside c = subst (λ l. c.args.j < length l) (sym c.as_slice-rows.ensures) (c.requires.set.set.in_range 1 0 (omega arith))

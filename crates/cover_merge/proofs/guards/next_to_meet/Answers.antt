@@ -1,27 +1,29 @@
--- Each row passed is missed, or original.
-use Rattle.std.proofs.Common.{arith}
-use Rattle.cover_merge.proofs.GuardLemmas.{original_misses, missed_next, missed_read}
+-- A row passed is missed. Where all are, so are the original rows between them.
+use Rattle.std.proofs.Common.{◌-◌, ◌<◌, get_or, length, arith}
+use Rattle.cover_merge.proofs.GuardLemmas.{missed_read}
+use Rattle.cover_merge.proofs.JoinedLemmas.{missed_all, missed_more}
 use Rattle.cover_merge.proofs.guards.next_to_meet.Goals as goal
 
-pub loop-r-init : goal.loop-r-init
-loop-r-init c =
-    let next = c.requires.joined.next c.args.s c.requires.inside in record {
-      behind = next.behind;
-      missed = λ k d after before within. original_misses c.args.rows.now c.requires.sound c.args.s k d after within (next.between k d after before within);
-    }
+pub loop-left-init : goal.loop-left-init
+loop-left-init c = record { within = omega arith; missed = λ k d from within. absurd (omega (arith, from, within)) }
 
-pub returns-then-not-misses-clause-missed : goal.returns-then-not-misses-clause-missed
-returns-then-not-misses-clause-missed c k d after before = c.loop-r.invariant.missed k d after before (omega (arith, before, c.loop-r-test.true))
+pub bounds-behind-left : goal.bounds-behind-left
+bounds-behind-left c = omega (arith, c.loop-left-test.true, c.loop-left.invariant.within)
 
-pub loop-r-preserved : goal.loop-r-preserved
-loop-r-preserved c =
-    let rows = c.args.rows.now in
-    let old = c.loop-r.invariant in
-    let next = c.requires.joined.next c.loop-r.r c.loop-r-test.true in record {
-      behind = omega (arith, old.behind, next.behind);
-      missed = missed_next rows c.args.s c.loop-r.r _ c.requires.sound old.behind c.loop-r-test.true next
-          (missed_read rows c.args.s c.loop-r.r c.index-rows-s.result c.index-rows-r.result c.misses.result c.requires.inside c.loop-r-test.true c.index-rows-s.is c.misses.ensures c.if-not-misses.false) old.missed;
+pub returns-then-not-is_missed-clause-bound : goal.returns-then-not-is_missed-clause-bound
+returns-then-not-is_missed-clause-bound c = c.loop-left.invariant.within
+
+pub returns-then-not-is_missed-clause-missed : goal.returns-then-not-is_missed-clause-missed
+returns-then-not-is_missed-clause-missed c = missed_all c.args.rows.now c.requires.sound c.args.s c.args.behind.now c.requires.joined c.loop-left.left c.loop-left.invariant.within c.loop-left.invariant.missed
+
+pub loop-left-preserved : goal.loop-left-preserved
+loop-left-preserved c =
+    let at = c.loop-left.left - 1 in
+    let inside : at < length c.args.behind.now = omega (arith, c.loop-left-test.true, c.loop-left.invariant.within) in record {
+      within = omega (arith, c.loop-left.invariant.within);
+      missed = missed_more c.args.rows.now c.args.s c.args.behind.now c.loop-left.left c.loop-left.invariant.missed
+          (missed_read c.args.rows.now c.args.s (get_or c.args.behind.now at 0) c.index-rows-s.result c.index-rows-behind.result c.is_missed.result c.requires.inside (c.requires.joined.inside at 0 inside).1 c.index-rows-s.is c.is_missed.ensures c.if-not-is_missed.false);
     }
 
 pub returns-clause-missed : goal.returns-clause-missed
-returns-clause-missed c k d after before = c.loop-r.invariant.missed k d after (omega (arith, before, c.loop-r-test.false)) before
+returns-clause-missed c = missed_all c.args.rows.now c.requires.sound c.args.s c.args.behind.now c.requires.joined 0 (omega arith) (λ k d from within. c.loop-left.invariant.missed k d (omega (arith, c.loop-left-test.false)) within)

@@ -1,9 +1,9 @@
 -- One row more is missed, or nothing is kept of its route.
-use Rattle.std.proofs.Common.{◌<◌, ◌+◌, ◌∙◌, refl, sym, length, get_or, arith}
-use Rattle.std.specs.Prelude.{None}
-use Rattle.std.proofs.lemmas.List.{get_or_default}
+use Rattle.std.proofs.Common.{◌≡◌, ◌+◌, inl, inr, get_or, arith}
+use Rattle.std.proofs.lemmas.Bool.{cases_eq}
+use Rattle.tern_word.specs.SoundTable.{Misses}
 use Rattle.cover_merge.specs.Known.{MissesAllOf}
-use Rattle.cover_merge.proofs.KeepLemmas.{left_all, left_set, misses_more, misses_others}
+use Rattle.cover_merge.proofs.KeepLemmas.{left_all, left_twice, misses_more, misses_others}
 use Rattle.cover_merge.proofs.keeping.forget_met.Goals as goal
 
 pub loop-s-init : goal.loop-s-init
@@ -13,15 +13,14 @@ pub loop-s-preserved : goal.loop-s-preserved
 loop-s-preserved c =
     let rows = c.args.rows.now in
     let numbers = c.args.numbers.now in
-    let now = c.loop-s.kept.items in
+    let merged = c.args.merged in
     let s = c.loop-s.s in
-    let n = get_or numbers s 0 in
-    let inside : n < length now = omega (arith, c.requires.below s 0 (omega (arith, c.requires.one_each, c.loop-s-test.true)), c.loop-s.invariant.one_each) in
-    left_set (λ k it. MissesAllOf c.args.merged rows numbers s k) (λ k it. MissesAllOf c.args.merged rows numbers (s + 1) k) c.args.kept.now.items now _ n c.missed.result inside refl c.loop-s.invariant
-    (λ k it apart was. misses_others c.args.merged rows numbers s k was apart)
-    (λ it is.
-    let told = c.missed.ensures it is in
-    (get_or_default now n None _ inside ∙ sym c.index.ensures ∙ told.0, λ was. misses_more c.args.merged rows numbers s n was c.index-rows-s.result c.loop-s-test.true c.index-rows-s.is told.1))
+    left_twice (λ k it. MissesAllOf merged rows numbers s k) (λ k it. k ≡ get_or numbers s 0 → Misses merged c.index-rows-s.result) (λ k it. MissesAllOf merged rows numbers (s + 1) k)
+    c.args.kept.now.items c.loop-s.kept.items c.forget_where_met.new.kept.items c.loop-s.invariant c.forget_where_met.ensures
+    (λ k it was missed. elim (cases_eq k (get_or numbers s 0)) [
+      | inl own ↦ misses_more merged rows numbers s k was c.index-rows-s.result c.loop-s-test.true c.index-rows-s.is (missed own)
+      | inr apart ↦ misses_others merged rows numbers s k was apart
+    ])
 
 pub returns : goal.returns
 returns c = record {

@@ -1,0 +1,61 @@
+-- Each turn moves the items up to the next place down.
+use Rattle.std.proofs.Common.{◌≤◌, ◌+◌, ◌-◌, sym, subst, ◌∙◌, refl, get_or, length, arith}
+use Rattle.cover_merge.proofs.ReplaceLemmas.{all_replaced, none_closed, one_closed, room, starts}
+use Rattle.cover_merge.proofs.applying.replace_all.Goals as goal
+
+pub loop-i-init : goal.loop-i-init
+loop-i-init g c = none_closed c.args.places.now c.args.place c.requires.ascending c.requires.before c.args.item c.args.items.now.items c.requires.place
+
+pub overflow_sub-from-in-loop-i : goal.overflow_sub-from-in-loop-i
+overflow_sub-from-in-loop-i g c =
+    (starts c.args.places.now c.args.place c.requires.ascending c.requires.before c.args.item c.args.items.now.items c.requires.place c.loop-i.i c.loop-i-test.true c.loop-i.items.items c.loop-i.items.items c.loop-i.invariant
+    (get_or c.args.places.now c.loop-i.i 0 + 1) c.next_place-to.result refl c.next_place-to.ensures).0
+
+pub copy_within-requires-clause-start_le_end : goal.copy_within-requires-clause-start_le_end
+copy_within-requires-clause-start_le_end g c =
+    (starts c.args.places.now c.args.place c.requires.ascending c.requires.before c.args.item c.args.items.now.items c.requires.place c.loop-i.i c.loop-i-test.true c.loop-i.items.items c.loop-i.items.items c.loop-i.invariant
+    (get_or c.args.places.now c.loop-i.i 0 + 1) c.next_place-to.result refl c.next_place-to.ensures).1
+
+pub copy_within-requires-clause-in_bounds : goal.copy_within-requires-clause-in_bounds
+copy_within-requires-clause-in_bounds g c = omega (
+  arith,
+  (starts c.args.places.now c.args.place c.requires.ascending c.requires.before c.args.item c.args.items.now.items c.requires.place c.loop-i.i c.loop-i-test.true c.loop-i.items.items c.loop-i.items.items c.loop-i.invariant
+      (get_or c.args.places.now c.loop-i.i 0 + 1) c.next_place-to.result refl c.next_place-to.ensures).2,
+)
+
+pub copy_within-requires-clause-dest_in_bounds : goal.copy_within-requires-clause-dest_in_bounds
+copy_within-requires-clause-dest_in_bounds g c = subst (λ n. get_or c.args.places.now c.loop-i.i 0 + 1 - 1 - c.loop-i.i + (c.next_place-to.result - (get_or c.args.places.now c.loop-i.i 0 + 1)) ≤ n) (sym c.loop-i.items.ok.0)
+    (starts c.args.places.now c.args.place c.requires.ascending c.requires.before c.args.item c.args.items.now.items c.requires.place c.loop-i.i c.loop-i-test.true c.loop-i.items.items c.loop-i.items.items c.loop-i.invariant
+    (get_or c.args.places.now c.loop-i.i 0 + 1) c.next_place-to.result refl c.next_place-to.ensures).3
+
+pub loop-i-preserved : goal.loop-i-preserved
+loop-i-preserved g c =
+    one_closed c.args.places.now c.args.place c.requires.ascending c.requires.before c.args.item c.args.items.now.items c.requires.place c.loop-i.i c.loop-i-test.true c.loop-i.items.items c.copy_within.new.self.items c.loop-i.invariant
+    (get_or c.args.places.now c.loop-i.i 0 + 1) c.next_place-to.result refl c.next_place-to.ensures c.copy_within.ensures.items
+
+pub overflow_sub-place : goal.overflow_sub-place
+overflow_sub-place g c = (room c.args.places.now c.args.place c.requires.ascending c.requires.before c.args.item c.args.items.now.items c.requires.place c.requires.some).0
+
+pub index_mut-requires : goal.index_mut-requires
+index_mut-requires g c = omega (arith, c.loop-i.invariant.one_each, (room c.args.places.now c.args.place c.requires.ascending c.requires.before c.args.item c.args.items.now.items c.requires.place c.requires.some).1)
+
+pub overflow_sub-place-2 : goal.overflow_sub-place-2
+overflow_sub-place-2 g c = omega (arith, (room c.args.places.now c.args.place c.requires.ascending c.requires.before c.args.item c.args.items.now.items c.requires.place c.requires.some).0)
+
+pub copy_within-requires-2-clause-start_le_end : goal.copy_within-requires-2-clause-start_le_end
+copy_within-requires-2-clause-start_le_end g c = omega (arith, c.len-len.ensures, c.loop-i.invariant.one_each, c.requires.place)
+
+pub copy_within-requires-2-clause-dest_in_bounds :
+    goal.copy_within-requires-2-clause-dest_in_bounds
+copy_within-requires-2-clause-dest_in_bounds g c =
+    let least = (room c.args.places.now c.args.place c.requires.ascending c.requires.before c.args.item c.args.items.now.items c.requires.place c.requires.some).0 in
+    let fits : c.args.place - (length c.args.places.now - 1) + (c.len-len.result - c.args.place) ≤ c.loop-i.items.len = omega (arith, least, c.len-len.ensures, c.loop-i.invariant.one_each, c.requires.place, c.requires.some) in
+    fits
+
+pub overflow_sub-len : goal.overflow_sub-len
+overflow_sub-len g c = omega (arith, (room c.args.places.now c.args.place c.requires.ascending c.requires.before c.args.item c.args.items.now.items c.requires.place c.requires.some).0, c.len-len.ensures, c.loop-i.invariant.one_each, c.requires.place)
+
+pub returns : goal.returns
+returns g c =
+    all_replaced c.args.places.now c.args.place c.requires.ascending c.requires.before c.args.item c.args.items.now.items c.requires.place c.loop-i.i c.len-len.result c.loop-i.items.items c.copy_within-2.new.self.items c.truncate.new.self.items
+    c.requires.some c.loop-i.invariant c.loop-i-test.false c.loop-i.auto.i-end (c.len-len.ensures ∙ c.loop-i.items.ok.0) c.copy_within-2.ensures.items c.truncate.ensures.items

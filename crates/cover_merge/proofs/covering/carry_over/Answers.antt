@@ -1,0 +1,35 @@
+-- All that is known is carried over.
+use Rattle.std.proofs.Common.{◌∙◌, ap, sym, subst, length, get_or}
+use Rattle.cover_merge.specs.Guards.{AreGuards}
+use Rattle.cover_merge.specs.Links.{AreNumbers, IsEachOnce, place_of_route}
+use Rattle.cover_merge.specs.Tried.{AreNoLater}
+use Rattle.cover_merge.proofs.covering.carry_over.Goals as goal
+
+pub carry-requires-clause-guards : goal.carry-requires-clause-guards
+carry-requires-clause-guards c = subst (AreGuards c.args.rows.now) (sym c.forget.ensures.guards) c.touch.ensures.known.guards
+
+pub returns : goal.returns
+returns c =
+    let rows = c.args.rows.now in
+    let old = c.touch.ensures.known in
+    let t = c.touch.new.known in
+    let f = c.forget.new.known in
+    let same = c.forget.ensures in
+    let times : AreNoLater f.routes.items f.latest.items rows f.guards.items =
+    subst (λ g. AreNoLater f.routes.items f.latest.items rows g) (sym same.guards)
+    (subst (λ l. AreNoLater f.routes.items l rows t.guards.items) (sym same.latest) (subst (λ r. AreNoLater r t.latest.items rows t.guards.items) (sym same.routes) old.latest)) in
+    let numbers : AreNumbers f.routes.items rows f.numbers.items =
+    subst (λ n. AreNumbers f.routes.items rows n) (sym same.numbers) (subst (λ r. AreNumbers r rows t.numbers.items) (sym same.routes) old.numbers) in record {
+      one_each = c.carry.ensures.one_each;
+      guards = c.carry.ensures.guards;
+      joined = c.carry_joined.ensures;
+      one_time = ap length same.latest ∙ old.one_time ∙ sym (ap length same.routes);
+      latest = c.carry.ensures.latest f.routes.items f.latest.items times
+          (λ d. ap (λ r. get_or f.latest.items (place_of_route r (get_or rows (get_or c.args.places.now 0 0) d).route.bits) 0) same.routes
+          ∙ ap (λ l. get_or l (place_of_route t.routes.items (get_or rows (get_or c.args.places.now 0 0) d).route.bits) 0) same.latest ∙ c.touch.ensures.own d);
+      once = subst IsEachOnce (sym same.routes) old.once;
+      numbers = c.carry_numbers.ensures f.routes.items numbers;
+      one_route = same.one_route;
+      kept = same.kept;
+      marks = c.carry.ensures.marks;
+    }
