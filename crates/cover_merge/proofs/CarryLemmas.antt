@@ -122,9 +122,6 @@ guard_put rows gs s g inside each told k e within = elim (cases_eq k s) [
 pub guard_set : (rows : List Row) (gs new : List Guard) (s : ℕ) (g : Guard) → s < length gs → new ≡ set gs s g → AreGuards rows gs → IsGuardAt rows s g → AreGuards rows new
 guard_set rows gs new s g inside is each told = subst (AreGuards rows) (sym is) (guard_put rows gs s g inside each told)
 
-pub length_kept : (gs new : List Guard) (s n : ℕ) (g : Guard) → new ≡ set gs s g → length gs ≡ n → length new ≡ n
-length_kept gs new s n g is same = ap length is ∙ length-set gs s g ∙ same
-
 -- ---- the table after a merge
 
 -- each member lies in the merge
