@@ -80,6 +80,7 @@ fn placed(alloc: Global, hosted: &Hosted, job: &AppJob) -> Result<Seq<Spot>, Pla
     ensures why { IfErr result (IsWhyUnplanned hosted.now job.now) }
 {
     if job.graph.vertices.is_empty() {
+        // A look at the applications brings the proof what is known of them.
         let _apps = &hosted.apps;
         return Ok(Seq::new(alloc));
     }
