@@ -1,10 +1,10 @@
 -- What is known of the rows behind a row. It saves looking at all of them in each up-check.
-use Rattle.std.specs.Prelude.{◌≡◌, ℕ, suc, ◌<◌, ◌≤◌, ◌-◌, Bool, false, List, ◌∷◌, All, AllPairs, length, drop, slice_get, slice_index_or, Some}
+use Rattle.std.specs.Prelude.{◌≡◌, ℕ, suc, ◌<◌, ◌≤◌, ◌^◌, ◌-◌, Bool, false, List, ◌∷◌, All, AllPairs, length, drop, slice_get, slice_index_or, Some}
 use Rattle.spin_base.specs.declared.blocks.Block.{Block}
 use Rattle.tern_word.specs.declared.tables.Alias.{Alias}
 use Rattle.tern_word.specs.declared.tables.Row.{Row}
 use Rattle.tern_word.specs.Ternary.{generality}
-use Rattle.tern_word.specs.SoundTable.{Misses}
+use Rattle.tern_word.specs.SoundTable.{IsSound, Misses}
 use Rattle.cover_merge.specs.Merge.{has_row}
 use Rattle.cover_merge.specs.declared.guards.Guard.{Guard}
 
@@ -32,6 +32,12 @@ IsGuardAt rows s guard = (d : Row) → IsGuard (slice_index_or rows s d) (drop (
 abbrev pub AreGuards : List Row → List Guard → Type 0
 AreGuards rows guards = (s : ℕ) (e : Guard) → s < length guards → IsGuardAt rows s (slice_index_or guards s e)
 
+-- a sound table of fewer than 2^32 rows, with guards
+pub record IsGuarded (rows : List Row) (gs : List Guard) : Type 0 where
+  pub few : length rows < 2 ^ 32
+  pub sound : IsSound rows
+  pub guards : AreGuards rows gs
+
 -- a guard that says nothing
 pub record IsSilent (guard : Guard) : Type 0 where
   pub no_rival : 32 < guard.rival
@@ -40,6 +46,13 @@ pub record IsSilent (guard : Guard) : Type 0 where
 -- each guard tells of the row at its place, unless the block meets an alias of that row
 abbrev pub AreGuardsBut : Block → List Row → List Guard → Type 0
 AreGuardsBut block rows guards = (s : ℕ) (e : Guard) → s < length guards → ((d : Row) → Misses block (slice_index_or rows s d)) → IsGuardAt rows s (slice_index_or guards s e)
+
+-- a sound table of fewer than 2^32 rows, with a guard for each row, but for rows of which the block meets an alias
+pub record IsGuardedBut (block : Block) (rows : List Row) (gs : List Guard) : Type 0 where
+  pub few : length rows < 2 ^ 32
+  pub sound : IsSound rows
+  pub one_each : length gs ≡ length rows
+  pub guards : AreGuardsBut block rows gs
 
 -- A row is original where its block is that of an alias, as before any merge. In a sound table it meets no alias of an
 -- earlier row: that row's block would meet this alias.

@@ -4,7 +4,7 @@ use Rattle.spin_base.specs.declared.blocks.Block.{Block}
 use Rattle.tern_word.specs.declared.tables.Row.{Row}
 use Rattle.tern_word.specs.Ternary.{Intersects, generality}
 use Rattle.tern_word.specs.SoundTable.{Misses}
-use Rattle.cover_merge.specs.Guards.{AreGuards, AreGuardsBut, AreJoined}
+use Rattle.cover_merge.specs.Guards.{IsGuarded, IsGuardedBut, AreJoined}
 use Rattle.cover_merge.specs.Kept.{IsKept}
 use Rattle.cover_merge.specs.Links.{IsEachOnce, AreNumbers}
 use Rattle.cover_merge.specs.Tried.{AreNoLater, AreTriedUpTo}
@@ -21,11 +21,11 @@ AreRoutesKept routes rows kept =
 abbrev pub AreAllKept : List ℕ → List (Option Kept) → Type 0
 AreAllKept routes kept = (c : ℕ) → c < length routes → (it : Kept) × (slice_index_or kept c None ≡ Some it)
 
--- Each row has its guard, its number, whether it is joined, and its route, of which something may be kept, with when a row
+-- The table is sound and has fewer than 2^32 rows. Each row has its guard, its number, whether it is joined, and its route, of which something may be kept, with when a row
 -- of it last changed.
 pub record IsKnown (rows : List Row) (known : Known) : Type 0 where
   pub one_each : length known.guards.items ≡ length rows
-  pub guards : AreGuards rows known.guards.items
+  pub guarded : IsGuarded rows known.guards.items
   pub joined : AreJoined rows known.joined.items
   pub one_time : length known.latest.items ≡ length known.routes.items
   pub latest : AreNoLater known.routes.items known.latest.items rows known.guards.items
@@ -37,8 +37,7 @@ pub record IsKnown (rows : List Row) (known : Known) : Type 0 where
 -- The same of the table after a merge of this block, but for guards of rows of which the block meets an alias; and which
 -- pairs were tried.
 pub record IsCarried (block : Block) (now : ℕ) (rows : List Row) (known : Known) : Type 0 where
-  pub one_each : length known.guards.items ≡ length rows
-  pub guards : AreGuardsBut block rows known.guards.items
+  pub guarded : IsGuardedBut block rows known.guards.items
   pub joined : AreJoined rows known.joined.items
   pub one_time : length known.latest.items ≡ length known.routes.items
   pub latest : AreNoLater known.routes.items known.latest.items rows known.guards.items

@@ -77,6 +77,12 @@ pub record IsMergeSet (rows : List Row) (places : List ℕ) : Type 0 where
 abbrev pub IsLegal : List Row → List ℕ → Type 0
 IsLegal rows places = IsSound (after rows places)
 
+-- the rows at the places make a legal merge, with this block
+pub record IsLegalMerge (rows : List Row) (places : List ℕ) (b : Block) : Type 0 where
+  pub set : IsMergeSet rows places
+  pub legal : IsLegal rows places
+  pub block : b ≡ merged_block rows places
+
 -- row r is of the set, or its block meets no alias of row s
 abbrev pub IsClearOf : List Row → List ℕ → ℕ → ℕ → Type 0
 IsClearOf rows places s r =

@@ -5,7 +5,7 @@ use Rattle.tern_word.specs.SoundTable.{Misses}
 use Rattle.cover_merge.specs.Merge.{has_row}
 use Rattle.cover_merge.specs.Covering.{IsLegalPair}
 use Rattle.cover_merge.specs.Guards.{IsGuardAt}
-use Rattle.cover_merge.specs.Links.{place_of_route}
+use Rattle.cover_merge.specs.Links.{AreNexts, place_of_route}
 use Rattle.cover_merge.specs.declared.guards.Guard.{Guard}
 
 -- a row is no legal pair with a later one that has not changed since the row was tried
@@ -69,3 +69,10 @@ pub record IsNextSince (rows : List Row) (guards : List Guard) (k time place : �
 -- for each row from the place on, the next one of its route that changed later
 abbrev pub AreNewerFrom : ℕ → List Row → List Guard → List ℕ → Type 0
 AreNewerFrom place rows guards newer = (k : ℕ) (e : Guard) → place ≤ k → k < length rows → IsNextSince rows guards k (suc (slice_index_or guards k e).changed) (slice_index newer k)
+
+-- each row has its guard, its next row of its route, and, from the place on, its next one that changed later
+pub record AreTrailsFrom (place : ℕ) (rows : List Row) (guards : List Guard) (next later : List ℕ) : Type 0 where
+  pub one_each : length guards ≡ length rows
+  pub nexts : AreNexts rows next
+  pub newer : AreNewerFrom place rows guards later
+  pub places : length later ≡ length rows

@@ -2,8 +2,8 @@
 ghost use Rattle.std.specs.Prelude.{◌≡◌, ◌<◌, ◌^◌, ℕ, suc, List, All, OnOk, MatchBool, ⊤, length, slice_index, slice_index_or};
 ghost use Rattle.tern_word.specs.declared.tables.Row.{Row as ARow};
 ghost use Rattle.tern_word.specs.SoundTable.{HoldsItsAliases, IsOrdered, IsSound, Misses};
-ghost use Rattle.cover_merge.specs.Merge.{IsLegal, IsMergeSet, after, merged_block};
-ghost use Rattle.cover_merge.specs.Guards.{AreGuards, AreGuardsBut, AreJoined, AreJoinedFrom};
+ghost use Rattle.cover_merge.specs.Merge.{IsLegalMerge, IsMergeSet, after, merged_block};
+ghost use Rattle.cover_merge.specs.Guards.{AreGuards, AreGuardsBut, AreJoined, AreJoinedFrom, IsGuarded, IsGuardedBut};
 ghost use Rattle.cover_merge.specs.Known.{HasSameRoutes, IsKnown};
 ghost use Rattle.cover_merge.specs.Links.{place_of_route};
 ghost use Rattle.cover_merge.specs.Tried.{AreNoLater, AreTouched, AreTriedUpTo, HaveSameTimes, IsRenewedAt, IsTouchedAt, LosesNone};
@@ -24,14 +24,11 @@ pub(crate) fn carry(
     merged: Block,
     now: usize,
 )
-    requires few { length rows.now < 2 ^ 32 }
-    requires sound { IsSound rows.now }
+    requires guarded { IsGuarded rows.now guards.old.items }
     requires one_each { length guards.old.items ≡ length rows.now }
-    requires guards { AreGuards rows.now guards.old.items }
     requires marks { AreTriedUpTo now rows.now guards.old.items }
     requires touched { AreTouched places.now now rows.now guards.old.items }
-    requires merge { (IsMergeSet rows.now places.now) × (IsLegal rows.now places.now) }
-    requires merged { merged ≡ merged_block rows.now places.now }
+    requires merge { IsLegalMerge rows.now places.now merged }
     ensures guards { AreGuardsBut merged (after rows.now places.now) guards.new.items }
     ensures one_each { length guards.new.items ≡ length (after rows.now places.now) }
     ensures marks { AreTriedUpTo now (after rows.now places.now) guards.new.items }
@@ -60,7 +57,6 @@ pub(crate) fn carry_joined(rows: &[Row], joined: &mut Vec<bool>, places: &[u32],
 /// Says that rows changed now which lose a row behind them by the merge of the rows at the places, and so may become legal
 /// pairs; and that a row of the merge's route did.
 pub(crate) fn touch(rows: &[Row], known: &mut Known, places: &[u32], merged: Block, now: usize)
-    requires sound { IsSound rows.now }
     requires known { IsKnown rows.now known.old }
     requires marks { AreTriedUpTo now rows.now known.old.guards.items }
     requires merge { (IsMergeSet rows.now places.now) × (merged ≡ merged_block rows.now places.now) }
@@ -80,7 +76,6 @@ pub(crate) fn touch(rows: &[Row], known: &mut Known, places: &[u32], merged: Blo
 
 // Says of row `s` that it changed now, where it loses a row behind it.
 fn touch_at(rows: &[Row], known: &mut Known, places: &[u32], merged: Block, now: usize, s: usize)
-    requires sound { IsSound rows.now }
     requires known { IsKnown rows.now known.old }
     requires marks { AreTriedUpTo now rows.now known.old.guards.items }
     requires merge { (IsMergeSet rows.now places.now) × (merged ≡ merged_block rows.now places.now) }
@@ -141,10 +136,7 @@ pub(crate) fn renew(
     joined: &[bool],
     merged: Block,
 ) -> Result<(), Memory>
-    requires few { length rows.now < 2 ^ 32 }
-    requires sound { IsSound rows.now }
-    requires one_each { length guards.old.items ≡ length rows.now }
-    requires guards { AreGuardsBut merged rows.now guards.old.items }
+    requires guarded { IsGuardedBut merged rows.now guards.old.items }
     requires joined { AreJoined rows.now joined.now }
     ensures guards { OnOk result (AreGuards rows.now guards.new.items) }
     ensures times { OnOk result (HaveSameTimes guards.old.items guards.new.items) }
@@ -161,11 +153,9 @@ pub(crate) fn renew(
 
 // Finds the guard of row `s` anew where the merged block meets an alias of the row.
 fn renew_at(rows: &[Row], guards: &mut Vec<Guard>, behind: &[u32], merged: Block, s: usize)
-    requires sound { IsSound rows.now }
+    requires guarded { IsGuardedBut merged rows.now guards.old.items }
     requires joined { AreJoinedFrom rows.now (suc s) behind.now }
     requires inside { s < length rows.now }
-    requires one_each { length guards.old.items ≡ length rows.now }
-    requires guards { AreGuardsBut merged rows.now guards.old.items }
     ensures { IsRenewedAt rows.now s guards.old.items guards.new.items }
 {
     if is_missed(merged, &rows[s]) {

@@ -1,8 +1,8 @@
 // Which rows are merged next.
 ghost use Rattle.std.specs.Prelude.{◌≡◌, ◌<◌, ◌^◌, ◌==◌, ℕ, suc, [], ◌∷◌, All, IfOk, OnOk, IsTrue, MatchOption, length, slice_index, slice_index_or};
 ghost use Rattle.tern_word.specs.SoundTable.{IsSound};
-ghost use Rattle.cover_merge.specs.Guards.{AreGuards};
-ghost use Rattle.cover_merge.specs.Tried.{AreTried, AreTriedUpTo, IsNextSince, AreNewerFrom};
+ghost use Rattle.cover_merge.specs.Guards.{IsGuarded};
+ghost use Rattle.cover_merge.specs.Tried.{AreTried, AreTriedUpTo, AreTrailsFrom, IsNextSince, AreNewerFrom};
 ghost use Rattle.cover_merge.specs.declared.guards.Guard.{Guard as AGuard};
 ghost use Rattle.cover_merge.specs.Links.{AreLinks, AreNexts, IsFirstOfRoute};
 ghost use Rattle.cover_merge.specs.Kept.{IsKept};
@@ -26,8 +26,6 @@ pub(crate) fn chosen(
     known: &mut Known,
     now: usize,
 ) -> Result<Option<Seq<u32>>, Memory>
-    requires few { length table.now.rows < 2 ^ 32 }
-    requires sound { IsSound table.now.rows }
     requires known { IsKnown table.now.rows known.old }
     requires marks { AreTriedUpTo now table.now.rows known.old.guards.items }
     ensures found { IfOk result (λ found. MatchOption found (HasNoChosen table.now.rows) (λ set.
@@ -46,8 +44,6 @@ pub(crate) fn chosen(
 
 // Refines the rows of each route of which nothing is kept, and keeps how many places are left.
 fn keep_all(alloc: Global, table: &Table, known: &mut Known, links: &Links) -> Result<(), Memory>
-    requires few { length table.now.rows < 2 ^ 32 }
-    requires sound { IsSound table.now.rows }
     requires known { IsKnown table.now.rows known.old }
     requires links { AreLinks known.old.routes.items table.now.rows links.now.next.items
         links.now.heads.items }
@@ -71,8 +67,6 @@ fn kept_of(
     links: &Links,
     c: usize,
 ) -> Result<Kept, Memory>
-    requires few { length table.now.rows < 2 ^ 32 }
-    requires sound { IsSound table.now.rows }
     requires known { IsKnown table.now.rows known.now }
     requires links { AreLinks known.now.routes.items table.now.rows links.now.next.items
         links.now.heads.items }
@@ -95,8 +89,6 @@ fn largest(
     known: &Known,
     links: &Links,
 ) -> Result<Option<Seq<u32>>, Memory>
-    requires few { length table.now.rows < 2 ^ 32 }
-    requires sound { IsSound table.now.rows }
     requires known { IsKnown table.now.rows known.now }
     requires all { AreAllKept known.now.routes.items known.now.kept.items }
     requires links { AreLinks known.now.routes.items table.now.rows links.now.next.items
@@ -139,8 +131,6 @@ fn first_pair(
     links: &Links,
     now: usize,
 ) -> Result<Option<Seq<u32>>, Memory>
-    requires few { length table.now.rows < 2 ^ 32 }
-    requires sound { IsSound table.now.rows }
     requires known { IsKnown table.now.rows known.old }
     requires marks { AreTriedUpTo now table.now.rows known.old.guards.items }
     requires links { AreNexts table.now.rows links.now.next.items }
@@ -227,10 +217,7 @@ fn changed_after(
     k: u32,
     time: usize,
 ) -> u32
-    requires one_each { length guards.now ≡ length table.now.rows }
-    requires links { AreNexts table.now.rows links.now.next.items }
-    requires newer { AreNewerFrom (suc k) table.now.rows guards.now newer.now }
-    requires places { length newer.now ≡ length table.now.rows }
+    requires trails { AreTrailsFrom (suc k) table.now.rows guards.now links.now.next.items newer.now }
     requires inside { k < length table.now.rows }
     ensures { IsNextSince table.now.rows guards.now k (suc time) result }
 {
@@ -255,10 +242,7 @@ fn next_to_try(
     k: u32,
     time: usize,
 ) -> u32
-    requires one_each { length guards.now ≡ length table.now.rows }
-    requires links { AreNexts table.now.rows links.now.next.items }
-    requires newer { AreNewerFrom 0 table.now.rows guards.now newer.now }
-    requires places { length newer.now ≡ length table.now.rows }
+    requires trails { AreTrailsFrom 0 table.now.rows guards.now links.now.next.items newer.now }
     requires inside { k < length table.now.rows }
     ensures { IsNextSince table.now.rows guards.now k time result }
 {
@@ -281,14 +265,9 @@ fn two_places(alloc: Global, i: u32, j: u32) -> Result<Seq<u32>, Memory>
 
 // The first row behind row `i` that can be merged with it: only those of its route can that changed since it was tried.
 fn partner(table: &Table, guards: &[Guard], links: &Links, newer: &[u32], i: u32) -> Option<u32>
-    requires few { length table.now.rows < 2 ^ 32 }
-    requires sound { IsSound table.now.rows }
-    requires one_each { length guards.now ≡ length table.now.rows }
-    requires guards { AreGuards table.now.rows guards.now }
+    requires guarded { IsGuarded table.now.rows guards.now }
     requires tried { AreTried table.now.rows guards.now }
-    requires links { AreNexts table.now.rows links.now.next.items }
-    requires newer { AreNewerFrom 0 table.now.rows guards.now newer.now }
-    requires places { length newer.now ≡ length table.now.rows }
+    requires trails { AreTrailsFrom 0 table.now.rows guards.now links.now.next.items newer.now }
     requires inside { i < length table.now.rows }
     ensures { MatchOption result ((b : ℕ) → IsLegalPair table.now.rows i b
         → ⊥) (λ j. IsFirstPartner table.now.rows i j) }

@@ -2,7 +2,7 @@
 ghost use Rattle.std.specs.Prelude.{◌≡◌, ◌<◌, ◌≤◌, ◌^◌, ◌⊎◌, IfOk, OnOk, MatchOption, length};
 ghost use Rattle.tern_word.specs.SoundTable.{IsSound, served};
 ghost use Rattle.std.specs.List.Sorted.{IsPermutation};
-ghost use Rattle.cover_merge.specs.Merge.{IsLegal, IsMergeSet, after, merged_block};
+ghost use Rattle.cover_merge.specs.Merge.{IsLegal, IsLegalMerge, IsMergeSet, after};
 ghost use Rattle.cover_merge.specs.Known.{AreRoutesKept, IsCarried, IsKnown};
 ghost use Rattle.cover_merge.specs.Tried.{AreTriedUpTo};
 ghost use Rattle.cover_merge.specs.Covering.{Covers, HasNoChosen, HasNoLegalPair, HasRoutesOf, IsChosen};
@@ -67,8 +67,6 @@ fn merge_next(
     known: &mut Known,
     now: usize,
 ) -> Result<Option<Seq<u32>>, Memory>
-    requires few { length table.old.rows < 2 ^ 32 }
-    requires sound { IsSound table.old.rows }
     requires known { IsKnown table.old.rows known.old }
     requires marks { AreTriedUpTo now table.old.rows known.old.guards.items }
     ensures found { IfOk result (λ made. MatchOption made (HasNoChosen table.old.rows)
@@ -95,8 +93,6 @@ fn merge_at(
     places: &Seq<u32>,
     now: usize,
 ) -> Result<(), Memory>
-    requires few { length table.old.rows < 2 ^ 32 }
-    requires sound { IsSound table.old.rows }
     requires known { IsKnown table.old.rows known.old }
     requires marks { AreTriedUpTo now table.old.rows known.old.guards.items }
     requires merge { (IsMergeSet table.old.rows places.now) × (IsLegal table.old.rows places.now) }
@@ -121,11 +117,8 @@ fn merge_at(
 // Carries over what is known to the table after the merge of the rows at the places. Guards of rows with an alias that the
 // merged block meets may be wrong there.
 fn carry_over(rows: &[Row], known: &mut Known, places: &[u32], merged: Block, now: usize)
-    requires few { length rows.now < 2 ^ 32 }
-    requires sound { IsSound rows.now }
     requires known { (IsKnown rows.now known.old) × (AreTriedUpTo now rows.now known.old.guards.items) }
-    requires merge { (IsMergeSet rows.now places.now) × (IsLegal rows.now places.now) }
-    requires merged { merged ≡ merged_block rows.now places.now }
+    requires merge { IsLegalMerge rows.now places.now merged }
     ensures { IsCarried merged now (after rows.now places.now) known.new }
 {
     touch(rows, known, places, merged, now);
@@ -137,10 +130,8 @@ fn carry_over(rows: &[Row], known: &mut Known, places: &[u32], merged: Block, no
 
 // Forgets what is kept of routes that the merge of the rows at the places does not leave alone.
 fn forget(rows: &[Row], known: &mut Known, places: &[u32], merged: Block)
-    requires sound { IsSound rows.now }
     requires known { IsKnown rows.now known.old }
-    requires merge { (IsMergeSet rows.now places.now) × (IsLegal rows.now places.now) }
-    requires merged { merged ≡ merged_block rows.now places.now }
+    requires merge { IsLegalMerge rows.now places.now merged }
     ensures kept { AreRoutesKept known.new.routes.items (after rows.now places.now) known.new.kept.items }
     ensures one_route { length known.new.kept.items ≡ length known.new.routes.items }
     ensures guards { known.new.guards.items ≡ known.old.guards.items }

@@ -4,7 +4,7 @@ ghost use Rattle.tern_word.specs.declared.tables.Row.{Row as ARow};
 ghost use Rattle.tern_word.specs.Ternary.{generality};
 ghost use Rattle.tern_word.specs.SoundTable.{HoldsItsAliases, IsOrdered, IsSound, Misses};
 ghost use Rattle.cover_merge.specs.Merge.{has_row, place_for, SameRoute, IsMergeSet, IsLegal, IsClearOf, PassesUp, PassesDown};
-ghost use Rattle.cover_merge.specs.Guards.{IsRival, HasRival, IsGuardAt, AreGuards, IsSilent, IsOriginal, AreJoined, AreJoinedFrom, last_or};
+ghost use Rattle.cover_merge.specs.Guards.{IsRival, HasRival, IsGuardAt, AreGuards, IsGuarded, IsSilent, IsOriginal, AreJoined, AreJoinedFrom, last_or};
 ghost use Rattle.cover_merge.specs.Tried.{IsFresh, IsTriedNow};
 
 use crate::merged_block;
@@ -205,9 +205,7 @@ pub(crate) fn is_missed(block: Block, row: &Row) -> bool
 /// Whether no row behind row `s`, of generality at most `general` and not at one of the places, meets an alias of it. The
 /// places behind it are of rows of its route.
 pub(crate) fn passes(rows: &[Row], guards: &[Guard], places: &[u32], s: u32, general: u32) -> bool
-    requires few { length rows.now < 2 ^ 32 }
-    requires sound { IsSound rows.now }
-    requires guards { AreGuards rows.now guards.now }
+    requires guarded { IsGuarded rows.now guards.now }
     requires inside { s < length rows.now }
     requires one_route { (r : ℕ) → s < r → has_row places.now r ≡ true → SameRoute rows.now s r }
     requires low { general ≤ 32 }
@@ -289,9 +287,7 @@ pub(crate) fn place_in(rows: &[Row], general: u32) -> u32
 
 /// Whether the merge of two rows of one route is legal.
 pub(crate) fn is_legal_pair(table: &Table, guards: &[Guard], i: u32, j: u32) -> bool
-    requires few { length table.now.rows < 2 ^ 32 }
-    requires sound { IsSound table.now.rows }
-    requires guards { AreGuards table.now.rows guards.now }
+    requires guarded { IsGuarded table.now.rows guards.now }
     requires set { IsMergeSet table.now.rows (i ∷ j ∷ []) }
     ensures { IsTrue result ↔ IsLegal table.now.rows (i ∷ j ∷ []) }
 {

@@ -4,7 +4,7 @@ ghost use Rattle.spin_base.specs.declared.blocks.Block.{Block as ABlock};
 ghost use Rattle.tern_word.specs.Ternary.{Intersects};
 ghost use Rattle.tern_word.specs.SoundTable.{IsOrdered, IsSound, Misses};
 ghost use Rattle.cover_merge.specs.Merge.{has_row, IsOneRoute, IsMergeSet, IsLegal, merged_block, insert_place, place_for, PassesUp, PassesUpCheck, PassesDown, PassesDownCheck};
-ghost use Rattle.cover_merge.specs.Guards.{AreGuards};
+ghost use Rattle.cover_merge.specs.Guards.{IsGuarded};
 ghost use Rattle.cover_merge.specs.Kept.{LeadsWithin, RefinesWithin};
 ghost use Rattle.cover_merge.specs.Refinement.{AreMerges, IsLastFailing, IsFirstMet, IsFirstMetFrom, can_choose, keeps, parts, kept_by, kept_count, IsBestBit, IsNarrowed, IsDownStep, Refines};
 
@@ -44,9 +44,7 @@ pub(crate) fn refine_within(
     guards: &[Guard],
     places: Seq<u32>,
 ) -> Result<Refined, Memory>
-    requires few { length table.now.rows < 2 ^ 32 }
-    requires sound { IsSound table.now.rows }
-    requires guards { AreGuards table.now.rows guards.now }
+    requires guarded { IsGuarded table.now.rows guards.now }
     requires set { IsOneRoute table.now.rows places }
     ensures refined { IfOk result (λ r. RefinesWithin table.now.rows r.kept.outer r.kept.low places
         r.set) }
@@ -106,9 +104,7 @@ fn sift(
     guards: &[Guard],
     set: &mut Vec<u32>,
 ) -> Result<Option<Block>, Memory>
-    requires few { length rows.now < 2 ^ 32 }
-    requires sound { IsSound rows.now }
-    requires guards { AreGuards rows.now guards.now }
+    requires guarded { IsGuarded rows.now guards.now }
     requires set { IsMergeSet rows.now set.old.items }
     ensures one_route { IfOk result (λ found. IsOneRoute rows.now set.new.items) }
     ensures fewer { length set.new.items ≤ length set.old.items }

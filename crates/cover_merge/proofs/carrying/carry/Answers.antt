@@ -16,23 +16,23 @@ replace_all-requires-clause-place c = omega (arith, c.place_in-place.ensures.bou
 pub replace_all-requires-clause-before : goal.replace_all-requires-clause-before
 replace_all-requires-clause-before c =
     let rows = c.args.rows.now in
-    subst (λ n. All (λ t. t < n) c.args.places.now) (sym (c.place_in-place.ensures.value ∙ ap (place_for rows) (c.generality.ensures.value ∙ ap generality c.requires.merged)))
-    (members_before rows c.args.places.now c.requires.sound.ordered c.requires.merge.0)
+    subst (λ n. All (λ t. t < n) c.args.places.now) (sym (c.place_in-place.ensures.value ∙ ap (place_for rows) (c.generality.ensures.value ∙ ap generality c.requires.merge.block)))
+    (members_before rows c.args.places.now c.requires.guarded.sound.ordered c.requires.merge.set)
 
 pub returns-clause-guards : goal.returns-clause-guards
 returns-clause-guards c =
     let rows = c.args.rows.now in
     let places = c.args.places.now in
     subst (AreGuardsBut c.args.merged (after rows places)) (sym c.replace_all.ensures)
-    (carried rows places c.requires.sound.ordered c.requires.merge.0 c.args.merged c.requires.merged c.generality.result c.place_in-place.result c.generality.ensures.value c.place_in-place.ensures.value c.unknown.result c.unknown.ensures.silent
-    c.args.guards.now.items c.requires.one_each c.requires.guards)
+    (carried rows places c.requires.guarded.sound.ordered c.requires.merge.set c.args.merged c.requires.merge.block c.generality.result c.place_in-place.result c.generality.ensures.value c.place_in-place.ensures.value c.unknown.result c.unknown.ensures.silent
+    c.args.guards.now.items c.requires.one_each c.requires.guarded.guards)
 
 pub returns-clause-one_each : goal.returns-clause-one_each
 returns-clause-one_each c =
     let rows = c.args.rows.now in
     let places = c.args.places.now in
     ap length c.replace_all.ensures
-    ∙ carried_length rows places c.requires.sound.ordered c.requires.merge.0 c.args.merged c.requires.merged c.generality.result c.place_in-place.result c.generality.ensures.value c.place_in-place.ensures.value c.unknown.result c.unknown.ensures.silent
+    ∙ carried_length rows places c.requires.guarded.sound.ordered c.requires.merge.set c.args.merged c.requires.merge.block c.generality.result c.place_in-place.result c.generality.ensures.value c.place_in-place.ensures.value c.unknown.result c.unknown.ensures.silent
     c.args.guards.now.items c.requires.one_each
 
 pub returns-clause-marks : goal.returns-clause-marks
@@ -40,8 +40,8 @@ returns-clause-marks c =
     let rows = c.args.rows.now in
     let places = c.args.places.now in
     subst (AreTriedUpTo c.args.now (after rows places)) (sym c.replace_all.ensures)
-    (marks_carried rows places c.requires.sound c.requires.merge.0 c.requires.merge.1 c.args.guards.now.items c.unknown.result c.requires.one_each c.place_in-place.result
-    (c.place_in-place.ensures.value ∙ ap (place_for rows) (c.generality.ensures.value ∙ ap generality c.requires.merged))
+    (marks_carried rows places c.requires.guarded.sound c.requires.merge.set c.requires.merge.legal c.args.guards.now.items c.unknown.result c.requires.one_each c.place_in-place.result
+    (c.place_in-place.ensures.value ∙ ap (place_for rows) (c.generality.ensures.value ∙ ap generality c.requires.merge.block))
     c.args.now c.unknown.ensures.fresh c.requires.touched c.requires.marks)
 
 pub returns-clause-latest : goal.returns-clause-latest
@@ -49,6 +49,6 @@ returns-clause-latest c routes latest old own =
     let rows = c.args.rows.now in
     let places = c.args.places.now in
     subst (AreNoLater routes latest (after rows places)) (sym c.replace_all.ensures)
-    (latest_carried rows places c.requires.sound c.requires.merge.0 c.requires.merge.1 c.args.guards.now.items c.unknown.result c.requires.one_each c.place_in-place.result
-    (c.place_in-place.ensures.value ∙ ap (place_for rows) (c.generality.ensures.value ∙ ap generality c.requires.merged))
+    (latest_carried rows places c.requires.guarded.sound c.requires.merge.set c.requires.merge.legal c.args.guards.now.items c.unknown.result c.requires.one_each c.place_in-place.result
+    (c.place_in-place.ensures.value ∙ ap (place_for rows) (c.generality.ensures.value ∙ ap generality c.requires.merge.block))
     c.args.now c.unknown.ensures.fresh routes latest old own)

@@ -7,11 +7,11 @@ use Rattle.cover_merge.proofs.carrying.renew.Goals as goal
 
 pub loop-s-init : goal.loop-s-init
 loop-s-init c = record {
-  one_each = c.requires.one_each;
+  one_each = c.requires.guarded.one_each;
   within = omega arith;
   behind = subst (AreJoinedFrom c.args.rows.now (length c.args.rows.now)) (sym c.new-behind.ensures.items) (joined_none c.args.rows.now (length c.args.rows.now) (omega arith));
-  done = λ k e from within. absurd (omega (arith, from, within, c.requires.one_each));
-  rest = c.requires.guards;
+  done = λ k e from within. absurd (omega (arith, from, within, c.requires.guarded.one_each));
+  rest = c.requires.guarded.guards;
   times = times_stay c.args.guards.now.items;
 }
 
@@ -23,11 +23,8 @@ renew_at-requires-clause-joined c =
 pub renew_at-requires-clause-inside : goal.renew_at-requires-clause-inside
 renew_at-requires-clause-inside c = omega (arith, c.loop-s-test.true, c.loop-s.invariant.within)
 
-pub renew_at-requires-clause-one_each : goal.renew_at-requires-clause-one_each
-renew_at-requires-clause-one_each c = c.loop-s.invariant.one_each
-
-pub renew_at-requires-clause-guards : goal.renew_at-requires-clause-guards
-renew_at-requires-clause-guards c = c.loop-s.invariant.rest
+pub renew_at-requires-clause-guarded : goal.renew_at-requires-clause-guarded
+renew_at-requires-clause-guarded c = record { few = c.requires.guarded.few; sound = c.requires.guarded.sound; one_each = c.loop-s.invariant.one_each; guards = c.loop-s.invariant.rest }
 
 pub add_joined-requires-clause-inside : goal.add_joined-requires-clause-inside
 add_joined-requires-clause-inside c = omega (arith, c.loop-s-test.true, c.requires.joined.one_each, c.loop-s.invariant.within)

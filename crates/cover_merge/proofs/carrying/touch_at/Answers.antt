@@ -25,7 +25,11 @@ returns c =
     let fresh : IsFresh now g = c.changed.ensures.fresh in record {
       known = record {
         one_each = length-set gs s g ∙ old.one_each;
-        guards = guard_kept rows gs s g c.index-2.result.now inside c.index-2.ensures c.changed.ensures.rival c.changed.ensures.clear old.guards;
+        guarded = record {
+          few = old.guarded.few;
+          sound = old.guarded.sound;
+          guards = guard_kept rows gs s g c.index-2.result.now inside c.index-2.ensures c.changed.ensures.rival c.changed.ensures.clear old.guarded.guards;
+        };
         joined = old.joined;
         one_time = length-set known.latest.items n now ∙ old.one_time;
         latest = guard_no_later known.routes.items (set known.latest.items n now) rows gs now c.requires.marks.bound s g inside

@@ -2,8 +2,8 @@
 use Rattle.std.proofs.Common.{◌∙◌, ℕ, ◌<◌, refl, sym, ap, set, subst, length, length-set, get_or, arith}
 use Rattle.std.specs.Prelude.{MatchOption}
 use borrow.Author.Count.{below_more}
-use Rattle.cover_merge.specs.Guards.{AreGuards}
-use Rattle.cover_merge.specs.Tried.{AreTried, AreNewerFrom}
+use Rattle.cover_merge.specs.Guards.{IsGuarded}
+use Rattle.cover_merge.specs.Tried.{AreTried, AreNewerFrom, AreTrailsFrom}
 use Rattle.cover_merge.specs.Covering.{IsLegalPair, IsFirstPartner}
 use Rattle.cover_merge.proofs.ChooseLemmas.{first_found, no_pair}
 use Rattle.cover_merge.proofs.LinkLemmas.{as_many, number_at}
@@ -43,13 +43,14 @@ loop-i-preserved-then-is_settled c =
       newer = old.newer;
     }
 
-pub partner-requires-clause-newer : goal.partner-requires-clause-newer
-partner-requires-clause-newer c =
-    subst (λ l. AreNewerFrom 0 c.args.table.now.rows l c.deref-in-loop-i-2.result.now) (sym c.deref-in-loop-i.ensures.value)
-    (subst (AreNewerFrom 0 c.args.table.now.rows c.loop-i.known.guards.items) (sym c.deref-in-loop-i-2.ensures.value) c.loop-i.invariant.newer)
+pub partner-requires-clause-trails : goal.partner-requires-clause-trails
+partner-requires-clause-trails c =
+    subst (λ l. AreTrailsFrom 0 c.args.table.now.rows l c.args.links.now.next.items c.deref-in-loop-i-2.result.now) (sym c.deref-in-loop-i.ensures.value)
+    (subst (AreTrailsFrom 0 c.args.table.now.rows c.loop-i.known.guards.items c.args.links.now.next.items) (sym c.deref-in-loop-i-2.ensures.value)
+    (record { one_each = c.loop-i.invariant.known.one_each; nexts = c.requires.links; newer = c.loop-i.invariant.newer; places = c.in_ok-newer.ensures.places }))
 
-pub partner-requires-clause-guards : goal.partner-requires-clause-guards
-partner-requires-clause-guards c = subst (AreGuards c.args.table.now.rows) (sym c.deref-in-loop-i.ensures.value) c.loop-i.invariant.known.guards
+pub partner-requires-clause-guarded : goal.partner-requires-clause-guarded
+partner-requires-clause-guarded c = subst (IsGuarded c.args.table.now.rows) (sym c.deref-in-loop-i.ensures.value) c.loop-i.invariant.known.guarded
 
 pub partner-requires-clause-tried : goal.partner-requires-clause-tried
 partner-requires-clause-tried c = subst (AreTried c.args.table.now.rows) (sym c.deref-in-loop-i.ensures.value) c.loop-i.invariant.marks.tried
@@ -75,7 +76,11 @@ loop-i-preserved c =
       none = below_more (λ a. (b : ℕ) → IsLegalPair rows a b → ⊥) i old.none none;
       known = record {
         one_each = length-set gs i g ∙ old.known.one_each;
-        guards = guard_kept rows gs i g was inside c.index.ensures mark.rival mark.clear old.known.guards;
+        guarded = record {
+          few = old.known.guarded.few;
+          sound = old.known.guarded.sound;
+          guards = guard_kept rows gs i g was inside c.index.ensures mark.rival mark.clear old.known.guarded.guards;
+        };
         joined = old.known.joined;
         one_time = old.known.one_time;
         latest = guard_no_later known.routes.items known.latest.items rows gs c.args.now old.marks.bound i g inside

@@ -1,7 +1,7 @@
 -- The route of which most places are kept has the largest set.
 use Rattle.std.proofs.Common.{length, get_or, sym, subst, arith}
 use Rattle.cover_merge.specs.Merge.{IsOneRoute}
-use Rattle.cover_merge.specs.Guards.{AreGuards}
+use Rattle.cover_merge.specs.Guards.{IsGuarded}
 use Rattle.cover_merge.specs.Kept.{RefinesWithin}
 use Rattle.cover_merge.specs.Known.{IsMostBefore}
 use Rattle.cover_merge.proofs.ChooseLemmas.{places_of-one_route}
@@ -16,8 +16,8 @@ returns-then-most-lt2 c =
     subst (λ l. IsMostBefore known.routes.items l (length known.routes.items) most) c.deref-2.ensures.value (subst (λ l. IsMostBefore l c.deref-2.result.now (length l) most) c.deref.ensures.value c.most_of-most.ensures) in
     none_largest known.routes.items c.args.table.now.rows known.numbers.items c.requires.known.numbers known.kept.items c.requires.known.kept c.requires.all most is c.if-most-lt2.true
 
-pub refine_within-requires-clause-guards : goal.refine_within-requires-clause-guards
-refine_within-requires-clause-guards c = subst (AreGuards c.args.table.now.rows) (sym c.deref-3.ensures.value) c.requires.known.guards
+pub refine_within-requires-clause-guarded : goal.refine_within-requires-clause-guarded
+refine_within-requires-clause-guarded c = subst (IsGuarded c.args.table.now.rows) (sym c.deref-3.ensures.value) c.requires.known.guarded
 
 pub refine_within-requires-clause-set : goal.refine_within-requires-clause-set
 refine_within-requires-clause-set c =

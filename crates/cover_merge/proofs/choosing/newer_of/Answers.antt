@@ -1,15 +1,20 @@
 -- One row more has its next in the list.
 use Rattle.std.proofs.Common.{◌≡◌, ◌<◌, ◌-◌, ◌∙◌, suc, refl, sym, set, subst, length, arith}
 use Rattle.std.proofs.lemmas.List.{length-set}
-use Rattle.cover_merge.specs.Tried.{AreNewerFrom}
+use Rattle.cover_merge.specs.Tried.{AreNewerFrom, AreTrailsFrom}
 use Rattle.cover_merge.proofs.TriedLemmas.{newer_more}
 use Rattle.cover_merge.proofs.choosing.newer_of.Goals as goal
 
-pub changed_after-requires-clause-newer : goal.changed_after-requires-clause-newer
-changed_after-requires-clause-newer c =
+pub changed_after-requires-clause-trails : goal.changed_after-requires-clause-trails
+changed_after-requires-clause-trails c =
     let step : c.loop-k.k ≡ suc (c.loop-k.k - 1) = omega (arith, c.loop-k-test.true) in
-    subst (λ l. AreNewerFrom (suc (c.loop-k.k - 1)) c.args.table.now.rows c.args.guards.now l) (sym c.deref.ensures.value)
-    (subst (λ n. AreNewerFrom n c.args.table.now.rows c.args.guards.now c.loop-k.newer.items) step c.loop-k.invariant.done)
+    subst (λ l. AreTrailsFrom (suc (c.loop-k.k - 1)) c.args.table.now.rows c.args.guards.now c.args.links.now.next.items l) (sym c.deref.ensures.value)
+    (record {
+      one_each = c.requires.one_each;
+      nexts = c.requires.links;
+      newer = subst (λ n. AreNewerFrom n c.args.table.now.rows c.args.guards.now c.loop-k.newer.items) step c.loop-k.invariant.done;
+      places = c.loop-k.invariant.places;
+    })
 
 pub loop-k-preserved : goal.loop-k-preserved
 loop-k-preserved c =

@@ -9,10 +9,11 @@ pub returns-then-time-eq0 : goal.returns-then-time-eq0
 returns-then-time-eq0 c =
     let rows = c.args.table.now.rows in
     since_first rows c.args.guards.now c.args.k c.index-next.result.now c.args.time
-    (link_next rows c.args.links.now.next.items c.requires.links c.args.k c.index-next.result.now c.requires.inside c.index-next.ensures)
+    (link_next rows c.args.links.now.next.items c.requires.trails.nexts c.args.k c.index-next.result.now c.requires.inside c.index-next.ensures)
 
-pub changed_after-requires-clause-newer : goal.changed_after-requires-clause-newer
-changed_after-requires-clause-newer c j e from within = c.requires.newer j e (omega arith) within
+pub changed_after-requires-clause-trails : goal.changed_after-requires-clause-trails
+changed_after-requires-clause-trails c =
+    let trails = c.requires.trails in record { one_each = trails.one_each; nexts = trails.nexts; newer = λ j e from within. trails.newer j e (omega arith) within; places = trails.places }
 
 pub returns : goal.returns
 returns c =

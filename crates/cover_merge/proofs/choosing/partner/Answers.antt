@@ -12,7 +12,7 @@ loop-j-init c =
     let next = c.next_to_try-j.ensures in record {
       behind = next.behind;
       same = next.same;
-      none = skipped_none c.args.table.now.rows c.args.guards.now c.args.i c.args.i c.next_to_try-j.result c.tried_at-tried.result c.requires.one_each c.requires.tried (omega arith) (λ d within. refl) c.tried_at-tried.ensures next;
+      none = skipped_none c.args.table.now.rows c.args.guards.now c.args.i c.args.i c.next_to_try-j.result c.tried_at-tried.result c.requires.trails.one_each c.requires.tried (omega arith) (λ d within. refl) c.tried_at-tried.ensures next;
     }
 
 pub is_legal_pair-requires-clause-set : goal.is_legal_pair-requires-clause-set
@@ -41,7 +41,7 @@ loop-j-preserved c =
       behind = omega (arith, old.behind, next.behind);
       same = λ d within. next.same d within ∙ old.same d inside;
       none = each_on (λ b. IsLegalPair rows i b → ⊥) i j x old.none (λ pair. fails (IsLegal rows (i ∷ j ∷ [])) c.is_legal_pair.result c.is_legal_pair.ensures c.if-is_legal_pair.false pair.legal)
-          (skipped_none rows gs i j x c.tried_at-tried.result c.requires.one_each c.requires.tried (omega (arith, old.behind)) old.same c.tried_at-tried.ensures next);
+          (skipped_none rows gs i j x c.tried_at-tried.result c.requires.trails.one_each c.requires.tried (omega (arith, old.behind)) old.same c.tried_at-tried.ensures next);
     }
 
 pub returns : goal.returns

@@ -1,12 +1,13 @@
 -- All that is known is carried over.
-use Rattle.std.proofs.Common.{◌∙◌, ap, sym, subst, length, get_or}
-use Rattle.cover_merge.specs.Guards.{AreGuards}
+use Rattle.std.proofs.Common.{◌∙◌, ap, sym, subst, length, get_or, arith}
+use Rattle.cover_merge.specs.Guards.{IsGuarded}
 use Rattle.cover_merge.specs.Links.{AreNumbers, IsEachOnce, place_of_route}
 use Rattle.cover_merge.specs.Tried.{AreNoLater}
+use Rattle.cover_merge.proofs.CoverLemmas.{shorter}
 use Rattle.cover_merge.proofs.covering.carry_over.Goals as goal
 
-pub carry-requires-clause-guards : goal.carry-requires-clause-guards
-carry-requires-clause-guards c = subst (AreGuards c.args.rows.now) (sym c.forget.ensures.guards) c.touch.ensures.known.guards
+pub carry-requires-clause-guarded : goal.carry-requires-clause-guarded
+carry-requires-clause-guarded c = subst (IsGuarded c.args.rows.now) (sym c.forget.ensures.guards) c.touch.ensures.known.guarded
 
 pub returns : goal.returns
 returns c =
@@ -20,8 +21,12 @@ returns c =
     (subst (λ l. AreNoLater f.routes.items l rows t.guards.items) (sym same.latest) (subst (λ r. AreNoLater r t.latest.items rows t.guards.items) (sym same.routes) old.latest)) in
     let numbers : AreNumbers f.routes.items rows f.numbers.items =
     subst (λ n. AreNumbers f.routes.items rows n) (sym same.numbers) (subst (λ r. AreNumbers r rows t.numbers.items) (sym same.routes) old.numbers) in record {
-      one_each = c.carry.ensures.one_each;
-      guards = c.carry.ensures.guards;
+      guarded = record {
+        few = omega (arith, c.requires.known.0.guarded.few, shorter rows c.args.places.now c.requires.merge.set);
+        sound = c.requires.merge.legal;
+        one_each = c.carry.ensures.one_each;
+        guards = c.carry.ensures.guards;
+      };
       joined = c.carry_joined.ensures;
       one_time = ap length same.latest ∙ old.one_time ∙ sym (ap length same.routes);
       latest = c.carry.ensures.latest f.routes.items f.latest.items times

@@ -140,13 +140,13 @@ loop-i-preserved c =
       gap = omega (arith, old.gap);
       within = old.within;
       same = old.same;
-      set = sift_one rows now old.set c.requires.sound.ordered c.loop-i.merged old.merge g general (i - 1) inside last new gone count two;
+      set = sift_one rows now old.set c.requires.guarded.sound.ordered c.loop-i.merged old.merge g general (i - 1) inside last new gone count two;
       some = omega (arith, count, two);
       merge = merge;
       before = begins_less (i - 1) i xs c.args.set.now.items (omega (arith, some)) old.before;
-      behind = sift_behind rows now old.set c.requires.sound.ordered c.loop-i.merged old.merge g general (i - 1) inside last new gone count two c.merge_from-merged.result merge _ refl;
+      behind = sift_behind rows now old.set c.requires.guarded.sound.ordered c.loop-i.merged old.merge g general (i - 1) inside last new gone count two c.merge_from-merged.result merge _ refl;
       leads = λ outer low.
-          leads_on rows outer low c.args.set.now.items now new (old.leads outer low) (sift_leads rows now old.set c.requires.sound.ordered c.loop-i.merged old.merge g general (i - 1) inside last new gone count two outer low);
+          leads_on rows outer low c.args.set.now.items now new (old.leads outer low) (sift_leads rows now old.set c.requires.guarded.sound.ordered c.loop-i.merged old.merge g general (i - 1) inside last new gone count two outer low);
     }
 
 pub returns-clause-found : goal.returns-clause-found
@@ -160,7 +160,7 @@ returns-clause-found c =
     let is : c.take_out_run.new.set.items ≡ now = c.take_out_run.ensures in
     let two : 2 ≤ length now = subst (λ l. 2 ≤ length l) is (omega (arith, c.len-2.ensures, c.if-len-lt2.false)) in
     subst (λ l. (2 ≤ length l) × (c.loop-i.merged ≡ merged_block rows l) × (PassesUpCheck rows l)) (sym is)
-    (two, old.merge, all_pass rows now old.set c.requires.sound.ordered c.loop-i.merged old.merge _ refl (none_fails rows now (place_for rows (generality c.loop-i.merged)) i (done two) old.behind))
+    (two, old.merge, all_pass rows now old.set c.requires.guarded.sound.ordered c.loop-i.merged old.merge _ refl (none_fails rows now (place_for rows (generality c.loop-i.merged)) i (done two) old.behind))
   where
     done : 2 ≤ length (take c.loop-i.i c.loop-i.set.items ++ drop c.loop-i.kept c.loop-i.set.items) → c.loop-i.i ≤ 0
     done two = elim c.loop-i-test.branch [
