@@ -9,7 +9,7 @@ use Rattle.spin_base.specs.declared.blocks.Block.{Block}
 use Rattle.tern_word.specs.declared.tables.Row.{Row}
 use Rattle.tern_word.specs.SoundTable.{IsSound, Misses}
 use Rattle.tern_word.specs.Ternary.{generality}
-use Rattle.cover_merge.specs.Merge.{after, merged_block, merge_rows, IsOneRoute, IsMergeSet, IsLegal, PassesUpCheck, PassesDownCheck}
+use Rattle.cover_merge.specs.Merge.{after, merged_block, merge_rows, IsOneRoute, IsLegalMerge, PassesUpCheck, PassesDownCheck}
 use Rattle.cover_merge.specs.Refinement.{IsDownStep, Refines, ends_empty}
 use Rattle.cover_merge.specs.Kept.{IsKept, IsGone, LeadsWithin, RefinesWithin}
 use Rattle.cover_merge.specs.Covering.{places_of, IsNoRival, IsLargest, HasNoLargest}
@@ -234,22 +234,21 @@ module _ (b : Block) (rows : List Row) (numbers : List ℕ) (s k : ℕ) (old : M
   ]
 
 -- What is left of what was kept is so in the table after the merge.
-pub kept_over : (routes : List ℕ) (rows : List Row) (numbers : List ℕ) (old mid near new : List (Option Kept)) (places : List ℕ) (merged : Block) (own : ℕ)
-    → IsEachOnce routes → AreNumbers routes rows numbers → IsSound rows → IsMergeSet rows places → IsLegal rows places → merged ≡ merged_block rows places → own ≡ get_or numbers (get_or places 0 0) 0
-    → AreRoutesKept routes rows old → AreStillKept (λ c it. c ≡ own → ⊥) old mid → AreStillKept (λ c it. IsApart merged it) mid near → AreStillKept (λ c it. MissesAllOf merged rows numbers (length rows) c) near new
+pub kept_over : (routes : List ℕ) (rows : List Row) (numbers : List ℕ) (old mid new : List (Option Kept)) (places : List ℕ) (merged : Block)
+    → IsEachOnce routes → AreNumbers routes rows numbers → IsSound rows → IsLegalMerge rows places merged
+    → AreRoutesKept routes rows old → AreStillKept (λ c it. MissesAllOf merged rows numbers (length rows) c) old mid → AreStillKept (λ c it. (c ≡ get_or numbers (get_or places 0 0) 0 → ⊥) × (IsApart merged it)) mid new
     → AreRoutesKept routes (after rows places) new
-kept_over routes rows numbers old mid near new places merged own once are sound merge legal block number keeps first second third c it low is =
-    let far = third.each c it is in
-    let close = second.each c it far.0 in
-    let other = first.each c it close.0 in
+kept_over routes rows numbers old mid new places merged once are sound merge keeps first second c it low is =
+    let close = second.each c it is in
+    let far = first.each c it close.0 in
     let bits = get_or routes c 0 in
     let d : Row = merge_rows [] in
-    let member : get_or places 0 0 < length rows = merge.set.in_range 0 0 (omega (arith, merge.two)) in
-    kept_after rows places bits it.size it.outer it.low sound merge legal (record {
-      other = merge_other rows places (get_or rows (get_or places 0 0) d).route.bits bits d merge refl (λ same. other.1 (sym (number_of_route routes rows numbers are once (get_or places 0 0) c d member low same) ∙ sym number));
-      misses = λ s e within same. subst (λ b. Misses b (get_or rows s e)) block (far.1 s e within within (number_of_route routes rows numbers are once s c e within low same));
-      apart = subst (λ b. IsApart b it) block close.1;
-    }) (keeps c it low other.0)
+    let member : get_or places 0 0 < length rows = merge.set.set.in_range 0 0 (omega (arith, merge.set.two)) in
+    kept_after rows places bits it.size it.outer it.low sound merge.set merge.legal (record {
+      other = merge_other rows places (get_or rows (get_or places 0 0) d).route.bits bits d merge.set refl (λ same. close.1.0 (sym (number_of_route routes rows numbers are once (get_or places 0 0) c d member low same)));
+      misses = λ s e within same. subst (λ b. Misses b (get_or rows s e)) merge.block (far.1 s e within within (number_of_route routes rows numbers are once s c e within low same));
+      apart = subst (λ b. IsApart b it) merge.block close.1.1;
+    }) (keeps c it low far.0)
 
 -- ---- one turn of the loop of a refinement
 

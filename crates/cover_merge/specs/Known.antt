@@ -47,11 +47,10 @@ pub record IsCarried (block : Block) (now : ℕ) (rows : List Row) (known : Know
   pub kept : AreRoutesKept known.routes.items rows known.kept.items
   pub marks : AreTriedUpTo now rows known.guards.items
 
--- the rows have the same routes, and the same is kept of each
+-- the rows have the same routes
 pub record HasSameRoutes (old new : Known) : Type 0 where
   pub numbers : new.numbers.items ≡ old.numbers.items
   pub routes : new.routes.items ≡ old.routes.items
-  pub kept : new.kept.items ≡ old.kept.items
 
 -- What is still kept was kept before, and passes the test.
 pub record AreStillKept (P : ℕ → Kept → Type 0) (old new : List (Option Kept)) : Type 0 where

@@ -4,7 +4,7 @@ ghost use Rattle.tern_word.specs.declared.tables.Row.{Row as ARow};
 ghost use Rattle.tern_word.specs.SoundTable.{HoldsItsAliases, IsOrdered, IsSound, Misses};
 ghost use Rattle.cover_merge.specs.Merge.{IsLegalMerge, IsMergeSet, after, merged_block};
 ghost use Rattle.cover_merge.specs.Guards.{AreGuards, AreGuardsBut, AreJoined, AreJoinedFrom, IsGuarded, IsGuardedBut};
-ghost use Rattle.cover_merge.specs.Known.{HasSameRoutes, IsKnown};
+ghost use Rattle.cover_merge.specs.Known.{AreStillKept, HasSameRoutes, IsKnown, MissesAllOf};
 ghost use Rattle.cover_merge.specs.Links.{place_of_route};
 ghost use Rattle.cover_merge.specs.Tried.{AreNoLater, AreTouched, AreTriedUpTo, HaveSameTimes, IsRenewedAt, IsTouchedAt, LosesNone};
 
@@ -54,8 +54,8 @@ pub(crate) fn carry_joined(rows: &[Row], joined: &mut Vec<bool>, places: &[u32],
     replace_all(joined, places, place, true);
 }
 
-/// Says that rows changed now which lose a row behind them by the merge of the rows at the places, and so may become legal
-/// pairs; and that a row of the merge's route did.
+/// Forgets what is kept of routes with a row of which the merge of the rows at the places meets an alias. Says that rows
+/// changed now which lose a row behind them by it, and so may become legal pairs; and that a row of the merge's route did.
 pub(crate) fn touch(rows: &[Row], known: &mut Known, places: &[u32], merged: Block, now: usize)
     requires known { IsKnown rows.now known.old }
     requires marks { AreTriedUpTo now rows.now known.old.guards.items }
@@ -66,6 +66,8 @@ pub(crate) fn touch(rows: &[Row], known: &mut Known, places: &[u32], merged: Blo
     ensures own { (d : ARow) → slice_index known.new.latest.items (place_of_route known.new.routes.items
         (slice_index_or rows.now (slice_index places.now 0) d).route.bits) ≡ now }
     ensures same { HasSameRoutes known.old known.new }
+    ensures left { AreStillKept (λ c it. MissesAllOf merged rows.now known.old.numbers.items
+        (length rows.now) c) known.old.kept.items known.new.kept.items }
 {
     let own = known.numbers[places[0] as usize];
     known.latest[own as usize] = now;
@@ -74,7 +76,7 @@ pub(crate) fn touch(rows: &[Row], known: &mut Known, places: &[u32], merged: Blo
     }
 }
 
-// Says of row `s` that it changed now, where it loses a row behind it.
+// The same of row `s`, where the merged block meets an alias of it.
 fn touch_at(rows: &[Row], known: &mut Known, places: &[u32], merged: Block, now: usize, s: usize)
     requires known { IsKnown rows.now known.old }
     requires marks { AreTriedUpTo now rows.now known.old.guards.items }
@@ -86,8 +88,32 @@ fn touch_at(rows: &[Row], known: &mut Known, places: &[u32], merged: Block, now:
     ensures times { (c : ℕ) → slice_index known.old.latest.items c ≡ now
         → slice_index known.new.latest.items c ≡ now }
     ensures same { HasSameRoutes known.old known.new }
+    ensures left { AreStillKept (λ c it. c ≡ slice_index known.old.numbers.items s → (d : ARow)
+        → Misses merged (slice_index_or rows.now s d)) known.old.kept.items known.new.kept.items }
 {
-    if !loses(rows, places, merged, s) {
+    if is_missed(merged, &rows[s]) {
+        return;
+    }
+    let number = known.numbers[s] as usize;
+    known.kept[number] = None;
+    change_at(rows, known, places, now, s);
+}
+
+// Says of row `s` that it changed now, where it loses a row behind it.
+fn change_at(rows: &[Row], known: &mut Known, places: &[u32], now: usize, s: usize)
+    requires known { IsKnown rows.now known.old }
+    requires marks { AreTriedUpTo now rows.now known.old.guards.items }
+    requires set { IsMergeSet rows.now places.now }
+    requires inside { s < length rows.now }
+    ensures known { IsKnown rows.now known.new }
+    ensures marks { AreTriedUpTo now rows.now known.new.guards.items }
+    ensures touched { IsTouchedAt places.now now rows.now s known.old.guards.items known.new.guards.items }
+    ensures times { (c : ℕ) → slice_index known.old.latest.items c ≡ now
+        → slice_index known.new.latest.items c ≡ now }
+    ensures same { HasSameRoutes known.old known.new }
+    ensures kept { known.new.kept.items ≡ known.old.kept.items }
+{
+    if !loses(rows, places, s) {
         return;
     }
     let number = known.numbers[s] as usize;
@@ -96,16 +122,12 @@ fn touch_at(rows: &[Row], known: &mut Known, places: &[u32], merged: Block, now:
 }
 
 // Whether a row at one of the places behind row `s` meets an alias of it.
-fn loses(rows: &[Row], places: &[u32], merged: Block, s: usize) -> bool
+fn loses(rows: &[Row], places: &[u32], s: usize) -> bool
     requires inside { All HoldsItsAliases rows.now }
     requires set { IsMergeSet rows.now places.now }
-    requires merged { merged ≡ merged_block rows.now places.now }
     requires row { s < length rows.now }
     ensures { MatchBool result ⊤ (LosesNone rows.now places.now s) }
 {
-    if is_missed(merged, &rows[s]) {
-        return false;
-    }
     for place in places {
         if meets_behind(rows, *place as usize, s) {
             return true;

@@ -1,9 +1,9 @@
 // Covering a table.
-ghost use Rattle.std.specs.Prelude.{◌≡◌, ◌<◌, ◌≤◌, ◌^◌, ◌⊎◌, IfOk, OnOk, MatchOption, length};
+ghost use Rattle.std.specs.Prelude.{◌≡◌, ◌<◌, ◌≤◌, ◌^◌, ◌⊎◌, IfOk, OnOk, MatchOption, length, slice_index};
 ghost use Rattle.tern_word.specs.SoundTable.{IsSound, served};
 ghost use Rattle.std.specs.List.Sorted.{IsPermutation};
 ghost use Rattle.cover_merge.specs.Merge.{IsLegal, IsLegalMerge, IsMergeSet, after};
-ghost use Rattle.cover_merge.specs.Known.{AreRoutesKept, IsCarried, IsKnown};
+ghost use Rattle.cover_merge.specs.Known.{AreStillKept, IsApart, IsCarried, IsKnown};
 ghost use Rattle.cover_merge.specs.Tried.{AreTriedUpTo};
 ghost use Rattle.cover_merge.specs.Covering.{Covers, HasNoChosen, HasNoLegalPair, HasRoutesOf, IsChosen};
 ghost use Rattle.cover_merge.specs.Merges.{sets_of};
@@ -11,7 +11,7 @@ ghost use Rattle.cover_merge.specs.Merges.{sets_of};
 use crate::applying::apply;
 use crate::carrying::{carry, carry_joined, renew, touch};
 use crate::choosing::chosen;
-use crate::keeping::{forget_met, forget_near, forget_own};
+use crate::keeping::{forget_near, forget_own};
 use crate::knowing::{Known, known_of};
 use crate::links::carry_numbers;
 use crate::merged_block;
@@ -128,12 +128,13 @@ fn carry_over(rows: &[Row], known: &mut Known, places: &[u32], merged: Block, no
     carry(rows, &mut known.guards, places, merged, now);
 }
 
-// Forgets what is kept of routes that the merge of the rows at the places does not leave alone.
+// Forgets what is kept of the route of the rows at the places, and of routes for which a block was down-checked that their
+// merge may meet.
 fn forget(rows: &[Row], known: &mut Known, places: &[u32], merged: Block)
     requires known { IsKnown rows.now known.old }
-    requires merge { IsLegalMerge rows.now places.now merged }
-    ensures kept { AreRoutesKept known.new.routes.items (after rows.now places.now) known.new.kept.items }
-    ensures one_route { length known.new.kept.items ≡ length known.new.routes.items }
+    requires set { IsMergeSet rows.now places.now }
+    ensures left { AreStillKept (λ c it. (c ≡ slice_index known.old.numbers.items (slice_index places.now 0)
+        → ⊥) × (IsApart merged it)) known.old.kept.items known.new.kept.items }
     ensures guards { known.new.guards.items ≡ known.old.guards.items }
     ensures numbers { known.new.numbers.items ≡ known.old.numbers.items }
     ensures joined { known.new.joined.items ≡ known.old.joined.items }
@@ -143,5 +144,4 @@ fn forget(rows: &[Row], known: &mut Known, places: &[u32], merged: Block)
     let own = known.numbers[places[0] as usize] as usize;
     forget_own(&mut known.kept, own);
     forget_near(&mut known.kept, merged);
-    forget_met(rows, &known.numbers, &mut known.kept, merged);
 }

@@ -1,13 +1,11 @@
 // What is kept of each route from one merge to the next: how many places its refined set has. The set itself is not kept,
 // so no place changes.
-ghost use Rattle.std.specs.Prelude.{◌≡◌, ◌+◌, ◌<◌, ◌≤◌, ◌⊎◌, All, Some, MatchBool, length};
-ghost use Rattle.tern_word.specs.SoundTable.{HoldsItsAliases, Misses};
-ghost use Rattle.cover_merge.specs.Known.{AreStillKept, IsApart, IsMostBefore, MissesAllOf};
+ghost use Rattle.std.specs.Prelude.{◌≡◌, ◌+◌, ◌<◌, ◌≤◌, ◌⊎◌, Some, MatchBool, length};
+ghost use Rattle.cover_merge.specs.Known.{AreStillKept, IsApart, IsMostBefore};
 ghost use Rattle.cover_merge.specs.declared.keeping.Kept.{Kept as AKept};
 
-use crate::guards::is_missed;
 use spin_base::Block;
-use tern_word::{Row, generality, intersects};
+use tern_word::{generality, intersects};
 
 /// What is kept of a route: how many places its refined set has, the first block that was down-checked for it, and the
 /// generality of the last. All others lie in the first. Where none was down-checked, the generality is 33.
@@ -102,29 +100,4 @@ fn apart(kept: Option<Kept>, merged: Block) -> Option<Kept>
         return None;
     }
     kept
-}
-
-/// Forgets what is kept of routes with a row of which the block meets an alias.
-pub(crate) fn forget_met(rows: &[Row], numbers: &[u32], kept: &mut Vec<Option<Kept>>, merged: Block)
-    requires inside { All HoldsItsAliases rows.now }
-    requires one_each { length numbers.now ≡ length rows.now }
-    requires below { All (λ c. c < length kept.old.items) numbers.now }
-    ensures { AreStillKept (λ c it. MissesAllOf merged rows.now numbers.now (length rows.now) c)
-        kept.old.items kept.new.items }
-{
-    for s in 0..rows.len() {
-        forget_where_met(&rows[s], merged, kept, numbers[s] as usize);
-    }
-}
-
-// Forgets what is kept of the route of this number, where the block meets an alias of the row.
-fn forget_where_met(row: &Row, merged: Block, kept: &mut Vec<Option<Kept>>, number: usize)
-    requires holds { HoldsItsAliases row.now }
-    requires inside { number < length kept.old.items }
-    ensures { AreStillKept (λ c it. c ≡ number → Misses merged row.now) kept.old.items kept.new.items }
-{
-    if is_missed(merged, row) {
-        return;
-    }
-    kept[number] = None;
 }

@@ -1,53 +1,76 @@
--- The row changed now, and so did its route.
-use Rattle.std.proofs.Common.{◌≡◌, ◌∙◌, ◌<◌, inl, inr, refl, sym, ap, subst, set, length, get_or, arith}
-use Rattle.std.proofs.lemmas.Bool.{cases_eq}
-use Rattle.std.proofs.lemmas.Grind.{get_or-set_at}
-use Rattle.std.proofs.lemmas.List.{get_or_default, get_or-set_other, length-set}
-use Rattle.cover_merge.specs.Tried.{IsFresh}
-use Rattle.cover_merge.proofs.LinkLemmas.{as_many, number_at}
-use Rattle.cover_merge.proofs.TriedLemmas.{fresh_put, guard_kept, latest_put, guard_no_later}
+-- Nothing is kept of the row's route, unless the merge misses the row.
+use Rattle.std.proofs.Common.{◌≡◌, ◌≢◌, ◌∙◌, ◌<◌, ℕ, List, inl, refl, sym, ap, subst, set, length, length-set, get_or, arith}
+use Rattle.std.specs.Prelude.{None, Option}
+use Rattle.std.proofs.lemmas.List.{get_or_default}
+use Rattle.tern_word.specs.declared.tables.Row.{Row}
+use Rattle.tern_word.specs.SoundTable.{Misses}
+use Rattle.cover_merge.specs.Known.{AreStillKept}
+use Rattle.cover_merge.specs.declared.keeping.Kept.{Kept}
+use Rattle.cover_merge.proofs.CarryLemmas.{narrower_misses, member_lies}
+use Rattle.cover_merge.proofs.KeepLemmas.{left_all, left_set, none_some}
+use Rattle.cover_merge.proofs.LinkLemmas.{as_many}
 use Rattle.cover_merge.proofs.carrying.touch_at.Goals as goal
+
+-- what is left where nothing is kept of one route
+forgotten : (kept : List (Option Kept)) (n : ℕ) → n < length kept → AreStillKept (λ k it. k ≢ n) kept (set kept n None)
+forgotten kept n low =
+    left_set (λ (k : ℕ) (it : Kept). k ≡ k) (λ (k : ℕ) (it : Kept). k ≢ n) kept kept _ n None low refl (left_all (λ (k : ℕ) (it : Kept). k ≡ k) kept (λ k it is. refl)) (λ k it apart same. apart) (λ it is. absurd (none_some it is))
+
+pub returns-then-is_missed : goal.returns-then-is_missed
+returns-then-is_missed c =
+    let rows = c.args.rows.now in
+    let s = c.args.s in
+    let misses : (d : Row) → Misses c.args.merged (get_or rows s d) = λ d. subst (Misses c.args.merged) (c.index-rows-s.is ∙ get_or_default rows s c.index-rows-s.result d c.requires.inside) (c.is_missed.ensures.0 c.if-is_missed.true) in record {
+      known = c.requires.known;
+      marks = c.requires.marks;
+      touched = record {
+        own = λ e. inl (λ r d found behind. narrower_misses c.args.merged (get_or rows r d).block (get_or rows s d) (member_lies rows c.args.places.now c.requires.merge.0 c.args.merged c.requires.merge.1 r d found) (misses d));
+        others = λ k e apart. refl;
+      };
+      times = λ k is. is;
+      same = record { numbers = refl; routes = refl };
+      left = left_all _ c.args.known.now.kept.items (λ k it is same d. misses d);
+    }
+
+pub change_at-requires-clause-known : goal.change_at-requires-clause-known
+change_at-requires-clause-known c =
+    let rows = c.args.rows.now in
+    let known = c.args.known.now in
+    let old = c.requires.known in
+    let n = c.index.result.now in
+    let counted : c.args.s < length known.numbers.items = omega (arith, as_many known.routes.items rows known.numbers.items old.numbers, c.requires.inside) in
+    let low : n < length known.kept.items = omega (arith, c.index.ensures ∙ get_or_default known.numbers.items c.args.s n 0 counted, old.one_route, old.numbers.below c.args.s 0 counted) in record {
+      one_each = old.one_each;
+      guarded = old.guarded;
+      joined = old.joined;
+      one_time = old.one_time;
+      latest = old.latest;
+      once = old.once;
+      numbers = old.numbers;
+      one_route = length-set known.kept.items n None ∙ old.one_route;
+      kept = λ k it inside is. old.kept k it inside ((forgotten known.kept.items n low).each k it is).0;
+    }
 
 pub returns : goal.returns
 returns c =
     let rows = c.args.rows.now in
     let known = c.args.known.now in
     let old = c.requires.known in
-    let gs = known.guards.items in
-    let s = c.args.s in
     let n = c.index.result.now in
-    let now = c.args.now in
-    let g = c.changed.result in
-    let inside : s < length gs = omega (arith, old.one_each, c.requires.inside) in
-    let counted : s < length known.numbers.items = omega (arith, as_many known.routes.items rows known.numbers.items old.numbers, c.requires.inside) in
-    let n_is : n ≡ get_or known.numbers.items s 0 = c.index.ensures ∙ get_or_default known.numbers.items s n 0 counted in
-    let low : n < length known.latest.items = omega (arith, n_is, old.one_time, old.numbers.below s 0 counted) in
-    let fresh : IsFresh now g = c.changed.ensures.fresh in record {
-      known = record {
-        one_each = length-set gs s g ∙ old.one_each;
-        guarded = record {
-          few = old.guarded.few;
-          sound = old.guarded.sound;
-          guards = guard_kept rows gs s g c.index-2.result.now inside c.index-2.ensures c.changed.ensures.rival c.changed.ensures.clear old.guarded.guards;
-        };
-        joined = old.joined;
-        one_time = length-set known.latest.items n now ∙ old.one_time;
-        latest = guard_no_later known.routes.items (set known.latest.items n now) rows gs now c.requires.marks.bound s g inside
-            (λ d. omega (arith, fresh.changed, get_or-set_at known.latest.items n n now 0 refl low, ap (λ m. get_or (set known.latest.items n now) m 0) (n_is ∙ number_at known.routes.items rows known.numbers.items old.numbers s d c.requires.inside)))
-            (latest_put known.routes.items known.latest.items rows gs now c.requires.marks.bound n low old.latest);
-        once = old.once;
-        numbers = old.numbers;
-        one_route = old.one_route;
-        kept = old.kept;
+    let now = c.change_at.ensures in
+    let counted : c.args.s < length known.numbers.items = omega (arith, as_many known.routes.items rows known.numbers.items old.numbers, c.requires.inside) in
+    let n_is : n ≡ get_or known.numbers.items c.args.s 0 = c.index.ensures ∙ get_or_default known.numbers.items c.args.s n 0 counted in
+    let low : n < length known.kept.items = omega (arith, n_is, old.one_route, old.numbers.below c.args.s 0 counted) in
+    let left = forgotten known.kept.items n low in record {
+      known = now.known;
+      marks = now.marks;
+      touched = now.touched;
+      times = now.times;
+      same = record { numbers = now.same.numbers; routes = now.same.routes };
+      left = record {
+        one_each = ap length now.kept ∙ left.one_each;
+        each = λ k it is.
+            let told = left.each k it (ap (λ l. get_or l k None) (sym now.kept) ∙ is) in
+            (told.0, λ same. absurd (told.1 (same ∙ sym n_is)));
       };
-      marks = fresh_put now rows gs s g inside c.requires.marks fresh;
-      touched = record {
-        own = λ e. inr (subst (IsFresh now) (sym (get_or-set_at gs s s g e refl inside)) fresh);
-        others = λ k e apart. get_or-set_other gs s k g e apart;
-      };
-      times = λ k is. elim (cases_eq k n) [
-        | inl same ↦ get_or-set_at known.latest.items n k now 0 same low
-        | inr apart ↦ get_or-set_other known.latest.items n k now 0 apart ∙ is
-      ];
-      same = record { numbers = refl; routes = refl; kept = refl };
     }

@@ -1,9 +1,12 @@
 -- All that is known is carried over.
-use Rattle.std.proofs.Common.{◌∙◌, ap, sym, subst, length, get_or, arith}
+use Rattle.std.proofs.Common.{◌≡◌, ◌∙◌, ap, sym, subst, length, get_or, arith}
 use Rattle.cover_merge.specs.Guards.{IsGuarded}
+use Rattle.cover_merge.specs.Merge.{after}
+use Rattle.cover_merge.specs.Known.{AreRoutesKept, AreStillKept, IsApart}
 use Rattle.cover_merge.specs.Links.{AreNumbers, IsEachOnce, place_of_route}
 use Rattle.cover_merge.specs.Tried.{AreNoLater}
 use Rattle.cover_merge.proofs.CoverLemmas.{shorter}
+use Rattle.cover_merge.proofs.KeepLemmas.{kept_over}
 use Rattle.cover_merge.proofs.covering.carry_over.Goals as goal
 
 pub carry-requires-clause-guarded : goal.carry-requires-clause-guarded
@@ -16,6 +19,7 @@ returns c =
     let t = c.touch.new.known in
     let f = c.forget.new.known in
     let same = c.forget.ensures in
+    let first = c.args.known.now in
     let times : AreNoLater f.routes.items f.latest.items rows f.guards.items =
     subst (λ g. AreNoLater f.routes.items f.latest.items rows g) (sym same.guards)
     (subst (λ l. AreNoLater f.routes.items l rows t.guards.items) (sym same.latest) (subst (λ r. AreNoLater r t.latest.items rows t.guards.items) (sym same.routes) old.latest)) in
@@ -34,7 +38,9 @@ returns c =
           ∙ ap (λ l. get_or l (place_of_route t.routes.items (get_or rows (get_or c.args.places.now 0 0) d).route.bits) 0) same.latest ∙ c.touch.ensures.own d);
       once = subst IsEachOnce (sym same.routes) old.once;
       numbers = c.carry_numbers.ensures f.routes.items numbers;
-      one_route = same.one_route;
-      kept = same.kept;
+      one_route = c.forget.ensures.left.one_each ∙ old.one_route ∙ sym (ap length same.routes);
+      kept = subst (λ r. AreRoutesKept r (after rows c.args.places.now) f.kept.items) (sym (same.routes ∙ c.touch.ensures.same.routes))
+          (kept_over first.routes.items rows first.numbers.items first.kept.items t.kept.items f.kept.items c.args.places.now c.args.merged c.requires.known.0.once c.requires.known.0.numbers c.requires.known.0.guarded.sound c.requires.merge c.requires.known.0.kept c.touch.ensures.left
+          (subst (λ n. AreStillKept (λ k it. (k ≡ get_or n (get_or c.args.places.now 0 0) 0 → ⊥) × (IsApart c.args.merged it)) t.kept.items f.kept.items) c.touch.ensures.same.numbers c.forget.ensures.left));
       marks = c.carry.ensures.marks;
     }
