@@ -13,7 +13,7 @@ use std::alloc::Global;
 use tern_word::{Row, Table, generality, intersects, misses};
 
 /// What is known of the rows behind a row: the generality of the first of another route that meets an alias of it, and
-/// that of the first of any route; 33 where there is none. 33 and 0 say nothing. And when the row was last tried with all
+/// that of the first of any route; `NONE` where there is none. `NONE` and `ANY` say nothing. And when the row was last tried with all
 /// later ones of its route, 0 where it was not, and when it last changed, both counted in merges.
 #[derive(Clone, Copy)]
 pub(crate) struct Guard {
@@ -26,10 +26,13 @@ pub(crate) struct Guard {
 /// More than the generality of any block.
 const NONE: u32 = 33;
 
+/// No generality is below it: it says nothing of rows behind.
+const ANY: u32 = 0;
+
 /// The guard that says nothing.
 const NOTHING: Guard = Guard {
-    rival: 33,
-    clear: 0,
+    rival: NONE,
+    clear: ANY,
     tried: 0,
     changed: 0,
 };
@@ -40,8 +43,8 @@ pub(crate) fn unknown(now: usize) -> Guard
     ensures fresh { IsFresh now result }
 {
     Guard {
-        rival: 33,
-        clear: 0,
+        rival: NONE,
+        clear: ANY,
         tried: 0,
         changed: now,
     }

@@ -37,6 +37,9 @@ pub(crate) struct Refined {
     pub(crate) kept: Kept,
 }
 
+// The generality of the last block that was down-checked, where none was: more than that of any block.
+const UNCHECKED: u32 = 33;
+
 /// The same, by what the guards tell.
 pub(crate) fn refine_within(
     alloc: Global,
@@ -55,7 +58,7 @@ pub(crate) fn refine_within(
     let rows = table.rows.as_slice();
     let mut set = places.into_vec();
     let mut outer = all_keys();
-    let mut low = 33;
+    let mut low = UNCHECKED;
     while set.len() >= 2 {
         if let Some(merged) = sift(alloc, rows, guards, &mut set)? {
             outer = outermost(outer, low, merged);
