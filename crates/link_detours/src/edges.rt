@@ -3,30 +3,23 @@ ghost use Rattle.std.specs.Prelude.{◌≡◌, ◌+◌, ◌*◌, ◌<◌, ◌≤
 ghost use Rattle.machine_desc.specs.Live.{IsInside, is_live_link, far_of, index_of};
 ghost use Rattle.machine_desc.specs.RoutingTree.{end_of};
 ghost use Rattle.std.specs.List.{filter_map};
-ghost use Rattle.link_detours.specs.LiveRoads.{AreRoadsOf};
 ghost use Rattle.link_detours.specs.Usable.{is_marked, other_end_of};
 ghost use Rattle.spin_base.specs.declared.chips.Chip.{Chip};
 ghost use Rattle.machine_desc.specs.declared.trees.Edge.{Edge};
 
-use crate::roads::Roads;
+use crate::grounds::Ground;
 use machine_desc::{Edge, Machine};
 use spin_base::{Chip, Memory};
 use std::alloc::Global;
 
 // The edges that are live links.
-pub fn live_edges(
-    alloc: Global,
-    machine: &Machine,
-    roads: &Roads,
-    edges: &[Edge],
-) -> Result<Vec<Edge>, Memory>
-    requires { AreRoadsOf machine.now roads.now }
+pub fn live_edges(alloc: Global, ground: Ground, edges: &[Edge]) -> Result<Vec<Edge>, Memory>
     ensures { IfOk result (λ v. v.items
-        ≡ filter (λ e. is_live_link machine.now e.chip e.dir) edges.now) }
+        ≡ filter (λ e. is_live_link ground.entry.machine.now e.chip e.dir) edges.now) }
 {
     let mut live = Vec::with_capacity(alloc, edges.len())?;
     for edge in edges {
-        if roads.has(machine, *edge) {
+        if ground.has(*edge) {
             live.push(*edge)?;
         }
     }
