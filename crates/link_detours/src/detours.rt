@@ -9,30 +9,24 @@ ghost use Rattle.link_detours.specs.Waves.{IsIn, AreWaves, IsStepFrom, IsBestSte
 ghost use Rattle.spin_base.specs.declared.chips.Chip.{Chip};
 ghost use Rattle.machine_desc.specs.declared.trees.Edge.{Edge};
 
-use crate::grounds::{Front, Ground, Ring};
+use crate::grounds::{Edges, Front, Ground, Ring};
 use crate::searches::reached_chips;
 use crate::sets::{empty_set, has, near_columns, put, spread};
 use crate::tables::link_table;
-use machine_desc::{Edge, Machine};
+use machine_desc::Edge;
 use spin_base::{Chip, Dir, Memory};
 use std::alloc::Global;
 
 // A table that marks the chips that the edges join to the root.
-pub fn tree_reach(
-    alloc: Global,
-    machine: &Machine,
-    root: Chip,
-    edges: &[Edge],
-) -> Result<Vec<bool>, Memory>
-    requires root_inside { IsInside machine.now root }
-    requires inside { All (λ e. IsInside machine.now e.chip) edges.now }
-    ensures long { IfOk result (λ t. length t.items ≡ machine.now.width * machine.now.height) }
-    ensures reach { IfOk result (λ t. (c : Chip) → IsInside machine.now c →
-        (is_marked machine.now t.items c ≡ true)
-        ↔ ((n : ℕ) × Steps (EdgeStep machine.now edges.now) n root c)) }
+pub fn tree_reach(alloc: Global, root: Chip, links: Edges) -> Result<Vec<bool>, Memory>
+    requires { IsInside links.machine.now root }
+    ensures long { IfOk result (λ t. length t.items ≡ links.entry.machine.now.width * links.entry.machine.now.height) }
+    ensures reach { IfOk result (λ t. (c : Chip) → IsInside links.entry.machine.now c →
+        (is_marked links.entry.machine.now t.items c ≡ true)
+        ↔ ((n : ℕ) × Steps (EdgeStep links.entry.machine.now links.entry.list.now) n root c)) }
 {
-    let table = link_table(alloc, machine, edges)?;
-    let reach = reached_chips(alloc, machine, &table, &[root])?;
+    let table = link_table(alloc, links)?;
+    let reach = reached_chips(alloc, links.machine, &table, &[root])?;
     Ok(reach)
 }
 

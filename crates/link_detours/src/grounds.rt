@@ -42,6 +42,14 @@ pub struct Front<'a> {
     pub ghost long: { length set.now ≡ ground.machine.now.width },
 }
 
+// Edges that begin inside a machine's grid.
+#[derive(Clone, Copy)]
+pub struct Edges<'a> {
+    pub machine: &'a Machine,
+    pub list: &'a [Edge],
+    pub ghost inside: { All (λ e. IsInside machine.now e.chip) list.now },
+}
+
 // The number of places of a ring of rows or columns.
 #[derive(Clone, Copy)]
 pub struct Ring {

@@ -11,7 +11,7 @@ ghost use Rattle.machine_desc.specs.declared.trees.Edge.{Edge};
 
 use crate::detours::{join, tree_reach};
 use crate::edges::{live_edges, reached_edges};
-use crate::grounds::Ground;
+use crate::grounds::{Edges, Ground};
 use crate::sets::{empty_set, put_tree};
 use crate::trims::trimmed;
 use machine_desc::{Edge, Tree};
@@ -93,8 +93,12 @@ fn kept_edges(
     ensures is_whole { IfOk result (λ v. IsWholeTree ground.entry.machine.now root v.items) }
 {
     let live = live_edges(alloc, ground, edges)?;
-    let reach = tree_reach(alloc, ground.machine, root, &live)?;
-    let kept = reached_edges(alloc, ground.machine, &reach, &live)?;
+    let links = Edges {
+        machine: ground.machine,
+        list: &live,
+    };
+    let reach = tree_reach(alloc, root, links)?;
+    let kept = reached_edges(alloc, &reach, links)?;
     Ok(kept)
 }
 
