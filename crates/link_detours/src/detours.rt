@@ -20,7 +20,8 @@ use std::alloc::Global;
 // A table that marks the chips that the edges join to the root.
 pub fn tree_reach(alloc: Global, root: Chip, links: Edges) -> Result<Vec<bool>, Memory>
     requires { IsInside links.machine.now root }
-    ensures long { IfOk result (λ t. length t.items ≡ links.entry.machine.now.width * links.entry.machine.now.height) }
+    ensures long { IfOk result (λ t. length t.items ≡ links.entry.machine.now.width *
+        links.entry.machine.now.height) }
     ensures reach { IfOk result (λ t. (c : Chip) → IsInside links.entry.machine.now c →
         (is_marked links.entry.machine.now t.items c ≡ true)
         ↔ ((n : ℕ) × Steps (EdgeStep links.entry.machine.now links.entry.list.now) n root c)) }
@@ -36,10 +37,12 @@ fn waves(alloc: Global, tree: Front, target: Chip) -> Result<Option<Vec<Vec<u64>
     requires { IsInside tree.ground.machine.now target }
     ensures waves { IfOk result (λ o. IfSome o (λ v. AreWaves tree.entry.ground.machine.now
         (IsIn tree.entry.set.now) (map (λ w. w.items) v.items))) }
-    ensures level { IfOk result (λ o. IfSome o (λ v. IsStepLevel (LeadsTo tree.entry.ground.machine.now)
+    ensures level { IfOk result (λ o. IfSome o (λ v.
+        IsStepLevel (LeadsTo tree.entry.ground.machine.now)
         (IsIn tree.entry.set.now) target (length v.items))) }
     ensures cut_off { IfOk result (λ o. IfNone o ((n : ℕ)
-        → IsReachedBy (LeadsTo tree.entry.ground.machine.now) (IsIn tree.entry.set.now) n target → ⊥)) }
+        → IsReachedBy (LeadsTo tree.entry.ground.machine.now) (IsIn tree.entry.set.now) n target
+        → ⊥)) }
 {
     let ground = tree.ground;
     let columns = Ring {
@@ -63,12 +66,10 @@ fn waves(alloc: Global, tree: Front, target: Chip) -> Result<Option<Vec<Vec<u64>
 // The chip of the set from which the link `d` leads, live, to `at`.
 fn step_before(front: Front, at: Chip, d: Dir) -> Option<Chip>
     requires { IsInside front.ground.machine.now at }
-    ensures found { IfSome result (λ b. IsStepFrom front.entry.ground.machine.now front.entry.set.now at (record {
-      chip = b;
-      dir = d;
-    })) }
-    ensures none { IfNone result ((b : Chip)
-        → IsStepFrom front.entry.ground.machine.now front.entry.set.now at (record { chip = b; dir = d }) → ⊥) }
+    ensures found { IfSome result (λ b. IsStepFrom front.entry.ground.machine.now
+        front.entry.set.now at (record { chip = b; dir = d })) }
+    ensures none { IfNone result ((b : Chip) → IsStepFrom front.entry.ground.machine.now
+        front.entry.set.now at (record { chip = b; dir = d }) → ⊥) }
 {
     let back = d.opposite();
     let link = Edge {
@@ -89,8 +90,10 @@ fn step_before(front: Front, at: Chip, d: Dir) -> Option<Chip>
 // Of the live links that lead from a chip of the set to `at`, that of the least number.
 fn last_link(front: Front, at: Chip) -> Option<Edge>
     requires { IsInside front.ground.machine.now at }
-    ensures found { IfSome result (λ e. IsBestStep front.entry.ground.machine.now front.entry.set.now at e) }
-    ensures none { IfNone result ((e : Edge) → IsStepFrom front.entry.ground.machine.now front.entry.set.now at e → ⊥) }
+    ensures found { IfSome result (λ e. IsBestStep front.entry.ground.machine.now
+        front.entry.set.now at e) }
+    ensures none { IfNone result ((e : Edge) → IsStepFrom front.entry.ground.machine.now
+        front.entry.set.now at e → ⊥) }
 {
     for dir in Dir::ALL {
         if let Some(chip) = step_before(front, at, dir) {
@@ -110,11 +113,13 @@ fn walk_back(
     target: Chip,
 ) -> Result<(), Memory>
     requires inside { IsInside ground.machine.now target }
-    requires waves_are { AreWaves ground.machine.now (IsTreeChip ground.machine.now root whole.old.items) (map
-        (λ w. w.items) waves.items) }
-    requires level { IsTreeLevel ground.machine.now root whole.old.items target (length waves.items) }
+    requires waves_are { AreWaves ground.machine.now
+        (IsTreeChip ground.machine.now root whole.old.items) (map (λ w. w.items) waves.items) }
+    requires level { IsTreeLevel ground.machine.now root whole.old.items target
+        (length waves.items) }
     requires long { length tree.old ≡ ground.machine.now.width }
-    requires chips { (c : Chip) → IsIn tree.old c ↔ IsTreeChip ground.machine.now root whole.old.items c }
+    requires chips { (c : Chip) → IsIn tree.old c ↔ IsTreeChip ground.machine.now root
+        whole.old.items c }
     ensures joined { IfOk result (λ _. (walk : List Edge)
         × (whole.new.items ≡ whole.old.items ++ walk)
         × IsDetour ground.entry.machine.now root whole.old.items target walk) }
@@ -146,13 +151,15 @@ pub fn join(
 ) -> Result<bool, Memory>
     requires inside { IsInside ground.machine.now target }
     requires long { length tree.old ≡ ground.machine.now.width }
-    requires chips { (c : Chip) → IsIn tree.old c ↔ IsTreeChip ground.machine.now root whole.old.items c }
+    requires chips { (c : Chip) → IsIn tree.old c ↔ IsTreeChip ground.machine.now root
+        whole.old.items c }
     ensures joined { IfOk result (λ b. IsTrue b
         → (walk : List Edge) × (whole.new.items ≡ whole.old.items ++ walk)
         × IsDetour ground.entry.machine.now root whole.old.items target walk) }
     ensures chips { IfOk result (λ b. IsTrue b → (c : Chip)
         → IsIn tree.new c ↔ IsTreeChip ground.entry.machine.now root whole.new.items c) }
-    ensures cut_off { IfOk result (λ b. (b ≡ false) → IsCutOff ground.entry.machine.now root target) }
+    ensures cut_off { IfOk result (λ b. (b ≡ false) → IsCutOff ground.entry.machine.now root
+        target) }
 {
     if has(tree, target) {
         return Ok(true);

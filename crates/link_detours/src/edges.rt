@@ -43,7 +43,8 @@ pub fn reached_edges(alloc: Global, marks: &[bool], links: Edges) -> Result<Vec<
 
 // The same links, each from its other end.
 pub fn turned_edges(alloc: Global, links: Edges) -> Result<Vec<Edge>, Memory>
-    ensures { IfOk result (λ v. v.items ≡ filter_map (other_end_of links.entry.machine.now) links.entry.list.now) }
+    ensures { IfOk result (λ v. v.items ≡ filter_map (other_end_of links.entry.machine.now)
+        links.entry.list.now) }
 {
     let mut turned = Vec::with_capacity(alloc, links.list.len())?;
     for edge in links.list {

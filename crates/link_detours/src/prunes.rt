@@ -18,7 +18,8 @@ pub fn pruned(alloc: Global, whole: Edges, targets: &[Chip]) -> Result<Vec<Edge>
     requires { All (IsInside whole.machine.now) targets.now }
     ensures left { IfOk result (λ v. (e : Edge)
         → Contains v.items e
-        ↔ (Contains whole.entry.list.now e × LeadsToTarget whole.entry.machine.now whole.entry.list.now targets.now e)) }
+        ↔ (Contains whole.entry.list.now e × LeadsToTarget whole.entry.machine.now
+        whole.entry.list.now targets.now e)) }
     ensures in_order { IfOk result (λ v. AreInPlaceOrder whole.entry.machine.now v.items) }
 {
     let machine = whole.machine;

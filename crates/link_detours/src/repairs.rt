@@ -49,7 +49,8 @@ pub fn repair(
     targets: &Seq<Chip>,
 ) -> Result<Tree, RepairErr>
     requires root_lives { IsLiveChip ground.machine.now tree.now.root }
-    requires none_into_root { All (λ e. end_of ground.machine.now e ≢ Some tree.now.root) tree.now.edges }
+    requires none_into_root { All (λ e. end_of ground.machine.now e ≢ Some tree.now.root)
+        tree.now.edges }
     requires one_into_each { AllPairs (λ e f. (c : Chip) → end_of ground.machine.now e ≡ Some c
         → end_of ground.machine.now f ≢ Some c)
         tree.now.edges }
@@ -58,13 +59,16 @@ pub fn repair(
     ensures root { IfOk result (λ t. t.root ≡ tree.now.root) }
     ensures repaired { IfOk result (λ t.
         IsRepaired ground.entry.machine.now tree.now.root tree.now.edges targets.now t.edges) }
-    ensures routing { IfOk result (λ t. IsTreeTo ground.entry.machine.now tree.now.root t.edges targets.now) }
-    ensures cut_off { IfErr result (IsRepairCause ground.entry.machine.now tree.now.root targets.now) }
+    ensures routing { IfOk result (λ t. IsTreeTo ground.entry.machine.now tree.now.root t.edges
+        targets.now) }
+    ensures cut_off { IfErr result (IsRepairCause ground.entry.machine.now tree.now.root
+        targets.now) }
     ensures same_edges { IsTreeTo ground.entry.machine.now tree.now.root tree.now.edges targets.now →
         IfOk result (λ t. (e : Edge) → Contains t.edges e ↔ Contains tree.now.edges e) }
     ensures unchanged { IsTreeTo ground.entry.machine.now tree.now.root tree.now.edges targets.now →
         AreInPlaceOrder ground.entry.machine.now tree.now.edges → IfOk result (λ t. t ≡ tree.now) }
-    ensures not_cut_off { IsTreeTo ground.entry.machine.now tree.now.root tree.now.edges targets.now →
+    ensures not_cut_off { IsTreeTo ground.entry.machine.now tree.now.root tree.now.edges
+        targets.now →
         IfErr result (λ e. e ≡ NoMemory) }
 {
     let root = tree.root;
@@ -113,9 +117,11 @@ fn join_all(
     requires root_lives { IsLiveChip ground.machine.now root }
     requires targets_inside { All (IsInside ground.machine.now) targets.now }
     requires is_whole { IsWholeTree ground.machine.now root kept.items }
-    ensures joined { IfOk result (λ v. Joins ground.entry.machine.now root kept.items targets.now v.items) }
+    ensures joined { IfOk result (λ v. Joins ground.entry.machine.now root kept.items targets.now
+        v.items) }
     ensures is_whole { IfOk result (λ v. IsWholeTree ground.entry.machine.now root v.items) }
-    ensures has_targets { IfOk result (λ v. All (IsTreeChip ground.entry.machine.now root v.items) targets.now) }
+    ensures has_targets { IfOk result (λ v. All (IsTreeChip ground.entry.machine.now root v.items)
+        targets.now) }
     ensures cut_off { IfErr result (IsRepairCause ground.entry.machine.now root targets.now) }
 {
     let mut whole = kept;

@@ -108,7 +108,8 @@ fn column_beyond(width: usize, x: usize, d: Dir) -> usize
 fn leading(front: Front, x: usize, d: Dir) -> u64
     requires { x < front.ground.machine.now.width }
     ensures { (y : ℕ) → y < front.entry.ground.machine.now.height
-        → (bit_at result y ≡ 1) ↔ LeadsInto front.entry.ground.machine.now front.entry.set.now (record { x = x; y = y }) d }
+        → (bit_at result y ≡ 1) ↔ LeadsInto front.entry.ground.machine.now front.entry.set.now
+        (record { x = x; y = y }) d }
 {
     let set = front.set;
     let rows = Ring {
@@ -123,7 +124,8 @@ fn spread_word(front: Front, x: usize) -> u64
     ensures rises { slice_index front.entry.set.now x ≤ result }
     ensures old { (y : ℕ) → bit_at (slice_index front.entry.set.now x) y ≡ 1 → bit_at result y ≡ 1 }
     ensures new { (y : ℕ) (d : Dir) → y < front.entry.ground.machine.now.height
-        → LeadsInto front.entry.ground.machine.now front.entry.set.now (record { x = x; y = y }) d → bit_at result y ≡ 1 }
+        → LeadsInto front.entry.ground.machine.now front.entry.set.now (record { x = x; y = y }) d
+        → bit_at result y ≡ 1 }
     ensures only { (y : ℕ) → y < front.entry.ground.machine.now.height → bit_at result y ≡ 1
         → IsSpread front.entry.ground.machine.now front.entry.set.now (record { x = x; y = y }) }
 {
@@ -196,7 +198,8 @@ pub fn spread(alloc: Global, ground: Ground, set: &[u64], near: u64) -> Result<W
 
 // The columns that a word names, and those beside them on a ring of so many.
 pub fn near_columns(ring: Ring, columns: u64) -> u64
-    ensures { (wrap : Bool) (step : Step) (x k : ℕ) → x < ring.size → stepped wrap ring.size step x ≡ Some k
+    ensures { (wrap : Bool) (step : Step) (x k : ℕ) → x < ring.size
+        → stepped wrap ring.size step x ≡ Some k
         → bit_at columns k ≡ 1 → bit_at result x ≡ 1 }
 {
     columns | up(ring, columns) | down(ring, columns)

@@ -218,7 +218,8 @@ fn with_detours(
     ensures root { IfOk result (λ t. t.root ≡ tree.root) }
     ensures repaired { IfOk result (λ t.
         IsRepaired ground.entry.machine.now tree.root tree.edges chips.now t.edges) }
-    ensures routing { IfOk result (λ t. IsTreeTo ground.entry.machine.now tree.root t.edges chips.now) }
+    ensures routing { IfOk result (λ t. IsTreeTo ground.entry.machine.now tree.root t.edges
+        chips.now) }
     ensures cut_off { IfErr result (IsRepairCause ground.entry.machine.now tree.root chips.now) }
 {
     if ground.roads.carry(ground.machine, tree.edges.as_slice()) {
