@@ -5,67 +5,58 @@ ghost use Rattle.machine_desc.specs.RoutingTree.{IsTreeChip};
 ghost use Rattle.link_detours.specs.Steps.{Steps, IsReachedBy, IsStepLevel};
 ghost use Rattle.link_detours.specs.Usable.{is_marked};
 ghost use Rattle.link_detours.specs.Repair.{EdgeStep, IsTreeLevel, IsDetour, IsCutOff};
-ghost use Rattle.link_detours.specs.LiveRoads.{AreRoadsOf};
 ghost use Rattle.link_detours.specs.Waves.{IsIn, AreWaves, IsStepFrom, IsBestStep};
 ghost use Rattle.spin_base.specs.declared.chips.Chip.{Chip};
 ghost use Rattle.machine_desc.specs.declared.trees.Edge.{Edge};
 
-use crate::roads::Roads;
+use crate::grounds::{Edges, Front, Ground, Ring};
 use crate::searches::reached_chips;
 use crate::sets::{empty_set, has, near_columns, put, spread};
 use crate::tables::link_table;
-use machine_desc::{Edge, Machine};
+use machine_desc::Edge;
 use spin_base::{Chip, Dir, Memory};
 use std::alloc::Global;
 
 // A table that marks the chips that the edges join to the root.
-pub fn tree_reach(
-    alloc: Global,
-    machine: &Machine,
-    root: Chip,
-    edges: &[Edge],
-) -> Result<Vec<bool>, Memory>
-    requires root_inside { IsInside machine.now root }
-    requires inside { All (λ e. IsInside machine.now e.chip) edges.now }
-    ensures long { IfOk result (λ t. length t.items ≡ machine.now.width * machine.now.height) }
-    ensures reach { IfOk result (λ t. (c : Chip) → IsInside machine.now c →
-        (is_marked machine.now t.items c ≡ true)
-        ↔ ((n : ℕ) × Steps (EdgeStep machine.now edges.now) n root c)) }
+pub fn tree_reach(alloc: Global, root: Chip, links: Edges) -> Result<Vec<bool>, Memory>
+    requires { IsInside links.machine.now root }
+    ensures long { IfOk result (λ t. length t.items ≡ links.entry.machine.now.width *
+        links.entry.machine.now.height) }
+    ensures reach { IfOk result (λ t. (c : Chip) → IsInside links.entry.machine.now c →
+        (is_marked links.entry.machine.now t.items c ≡ true)
+        ↔ ((n : ℕ) × Steps (EdgeStep links.entry.machine.now links.entry.list.now) n root c)) }
 {
-    let table = link_table(alloc, machine, edges)?;
-    let reach = reached_chips(alloc, machine, &table, &[root])?;
+    let table = link_table(alloc, links)?;
+    let reach = reached_chips(alloc, links.machine, &table, &[root])?;
     Ok(reach)
 }
 
 // The waves from the chips of a tree, up to the last without the target: there are as many as live links lead to it.
 // `None` exactly where no walk of live links leads to it.
-fn waves(
-    alloc: Global,
-    machine: &Machine,
-    roads: &Roads,
-    tree: &[u64],
-    target: Chip,
-) -> Result<Option<Vec<Vec<u64>>>, Memory>
-    requires roads_are { AreRoadsOf machine.now roads.now }
-    requires long { length tree.now ≡ machine.now.width }
-    requires inside { IsInside machine.now target }
-    ensures waves { IfOk result (λ o. IfSome o (λ v. AreWaves machine.now (IsIn tree.now) (map (λ w.
-        w.items) v.items))) }
-    ensures level { IfOk result (λ o. IfSome o (λ v. IsStepLevel (LeadsTo machine.now)
-        (IsIn tree.now) target (length v.items))) }
+fn waves(alloc: Global, tree: Front, target: Chip) -> Result<Option<Vec<Vec<u64>>>, Memory>
+    requires { IsInside tree.ground.machine.now target }
+    ensures waves { IfOk result (λ o. IfSome o (λ v. AreWaves tree.entry.ground.machine.now
+        (IsIn tree.entry.set.now) (map (λ w. w.items) v.items))) }
+    ensures level { IfOk result (λ o. IfSome o (λ v.
+        IsStepLevel (LeadsTo tree.entry.ground.machine.now)
+        (IsIn tree.entry.set.now) target (length v.items))) }
     ensures cut_off { IfOk result (λ o. IfNone o ((n : ℕ)
-        → IsReachedBy (LeadsTo machine.now) (IsIn tree.now) n target → ⊥)) }
+        → IsReachedBy (LeadsTo tree.entry.ground.machine.now) (IsIn tree.entry.set.now) n target
+        → ⊥)) }
 {
-    let width = machine.width();
+    let ground = tree.ground;
+    let columns = Ring {
+        size: ground.machine.width(),
+    };
     let mut near = u64::MAX;
     let mut waves = Vec::new(alloc);
-    let mut last = Vec::from_slice(alloc, tree)?;
+    let mut last = Vec::from_slice(alloc, tree.set)?;
     'spreading: while !has(&last, target) {
-        let next = spread(alloc, machine, roads, &last, near)?;
+        let next = spread(alloc, ground, &last, near)?;
         if next.grown == 0 {
             return Ok(None);
         }
-        near = near_columns(width, next.grown);
+        near = near_columns(columns, next.grown);
         waves.push(last)?;
         last = next.set;
     }
@@ -73,39 +64,39 @@ fn waves(
 }
 
 // The chip of the set from which the link `d` leads, live, to `at`.
-fn step_before(machine: &Machine, roads: &Roads, set: &[u64], at: Chip, d: Dir) -> Option<Chip>
-    requires roads_are { AreRoadsOf machine.now roads.now }
-    requires inside { IsInside machine.now at }
-    requires long { length set.now ≡ machine.now.width }
-    ensures found { IfSome result (λ b. IsStepFrom machine.now set.now at (record {
-      chip = b;
-      dir = d;
-    })) }
-    ensures none { IfNone result ((b : Chip)
-        → IsStepFrom machine.now set.now at (record { chip = b; dir = d }) → ⊥) }
+fn step_before(front: Front, at: Chip, d: Dir) -> Option<Chip>
+    requires { IsInside front.ground.machine.now at }
+    ensures found { IfSome result (λ b. IsStepFrom front.entry.ground.machine.now
+        front.entry.set.now at (record { chip = b; dir = d })) }
+    ensures none { IfNone result ((b : Chip) → IsStepFrom front.entry.ground.machine.now
+        front.entry.set.now at (record { chip = b; dir = d }) → ⊥) }
 {
     let back = d.opposite();
     let link = Edge {
         chip: at,
         dir: back,
     };
-    if !roads.has_inside(machine, link) {
+    if !front.ground.has_inside(link) {
         return None;
     }
-    let chip = machine.far(at, back)?;
-    if has(set, chip) { Some(chip) } else { None }
+    let chip = front.ground.machine.far(at, back)?;
+    if has(front.set, chip) {
+        Some(chip)
+    } else {
+        None
+    }
 }
 
 // Of the live links that lead from a chip of the set to `at`, that of the least number.
-fn last_link(machine: &Machine, roads: &Roads, set: &[u64], at: Chip) -> Option<Edge>
-    requires roads_are { AreRoadsOf machine.now roads.now }
-    requires inside { IsInside machine.now at }
-    requires long { length set.now ≡ machine.now.width }
-    ensures found { IfSome result (λ e. IsBestStep machine.now set.now at e) }
-    ensures none { IfNone result ((e : Edge) → IsStepFrom machine.now set.now at e → ⊥) }
+fn last_link(front: Front, at: Chip) -> Option<Edge>
+    requires { IsInside front.ground.machine.now at }
+    ensures found { IfSome result (λ e. IsBestStep front.entry.ground.machine.now
+        front.entry.set.now at e) }
+    ensures none { IfNone result ((e : Edge) → IsStepFrom front.entry.ground.machine.now
+        front.entry.set.now at e → ⊥) }
 {
     for dir in Dir::ALL {
-        if let Some(chip) = step_before(machine, roads, set, at, dir) {
+        if let Some(chip) = step_before(front, at, dir) {
             return Some(Edge { chip, dir });
         }
     }
@@ -114,30 +105,31 @@ fn last_link(machine: &Machine, roads: &Roads, set: &[u64], at: Chip) -> Option<
 
 // Adds the links of the way back from a target over the waves, the last first, and the chips into which they lead.
 fn walk_back(
-    machine: &Machine,
-    roads: &Roads,
+    ground: Ground,
     mut waves: Vec<Vec<u64>>,
     root: Chip,
     tree: &mut [u64],
     whole: &mut Vec<Edge>,
     target: Chip,
 ) -> Result<(), Memory>
-    requires roads_are { AreRoadsOf machine.now roads.now }
-    requires inside { IsInside machine.now target }
-    requires waves_are { AreWaves machine.now (IsTreeChip machine.now root whole.old.items) (map
-        (λ w. w.items) waves.items) }
-    requires level { IsTreeLevel machine.now root whole.old.items target (length waves.items) }
-    requires long { length tree.old ≡ machine.now.width }
-    requires chips { (c : Chip) → IsIn tree.old c ↔ IsTreeChip machine.now root whole.old.items c }
+    requires inside { IsInside ground.machine.now target }
+    requires waves_are { AreWaves ground.machine.now
+        (IsTreeChip ground.machine.now root whole.old.items) (map (λ w. w.items) waves.items) }
+    requires level { IsTreeLevel ground.machine.now root whole.old.items target
+        (length waves.items) }
+    requires long { length tree.old ≡ ground.machine.now.width }
+    requires chips { (c : Chip) → IsIn tree.old c ↔ IsTreeChip ground.machine.now root
+        whole.old.items c }
     ensures joined { IfOk result (λ _. (walk : List Edge)
         × (whole.new.items ≡ whole.old.items ++ walk)
-        × IsDetour machine.now root whole.old.items target walk) }
+        × IsDetour ground.entry.machine.now root whole.old.items target walk) }
     ensures chips { IfOk result (λ _. (c : Chip)
-        → IsIn tree.new c ↔ IsTreeChip machine.now root whole.new.items c) }
+        → IsIn tree.new c ↔ IsTreeChip ground.entry.machine.now root whole.new.items c) }
 {
     let mut at = target;
     while let Some(wave) = waves.pop() {
-        let Some(edge) = last_link(machine, roads, &wave, at) else {
+        let front = Front { ground, set: &wave };
+        let Some(edge) = last_link(front, at) else {
             unreachable!();
         };
         put(tree, at);
@@ -151,32 +143,32 @@ fn walk_back(
 // exactly where no walk of live links joins root and target.
 pub fn join(
     alloc: Global,
-    machine: &Machine,
-    roads: &Roads,
+    ground: Ground,
     root: Chip,
     tree: &mut [u64],
     whole: &mut Vec<Edge>,
     target: Chip,
 ) -> Result<bool, Memory>
-    requires roads_are { AreRoadsOf machine.now roads.now }
-    requires inside { IsInside machine.now target }
-    requires long { length tree.old ≡ machine.now.width }
-    requires chips { (c : Chip) → IsIn tree.old c ↔ IsTreeChip machine.now root whole.old.items c }
+    requires inside { IsInside ground.machine.now target }
+    requires long { length tree.old ≡ ground.machine.now.width }
+    requires chips { (c : Chip) → IsIn tree.old c ↔ IsTreeChip ground.machine.now root
+        whole.old.items c }
     ensures joined { IfOk result (λ b. IsTrue b
         → (walk : List Edge) × (whole.new.items ≡ whole.old.items ++ walk)
-        × IsDetour machine.now root whole.old.items target walk) }
+        × IsDetour ground.entry.machine.now root whole.old.items target walk) }
     ensures chips { IfOk result (λ b. IsTrue b → (c : Chip)
-        → IsIn tree.new c ↔ IsTreeChip machine.now root whole.new.items c) }
-    ensures cut_off { IfOk result (λ b. (b ≡ false) → IsCutOff machine.now root target) }
+        → IsIn tree.new c ↔ IsTreeChip ground.entry.machine.now root whole.new.items c) }
+    ensures cut_off { IfOk result (λ b. (b ≡ false) → IsCutOff ground.entry.machine.now root
+        target) }
 {
     if has(tree, target) {
         return Ok(true);
     }
-    let found = waves(alloc, machine, roads, tree, target)?;
+    let found = waves(alloc, Front { ground, set: tree }, target)?;
     match found {
         None => Ok(false),
         Some(list) => {
-            walk_back(machine, roads, list, root, tree, whole, target)?;
+            walk_back(ground, list, root, tree, whole, target)?;
             Ok(true)
         }
     }

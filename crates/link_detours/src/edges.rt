@@ -3,30 +3,23 @@ ghost use Rattle.std.specs.Prelude.{◌≡◌, ◌+◌, ◌*◌, ◌<◌, ◌≤
 ghost use Rattle.machine_desc.specs.Live.{IsInside, is_live_link, far_of, index_of};
 ghost use Rattle.machine_desc.specs.RoutingTree.{end_of};
 ghost use Rattle.std.specs.List.{filter_map};
-ghost use Rattle.link_detours.specs.LiveRoads.{AreRoadsOf};
 ghost use Rattle.link_detours.specs.Usable.{is_marked, other_end_of};
 ghost use Rattle.spin_base.specs.declared.chips.Chip.{Chip};
 ghost use Rattle.machine_desc.specs.declared.trees.Edge.{Edge};
 
-use crate::roads::Roads;
-use machine_desc::{Edge, Machine};
+use crate::grounds::{Edges, Ground};
+use machine_desc::Edge;
 use spin_base::{Chip, Memory};
 use std::alloc::Global;
 
 // The edges that are live links.
-pub fn live_edges(
-    alloc: Global,
-    machine: &Machine,
-    roads: &Roads,
-    edges: &[Edge],
-) -> Result<Vec<Edge>, Memory>
-    requires { AreRoadsOf machine.now roads.now }
+pub fn live_edges(alloc: Global, ground: Ground, edges: &[Edge]) -> Result<Vec<Edge>, Memory>
     ensures { IfOk result (λ v. v.items
-        ≡ filter (λ e. is_live_link machine.now e.chip e.dir) edges.now) }
+        ≡ filter (λ e. is_live_link ground.entry.machine.now e.chip e.dir) edges.now) }
 {
     let mut live = Vec::with_capacity(alloc, edges.len())?;
     for edge in edges {
-        if roads.has(machine, *edge) {
+        if ground.has(*edge) {
             live.push(*edge)?;
         }
     }
@@ -34,20 +27,14 @@ pub fn live_edges(
 }
 
 // The edges that begin at a chip that the table marks.
-pub fn reached_edges(
-    alloc: Global,
-    machine: &Machine,
-    marks: &[bool],
-    edges: &[Edge],
-) -> Result<Vec<Edge>, Memory>
-    requires inside { All (λ e. IsInside machine.now e.chip) edges.now }
-    requires long { length marks.now ≡ machine.now.width * machine.now.height }
+pub fn reached_edges(alloc: Global, marks: &[bool], links: Edges) -> Result<Vec<Edge>, Memory>
+    requires { length marks.now ≡ links.machine.now.width * links.machine.now.height }
     ensures { IfOk result (λ v. v.items
-        ≡ filter (λ e. is_marked machine.now marks.now e.chip) edges.now) }
+        ≡ filter (λ e. is_marked links.entry.machine.now marks.now e.chip) links.entry.list.now) }
 {
-    let mut reached = Vec::with_capacity(alloc, edges.len())?;
-    for edge in edges {
-        if marks[machine.index(edge.chip) as usize] {
+    let mut reached = Vec::with_capacity(alloc, links.list.len())?;
+    for edge in links.list {
+        if marks[links.machine.index(edge.chip) as usize] {
             reached.push(*edge)?;
         }
     }
@@ -55,13 +42,13 @@ pub fn reached_edges(
 }
 
 // The same links, each from its other end.
-pub fn turned_edges(alloc: Global, machine: &Machine, edges: &[Edge]) -> Result<Vec<Edge>, Memory>
-    requires { All (λ e. IsInside machine.now e.chip) edges.now }
-    ensures { IfOk result (λ v. v.items ≡ filter_map (other_end_of machine.now) edges.now) }
+pub fn turned_edges(alloc: Global, links: Edges) -> Result<Vec<Edge>, Memory>
+    ensures { IfOk result (λ v. v.items ≡ filter_map (other_end_of links.entry.machine.now)
+        links.entry.list.now) }
 {
-    let mut turned = Vec::with_capacity(alloc, edges.len())?;
-    for edge in edges {
-        if let Some(chip) = machine.far(edge.chip, edge.dir) {
+    let mut turned = Vec::with_capacity(alloc, links.list.len())?;
+    for edge in links.list {
+        if let Some(chip) = links.machine.far(edge.chip, edge.dir) {
             turned.push(Edge {
                 chip,
                 dir: edge.dir.opposite(),

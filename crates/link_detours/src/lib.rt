@@ -6,6 +6,7 @@
 
 mod detours;
 mod edges;
+mod grounds;
 mod prunes;
 mod repairs;
 mod roads;
@@ -14,5 +15,6 @@ mod sets;
 mod tables;
 mod trims;
 
+pub use grounds::Ground;
 pub use repairs::{RepairErr, repair};
 pub use roads::Roads;

@@ -6,31 +6,40 @@ ghost use Rattle.spin_base.specs.declared.chips.Chip.{Chip};
 ghost use Rattle.machine_desc.specs.declared.trees.Edge.{Edge};
 
 use crate::edges::{reached_edges, turned_edges};
+use crate::grounds::Edges;
 use crate::searches::reached_chips;
 use crate::tables::{in_place_order, link_table};
-use machine_desc::{Edge, Machine};
+use machine_desc::Edge;
 use spin_base::{Chip, Memory};
 use std::alloc::Global;
 
 // The edges at or below whose far end a target stands, in order: a search from the targets up the tree finds them.
-pub fn pruned(
-    alloc: Global,
-    machine: &Machine,
-    whole: &[Edge],
-    targets: &[Chip],
-) -> Result<Vec<Edge>, Memory>
-    requires edges_inside { All (λ e. IsInside machine.now e.chip) whole.now }
-    requires targets_inside { All (IsInside machine.now) targets.now }
+pub fn pruned(alloc: Global, whole: Edges, targets: &[Chip]) -> Result<Vec<Edge>, Memory>
+    requires { All (IsInside whole.machine.now) targets.now }
     ensures left { IfOk result (λ v. (e : Edge)
         → Contains v.items e
-        ↔ (Contains whole.now e × LeadsToTarget machine.now whole.now targets.now e)) }
-    ensures in_order { IfOk result (λ v. AreInPlaceOrder machine.now v.items) }
+        ↔ (Contains whole.entry.list.now e × LeadsToTarget whole.entry.machine.now
+        whole.entry.list.now targets.now e)) }
+    ensures in_order { IfOk result (λ v. AreInPlaceOrder whole.entry.machine.now v.items) }
 {
-    let turned = turned_edges(alloc, machine, whole)?;
-    let table = link_table(alloc, machine, &turned)?;
+    let machine = whole.machine;
+    let turned = turned_edges(alloc, whole)?;
+    let links = Edges {
+        machine,
+        list: &turned,
+    };
+    let table = link_table(alloc, links)?;
     let marks = reached_chips(alloc, machine, &table, targets)?;
-    let wanted = reached_edges(alloc, machine, &marks, &turned)?;
-    let left = turned_edges(alloc, machine, &wanted)?;
-    let edges = in_place_order(alloc, machine, &left)?;
+    let wanted = reached_edges(alloc, &marks, links)?;
+    let found = Edges {
+        machine,
+        list: &wanted,
+    };
+    let left = turned_edges(alloc, found)?;
+    let kept = Edges {
+        machine,
+        list: &left,
+    };
+    let edges = in_place_order(alloc, kept)?;
     Ok(edges)
 }

@@ -5,17 +5,16 @@ ghost use Rattle.machine_desc.specs.RoutingTree.{end_of, IsTreeChip, IsTreeTo};
 ghost use Rattle.link_detours.specs.Repair.{IsKeptEdge, Joins, IsRepaired, AreInPlaceOrder};
 ghost use Rattle.link_detours.specs.Whole.{IsWholeTree};
 ghost use Rattle.link_detours.specs.Cause.{IsRepairCause};
-ghost use Rattle.link_detours.specs.LiveRoads.{AreRoadsOf};
 ghost use Rattle.link_detours.specs.declared.repairs.RepairErr.TheVariants.{Memory as NoMemory};
 ghost use Rattle.spin_base.specs.declared.chips.Chip.{Chip};
 ghost use Rattle.machine_desc.specs.declared.trees.Edge.{Edge};
 
 use crate::detours::{join, tree_reach};
 use crate::edges::{live_edges, reached_edges};
-use crate::roads::Roads;
+use crate::grounds::{Edges, Ground};
 use crate::sets::{empty_set, put_tree};
 use crate::trims::trimmed;
-use machine_desc::{Edge, Machine, Tree};
+use machine_desc::{Edge, Tree};
 use spin_base::{Chip, Memory, Seq};
 use std::alloc::Global;
 
@@ -42,38 +41,40 @@ impl From<Memory> for RepairErr {
 /// The tree with, of its edges, those that live links of the tree join to the root; with a detour to each target that
 /// is then not in the tree, in the order of the list, each the shortest over live links from the tree as it is then
 /// (of all, last link first, that of the least link numbers); and without edges that lead to no target. Edges are in
-/// order of (x, y, link). It is refused exactly where some target is cut off from the root. `roads` are the machine's.
+/// order of (x, y, link). It is refused exactly where some target is cut off from the root.
 pub fn repair(
     alloc: Global,
-    machine: &Machine,
-    roads: &Roads,
+    ground: Ground,
     tree: &Tree,
     targets: &Seq<Chip>,
 ) -> Result<Tree, RepairErr>
-    requires roads_are { AreRoadsOf machine.now roads.now }
-    requires root_lives { IsLiveChip machine.now tree.now.root }
-    requires none_into_root { All (λ e. end_of machine.now e ≢ Some tree.now.root) tree.now.edges }
-    requires one_into_each { AllPairs (λ e f. (c : Chip) → end_of machine.now e ≡ Some c
-        → end_of machine.now f ≢ Some c)
+    requires root_lives { IsLiveChip ground.machine.now tree.now.root }
+    requires none_into_root { All (λ e. end_of ground.machine.now e ≢ Some tree.now.root)
+        tree.now.edges }
+    requires one_into_each { AllPairs (λ e f. (c : Chip) → end_of ground.machine.now e ≡ Some c
+        → end_of ground.machine.now f ≢ Some c)
         tree.now.edges }
     requires some_target { 0 < length targets.now }
-    requires targets_inside { All (IsInside machine.now) targets.now }
+    requires targets_inside { All (IsInside ground.machine.now) targets.now }
     ensures root { IfOk result (λ t. t.root ≡ tree.now.root) }
     ensures repaired { IfOk result (λ t.
-        IsRepaired machine.now tree.now.root tree.now.edges targets.now t.edges) }
-    ensures routing { IfOk result (λ t. IsTreeTo machine.now tree.now.root t.edges targets.now) }
-    ensures cut_off { IfErr result (IsRepairCause machine.now tree.now.root targets.now) }
-    ensures same_edges { IsTreeTo machine.now tree.now.root tree.now.edges targets.now →
+        IsRepaired ground.entry.machine.now tree.now.root tree.now.edges targets.now t.edges) }
+    ensures routing { IfOk result (λ t. IsTreeTo ground.entry.machine.now tree.now.root t.edges
+        targets.now) }
+    ensures cut_off { IfErr result (IsRepairCause ground.entry.machine.now tree.now.root
+        targets.now) }
+    ensures same_edges { IsTreeTo ground.entry.machine.now tree.now.root tree.now.edges targets.now →
         IfOk result (λ t. (e : Edge) → Contains t.edges e ↔ Contains tree.now.edges e) }
-    ensures unchanged { IsTreeTo machine.now tree.now.root tree.now.edges targets.now →
-        AreInPlaceOrder machine.now tree.now.edges → IfOk result (λ t. t ≡ tree.now) }
-    ensures not_cut_off { IsTreeTo machine.now tree.now.root tree.now.edges targets.now →
+    ensures unchanged { IsTreeTo ground.entry.machine.now tree.now.root tree.now.edges targets.now →
+        AreInPlaceOrder ground.entry.machine.now tree.now.edges → IfOk result (λ t. t ≡ tree.now) }
+    ensures not_cut_off { IsTreeTo ground.entry.machine.now tree.now.root tree.now.edges
+        targets.now →
         IfErr result (λ e. e ≡ NoMemory) }
 {
     let root = tree.root;
-    let kept = kept_edges(alloc, machine, roads, root, tree.edges.as_slice())?;
-    let whole = join_all(alloc, machine, roads, root, kept, targets.as_slice())?;
-    let left = trimmed(alloc, machine, root, whole, targets.as_slice())?;
+    let kept = kept_edges(alloc, ground, root, tree.edges.as_slice())?;
+    let whole = join_all(alloc, ground, root, kept, targets.as_slice())?;
+    let left = trimmed(alloc, ground.machine, root, whole, targets.as_slice())?;
     Ok(Tree {
         root,
         edges: Seq::from_vec(left),
@@ -83,50 +84,52 @@ pub fn repair(
 // The edges that live links of the tree join to the root.
 fn kept_edges(
     alloc: Global,
-    machine: &Machine,
-    roads: &Roads,
+    ground: Ground,
     root: Chip,
     edges: &[Edge],
 ) -> Result<Vec<Edge>, Memory>
-    requires roads_are { AreRoadsOf machine.now roads.now }
-    requires root_lives { IsLiveChip machine.now root }
-    requires none_into_root { All (λ e. end_of machine.now e ≢ Some root) edges.now }
-    requires one_into_each { AllPairs (λ e f. (c : Chip) → end_of machine.now e ≡ Some c
-        → end_of machine.now f ≢ Some c) edges.now }
+    requires root_lives { IsLiveChip ground.machine.now root }
+    requires none_into_root { All (λ e. end_of ground.machine.now e ≢ Some root) edges.now }
+    requires one_into_each { AllPairs (λ e f. (c : Chip) → end_of ground.machine.now e ≡ Some c
+        → end_of ground.machine.now f ≢ Some c) edges.now }
     ensures kept { IfOk result (λ v. (e : Edge)
-        → Contains v.items e ↔ IsKeptEdge machine.now root edges.now e) }
-    ensures is_whole { IfOk result (λ v. IsWholeTree machine.now root v.items) }
+        → Contains v.items e ↔ IsKeptEdge ground.entry.machine.now root edges.now e) }
+    ensures is_whole { IfOk result (λ v. IsWholeTree ground.entry.machine.now root v.items) }
 {
-    let live = live_edges(alloc, machine, roads, edges)?;
-    let reach = tree_reach(alloc, machine, root, &live)?;
-    let kept = reached_edges(alloc, machine, &reach, &live)?;
+    let live = live_edges(alloc, ground, edges)?;
+    let links = Edges {
+        machine: ground.machine,
+        list: &live,
+    };
+    let reach = tree_reach(alloc, root, links)?;
+    let kept = reached_edges(alloc, &reach, links)?;
     Ok(kept)
 }
 
 // The tree with a detour to each target that it doesn't have, in the order of their list.
 fn join_all(
     alloc: Global,
-    machine: &Machine,
-    roads: &Roads,
+    ground: Ground,
     root: Chip,
     kept: Vec<Edge>,
     targets: &[Chip],
 ) -> Result<Vec<Edge>, RepairErr>
-    requires roads_are { AreRoadsOf machine.now roads.now }
-    requires root_lives { IsLiveChip machine.now root }
-    requires targets_inside { All (IsInside machine.now) targets.now }
-    requires is_whole { IsWholeTree machine.now root kept.items }
-    ensures joined { IfOk result (λ v. Joins machine.now root kept.items targets.now v.items) }
-    ensures is_whole { IfOk result (λ v. IsWholeTree machine.now root v.items) }
-    ensures has_targets { IfOk result (λ v. All (IsTreeChip machine.now root v.items) targets.now) }
-    ensures cut_off { IfErr result (IsRepairCause machine.now root targets.now) }
+    requires root_lives { IsLiveChip ground.machine.now root }
+    requires targets_inside { All (IsInside ground.machine.now) targets.now }
+    requires is_whole { IsWholeTree ground.machine.now root kept.items }
+    ensures joined { IfOk result (λ v. Joins ground.entry.machine.now root kept.items targets.now
+        v.items) }
+    ensures is_whole { IfOk result (λ v. IsWholeTree ground.entry.machine.now root v.items) }
+    ensures has_targets { IfOk result (λ v. All (IsTreeChip ground.entry.machine.now root v.items)
+        targets.now) }
+    ensures cut_off { IfErr result (IsRepairCause ground.entry.machine.now root targets.now) }
 {
     let mut whole = kept;
-    let mut words = empty_set(alloc, machine)?;
+    let mut words = empty_set(alloc, ground.machine)?;
     let chips: &mut [u64] = &mut words;
-    put_tree(machine, chips, root, &whole);
+    put_tree(ground, chips, root, &whole);
     for target in targets {
-        let joined = join(alloc, machine, roads, root, chips, &mut whole, *target)?;
+        let joined = join(alloc, ground, root, chips, &mut whole, *target)?;
         if !joined {
             return Err(RepairErr::CutOff { target: *target });
         }

@@ -2,9 +2,10 @@
 ghost use Rattle.std.specs.Prelude.{◌≡◌, ◌<◌, ◌+◌, ◌*◌, ◌↔◌, ℕ, All, IfOk, IsTrue, length, slice_index, true};
 ghost use Rattle.spin_base.specs.Links.{dir_number};
 ghost use Rattle.std.specs.Int.{bit_at};
-ghost use Rattle.machine_desc.specs.Live.{IsInside, IsLiveLink, is_live_link};
+ghost use Rattle.machine_desc.specs.Live.{IsLiveLink};
 ghost use Rattle.link_detours.specs.LiveRoads.{AreRoadsOf};
 
+use crate::grounds::Ground;
 use machine_desc::{Edge, Machine};
 use spin_base::{Chip, Dir, Memory, Shared};
 use std::alloc::Global;
@@ -38,29 +39,16 @@ impl Roads {
         requires { AreRoadsOf machine.now self.now }
         ensures { IsTrue result ↔ All (λ e. IsLiveLink machine.now e.chip e.dir) edges.now }
     {
+        let ground = Ground {
+            machine,
+            roads: self,
+        };
         for edge in edges {
-            if !self.has(machine, *edge) {
+            if !ground.has(*edge) {
                 return false;
             }
         }
         true
-    }
-
-    // Whether the edge is a live link.
-    pub(crate) fn has(&self, machine: &Machine, edge: Edge) -> bool
-        requires { AreRoadsOf machine.now self.now }
-        ensures { result ≡ is_live_link machine.now edge.chip edge.dir }
-    {
-        machine.is_inside(edge.chip) && self.has_inside(machine, edge)
-    }
-
-    // Whether an edge that begins inside the grid is a live link.
-    pub(crate) fn has_inside(&self, machine: &Machine, edge: Edge) -> bool
-        requires roads_are { AreRoadsOf machine.now self.now }
-        requires inside { IsInside machine.now edge.chip }
-        ensures { result ≡ is_live_link machine.now edge.chip edge.dir }
-    {
-        bit_is_set(self.word(usize::from(edge.chip.x), edge.dir), edge.chip.y)
     }
 
     // The word of a column and a link.
@@ -73,7 +61,7 @@ impl Roads {
 }
 
 // Whether the bit of this place is set.
-fn bit_is_set(word: u64, y: u8) -> bool
+pub fn bit_is_set(word: u64, y: u8) -> bool
     requires { y < 64 }
     ensures { (result ≡ true) ↔ (bit_at word y ≡ 1) }
 {

@@ -7,10 +7,9 @@ ghost use Rattle.spin_base.specs.Links.{dir_number};
 ghost use Rattle.machine_desc.specs.declared.steps.Step.{Step};
 ghost use Rattle.machine_desc.specs.Live.{IsInside, IsLiveLink, far_of, x_step, y_step, stepped};
 ghost use Rattle.machine_desc.specs.RoutingTree.{IsTreeChip};
-ghost use Rattle.link_detours.specs.LiveRoads.{AreRoadsOf};
 ghost use Rattle.link_detours.specs.Waves.{IsIn, LeadsInto, IsSpread, IsSpreadBut, IsSpreadAt};
 
-use crate::roads::Roads;
+use crate::grounds::{Front, Ground, Ring};
 use machine_desc::{Edge, Machine};
 use spin_base::{Chip, Dir, Memory};
 use std::alloc::Global;
@@ -45,55 +44,48 @@ pub fn empty_set(alloc: Global, machine: &Machine) -> Result<Vec<u64>, Memory>
 }
 
 // Puts the chips of the tree that these edges make into an empty set.
-pub fn put_tree(machine: &Machine, set: &mut [u64], root: Chip, edges: &[Edge])
-    requires root_inside { IsInside machine.now root }
-    requires inside { All (λ e. IsInside machine.now e.chip) edges.now }
-    requires few { machine.now.height ≤ 64 }
-    requires long { length set.old ≡ machine.now.width }
+pub fn put_tree(ground: Ground, set: &mut [u64], root: Chip, edges: &[Edge])
+    requires root_inside { IsInside ground.machine.now root }
+    requires inside { All (λ e. IsInside ground.machine.now e.chip) edges.now }
+    requires long { length set.old ≡ ground.machine.now.width }
     requires empty { (c : Chip) → IsIn set.old c → ⊥ }
-    ensures { (c : Chip) → IsIn set.new c ↔ IsTreeChip machine.now root edges.now c }
+    ensures { (c : Chip) → IsIn set.new c ↔ IsTreeChip ground.entry.machine.now root edges.now c }
 {
     put(set, root);
     for edge in edges {
-        if let Some(far) = machine.far(edge.chip, edge.dir) {
+        if let Some(far) = ground.machine.far(edge.chip, edge.dir) {
             put(set, far);
         }
     }
 }
 
 // The word turned by one: bit y is what bit y + 1 was, and the last what the first was.
-fn up(height: u8, word: u64) -> u64
-    requires some { 0 < height }
-    requires few { height ≤ 64 }
-    ensures inside { (y : ℕ) → y + 1 < height → bit_at result y ≡ bit_at word (y + 1) }
-    ensures round { (y : ℕ) → y + 1 ≡ height → bit_at result y ≡ bit_at word 0 }
+fn up(ring: Ring, word: u64) -> u64
+    ensures inside { (y : ℕ) → y + 1 < ring.size → bit_at result y ≡ bit_at word (y + 1) }
+    ensures round { (y : ℕ) → y + 1 ≡ ring.size → bit_at result y ≡ bit_at word 0 }
 {
-    let top: u64 = 1 << (height - 1);
-    ((word >> 1) & (top - 1)) | ((word & 1) << (height - 1))
+    let top: u64 = 1 << (ring.size - 1);
+    ((word >> 1) & (top - 1)) | ((word & 1) << (ring.size - 1))
 }
 
 // The word turned by one the other way.
-fn down(height: u8, word: u64) -> u64
-    requires some { 0 < height }
-    requires few { height ≤ 64 }
-    ensures inside { (y : ℕ) → 0 < y → y < height → bit_at result y ≡ bit_at word (y - 1) }
-    ensures round { bit_at result 0 ≡ bit_at word (height - 1) }
+fn down(ring: Ring, word: u64) -> u64
+    ensures inside { (y : ℕ) → 0 < y → y < ring.size → bit_at result y ≡ bit_at word (y - 1) }
+    ensures round { bit_at result 0 ≡ bit_at word (ring.size - 1) }
 {
-    (word << 1) | ((word >> (height - 1)) & 1)
+    (word << 1) | ((word >> (ring.size - 1)) & 1)
 }
 
 // The word turned so that bit y is of the coordinate to which the link leads from y.
 #[inline(always)]
-fn turned(height: u8, word: u64, d: Dir) -> u64
-    requires some { 0 < height }
-    requires few { height ≤ 64 }
-    ensures { (wrap : Bool) (y k : ℕ) → y < height → stepped wrap height (y_step d) y ≡ Some k
+fn turned(ring: Ring, word: u64, d: Dir) -> u64
+    ensures { (wrap : Bool) (y k : ℕ) → y < ring.size → stepped wrap ring.size (y_step d) y ≡ Some k
         → bit_at result y ≡ bit_at word k }
 {
     match d {
-        Dir::NorthEast | Dir::North => up(height, word),
+        Dir::NorthEast | Dir::North => up(ring, word),
         Dir::East | Dir::West => word,
-        Dir::SouthWest | Dir::South => down(height, word),
+        Dir::SouthWest | Dir::South => down(ring, word),
     }
 }
 
@@ -113,32 +105,33 @@ fn column_beyond(width: usize, x: usize, d: Dir) -> usize
 
 // Of a column's chips those whose link leads, live, to a chip of the set.
 #[inline(always)]
-fn leading(machine: &Machine, roads: &Roads, set: &[u64], x: usize, d: Dir) -> u64
-    requires roads_are { AreRoadsOf machine.now roads.now }
-    requires long { length set.now ≡ machine.now.width }
-    requires column { x < machine.now.width }
-    ensures { (y : ℕ) → y < machine.now.height
-        → (bit_at result y ≡ 1) ↔ LeadsInto machine.now set.now (record { x = x; y = y }) d }
+fn leading(front: Front, x: usize, d: Dir) -> u64
+    requires { x < front.ground.machine.now.width }
+    ensures { (y : ℕ) → y < front.entry.ground.machine.now.height
+        → (bit_at result y ≡ 1) ↔ LeadsInto front.entry.ground.machine.now front.entry.set.now
+        (record { x = x; y = y }) d }
 {
-    let column = set[column_beyond(set.len(), x, d)];
-    turned(machine.height(), column, d) & roads.word(x, d)
+    let set = front.set;
+    let rows = Ring {
+        size: front.ground.machine.height(),
+    };
+    turned(rows, set[column_beyond(set.len(), x, d)], d) & front.ground.roads.word(x, d)
 }
 
 // Of a column's chips those of the set, and those from which a live link leads to one of the set.
-fn spread_word(machine: &Machine, roads: &Roads, set: &[u64], x: usize) -> u64
-    requires roads_are { AreRoadsOf machine.now roads.now }
-    requires long { length set.now ≡ machine.now.width }
-    requires column { x < machine.now.width }
-    ensures rises { slice_index set.now x ≤ result }
-    ensures old { (y : ℕ) → bit_at (slice_index set.now x) y ≡ 1 → bit_at result y ≡ 1 }
-    ensures new { (y : ℕ) (d : Dir) → y < machine.now.height
-        → LeadsInto machine.now set.now (record { x = x; y = y }) d → bit_at result y ≡ 1 }
-    ensures only { (y : ℕ) → y < machine.now.height → bit_at result y ≡ 1
-        → IsSpread machine.now set.now (record { x = x; y = y }) }
+fn spread_word(front: Front, x: usize) -> u64
+    requires { x < front.ground.machine.now.width }
+    ensures rises { slice_index front.entry.set.now x ≤ result }
+    ensures old { (y : ℕ) → bit_at (slice_index front.entry.set.now x) y ≡ 1 → bit_at result y ≡ 1 }
+    ensures new { (y : ℕ) (d : Dir) → y < front.entry.ground.machine.now.height
+        → LeadsInto front.entry.ground.machine.now front.entry.set.now (record { x = x; y = y }) d
+        → bit_at result y ≡ 1 }
+    ensures only { (y : ℕ) → y < front.entry.ground.machine.now.height → bit_at result y ≡ 1
+        → IsSpread front.entry.ground.machine.now front.entry.set.now (record { x = x; y = y }) }
 {
-    let mut word = set[x];
+    let mut word = front.set[x];
     for d in Dir::ALL {
-        word |= leading(machine, roads, set, x, d);
+        word |= leading(front, x, d);
     }
     word
 }
@@ -161,62 +154,53 @@ fn with_column(columns: u64, x: u32, named: bool) -> u64
 }
 
 // Spreads one column of a set.
-fn spread_column(machine: &Machine, roads: &Roads, set: &[u64], x: u32, wave: &mut Wave)
-    requires roads_are { AreRoadsOf machine.now roads.now }
-    requires long { length set.now ≡ machine.now.width }
-    requires wave_long { length wave.old.set.items ≡ machine.now.width }
-    requires column { x < machine.now.width }
+fn spread_column(front: Front, x: u32, wave: &mut Wave)
+    requires wave_long { length wave.old.set.items ≡ front.ground.machine.now.width }
+    requires column { x < front.ground.machine.now.width }
     requires few { x < 64 }
-    ensures { IsSpreadAt machine.now set.now x wave.old wave.new }
+    ensures { IsSpreadAt front.entry.ground.machine.now front.entry.set.now x wave.old wave.new }
 {
     let place = x as usize;
-    let word = spread_word(machine, roads, set, place);
-    wave.grown = with_column(wave.grown, x, word != set[place]);
+    let word = spread_word(front, place);
+    wave.grown = with_column(wave.grown, x, word != front.set[place]);
     wave.set[place] = word;
 }
 
 // The set with the chips from which a live link leads to one of it. Only columns that are named are looked at.
-pub fn spread(
-    alloc: Global,
-    machine: &Machine,
-    roads: &Roads,
-    set: &[u64],
-    near: u64,
-) -> Result<Wave, Memory>
-    requires roads_are { AreRoadsOf machine.now roads.now }
-    requires long { length set.now ≡ machine.now.width }
-    requires others { IsSpreadBut machine.now set.now near }
-    ensures long { IfOk result (λ t. length t.set.items ≡ machine.now.width) }
+pub fn spread(alloc: Global, ground: Ground, set: &[u64], near: u64) -> Result<Wave, Memory>
+    requires long { length set.now ≡ ground.machine.now.width }
+    requires others { IsSpreadBut ground.machine.now set.now near }
+    ensures long { IfOk result (λ t. length t.set.items ≡ ground.entry.machine.now.width) }
     ensures fits { IfOk result (λ t. All (λ w. w < 2 ^ 64) t.set.items) }
     ensures rises { IfOk result (λ t. (x : ℕ) → slice_index set.now x ≤ slice_index t.set.items x) }
-    ensures spread { IfOk result (λ t. (c : Chip) → IsInside machine.now c
-        → IsIn t.set.items c ↔ IsSpread machine.now set.now c) }
+    ensures spread { IfOk result (λ t. (c : Chip) → IsInside ground.entry.machine.now c
+        → IsIn t.set.items c ↔ IsSpread ground.entry.machine.now set.now c) }
     ensures grown { IfOk result (λ t. (x : ℕ) → (bit_at t.grown x ≡ 1 → ⊥)
         → slice_index set.now x ≡ slice_index t.set.items x) }
     ensures grew { IfOk result (λ t. set.now ≡ t.set.items → t.grown ≡ 0) }
 {
+    let front = Front { ground, set };
     let mut wave = Wave {
         set: Vec::from_slice(alloc, set)?,
         grown: 0,
     };
-    let width = u32::from(machine.width());
+    let width = u32::from(ground.machine.width());
     let mut left = near;
     while left != 0 {
         let x = left.trailing_zeros();
         left &= !(1 << x);
         if x < width {
-            spread_column(machine, roads, set, x, &mut wave);
+            spread_column(front, x, &mut wave);
         }
     }
     Ok(wave)
 }
 
 // The columns that a word names, and those beside them on a ring of so many.
-pub fn near_columns(width: u8, columns: u64) -> u64
-    requires some { 0 < width }
-    requires few { width ≤ 64 }
-    ensures { (wrap : Bool) (step : Step) (x k : ℕ) → x < width → stepped wrap width step x ≡ Some k
+pub fn near_columns(ring: Ring, columns: u64) -> u64
+    ensures { (wrap : Bool) (step : Step) (x k : ℕ) → x < ring.size
+        → stepped wrap ring.size step x ≡ Some k
         → bit_at columns k ≡ 1 → bit_at result x ≡ 1 }
 {
-    columns | up(width, columns) | down(width, columns)
+    columns | up(ring, columns) | down(ring, columns)
 }

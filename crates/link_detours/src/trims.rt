@@ -8,6 +8,7 @@ ghost use Rattle.link_detours.specs.Whole.{IsWholeTree, GoesOnFrom};
 ghost use Rattle.spin_base.specs.declared.chips.Chip.{Chip};
 ghost use Rattle.machine_desc.specs.declared.trees.Edge.{Edge};
 
+use crate::grounds::Edges;
 use crate::prunes::pruned;
 use crate::searches::seed_table;
 use crate::tables::{in_place_order, link_place};
@@ -32,8 +33,12 @@ pub fn trimmed(
         ↔ (Contains whole.items e × LeadsToTarget machine.now whole.items targets.now e)) }
     ensures in_order { IfOk result (λ v. AreInPlaceOrder machine.now v.items) }
 {
-    if !ends_go_on(alloc, machine, &whole, targets)? {
-        return pruned(alloc, machine, &whole, targets);
+    let edges = Edges {
+        machine,
+        list: &whole,
+    };
+    if !ends_go_on(alloc, edges, targets)? {
+        return pruned(alloc, edges, targets);
     }
     let left = put_in_order(alloc, machine, whole)?;
     Ok(left)
@@ -45,20 +50,23 @@ fn put_in_order(alloc: Global, machine: &Machine, edges: Vec<Edge>) -> Result<Ve
     ensures same { IfOk result (λ v. (e : Edge) → Contains v.items e ↔ Contains edges.items e) }
     ensures in_order { IfOk result (λ v. AreInPlaceOrder machine.now v.items) }
 {
-    if is_in_order(machine, &edges) {
+    let links = Edges {
+        machine,
+        list: &edges,
+    };
+    if is_in_order(links) {
         return Ok(edges);
     }
-    in_place_order(alloc, machine, &edges)
+    in_place_order(alloc, links)
 }
 
 // Whether edges stand in order of x, y and link number.
-fn is_in_order(machine: &Machine, edges: &[Edge]) -> bool
-    requires { All (λ e. IsInside machine.now e.chip) edges.now }
-    ensures { result ≡ true → AreInPlaceOrder machine.now edges.now }
+fn is_in_order(edges: Edges) -> bool
+    ensures { result ≡ true → AreInPlaceOrder edges.entry.machine.now edges.entry.list.now }
 {
     let mut least = 0;
-    for edge in edges {
-        let place = link_place(machine, edge.chip, edge.dir);
+    for edge in edges.list {
+        let place = link_place(edges.machine, edge.chip, edge.dir);
         if place < least {
             return false;
         }
@@ -68,21 +76,15 @@ fn is_in_order(machine: &Machine, edges: &[Edge]) -> bool
 }
 
 // Whether each edge ends at a target, or where another begins.
-fn ends_go_on(
-    alloc: Global,
-    machine: &Machine,
-    edges: &[Edge],
-    targets: &[Chip],
-) -> Result<bool, Memory>
-    requires inside { All (λ e. IsInside machine.now e.chip) edges.now }
-    requires targets_inside { All (IsInside machine.now) targets.now }
+fn ends_go_on(alloc: Global, edges: Edges, targets: &[Chip]) -> Result<bool, Memory>
+    requires { All (IsInside edges.machine.now) targets.now }
     ensures { IfOk result (λ b. b ≡ true
-        → All (λ e. (c : Chip) → end_of machine.now e ≡ Some c
-        → GoesOnFrom edges.now targets.now c) edges.now) }
+        → All (λ e. (c : Chip) → end_of edges.entry.machine.now e ≡ Some c
+        → GoesOnFrom edges.entry.list.now targets.now c) edges.entry.list.now) }
 {
-    let chips = chips_before(alloc, edges, targets)?;
-    let table = seed_table(alloc, machine, &chips)?;
-    Ok(ends_are_marked(machine, &table, edges))
+    let chips = chips_before(alloc, edges.list, targets)?;
+    let table = seed_table(alloc, edges.machine, &chips)?;
+    Ok(ends_are_marked(&table, edges))
 }
 
 // The targets, and the chips at which edges begin.
@@ -98,15 +100,14 @@ fn chips_before(alloc: Global, edges: &[Edge], targets: &[Chip]) -> Result<Vec<C
 }
 
 // Whether the table marks each chip at which an edge ends.
-fn ends_are_marked(machine: &Machine, table: &[bool], edges: &[Edge]) -> bool
-    requires inside { All (λ e. IsInside machine.now e.chip) edges.now }
-    requires long { length table.now ≡ machine.now.width * machine.now.height }
+fn ends_are_marked(table: &[bool], edges: Edges) -> bool
+    requires { length table.now ≡ edges.machine.now.width * edges.machine.now.height }
     ensures { result ≡ true
-        → All (λ e. (c : Chip) → end_of machine.now e ≡ Some c
-        → is_marked machine.now table.now c ≡ true) edges.now }
+        → All (λ e. (c : Chip) → end_of edges.entry.machine.now e ≡ Some c
+        → is_marked edges.entry.machine.now table.now c ≡ true) edges.entry.list.now }
 {
-    for edge in edges {
-        if !end_is_marked(machine, table, *edge) {
+    for edge in edges.list {
+        if !end_is_marked(edges.machine, table, *edge) {
             return false;
         }
     }

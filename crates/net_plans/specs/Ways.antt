@@ -4,7 +4,7 @@ use Rattle.spin_base.specs.declared.chips.Chip.{Chip}
 use Rattle.spin_base.specs.declared.chips.Spot.{Spot}
 use Rattle.spin_base.specs.declared.blocks.Block.{Block}
 use Rattle.machine_desc.specs.Description.{Description}
-use Rattle.machine_desc.specs.Live.{IsLiveLink, IsSite}
+use Rattle.machine_desc.specs.Live.{IsInside, IsLiveChip, IsLiveLink, IsSite}
 use Rattle.machine_desc.specs.RoutingTree.{end_of, IsRoutingTree, IsTreeTo}
 use Rattle.machine_desc.specs.declared.trees.Tree.{Tree}
 use Rattle.app_graph.specs.declared.graphs.Graph.{Graph}
@@ -32,9 +32,17 @@ pub record CanRoute (m : Description) (roads : Roads) (graph : Graph) (spots : L
   pub sites : All (IsSite m) spots
   pub a_block_each : length blocks ≡ length graph.nets
 
--- What is known of a tree that grew: no edge leads into the root, one into each other chip, edges are in order, and where all
--- of them live it is a tree to its targets.
+-- and one of the nets
+pub record CanRouteAt (m : Description) (roads : Roads) (graph : Graph) (spots : List Spot) (blocks : List Block) (i : ℕ) : Type 0 where
+  pub can : CanRoute m roads graph spots blocks
+  pub is_net : i < length graph.nets
+
+-- What is known of a tree that grew: its root lives, and there are targets, all on the machine. No edge leads into the root, one
+-- into each other chip, edges are in order, and where all of them live it is a tree to its targets.
 pub record IsGrownTree (m : Description) (tree : Tree) (chips : List Chip) : Type 0 where
+  pub root_lives : IsLiveChip m tree.root
+  pub some_target : 0 < length chips
+  pub targets_inside : All (IsInside m) chips
   pub none_into_root : All (λ e. end_of m e ≢ Some tree.root) tree.edges
   pub one_into_each : AllPairs (λ e f. (c : Chip) → end_of m e ≡ Some c → end_of m f ≢ Some c) tree.edges
   pub in_order : AreInPlaceOrder m tree.edges

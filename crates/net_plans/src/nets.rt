@@ -1,7 +1,7 @@
 // The plan of each net.
 ghost use Rattle.std.specs.Prelude.{◌≡◌, ℕ, ◌<◌, All, length, IfOk, IfErr};
 ghost use Rattle.spin_base.specs.declared.chips.Chip.{Chip};
-ghost use Rattle.machine_desc.specs.Live.{IsInside, IsLiveChip, IsSite};
+ghost use Rattle.machine_desc.specs.Live.{IsSite};
 ghost use Rattle.machine_desc.specs.RoutingTree.{IsRoutingTree, IsTreeTo};
 ghost use Rattle.app_graph.specs.ValidGraph.{IsValidGraph, IsValidNet};
 ghost use Rattle.link_detours.specs.Cause.{IsRepairCause};
@@ -10,11 +10,11 @@ ghost use Rattle.link_detours.specs.Repair.{IsRepaired};
 ghost use Rattle.net_plans.specs.Cause.{IsNetCause, IsCauseOne, IsRefusedBy};
 ghost use Rattle.net_plans.specs.CutOffTargets.{HasNoneCutOff, IsFirstCutOffIn, IsFirstNetCutOff};
 ghost use Rattle.net_plans.specs.NetPlans.{IsPlannedNet, ArePlanned};
-ghost use Rattle.net_plans.specs.Ways.{AreRoutedNets, CanRoute, HaveWays, IsFirstWithout, IsGrownTree, IsRoutedNet};
+ghost use Rattle.net_plans.specs.Ways.{AreRoutedNets, CanRoute, CanRouteAt, HaveWays, IsFirstWithout, IsGrownTree, IsRoutedNet};
 
 use crate::targets::{target_chips, targets_of};
 use app_graph::{Graph, Net};
-use link_detours::{RepairErr, Roads, repair};
+use link_detours::{Ground, RepairErr, Roads, repair};
 use machine_desc::{Machine, NetPlan, Tree};
 use ner_trees::{Grown, ner};
 use rayon::prelude::*;
@@ -83,7 +83,11 @@ pub fn net_plans<R: Threads + Sync>(
         IsRefusedBy result (NetErr.CutOff i target) NetErr.Memory }
 {
     let roads = Roads::of(alloc, machine)?;
-    let Ok(routed) = routed_nets(rt, alloc, machine, &roads, graph, spots, blocks) else {
+    let ground = Ground {
+        machine,
+        roads: &roads,
+    };
+    let Ok(routed) = routed_nets(rt, alloc, &ground, graph, spots, blocks) else {
         return Err(NetErr::Memory);
     };
     looked_through(alloc, routed)
@@ -111,25 +115,25 @@ fn looked_through(alloc: Global, routed: Vec<RoutedNet>) -> Result<Seq<NetPlan>,
 fn routed_nets<R: Threads + Sync>(
     rt: &R,
     alloc: Global,
-    machine: &Machine,
-    roads: &Roads,
+    ground: &Ground,
     graph: &Graph,
     spots: &Seq<Spot>,
     blocks: &Seq<Block>,
 ) -> Result<Vec<RoutedNet>, AllocError>
-    requires { CanRoute machine.now roads.now graph.now spots.now blocks.now }
-    ensures { IfOk result (λ routed.
-        AreRoutedNets machine.now spots.now graph.now.nets blocks.now routed.items) }
+    requires { CanRoute ground.now.machine.now ground.now.roads.now graph.now
+        spots.now blocks.now }
+    ensures { IfOk result (λ routed. AreRoutedNets ground.now.machine.now spots.now
+        graph.now.nets blocks.now routed.items) }
 {
     (0..graph.nets.len())
         .into_par_iter()
         .map(
             |i: usize| -> RoutedNet
-                requires { CanRoute machine.now roads.now graph.now spots.now blocks.now
-                    × (i < length graph.now.nets) }
-                ensures { IsRoutedNet machine.entry.now spots.entry.now graph.entry.now.nets
-                    blocks.entry.now i result }
-            { routed_net(alloc, machine, roads, graph, spots, blocks, i) },
+                requires { CanRouteAt ground.now.machine.now ground.now.roads.now
+                    graph.now spots.now blocks.now i }
+                ensures { IsRoutedNet ground.entry.now.machine.now spots.entry.now
+                    graph.entry.now.nets blocks.entry.now i result }
+            { routed_net(alloc, ground, graph, spots, blocks, i) },
         )
         .collect(rt, alloc)
 }
@@ -137,19 +141,26 @@ fn routed_nets<R: Threads + Sync>(
 // What came of routing the net at this place.
 fn routed_net(
     alloc: Global,
-    machine: &Machine,
-    roads: &Roads,
+    ground: &Ground,
     graph: &Graph,
     spots: &Seq<Spot>,
     blocks: &Seq<Block>,
     i: usize,
 ) -> RoutedNet
-    requires can { CanRoute machine.now roads.now graph.now spots.now blocks.now }
-    requires is_net { i < length graph.now.nets }
-    ensures { IsRoutedNet machine.now spots.now graph.now.nets blocks.now i result }
+    requires { CanRouteAt ground.now.machine.now ground.now.roads.now graph.now
+        spots.now blocks.now i }
+    ensures { IsRoutedNet ground.now.machine.now spots.now graph.now.nets
+        blocks.now i result }
 {
     let block = *blocks.get(i);
-    let way = net_plan(alloc, machine, roads, spots, graph.nets.get(i), block);
+    let way = net_plan(
+        alloc,
+        ground.machine,
+        ground.roads,
+        spots,
+        graph.nets.get(i),
+        block,
+    );
     RoutedNet { net: i as u32, way }
 }
 
@@ -186,7 +197,8 @@ pub fn net_plan(
         tree: grown,
         joins: _,
     } = ner(alloc, machine, source.chip, &chips)?;
-    let tree = with_detours(alloc, machine, roads, grown, &chips)?;
+    let ground = Ground { machine, roads };
+    let tree = with_detours(alloc, ground, grown, &chips)?;
     Ok(NetPlan {
         block,
         source,
@@ -198,24 +210,20 @@ pub fn net_plan(
 // The tree of a net with its detours. A tree without a dead link is itself that tree: it is handed on, and not searched.
 fn with_detours(
     alloc: Global,
-    machine: &Machine,
-    roads: &Roads,
+    ground: Ground,
     tree: Tree,
     chips: &Seq<Chip>,
 ) -> Result<Tree, RepairErr>
-    requires roads_are { AreRoadsOf machine.now roads.now }
-    requires root_lives { IsLiveChip machine.now tree.root }
-    requires grown { IsGrownTree machine.now tree chips.now }
-    requires some_target { 0 < length chips.now }
-    requires targets_inside { All (IsInside machine.now) chips.now }
+    requires grown { IsGrownTree ground.machine.now tree chips.now }
     ensures root { IfOk result (λ t. t.root ≡ tree.root) }
     ensures repaired { IfOk result (λ t.
-        IsRepaired machine.now tree.root tree.edges chips.now t.edges) }
-    ensures routing { IfOk result (λ t. IsTreeTo machine.now tree.root t.edges chips.now) }
-    ensures cut_off { IfErr result (IsRepairCause machine.now tree.root chips.now) }
+        IsRepaired ground.entry.machine.now tree.root tree.edges chips.now t.edges) }
+    ensures routing { IfOk result (λ t. IsTreeTo ground.entry.machine.now tree.root t.edges
+        chips.now) }
+    ensures cut_off { IfErr result (IsRepairCause ground.entry.machine.now tree.root chips.now) }
 {
-    if roads.carry(machine, tree.edges.as_slice()) {
+    if ground.roads.carry(ground.machine, tree.edges.as_slice()) {
         return Ok(tree);
     }
-    repair(alloc, machine, roads, &tree, chips)
+    repair(alloc, ground, &tree, chips)
 }

@@ -45,7 +45,11 @@ pub fn target_chips(
     requires targets_inside { All (λ s. IsInside machine.now s.chip) targets.now }
     ensures { IfOk result (λ chips. AreTargetChips machine.now root targets.now chips) }
 {
-    let mut keys = chip_keys(alloc, machine, root, targets)?;
+    let root = Root {
+        machine,
+        chip: root,
+    };
+    let mut keys = chip_keys(alloc, root, targets)?;
     each_once(&mut keys);
     chips_at(alloc, &keys)
 }
@@ -81,22 +85,24 @@ fn spots_at(alloc: Global, keys: &[(u8, u8, u8)]) -> Result<Seq<Spot>, Memory>
     Ok(Seq::from_vec(spots))
 }
 
+// The chip of a net's source, on the machine.
+#[derive(Clone, Copy)]
+pub struct Root<'a> {
+    pub machine: &'a Machine,
+    pub chip: Chip,
+    pub ghost inside: { IsInside machine.now chip },
+}
+
 // Of each target the distance from the root, and its chip's x and y.
-fn chip_keys(
-    alloc: Global,
-    machine: &Machine,
-    root: Chip,
-    targets: &Seq<Spot>,
-) -> Result<Vec<(u32, u8, u8)>, Memory>
-    requires root_inside { IsInside machine.now root }
-    requires targets_inside { All (λ s. IsInside machine.now s.chip) targets.now }
+fn chip_keys(alloc: Global, root: Root, targets: &Seq<Spot>) -> Result<Vec<(u32, u8, u8)>, Memory>
+    requires { All (λ s. IsInside root.machine.now s.chip) targets.now }
     ensures { IfOk result (λ keys. keys.items
-        ≡ map (λ (s : Spot). chip_key machine.now root s.chip) targets.now) }
+        ≡ map (λ (s : Spot). chip_key root.entry.machine.now root.entry.chip s.chip) targets.now) }
 {
     let mut keys = Vec::with_capacity(alloc, targets.len())?;
     for i in 0..targets.len() {
         let chip = targets.get(i).chip;
-        keys.push((distance(machine, root, chip), chip.x, chip.y))?;
+        keys.push((distance(root.machine, root.chip, chip), chip.x, chip.y))?;
     }
     Ok(keys)
 }

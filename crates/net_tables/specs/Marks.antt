@@ -59,6 +59,25 @@ pub record IsBlank {X : Type 0} (m : Description) (x : X) (board : List X) : Typ
 abbrev pub IsClearOff : Description → NetPlan → List Route → Type 0
 IsClearOff m net routes = (c : Chip) → IsInside m c → (HasChip m net c → ⊥) → slice_index_or routes (index_of m c) nothing ≡ nothing
 
+-- both boards are blank
+pub record AreBlank (m : Description) (ports : List (Option Port)) (routes : List Route) : Type 0 where
+  pub no_port : IsBlank m None ports
+  pub no_route : IsBlank m nothing routes
+
+-- the boards tell what the net wants of each chip
+pub record TellNet (m : Description) (net : NetPlan) (ports : List (Option Port)) (routes : List Route) : Type 0 where
+  pub ports_long : length ports ≡ m.width * m.height
+  pub routes_long : length routes ≡ m.width * m.height
+  pub ports_told : TellsPorts m net.tree.root net.tree.edges ports
+  pub routes_told : TellsRoutes m net.tree.edges net.targets routes
+  pub clear_off : IsClearOff m net routes
+
+-- the boards and the lists have the place
+pub record HavePlace (place : ℕ) (ports : List (Option Port)) (routes : List Route) (lists : List (List Mark)) : Type 0 where
+  pub in_ports : place < length ports
+  pub in_routes : place < length routes
+  pub in_lists : place < length lists
+
 -- no key is in two of the blocks
 abbrev pub AreApart : List Mark → Type 0
 AreApart marks = AllPairs (λ (a b : Mark). ¬ (Intersects a.block b.block)) marks

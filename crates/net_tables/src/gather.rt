@@ -5,7 +5,7 @@ ghost use Rattle.spin_base.specs.Outputs.{nothing};
 ghost use Rattle.machine_desc.specs.Live.{IsInside, index_of};
 ghost use Rattle.net_tables.specs.PlainTable.{AreOriginals, AreRoutedApart};
 ghost use Rattle.net_tables.specs.declared.marks.Mark.{Mark};
-ghost use Rattle.net_tables.specs.Marks.{AreApart, AreBlocksOf, IsBlank, IsClearOff, IsRouted, GainsMark, TellsPorts, TellsRoutes, with_mark, original_of};
+ghost use Rattle.net_tables.specs.Marks.{AreApart, AreBlank, AreBlocksOf, HavePlace, IsBlank, IsRouted, GainsMark, TellNet, with_mark, original_of};
 
 use crate::marks::{Mark, no_ports, no_routes, set_links, set_ports, set_targets};
 use machine_desc::{Machine, NetPlan};
@@ -65,8 +65,7 @@ fn add_nets(
     lists: &mut [Seq<Mark>],
 ) -> Result<(), Memory>
     requires routed { All (IsRouted machine.now) nets.now }
-    requires no_port { IsBlank machine.now None ports.old }
-    requires no_route { IsBlank machine.now nothing routes.old }
+    requires blank { AreBlank machine.now ports.old routes.old }
     requires empty { lists.old ≡ replicate (machine.now.width * machine.now.height) [] }
     ensures long { OnOk result (length lists.new ≡ machine.now.width * machine.now.height) }
     ensures gathered { OnOk result ((c : Chip) → IsInside machine.now c →
@@ -88,8 +87,7 @@ fn add_net(
     lists: &mut [Seq<Mark>],
 ) -> Result<(), Memory>
     requires routed { IsRouted machine.now net.now }
-    requires no_port { IsBlank machine.now None ports.old }
-    requires no_route { IsBlank machine.now nothing routes.old }
+    requires blank { AreBlank machine.now ports.old routes.old }
     requires long { length lists.old ≡ machine.now.width * machine.now.height }
     ensures no_port { OnOk result (IsBlank machine.now None ports.new) }
     ensures no_route { OnOk result (IsBlank machine.now nothing routes.new) }
@@ -113,12 +111,8 @@ fn take_marks(
     lists: &mut [Seq<Mark>],
 ) -> Result<(), Memory>
     requires routed { IsRouted machine.now net.now }
-    requires ports_long { length ports.old ≡ machine.now.width * machine.now.height }
-    requires routes_long { length routes.old ≡ machine.now.width * machine.now.height }
-    requires lists_long { length lists.old ≡ machine.now.width * machine.now.height }
-    requires ports_told { TellsPorts machine.now net.now.tree.root net.now.tree.edges ports.old }
-    requires routes_told { TellsRoutes machine.now net.now.tree.edges net.now.targets routes.old }
-    requires clear_off { IsClearOff machine.now net.now routes.old }
+    requires boards { TellNet machine.now net.now ports.old routes.old }
+    requires long { length lists.old ≡ machine.now.width * machine.now.height }
     ensures no_port { OnOk result (IsBlank machine.now None ports.new) }
     ensures no_route { OnOk result (IsBlank machine.now nothing routes.new) }
     ensures long { OnOk result (length lists.new ≡ machine.now.width * machine.now.height) }
@@ -145,9 +139,7 @@ fn take_mark(
     routes: &mut [Route],
     lists: &mut [Seq<Mark>],
 ) -> Result<(), Memory>
-    requires in_ports { place < length ports.old }
-    requires in_routes { place < length routes.old }
-    requires in_lists { place < length lists.old }
+    requires { HavePlace place ports.old routes.old lists.old }
     ensures port { ports.new ≡ slice_set ports.old place None }
     ensures route { routes.new ≡ slice_set routes.old place nothing }
     ensures mark { OnOk result (lists.new ≡ slice_set lists.old place

@@ -12,30 +12,30 @@ use Rattle.link_detours.proofs.detours.join.Goals as goal
 
 pub has-requires-clause-bit : goal.has-requires-clause-bit
 has-requires-clause-bit c =
-    let low : c.args.target.y < c.args.machine.now.height = (inside_parts c.args.machine.now c.args.target c.requires.inside).1 in
-    let few : c.args.machine.now.height ≤ 64 = c.requires.roads_are.few in omega (arith, low, few)
+    let low : c.args.target.y < c.args.ground.machine.now.height = (inside_parts c.args.ground.machine.now c.args.target c.requires.inside).1 in
+    let few : c.args.ground.machine.now.height ≤ 64 = c.args.ground.roads_are.few in omega (arith, low, few)
 
 pub returns-then-has-clause-joined : goal.returns-then-has-clause-joined
 returns-then-has-clause-joined c = λ _. ([], sym (append-nil c.args.whole.now.items), (c.requires.chips c.args.target).0 (c.has.ensures.0 c.if-has.true))
 
 pub walk_back-requires-clause-waves_are : goal.walk_back-requires-clause-waves_are
 walk_back-requires-clause-waves_are c =
-    AreWaves-same c.args.machine.now (IsIn c.args.tree.now) (IsTreeChip c.args.machine.now c.args.root c.args.whole.now.items)
+    AreWaves-same c.args.ground.machine.now (IsIn c.args.tree.now) (IsTreeChip c.args.ground.machine.now c.args.root c.args.whole.now.items)
     (λ x. (c.requires.chips x).0) (λ x. (c.requires.chips x).1) (map (λ (w : Vec ℕ Global). w.items) c.in-Some.list.items)
     (rw c.in-Some.is at c.in_ok-found.ensures.waves)
 
 pub walk_back-requires-clause-level : goal.walk_back-requires-clause-level
 walk_back-requires-clause-level c =
-    IsLevel-same (LeadsTo c.args.machine.now) (LeadsTo c.args.machine.now) (IsIn c.args.tree.now)
-    (IsTreeChip c.args.machine.now c.args.root c.args.whole.now.items) (λ a b step. step) (λ a b step. step)
+    IsLevel-same (LeadsTo c.args.ground.machine.now) (LeadsTo c.args.ground.machine.now) (IsIn c.args.tree.now)
+    (IsTreeChip c.args.ground.machine.now c.args.root c.args.whole.now.items) (λ a b step. step) (λ a b step. step)
     (λ x. (c.requires.chips x).0) (λ x. (c.requires.chips x).1) c.args.target (length c.in-Some.list.items)
     (rw c.in-Some.is at c.in_ok-found.ensures.level)
 
 pub returns-in-None-clause-cut_off : goal.returns-in-None-clause-cut_off
 returns-in-None-clause-cut_off c = λ _ walk along.
-    let way = walk_steps c.args.machine.now walk c.args.root along.0 in
+    let way = walk_steps c.args.ground.machine.now walk c.args.root along.0 in
     (rw c.in-None.is at c.in_ok-found.ensures.cut_off) way.0 (
       c.args.root,
       (c.requires.chips c.args.root).1 (inl refl),
-      subst (λ (x : Chip). Steps (LeadsTo c.args.machine.now) way.0 c.args.root x) along.1 way.1,
+      subst (λ (x : Chip). Steps (LeadsTo c.args.ground.machine.now) way.0 c.args.root x) along.1 way.1,
     )

@@ -21,44 +21,46 @@ loop-wave-init c = record {
   way = λ rest detour. detour;
 }
 
-pub last_link-requires-clause-long : goal.last_link-requires-clause-long
-last_link-requires-clause-long c = ap length c.deref.ensures.value ∙ (waves_pop c.args.machine.now (IsTreeChip c.args.machine.now c.args.root c.args.whole.now.items) (λ (w : Vec ℕ Global). w.items)
-    c.loop-wave.waves.items c.pop.new.self.items c.in-Some.wave c.in-Some.ensures.items c.loop-wave.invariant.waves).1.long
+pub invariant_of-front : goal.invariant_of-front
+invariant_of-front c = record {
+  long = ap length c.deref.ensures.value ∙ (waves_pop c.args.ground.machine.now (IsTreeChip c.args.ground.machine.now c.args.root c.args.whole.now.items) (λ (w : Vec ℕ Global). w.items)
+      c.loop-wave.waves.items c.pop.new.self.items c.in-Some.wave c.in-Some.ensures.items c.loop-wave.invariant.waves).1.long;
+}
 
 pub unreachable-requires : goal.unreachable-requires
 unreachable-requires c =
-    let popped = waves_pop c.args.machine.now (IsTreeChip c.args.machine.now c.args.root c.args.whole.now.items) (λ (w : Vec ℕ Global). w.items)
+    let popped = waves_pop c.args.ground.machine.now (IsTreeChip c.args.ground.machine.now c.args.root c.args.whole.now.items) (λ (w : Vec ℕ Global). w.items)
     c.loop-wave.waves.items c.pop.new.self.items c.in-Some.wave c.in-Some.ensures.items c.loop-wave.invariant.waves in
-    let level = level_suc c.args.machine.now c.args.root c.args.whole.now.items c.loop-wave.at c.loop-wave.waves.items c.pop.new.self.items c.in-Some.wave
+    let level = level_suc c.args.ground.machine.now c.args.root c.args.whole.now.items c.loop-wave.at c.loop-wave.waves.items c.pop.new.self.items c.in-Some.wave
     c.in-Some.ensures.items c.loop-wave.invariant.level in
-    some_step c.args.machine.now c.args.root c.args.whole.now.items (length c.pop.new.self.items) c.in-Some.wave.items c.loop-wave.at popped.1 level
+    some_step c.args.ground.machine.now c.args.root c.args.whole.now.items (length c.pop.new.self.items) c.in-Some.wave.items c.loop-wave.at popped.1 level
     (rw c.deref.ensures.value at c.in_default-last_link.ensures.none)
 
 pub put-requires-clause-bit : goal.put-requires-clause-bit
 put-requires-clause-bit c =
-    let low : c.loop-wave.at.y < c.args.machine.now.height = (inside_parts c.args.machine.now c.loop-wave.at c.loop-wave.invariant.inside).1 in
-    let few : c.args.machine.now.height ≤ 64 = c.requires.roads_are.few in omega (arith, low, few)
+    let low : c.loop-wave.at.y < c.args.ground.machine.now.height = (inside_parts c.args.ground.machine.now c.loop-wave.at c.loop-wave.invariant.inside).1 in
+    let few : c.args.ground.machine.now.height ≤ 64 = c.args.ground.roads_are.few in omega (arith, low, few)
 
 pub loop-wave-preserved : goal.loop-wave-preserved
 loop-wave-preserved c =
-    let popped = waves_pop c.args.machine.now (IsTreeChip c.args.machine.now c.args.root c.args.whole.now.items) (λ (w : Vec ℕ Global). w.items)
+    let popped = waves_pop c.args.ground.machine.now (IsTreeChip c.args.ground.machine.now c.args.root c.args.whole.now.items) (λ (w : Vec ℕ Global). w.items)
     c.loop-wave.waves.items c.pop.new.self.items c.in-Some.wave c.in-Some.ensures.items c.loop-wave.invariant.waves in
-    let level = level_suc c.args.machine.now c.args.root c.args.whole.now.items c.loop-wave.at c.loop-wave.waves.items c.pop.new.self.items c.in-Some.wave
+    let level = level_suc c.args.ground.machine.now c.args.root c.args.whole.now.items c.loop-wave.at c.loop-wave.waves.items c.pop.new.self.items c.in-Some.wave
     c.in-Some.ensures.items c.loop-wave.invariant.level in
-    let best : IsBestStep c.args.machine.now c.in-Some.wave.items c.loop-wave.at c.in-Some-last_link.edge =
+    let best : IsBestStep c.args.ground.machine.now c.in-Some.wave.items c.loop-wave.at c.in-Some-last_link.edge =
     rw c.deref.ensures.value at c.in-Some-last_link.ensures.found in
-    let last = last_link_is c.args.machine.now c.args.root c.args.whole.now.items (length c.pop.new.self.items) c.in-Some.wave.items c.loop-wave.at
+    let last = last_link_is c.args.ground.machine.now c.args.root c.args.whole.now.items (length c.pop.new.self.items) c.in-Some.wave.items c.loop-wave.at
     c.in-Some-last_link.edge popped.1 level best in
-    let way = way_more c.args.machine.now c.args.root c.args.whole.now.items c.args.target c.loop-wave.at c.loop-wave.whole.items
+    let way = way_more c.args.ground.machine.now c.args.root c.args.whole.now.items c.args.target c.loop-wave.at c.loop-wave.whole.items
     c.loop-wave.invariant.done c.in-Some-last_link.edge c.loop-wave.invariant.added c.loop-wave.invariant.way last in
     record {
-      inside = link_inside c.args.machine.now c.in-Some-last_link.edge.chip c.in-Some-last_link.edge.dir best.0.0;
+      inside = link_inside c.args.ground.machine.now c.in-Some-last_link.edge.chip c.in-Some-last_link.edge.dir best.0.0;
       waves = popped.0;
-      level = step_level c.args.machine.now c.args.root c.args.whole.now.items (length c.pop.new.self.items) c.in-Some.wave.items c.loop-wave.at
+      level = step_level c.args.ground.machine.now c.args.root c.args.whole.now.items (length c.pop.new.self.items) c.in-Some.wave.items c.loop-wave.at
           c.in-Some-last_link.edge popped.1 level best;
       long = search rules;
-      chips = subst (λ es. TellsTree c.args.machine.now c.args.root es c.put.new.set) (sym c.in_ok-push.ensures.items)
-          (TellsTree-push c.args.machine.now c.args.root c.loop-wave.whole.items c.loop-wave.tree c.put.new.set c.in-Some-last_link.edge c.loop-wave.at
+      chips = subst (λ es. TellsTree c.args.ground.machine.now c.args.root es c.put.new.set) (sym c.in_ok-push.ensures.items)
+          (TellsTree-push c.args.ground.machine.now c.args.root c.loop-wave.whole.items c.loop-wave.tree c.put.new.set c.in-Some-last_link.edge c.loop-wave.at
           best.0.1 c.put.ensures.here c.put.ensures.others c.loop-wave.invariant.chips);
       done = c.loop-wave.invariant.done ++ c.in-Some-last_link.edge ∷ [];
       added = c.in_ok-push.ensures.items ∙ way.0;
@@ -68,9 +70,9 @@ loop-wave-preserved c =
 pub returns-clause-joined : goal.returns-clause-joined
 returns-clause-joined c =
     let none : length c.loop-wave.waves.items ≡ 0 = first_of (search rules, grind (arith, common_steps)) in
-    let on = on_tree c.args.machine.now c.args.root c.args.whole.now.items c.loop-wave.at
-    (subst (λ n. IsTreeLevel c.args.machine.now c.args.root c.args.whole.now.items c.loop-wave.at n) none c.loop-wave.invariant.level) in (
+    let on = on_tree c.args.ground.machine.now c.args.root c.args.whole.now.items c.loop-wave.at
+    (subst (λ n. IsTreeLevel c.args.ground.machine.now c.args.root c.args.whole.now.items c.loop-wave.at n) none c.loop-wave.invariant.level) in (
       c.loop-wave.invariant.done,
       c.loop-wave.invariant.added,
-      way_ends c.args.machine.now c.args.root c.args.whole.now.items c.args.target c.loop-wave.at c.loop-wave.invariant.done c.loop-wave.invariant.way on,
+      way_ends c.args.ground.machine.now c.args.root c.args.whole.now.items c.args.target c.loop-wave.at c.loop-wave.invariant.done c.loop-wave.invariant.way on,
     )

@@ -11,15 +11,15 @@ use Rattle.link_detours.proofs.detours.walk_back.Given as goal
 -- completes it
 abbrev pub invariant-loop-wave : goal.invariant-loop-wave
 invariant-loop-wave l = record {
-  inside : IsInside l.machine l.at;
-  waves : AreWaves l.machine (IsTreeChip l.machine l.fn.root l.fn.whole.items) (map (λ w. w.items) l.waves.items);
-  level : IsTreeLevel l.machine l.fn.root l.fn.whole.items l.at (length l.waves.items);
-  long : length l.tree ≡ l.machine.width;
-  chips : TellsTree l.machine l.fn.root l.whole.items l.tree;
+  inside : IsInside l.ground.machine.now l.at;
+  waves : AreWaves l.ground.machine.now (IsTreeChip l.ground.machine.now l.fn.root l.fn.whole.items) (map (λ w. w.items) l.waves.items);
+  level : IsTreeLevel l.ground.machine.now l.fn.root l.fn.whole.items l.at (length l.waves.items);
+  long : length l.tree ≡ l.ground.machine.now.width;
+  chips : TellsTree l.ground.machine.now l.fn.root l.whole.items l.tree;
   done : List Edge;
   added : l.whole.items ≡ l.fn.whole.items ++ done;
-  way : (rest : List Edge) → IsDetour l.machine l.fn.root l.fn.whole.items l.at rest →
-      IsDetour l.machine l.fn.root l.fn.whole.items l.fn.target (done ++ rest);
+  way : (rest : List Edge) → IsDetour l.ground.machine.now l.fn.root l.fn.whole.items l.at rest →
+      IsDetour l.ground.machine.now l.fn.root l.fn.whole.items l.fn.target (done ++ rest);
 }
 
 abbrev pub decreases-loop-wave : goal.decreases-loop-wave

@@ -6,4 +6,4 @@ use Rattle.link_detours.proofs.edges.live_edges.Goals as goal
 pub returns : goal.returns
 returns c =
     c.loop-edge.invariant
-    ∙ ap (filter (λ e. is_live_link c.args.machine.now e.chip e.dir)) (take_all c.loop-edge.edge-index c.args.edges.now c.loop-edge-test.false)
+    ∙ ap (filter (λ e. is_live_link c.args.ground.machine.now e.chip e.dir)) (take_all c.loop-edge.edge-index c.args.edges.now c.loop-edge-test.false)

@@ -6,7 +6,7 @@ use Rattle.link_detours.proofs.Reaching.{edges_inside}
 use Rattle.link_detours.proofs.repairs.join_all.Goals as goal
 
 pub put_tree-requires-clause-inside : goal.put_tree-requires-clause-inside
-put_tree-requires-clause-inside c = rw c.deref.ensures.value (edges_inside c.args.machine.now c.args.root c.args.kept.items c.requires.is_whole)
+put_tree-requires-clause-inside c = rw c.deref.ensures.value (edges_inside c.args.ground.machine.now c.args.root c.args.kept.items c.requires.is_whole)
 
 pub loop-target-init : goal.loop-target-init
 loop-target-init c = record {
@@ -20,13 +20,13 @@ loop-target-init c = record {
 pub loop-target-preserved : goal.loop-target-preserved
 loop-target-preserved c =
     let joined = c.in_ok-joined.ensures.joined c.if-not-joined.false in
-    joined_more c.args.machine.now c.args.root c.args.kept.items c.loop-target.whole.items c.join.new.whole.items c.loop-target.chips c.join.new.tree
+    joined_more c.args.ground.machine.now c.args.root c.args.kept.items c.loop-target.whole.items c.join.new.whole.items c.loop-target.chips c.join.new.tree
     c.args.targets.now c.loop-target.target-index _ joined.0 c.loop-target-test.true joined.1 joined.2
     (c.join.auto.tree ∙ c.loop-target.invariant.long) (c.in_ok-joined.ensures.chips c.if-not-joined.false) c.loop-target.invariant
 
 pub returns-then-not-joined-clause-cut_off : goal.returns-then-not-joined-clause-cut_off
 returns-then-not-joined-clause-cut_off c =
-    first_cut_off c.args.machine.now c.args.root c.args.kept.items c.loop-target.whole.items c.loop-target.chips c.args.targets.now
+    first_cut_off c.args.ground.machine.now c.args.root c.args.kept.items c.loop-target.whole.items c.loop-target.chips c.args.targets.now
     c.loop-target.target-index _ (slice_get-get_or c.args.targets.now c.loop-target.target-index _ c.loop-target-test.true)
     (c.in_ok-joined.ensures.cut_off c.if-not-joined.true) c.loop-target.invariant
 

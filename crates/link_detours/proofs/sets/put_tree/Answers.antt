@@ -1,5 +1,6 @@
-use Rattle.std.proofs.Common.{rules, sym}
+use Rattle.std.proofs.Common.{◌≡◌, ◌<◌, ◌≤◌, length, arith, rules, sym}
 use Rattle.std.proofs.lemmas.List.{take_all}
+use Rattle.machine_desc.proofs.Far.{far_inside, inside_parts}
 use Rattle.link_detours.proofs.Putting.{TellsTree-root, TellsTree-push, TellsTree-skip, TellsTree-taken}
 use Rattle.link_detours.proofs.sets.put_tree.Goals as goal
 use Rattle.link_detours.proofs.sets.put_tree.Goals.{in-Some, in_default}
@@ -7,7 +8,7 @@ use Rattle.link_detours.proofs.sets.put_tree.Goals.{in-Some, in_default}
 pub loop-edge-init : goal.loop-edge-init
 loop-edge-init c = record {
   long = search rules;
-  told = TellsTree-root c.args.machine.now c.args.root c.args.set.now c.put.new.set c.requires.empty c.put.ensures.here c.put.ensures.others;
+  told = TellsTree-root c.args.ground.machine.now c.args.root c.args.set.now c.put.new.set c.requires.empty c.put.ensures.here c.put.ensures.others;
 }
 
 pub loop-edge-preserved : goal.loop-edge-preserved
@@ -15,15 +16,15 @@ loop-edge-preserved c = elim c.match-far.branch [
   | in-Some w ↦ record {
     long = search rules;
     told = rw w.set-is
-        (TellsTree-taken c.args.machine.now c.args.root c.args.edges.now c.loop-edge.edge-index _ w.put-in-Some.new.set c.loop-edge-test.true
-        (TellsTree-push c.args.machine.now c.args.root _ c.loop-edge.set w.put-in-Some.new.set _ w.in-Some.far (sym (w.in-Some.ensures))
+        (TellsTree-taken c.args.ground.machine.now c.args.root c.args.edges.now c.loop-edge.edge-index _ w.put-in-Some.new.set c.loop-edge-test.true
+        (TellsTree-push c.args.ground.machine.now c.args.root _ c.loop-edge.set w.put-in-Some.new.set _ w.in-Some.far (sym (w.in-Some.ensures))
         w.put-in-Some.ensures.here w.put-in-Some.ensures.others c.loop-edge.invariant.told));
   }
   | in_default w ↦ record {
     long = search rules;
     told = rw w.set-is
-        (TellsTree-taken c.args.machine.now c.args.root c.args.edges.now c.loop-edge.edge-index _ c.loop-edge.set c.loop-edge-test.true
-        (TellsTree-skip c.args.machine.now c.args.root _ c.loop-edge.set _ w.in_default.ensures c.loop-edge.invariant.told));
+        (TellsTree-taken c.args.ground.machine.now c.args.root c.args.edges.now c.loop-edge.edge-index _ c.loop-edge.set c.loop-edge-test.true
+        (TellsTree-skip c.args.ground.machine.now c.args.root _ c.loop-edge.set _ w.in_default.ensures c.loop-edge.invariant.told));
   }
 ]
 
@@ -32,3 +33,20 @@ returns c = rw (take_all c.loop-edge.edge-index c.args.edges.now c.loop-edge-tes
 
 pub far-requires : goal.far-requires
 far-requires c = c.requires.inside _ _ c.loop-edge-test.true
+
+pub put-requires-clause-bit : goal.put-requires-clause-bit
+put-requires-clause-bit c =
+    let low : c.args.root.y < c.args.ground.machine.now.height = (inside_parts c.args.ground.machine.now c.args.root c.requires.root_inside).1 in
+    let few : c.args.ground.machine.now.height ≤ 64 = c.args.ground.roads_are.few in omega (arith, low, few)
+
+pub put-requires-in-Some-clause-column : goal.put-requires-in-Some-clause-column
+put-requires-in-Some-clause-column c =
+    let inside = far_inside c.args.ground.machine.now _ c.in-Some.far _ (c.requires.inside _ _ c.loop-edge-test.true) (sym c.in-Some.ensures) in
+    let low : c.in-Some.far.x < c.args.ground.machine.now.width = (inside_parts c.args.ground.machine.now c.in-Some.far inside).0 in
+    let long : length c.loop-edge.set ≡ c.args.ground.machine.now.width = c.loop-edge.invariant.long in omega (arith, low, long)
+
+pub put-requires-in-Some-clause-bit : goal.put-requires-in-Some-clause-bit
+put-requires-in-Some-clause-bit c =
+    let inside = far_inside c.args.ground.machine.now _ c.in-Some.far _ (c.requires.inside _ _ c.loop-edge-test.true) (sym c.in-Some.ensures) in
+    let low : c.in-Some.far.y < c.args.ground.machine.now.height = (inside_parts c.args.ground.machine.now c.in-Some.far inside).1 in
+    let few : c.args.ground.machine.now.height ≤ 64 = c.args.ground.roads_are.few in omega (arith, low, few)

@@ -5,15 +5,15 @@ use Rattle.link_detours.proofs.sets.up.Goals as goal
 
 pub overflow_sub-result : goal.overflow_sub-result
 overflow_sub-result c =
-    let few : c.args.height - 1 < 64 = omega arith in
-    omega (arith, one_shl (c.args.height - 1) 64 few, pow_pos (c.args.height - 1))
+    let few : c.args.ring.size - 1 < 64 = omega arith in
+    omega (arith, one_shl (c.args.ring.size - 1) 64 few, pow_pos (c.args.ring.size - 1))
 
 pub returns-clause-inside : goal.returns-clause-inside
 returns-clause-inside c = λ y more.
-    let few : c.args.height - 1 < 64 = omega arith in
-    up_inside (1 * 2 ^ (c.args.height - 1) % 2 ^ 64) c.args.word (c.args.height - 1) y few (one_shl (c.args.height - 1) 64 few) (omega arith)
+    let few : c.args.ring.size - 1 < 64 = omega arith in
+    up_inside (1 * 2 ^ (c.args.ring.size - 1) % 2 ^ 64) c.args.word (c.args.ring.size - 1) y few (one_shl (c.args.ring.size - 1) 64 few) (omega arith)
 
 pub returns-clause-round : goal.returns-clause-round
 returns-clause-round c = λ y last.
-    let few : c.args.height - 1 < 64 = omega arith in
-    up_round (1 * 2 ^ (c.args.height - 1) % 2 ^ 64) c.args.word (c.args.height - 1) y few (one_shl (c.args.height - 1) 64 few) (omega arith)
+    let few : c.args.ring.size - 1 < 64 = omega arith in
+    up_round (1 * 2 ^ (c.args.ring.size - 1) % 2 ^ 64) c.args.word (c.args.ring.size - 1) y few (one_shl (c.args.ring.size - 1) 64 few) (omega arith)

@@ -2,16 +2,13 @@ use Rattle.link_detours.proofs.Reaching.{edges_inside}
 use Rattle.link_detours.proofs.Trimming.{sorted_stay}
 use Rattle.link_detours.proofs.trims.trimmed.Goals as goal
 
-pub ends_go_on-requires-clause-inside : goal.ends_go_on-requires-clause-inside
-ends_go_on-requires-clause-inside c =
-    rw c.deref.ensures.value (edges_inside c.args.machine.now c.args.root c.args.whole.items c.requires.is_whole)
-
-pub pruned-requires-clause-edges_inside : goal.pruned-requires-clause-edges_inside
-pruned-requires-clause-edges_inside c =
-    rw c.deref-then-not-branch.ensures.value (edges_inside c.args.machine.now c.args.root c.args.whole.items c.requires.is_whole)
+pub invariant_of-edges : goal.invariant_of-edges
+invariant_of-edges c = record {
+  inside = rw c.deref.ensures.value (edges_inside c.args.machine.now c.args.root c.args.whole.items c.requires.is_whole);
+}
 
 pub returns-then-not-branch-clause-left : goal.returns-then-not-branch-clause-left
-returns-then-not-branch-clause-left c = rw c.deref-then-not-branch.ensures.value at c.pruned.ensures.left
+returns-then-not-branch-clause-left c = rw c.deref.ensures.value at c.pruned.ensures.left
 
 pub put_in_order-requires : goal.put_in_order-requires
 put_in_order-requires c = edges_inside c.args.machine.now c.args.root c.args.whole.items c.requires.is_whole

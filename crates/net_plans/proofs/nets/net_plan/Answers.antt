@@ -30,20 +30,6 @@ ner-requires-clause-targets_inside c =
     of_chips (IsInside c.args.machine.now) c.args.machine.now c.get-source.result.now.chip c.in_ok-targets.targets c.in_ok-chips.chips c.in_ok-chips.ensures
     (of_targets (λ s. IsInside c.args.machine.now s.chip) c.args.spots.now c.args.net.now.targets c.in_ok-targets.targets c.in_ok-targets.ensures (all_inside c.args.machine.now c.args.spots.now c.requires.sites))
 
-pub with_detours-requires-clause-root_lives : goal.with_detours-requires-clause-root_lives
-with_detours-requires-clause-root_lives c =
-    subst (IsLiveChip c.args.machine.now) (sym c.in_ok-grown.ensures.root) (source_lives c.args.machine.now c.args.spots.now c.args.net.now.source c.get-source.result.now c.requires.sites c.get-source.ensures)
-
-pub with_detours-requires-clause-some_target : goal.with_detours-requires-clause-some_target
-with_detours-requires-clause-some_target c =
-    some_chip c.args.machine.now c.get-source.result.now.chip c.args.spots.now c.args.net.now.targets c.in_ok-targets.targets c.in_ok-chips.chips
-    c.in_ok-targets.ensures c.in_ok-chips.ensures c.requires.valid.some_target c.requires.valid.targets
-
-pub with_detours-requires-clause-targets_inside : goal.with_detours-requires-clause-targets_inside
-with_detours-requires-clause-targets_inside c =
-    of_chips (IsInside c.args.machine.now) c.args.machine.now c.get-source.result.now.chip c.in_ok-targets.targets c.in_ok-chips.chips c.in_ok-chips.ensures
-    (of_targets (λ s. IsInside c.args.machine.now s.chip) c.args.spots.now c.args.net.now.targets c.in_ok-targets.targets c.in_ok-targets.ensures (all_inside c.args.machine.now c.args.spots.now c.requires.sites))
-
 pub returns-in_err-tree-clause-cause : goal.returns-in_err-tree-clause-cause
 returns-in_err-tree-clause-cause c =
     let cause : IfErr c.from_residual-in_err-tree.result (IsRepairCause c.args.machine.now c.in_ok-grown.field-0.tree.root c.in_ok-chips.chips) = search rules in
@@ -76,8 +62,8 @@ returns-clause-reached c =
 pub returns-clause-cut_off : goal.returns-clause-cut_off
 returns-clause-cut_off c = λ target first. absurd (returns-clause-reached c first.source target first.is)
 
-pub with_detours-requires-clause-grown : goal.with_detours-requires-clause-grown
-with_detours-requires-clause-grown c =
+pub with_detours-requires : goal.with_detours-requires
+with_detours-requires c =
     let m = c.args.machine.now in
     let edges = c.in_ok-grown.field-0.tree.edges in
     let root = c.in_ok-grown.ensures.root in
@@ -85,10 +71,15 @@ with_detours-requires-clause-grown c =
     some_chip m c.get-source.result.now.chip c.args.spots.now c.args.net.now.targets c.in_ok-targets.targets c.in_ok-chips.chips
     c.in_ok-targets.ensures c.in_ok-chips.ensures c.requires.valid.some_target c.requires.valid.targets in
     record {
-      none_into_root = subst (λ (r : Chip). All (λ e. end_of m e ≢ Some r) edges) (sym root) c.in_ok-grown.ensures.none_into_root;
-      one_into_each = c.in_ok-grown.ensures.one_into_each;
-      in_order = λ i j d less short.
-          before_place m (get_or edges i d) (get_or edges j d) (c.in_ok-grown.ensures.edges_inside i d (omega (arith, less, short)))
-          (c.in_ok-grown.ensures.grown.in_order i j d less short);
-      whole = λ lives. subst (λ (r : Chip). IsTreeTo m r edges c.in_ok-chips.chips) (sym root) (c.in_ok-grown.ensures.whole lives some);
+      grown = record {
+        root_lives = subst (IsLiveChip c.args.machine.now) (sym c.in_ok-grown.ensures.root) (source_lives c.args.machine.now c.args.spots.now c.args.net.now.source c.get-source.result.now c.requires.sites c.get-source.ensures);
+        some_target = some;
+        targets_inside = of_chips (IsInside c.args.machine.now) c.args.machine.now c.get-source.result.now.chip c.in_ok-targets.targets c.in_ok-chips.chips c.in_ok-chips.ensures (of_targets (λ s. IsInside c.args.machine.now s.chip) c.args.spots.now c.args.net.now.targets c.in_ok-targets.targets c.in_ok-targets.ensures (all_inside c.args.machine.now c.args.spots.now c.requires.sites));
+        none_into_root = subst (λ (r : Chip). All (λ e. end_of m e ≢ Some r) edges) (sym root) c.in_ok-grown.ensures.none_into_root;
+        one_into_each = c.in_ok-grown.ensures.one_into_each;
+        in_order = λ i j d less short.
+            before_place m (get_or edges i d) (get_or edges j d) (c.in_ok-grown.ensures.edges_inside i d (omega (arith, less, short)))
+            (c.in_ok-grown.ensures.grown.in_order i j d less short);
+        whole = λ lives. subst (λ (r : Chip). IsTreeTo m r edges c.in_ok-chips.chips) (sym root) (c.in_ok-grown.ensures.whole lives some);
+      };
     }

@@ -9,6 +9,6 @@ returns c = record {
   at = c.get.ensures;
   block = c.get-block.result.now;
   keyed = c.get-block.ensures;
-  way = way_of c.args.machine.now c.args.spots.now c.get.result.now c.get-block.result.now c.net_plan-way.result c.net_plan-way.ensures.planned c.net_plan-way.ensures.routing
+  way = way_of c.args.ground.now.machine.now c.args.spots.now c.get.result.now c.get-block.result.now c.net_plan-way.result c.net_plan-way.ensures.planned c.net_plan-way.ensures.routing
       c.net_plan-way.ensures.reached c.net_plan-way.ensures.cause;
 }

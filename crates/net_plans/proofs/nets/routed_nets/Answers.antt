@@ -4,15 +4,15 @@ use Rattle.rayon.specs.Numbers.{nat_range}
 use Rattle.rayon.proofs.ListFacts.{IfOk-then}
 use Rattle.rayon.proofs.ToStd.{nat_range-All}
 use Rattle.net_plans.specs.declared.nets.RoutedNet.{RoutedNet}
-use Rattle.net_plans.specs.Ways.{AreRoutedNets, CanRoute}
+use Rattle.net_plans.specs.Ways.{AreRoutedNets, CanRouteAt}
 use Rattle.net_plans.proofs.Routing.{routed_all}
 use Rattle.net_plans.proofs.nets.routed_nets.Goals as goal
 
 pub collect-requires-clause-ready : goal.collect-requires-clause-ready
 collect-requires-clause-ready g c κs within =
     let ends = c.into_par_iter.ensures in
-    let inside = nat_range-All (λ i. CanRoute c.args.machine.now c.args.roads.now c.args.graph.now c.args.spots.now c.args.blocks.now × (i < length c.args.graph.now.nets)) 0 (length c.args.graph.now.nets)
-    (λ i low high. (c.requires, high)) in
+    let inside = nat_range-All (CanRouteAt c.args.ground.now.machine.now c.args.ground.now.roads.now c.args.graph.now c.args.spots.now c.args.blocks.now)
+    0 (length c.args.graph.now.nets) (λ i low high. record { can = c.requires; is_net = high }) in
     rw (c.map.ensures.base, c.map.ensures.f, ends.0, ends.1, c.len.ensures) (λ k d lt. (inside k d lt, λ y p. tt))
 
 pub returns : goal.returns
@@ -23,5 +23,5 @@ returns g c =
     IfOk-then c.collect.result _ _ c.collect.ensures (λ v h.
     let chain = rw (c.map.ensures.base, c.map.ensures.f) at h.1 in
     let places : chain.0 ≡ range_with_len 0 (length c.args.graph.now.nets) = chain.1 ∙ (λ i. nat_range (ends.0 i) (ends.1 i)) ∙ ap (range_with_len 0) whole ∙ ap (range_with_len 0) c.len.ensures in
-    subst (λ (items : List RoutedNet). AreRoutedNets c.args.machine.now c.args.spots.now c.args.graph.now.nets c.args.blocks.now items) (sym h.2)
-    (routed_all c.args.machine.now c.args.spots.now c.args.graph.now.nets c.args.blocks.now h.0 chain.0 places chain.2))
+    subst (λ (items : List RoutedNet). AreRoutedNets c.args.ground.now.machine.now c.args.spots.now c.args.graph.now.nets c.args.blocks.now items) (sym h.2)
+    (routed_all c.args.ground.now.machine.now c.args.spots.now c.args.graph.now.nets c.args.blocks.now h.0 chain.0 places chain.2))

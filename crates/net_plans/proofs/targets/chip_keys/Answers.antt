@@ -7,7 +7,7 @@ use Rattle.net_plans.proofs.targets.chip_keys.Goals as goal
 
 pub loop-i-preserved : goal.loop-i-preserved
 loop-i-preserved c =
-    let key : Spot → ℕ × ℕ × ℕ = λ s. chip_key c.args.machine.now c.args.root s.chip in
+    let key : Spot → ℕ × ℕ × ℕ = λ s. chip_key c.args.root.machine.now c.args.root.chip s.chip in
     c.in_ok-push.ensures.items
     ∙ (ap (λ l. l ++ (c.distance.result, c.get.result.now.chip.x, c.get.result.now.chip.y) ∷ []) c.loop-i.invariant
     ∙ (ap (λ n. map key (take c.loop-i.i c.args.targets.now) ++ (n, c.get.result.now.chip.x, c.get.result.now.chip.y) ∷ []) c.distance.ensures.value
@@ -15,9 +15,9 @@ loop-i-preserved c =
 
 pub distance-requires-clause-to_inside : goal.distance-requires-clause-to_inside
 distance-requires-clause-to_inside c =
-    All-at (λ (s : Spot). IsInside c.args.machine.now s.chip) c.args.targets.now c.loop-i.i c.get.result.now c.requires.targets_inside c.get.ensures
+    All-at (λ (s : Spot). IsInside c.args.root.machine.now s.chip) c.args.targets.now c.loop-i.i c.get.result.now c.requires c.get.ensures
 
 pub returns : goal.returns
 returns c =
     c.loop-i.invariant
-    ∙ ap (map (λ (s : Spot). chip_key c.args.machine.now c.args.root s.chip)) (take_all c.loop-i.i c.args.targets.now (omega (arith, c.loop-i-test.false, c.len-i-end.ensures)))
+    ∙ ap (map (λ (s : Spot). chip_key c.args.root.machine.now c.args.root.chip s.chip)) (take_all c.loop-i.i c.args.targets.now (omega (arith, c.loop-i-test.false, c.len-i-end.ensures)))

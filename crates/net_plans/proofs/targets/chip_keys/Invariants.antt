@@ -4,4 +4,4 @@ use Rattle.net_plans.specs.Targets.{chip_key}
 use Rattle.net_plans.proofs.targets.chip_keys.Given as goal
 
 abbrev pub invariant-loop-i : goal.invariant-loop-i
-invariant-loop-i l = l.keys.items ≡ map (λ (s : Spot). chip_key l.machine l.root s.chip) (take l.i l.targets)
+invariant-loop-i l = l.keys.items ≡ map (λ (s : Spot). chip_key l.root.machine.now l.root.chip s.chip) (take l.i l.targets)

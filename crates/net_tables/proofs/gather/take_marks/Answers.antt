@@ -15,9 +15,9 @@ pub loop-edge-init : goal.loop-edge-init
 loop-edge-init c =
     taken_first c.args.machine.now c.args.net.now.tree.root c.args.net.now.tree.edges c.args.net.now.block _ _ c.index-root.result c.index-root.ensures.value
     (record {
-      ports = subst (λ n. c.index-root.result < n) (sym c.requires.ports_long) c.index-root.ensures.below;
-      routes = subst (λ n. c.index-root.result < n) (sym c.requires.routes_long) c.index-root.ensures.below;
-      lists = subst (λ n. c.index-root.result < n) (sym c.requires.lists_long) c.index-root.ensures.below;
+      ports = subst (λ n. c.index-root.result < n) (sym c.requires.boards.ports_long) c.index-root.ensures.below;
+      routes = subst (λ n. c.index-root.result < n) (sym c.requires.boards.routes_long) c.index-root.ensures.below;
+      lists = subst (λ n. c.index-root.result < n) (sym c.requires.long) c.index-root.ensures.below;
     })
     (record {
       ports = c.in_ok-take_mark.ensures.port;
@@ -33,9 +33,9 @@ loop-edge-preserved c = elim c.match-far.branch [
       c.args.net.now.block _ _ _ w.index-place.result c.as_slice-edge-items.ensures c.loop-edge-test.true (sym c.far.ensures ∙ w.in-Some.is)
       w.index-place.ensures.value
       (record {
-        ports = subst (λ n. w.index-place.result < n) (sym (c.loop-edge.invariant.ports_long ∙ c.requires.ports_long)) w.index-place.ensures.below;
-        routes = subst (λ n. w.index-place.result < n) (sym (c.loop-edge.invariant.routes_long ∙ c.requires.routes_long)) w.index-place.ensures.below;
-        lists = subst (λ n. w.index-place.result < n) (sym (c.loop-edge.invariant.lists_long ∙ c.requires.lists_long)) w.index-place.ensures.below;
+        ports = subst (λ n. w.index-place.result < n) (sym (c.loop-edge.invariant.ports_long ∙ c.requires.boards.ports_long)) w.index-place.ensures.below;
+        routes = subst (λ n. w.index-place.result < n) (sym (c.loop-edge.invariant.routes_long ∙ c.requires.boards.routes_long)) w.index-place.ensures.below;
+        lists = subst (λ n. w.index-place.result < n) (sym (c.loop-edge.invariant.lists_long ∙ c.requires.long)) w.index-place.ensures.below;
       })
       (record {
         ports = w.in_ok-take_mark-2.ensures.port;
@@ -53,24 +53,24 @@ loop-edge-preserved c = elim c.match-far.branch [
 
 pub returns-clause-no_port : goal.returns-clause-no_port
 returns-clause-no_port c =
-    ports_clear c.args.machine.now c.args.net.now _ _ c.requires.ports_told c.requires.clear_off
+    ports_clear c.args.machine.now c.args.net.now _ _ c.requires.boards.ports_told c.requires.boards.clear_off
     (taken_all c.args.machine.now c.args.net.now.tree.root c.as_slice-edge-items.result.now c.args.net.now.tree.edges c.loop-edge.edge-index c.args.net.now.block _ _
     c.as_slice-edge-items.ensures c.loop-edge-test.false c.loop-edge.invariant)
-    c.requires.ports_long
+    c.requires.boards.ports_long
 
 pub returns-clause-no_route : goal.returns-clause-no_route
 returns-clause-no_route c =
-    routes_clear c.args.machine.now c.args.net.now _ _ c.requires.ports_told c.requires.clear_off
+    routes_clear c.args.machine.now c.args.net.now _ _ c.requires.boards.ports_told c.requires.boards.clear_off
     (taken_all c.args.machine.now c.args.net.now.tree.root c.as_slice-edge-items.result.now c.args.net.now.tree.edges c.loop-edge.edge-index c.args.net.now.block _ _
     c.as_slice-edge-items.ensures c.loop-edge-test.false c.loop-edge.invariant)
-    c.requires.routes_long
+    c.requires.boards.routes_long
 
 pub returns-clause-grown : goal.returns-clause-grown
 returns-clause-grown c =
-    all_grown c.args.machine.now c.args.net.now _ _ c.requires.ports_told c.requires.clear_off
+    all_grown c.args.machine.now c.args.net.now _ _ c.requires.boards.ports_told c.requires.boards.clear_off
     (taken_all c.args.machine.now c.args.net.now.tree.root c.as_slice-edge-items.result.now c.args.net.now.tree.edges c.loop-edge.edge-index c.args.net.now.block _ _
     c.as_slice-edge-items.ensures c.loop-edge-test.false c.loop-edge.invariant)
-    c.requires.routes_told
+    c.requires.boards.routes_told
 
 pub far-requires : goal.far-requires
 far-requires c =
