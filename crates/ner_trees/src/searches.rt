@@ -3,10 +3,10 @@ ghost use Rattle.std.specs.Prelude.{◌≡◌, ◌+◌, ◌*◌, ◌<◌, ◌≤
 ghost use Rattle.machine_desc.specs.Live.{IsInside, chip_at};
 ghost use Rattle.ner_trees.specs.Geometry.{distance_of};
 ghost use Rattle.ner_trees.specs.Growth.{IsNotFarther, IsNear};
-ghost use Rattle.ner_trees.specs.Search.{place_at, window_chip, IsOnWithin, IsNearestOn, IsNoneOn, IsCloser, IsLeastFound, TellsTree};
+ghost use Rattle.ner_trees.specs.Search.{place_at, window_chip, IsOnWithin, IsNearestOn, IsNoneOn, IsCloser, IsFoundAt, IsLeastFound, TellsTree};
 ghost use Rattle.spin_base.specs.declared.chips.Chip.{Chip};
 
-use crate::displacements::distance;
+use crate::displacements::{OnAxis, distance};
 use crate::marks::Marks;
 use crate::partial_trees::{GrowingTree, Radius};
 use machine_desc::{Edge, Machine};
@@ -17,14 +17,12 @@ const WIDEST_WINDOW: usize = 1681;
 
 // The place on an axis that is `offset` places past the one that lies `radius` places before the centre. `None` exactly
 // where the axis is open and has no such place.
-fn place_at(wrap: bool, places: u8, centre: u8, radius: Radius, offset: u8) -> Option<u8>
-    requires small { places ≤ 64 }
-    requires inside { centre < places }
-    requires far { offset ≤ 2 * radius.chips }
-    ensures value { result ≡ place_at wrap places centre radius.chips offset }
-    ensures inside { IfSome result (λ n. n < places) }
+fn place_at(wrap: bool, centre: OnAxis, radius: Radius, offset: u8) -> Option<u8>
+    requires { offset ≤ 2 * radius.chips }
+    ensures value { result ≡ place_at wrap centre.places centre.place radius.chips offset }
+    ensures inside { IfSome result (λ n. n < centre.places) }
 {
-    let radius = radius.chips;
+    let (places, centre, radius) = (centre.places, centre.place, radius.chips);
     if wrap {
         let ahead = u16::from(centre) + u16::from(places) * 20 + u16::from(offset);
         return Some(((ahead - u16::from(radius)) % u16::from(places)) as u8);
@@ -62,8 +60,10 @@ fn window_chip(machine: &Machine, centre: Chip, radius: Radius, number: u16) -> 
 {
     let side = 2 * u16::from(radius.chips) + 1;
     let (column, row) = ((number / side) as u8, (number % side) as u8);
-    let x = place_at(machine.wrap(), machine.width(), centre.x, radius, column);
-    let y = place_at(machine.wrap(), machine.height(), centre.y, radius, row);
+    let (wrap, places, place) = (machine.wrap(), machine.width(), centre.x);
+    let x = place_at(wrap, OnAxis { places, place }, radius, column);
+    let (places, place) = (machine.height(), centre.y);
+    let y = place_at(wrap, OnAxis { places, place }, radius, row);
     chip_at(x, y)
 }
 
@@ -150,10 +150,8 @@ struct Found {
 
 // Of two chips the one that comes first in the order of distance to the target, then x, then y.
 fn first_of(machine: &Machine, target: Chip, old: Found, new: Found) -> Found
-    requires old_inside { IsInside machine.now old.chip }
-    requires new_inside { IsInside machine.now new.chip }
-    requires old_far { old.far ≡ distance_of machine.now old.chip target }
-    requires new_far { new.far ≡ distance_of machine.now new.chip target }
+    requires old { IsFoundAt machine.now target old }
+    requires new { IsFoundAt machine.now target new }
     ensures { ((result ≡ old) × IsNotFarther machine.now target old.chip new.chip)
         ⊎ ((result ≡ new) × IsNotFarther machine.now target new.chip old.chip) }
 {
@@ -174,8 +172,7 @@ fn first_of(machine: &Machine, target: Chip, old: Found, new: Found) -> Found
 fn closer(machine: &Machine, target: Chip, best: Option<Found>, chip: Chip) -> Option<Found>
     requires target_inside { IsInside machine.now target }
     requires inside { IsInside machine.now chip }
-    requires best_inside { IfSome best (λ b. IsInside machine.now b.chip) }
-    requires best_far { IfSome best (λ b. b.far ≡ distance_of machine.now b.chip target) }
+    requires best { IfSome best (IsFoundAt machine.now target) }
     ensures { IsCloser machine.now target best chip result }
 {
     let far = distance(machine, chip, target);
@@ -190,13 +187,14 @@ fn closer(machine: &Machine, target: Chip, best: Option<Found>, chip: Chip) -> O
 }
 
 // The nearest chip of the tree within 20 links of the target, found by going over the tree's edges.
-fn nearest_of_edges(machine: &Machine, root: Chip, edges: &[Edge], target: Chip) -> Option<Found>
-    requires root_inside { IsInside machine.now root }
-    requires edges_inside { All (λ e. IsInside machine.now e.chip) edges.now }
-    requires target_inside { IsInside machine.now target }
-    ensures { IsLeastFound machine.now root edges.now target result }
+fn nearest_of_edges(tree: &GrowingTree, target: Chip) -> Option<Found>
+    requires { IsInside tree.now.on.machine.now target }
+    ensures { IsLeastFound
+        tree.now.on.machine.now tree.now.root tree.now.edges.items target result }
 {
-    let mut best = closer(machine, target, None, root);
+    let machine = tree.on.machine();
+    let edges: &[Edge] = &tree.edges;
+    let mut best = closer(machine, target, None, tree.root);
     for edge in edges {
         if let Some(chip) = machine.far(edge.chip, edge.dir) {
             best = closer(machine, target, best, chip);
@@ -227,15 +225,15 @@ pub fn near_chip(tree: &GrowingTree, target: Chip) -> Chip
     ensures { IsNear tree.now.on.machine.now tree.now.root tree.now.edges.items target result }
 {
     let on = &tree.on;
-    let edges: &[Edge] = &tree.edges;
-    if let Some(chip) = nearest_if_many(on, edges.len(), target, Radius { chips: 2 }) {
+    let edges = tree.edges.len();
+    if let Some(chip) = nearest_if_many(on, edges, target, Radius { chips: 2 }) {
         return chip;
     }
-    if let Some(chip) = nearest_if_many(on, edges.len(), target, Radius { chips: 6 }) {
+    if let Some(chip) = nearest_if_many(on, edges, target, Radius { chips: 6 }) {
         return chip;
     }
-    if edges.len() < WIDEST_WINDOW {
-        return match nearest_of_edges(on.machine(), tree.root, edges, target) {
+    if edges < WIDEST_WINDOW {
+        return match nearest_of_edges(tree, target) {
             Some(found) => found.chip,
             None => tree.root,
         };
