@@ -1,5 +1,5 @@
 // The verdict on the tables of an image.
-ghost use Rattle.std.specs.Prelude.{◌≡◌, ◌*◌, ◌<◌, ◌≤◌, ◌^◌, ℕ, List, All, Some, length, slice_get, slice_index};
+ghost use Rattle.std.specs.Prelude.{◌≡◌, ◌*◌, ◌<◌, ◌^◌, ℕ, List, All, Some, length, slice_get, slice_index};
 ghost use Rattle.spin_base.specs.declared.blocks.Entry.{Entry};
 ghost use Rattle.spin_base.specs.declared.chips.Chip.{Chip};
 ghost use Rattle.machine_desc.specs.Live.{chip_of};
