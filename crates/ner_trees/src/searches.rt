@@ -180,12 +180,12 @@ fn first_of(machine: &Machine, target: Chip, old: Found, new: Found) -> Found
 }
 
 // The nearest of what was found and one chip more, where the target is at most 20 links from it.
-fn closer(search: Search<'_, '_>, best: Option<Found>, chip: Chip) -> Option<Found>
-    requires inside { IsInside search.on.now.machine.now chip }
-    requires best { IfSome best (IsFoundAt search.on.now.machine.now search.target) }
-    ensures { IsCloser search.entry.on.now.machine.now search.entry.target best chip result }
+fn closer(machine: &Machine, target: Chip, best: Option<Found>, chip: Chip) -> Option<Found>
+    requires target_inside { IsInside machine.now target }
+    requires inside { IsInside machine.now chip }
+    requires best { IfSome best (IsFoundAt machine.now target) }
+    ensures { IsCloser machine.now target best chip result }
 {
-    let (machine, target) = (search.on.machine(), search.target);
     let far = distance(machine, chip, target);
     if far > 20 {
         return best;
@@ -203,16 +203,12 @@ fn nearest_of_edges(tree: &GrowingTree, target: Chip) -> Option<Found>
     ensures { IsLeastFound
         tree.now.on.machine.now tree.now.root tree.now.edges.items target result }
 {
-    let search = Search {
-        on: &tree.on,
-        target,
-    };
     let machine = tree.on.machine();
     let edges: &[Edge] = &tree.edges;
-    let mut best = closer(search, None, tree.root);
+    let mut best = closer(machine, target, None, tree.root);
     for edge in edges {
         if let Some(chip) = machine.far(edge.chip, edge.dir) {
-            best = closer(search, best, chip);
+            best = closer(machine, target, best, chip);
         }
     }
     best
