@@ -15,7 +15,7 @@ use Rattle.spin_base.proofs.Members.{Contains-none}
 use Rattle.ner_trees.specs.declared.searches.Found.{Found}
 use Rattle.ner_trees.specs.Geometry.{distance_of}
 use Rattle.ner_trees.specs.Growth.{IsNotFarther, IsTreeChipWithin, IsNear}
-use Rattle.ner_trees.specs.Search.{IsCloser, IsLeastFound}
+use Rattle.ner_trees.specs.Search.{IsCloser, IsFoundAt, IsLeastFound}
 use Rattle.ner_trees.proofs.Growing.{on_inside}
 use Rattle.ner_trees.proofs.Searching.{not_farther_trans}
 
@@ -114,9 +114,9 @@ module _ (m : Description) (root t : Chip) where
       subst (λ (es : List Edge). IsLeastFound m root es t best) (sym (take_more edges i d within)) (least_without (take i edges) (get_or edges i d) best nowhere known)
 
   -- what is found is inside the grid
-  pub found_inside : (tree : List Edge) (best : Option Found) → IsInside m root → All (λ e. IsInside m e.chip) tree → IsLeastFound m root tree t best → IfSome best (λ b. IsInside m b.chip)
+  pub found_inside : (tree : List Edge) (best : Option Found) → IsInside m root → All (λ e. IsInside m e.chip) tree → IsLeastFound m root tree t best → IfSome best (IsFoundAt m t)
   found_inside tree None root_in inside known = tt
-  found_inside tree (Some b) root_in inside known = on_inside m root tree root_in inside b.chip known.within.0
+  found_inside tree (Some b) root_in inside known = record { inside = on_inside m root tree root_in inside b.chip known.within.0; far = known.far }
 
   -- once all edges are through, it is the chip to which the target is joined
   pub near_found : (tree : List Edge) (f : Found) → IsLeastFound m root tree t (Some f) → IsNear m root tree t f.chip

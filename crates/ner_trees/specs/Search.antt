@@ -67,6 +67,11 @@ pub record IsCutAt (m : Description) (on : List Bool) (near : Chip) (walk : List
   pub added_inside : All (λ e. IsInside m e.chip) added
   pub added_off : All (λ e. is_on m on (next_of m e.chip e.dir) ≡ false) added
 
+-- a chip inside the grid, with how far the target is from it
+pub record IsFoundAt (m : Description) (t : Chip) (found : Found) : Type 0 where
+  pub inside : IsInside m found.chip
+  pub far : found.far ≡ distance_of m found.chip t
+
 -- Of what a search has found and one chip more, what comes first in the order of nearness, of chips at most 20 links from
 -- the target.
 pub record IsCloser (m : Description) (t : Chip) (best : Option Found) (chip : Chip) (result : Option Found) : Type 0 where

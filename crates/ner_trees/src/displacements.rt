@@ -58,17 +58,14 @@ fn is_less_or(m: u32, n: u32, if_equal: bool) -> bool
 impl Disp {
     // The number of links that it takes: the greatest of a, b and 0 less the least of them.
     pub(crate) fn length(self) -> u32
-        requires { IsSmall self }
         ensures value { result ≡ length_of self }
-        ensures few { result ≤ 128 }
+        ensures few { IsSmall self → result ≤ 128 }
     {
         forth(self.a).max(forth(self.b)) + back(self.a).max(back(self.b))
     }
 
     // Whether it comes before the other one in the order of (length, |a|, |b|, a, b).
     fn is_before(self, other: Disp) -> bool
-        requires this { IsSmall self }
-        requires that { IsSmall other }
         ensures { result ≡ is_before self other }
     {
         let rest = is_below_or(self.a, other.a, is_below(self.b, other.b));
@@ -79,41 +76,47 @@ impl Disp {
 
     // The one that comes before the other, and this one where neither does.
     fn or_before(self, other: Disp) -> Disp
-        requires this { IsSmall self }
-        requires that { IsSmall other }
         ensures value { result ≡ lesser_disp self other }
-        ensures small { IsSmall result }
+        ensures small { IsSmall self → IsSmall other → IsSmall result }
     {
         if other.is_before(self) { other } else { self }
     }
 }
 
-// The number of places from `from` ahead to `to`, on an axis that is closed to a ring.
-fn ahead_by(places: u8, from: u8, to: u8) -> u8
-    requires from_inside { from < places }
-    requires to_inside { to < places }
-    requires small { places ≤ 64 }
-    ensures value { result ≡ ahead_by places from to }
-    ensures below { result < places }
+// A place on an axis of so many places.
+#[derive(Clone, Copy)]
+pub struct OnAxis {
+    pub places: u8,
+    pub place: u8,
+    ghost few: { places ≤ 64 },
+    ghost inside: { place < places },
+}
+
+// How many places `to` is ahead of `from`, on an axis that is closed to a ring.
+fn ahead_by(from: OnAxis, to: u8) -> OnAxis
+    requires { to < from.places }
+    ensures places { result.places ≡ from.places }
+    ensures value { result.place ≡ ahead_by from.places from.place to }
 {
-    if to < from {
-        to + (places - from)
+    let places = from.places;
+    let place = if to < from.place {
+        to + (places - from.place)
     } else {
-        to - from
-    }
+        to - from.place
+    };
+    OnAxis { places, place }
 }
 
 // Of displacements that lead ahead along each axis, or back by what is then left of it, the first in order.
-fn on_torus(width: u8, height: u8, a: u8, b: u8) -> Disp
-    requires width { width ≤ 64 }
-    requires height { height ≤ 64 }
-    requires across { a < width }
-    requires up { b < height }
-    ensures value { result ≡ on_torus width height a b }
+fn on_torus(across: OnAxis, up: OnAxis) -> Disp
+    ensures value { result ≡ on_torus across.places up.places across.place up.place }
     ensures small { IsSmall result }
 {
-    let (a, behind) = (difference(a, 0), difference(a, width));
-    let (b, below) = (difference(b, 0), difference(b, height));
+    let (a, behind) = (
+        difference(across.place, 0),
+        difference(across.place, across.places),
+    );
+    let (b, below) = (difference(up.place, 0), difference(up.place, up.places));
     Disp { a, b }
         .or_before(Disp { a: behind, b })
         .or_before(Disp { a, b: below })
@@ -124,15 +127,13 @@ fn on_torus(width: u8, height: u8, a: u8, b: u8) -> Disp
 }
 
 // The length of that displacement: the least of the lengths of the four.
-fn length_on_torus(width: u8, height: u8, a: u8, b: u8) -> u32
-    requires width { width ≤ 64 }
-    requires height { height ≤ 64 }
-    requires across { a < width }
-    requires up { b < height }
-    ensures value { result ≡ length_of (on_torus width height a b) }
+fn length_on_torus(across: OnAxis, up: OnAxis) -> u32
+    ensures value { result ≡
+        length_of (on_torus across.places up.places across.place up.place) }
     ensures few { result ≤ 64 }
 {
-    let (behind, below) = (width - a, height - b);
+    let (a, b) = (across.place, up.place);
+    let (behind, below) = (across.places - a, up.places - b);
     let length = a
         .max(b)
         .min(behind + b)
@@ -150,14 +151,16 @@ pub fn displacement(machine: &Machine, p: Chip, q: Chip) -> Disp
     ensures value { result ≡ displacement_of machine.now p q }
     ensures small { IsSmall result }
 {
-    let (width, height) = (machine.width(), machine.height());
+    let x = OnAxis {
+        places: machine.width(),
+        place: p.x,
+    };
+    let y = OnAxis {
+        places: machine.height(),
+        place: p.y,
+    };
     if machine.wrap() {
-        on_torus(
-            width,
-            height,
-            ahead_by(width, p.x, q.x),
-            ahead_by(height, p.y, q.y),
-        )
+        on_torus(ahead_by(x, q.x), ahead_by(y, q.y))
     } else {
         Disp {
             a: difference(q.x, p.x),
@@ -174,13 +177,15 @@ pub fn distance(machine: &Machine, p: Chip, q: Chip) -> u32
     ensures few { result ≤ 128 }
 {
     if machine.wrap() {
-        let (width, height) = (machine.width(), machine.height());
-        length_on_torus(
-            width,
-            height,
-            ahead_by(width, p.x, q.x),
-            ahead_by(height, p.y, q.y),
-        )
+        let x = OnAxis {
+            places: machine.width(),
+            place: p.x,
+        };
+        let y = OnAxis {
+            places: machine.height(),
+            place: p.y,
+        };
+        length_on_torus(ahead_by(x, q.x), ahead_by(y, q.y))
     } else {
         displacement(machine, p, q).length()
     }

@@ -1,12 +1,11 @@
 // The chip of a tree that is nearest to a target.
-ghost use Rattle.std.specs.Prelude.{◌≡◌, ◌+◌, ◌*◌, ◌<◌, ◌≤◌, ◌⊎◌, Some, All, IfSome, IfNone, MatchBool};
+ghost use Rattle.std.specs.Prelude.{◌≡◌, ◌+◌, ◌*◌, ◌<◌, ◌≤◌, ◌⊎◌, Some, IfSome, IfNone, MatchBool};
 ghost use Rattle.machine_desc.specs.Live.{IsInside, chip_at};
-ghost use Rattle.ner_trees.specs.Geometry.{distance_of};
 ghost use Rattle.ner_trees.specs.Growth.{IsNotFarther, IsNear};
-ghost use Rattle.ner_trees.specs.Search.{place_at, window_chip, IsOnWithin, IsNearestOn, IsNoneOn, IsCloser, IsLeastFound, TellsTree};
+ghost use Rattle.ner_trees.specs.Search.{place_at, window_chip, IsOnWithin, IsNearestOn, IsNoneOn, IsCloser, IsFoundAt, IsLeastFound, TellsTree};
 ghost use Rattle.spin_base.specs.declared.chips.Chip.{Chip};
 
-use crate::displacements::distance;
+use crate::displacements::{OnAxis, distance};
 use crate::marks::Marks;
 use crate::partial_trees::{GrowingTree, Radius};
 use machine_desc::{Edge, Machine};
@@ -17,14 +16,12 @@ const WIDEST_WINDOW: usize = 1681;
 
 // The place on an axis that is `offset` places past the one that lies `radius` places before the centre. `None` exactly
 // where the axis is open and has no such place.
-fn place_at(wrap: bool, places: u8, centre: u8, radius: Radius, offset: u8) -> Option<u8>
-    requires small { places ≤ 64 }
-    requires inside { centre < places }
-    requires far { offset ≤ 2 * radius.chips }
-    ensures value { result ≡ place_at wrap places centre radius.chips offset }
-    ensures inside { IfSome result (λ n. n < places) }
+fn place_at(wrap: bool, centre: OnAxis, radius: Radius, offset: u8) -> Option<u8>
+    requires { offset ≤ 2 * radius.chips }
+    ensures value { result ≡ place_at wrap centre.places centre.place radius.chips offset }
+    ensures inside { IfSome result (λ n. n < centre.places) }
 {
-    let radius = radius.chips;
+    let (places, centre, radius) = (centre.places, centre.place, radius.chips);
     if wrap {
         let ahead = u16::from(centre) + u16::from(places) * 20 + u16::from(offset);
         return Some(((ahead - u16::from(radius)) % u16::from(places)) as u8);
@@ -53,35 +50,46 @@ fn chip_at(x: Option<u8>, y: Option<u8>) -> Option<Chip>
     }
 }
 
-// The chip of a number in the window of `radius` chips to each side of the centre, column by column.
-fn window_chip(machine: &Machine, centre: Chip, radius: Radius, number: u16) -> Option<Chip>
-    requires inside { IsInside machine.now centre }
-    requires below { number < (2 * radius.chips + 1) * (2 * radius.chips + 1) }
-    ensures value { result ≡ window_chip machine.now centre radius.chips number }
-    ensures inside { IfSome result (IsInside machine.now) }
+// What is looked for: the chip of a tree that is nearest to a target.
+#[derive(Clone, Copy)]
+struct Search<'t, 'm> {
+    on: &'t Marks<'m>,
+    target: Chip,
+    ghost inside: { IsInside on.now.machine.now target },
+}
+
+// The chip of a number in the window of `radius` chips to each side of the target, column by column.
+fn window_chip(search: Search<'_, '_>, radius: Radius, number: u16) -> Option<Chip>
+    requires { number < (2 * radius.chips + 1) * (2 * radius.chips + 1) }
+    ensures value { result ≡ window_chip search.entry.on.now.machine.now
+        search.entry.target radius.chips number }
+    ensures inside { IfSome result (IsInside search.entry.on.now.machine.now) }
 {
+    let (machine, centre) = (search.on.machine(), search.target);
     let side = 2 * u16::from(radius.chips) + 1;
     let (column, row) = ((number / side) as u8, (number % side) as u8);
-    let x = place_at(machine.wrap(), machine.width(), centre.x, radius, column);
-    let y = place_at(machine.wrap(), machine.height(), centre.y, radius, row);
+    let (wrap, places, place) = (machine.wrap(), machine.width(), centre.x);
+    let x = place_at(wrap, OnAxis { places, place }, radius, column);
+    let (places, place) = (machine.height(), centre.y);
+    let y = place_at(wrap, OnAxis { places, place }, radius, row);
     chip_at(x, y)
 }
 
 // The chip of a number in the window, where it is in the tree and the target is at most `radius` links from it.
-fn candidate(on: &Marks, target: Chip, radius: Radius, number: u16) -> Option<Chip>
-    requires inside { IsInside on.now.machine.now target }
-    requires below { number < (2 * radius.chips + 1) * (2 * radius.chips + 1) }
-    ensures found { IfSome result
-        (IsOnWithin on.now.machine.now on.now.items.items target radius.chips) }
-    ensures none { IfNone result ((e : Chip) →
-        window_chip on.now.machine.now target radius.chips number ≡ Some e →
-        IsOnWithin on.now.machine.now on.now.items.items target radius.chips e → ⊥) }
-    ensures that_one { IfSome result (λ c.
-        window_chip on.now.machine.now target radius.chips number ≡ Some c) }
+fn candidate(search: Search<'_, '_>, radius: Radius, number: u16) -> Option<Chip>
+    requires { number < (2 * radius.chips + 1) * (2 * radius.chips + 1) }
+    ensures found { IfSome result (IsOnWithin search.entry.on.now.machine.now
+        search.entry.on.now.items.items search.entry.target radius.chips) }
+    ensures none { IfNone result ((e : Chip) → window_chip search.entry.on.now.machine.now
+        search.entry.target radius.chips number ≡ Some e →
+        IsOnWithin search.entry.on.now.machine.now search.entry.on.now.items.items
+        search.entry.target radius.chips e → ⊥) }
+    ensures that_one { IfSome result (λ c. window_chip search.entry.on.now.machine.now
+        search.entry.target radius.chips number ≡ Some c) }
 {
-    let machine = on.machine();
-    let chip = window_chip(machine, target, radius, number)?;
-    if on.at(chip) && distance(machine, chip, target) <= u32::from(radius.chips) {
+    let machine = search.on.machine();
+    let chip = window_chip(search, radius, number)?;
+    if search.on.at(chip) && distance(machine, chip, search.target) <= u32::from(radius.chips) {
         Some(chip)
     } else {
         None
@@ -89,14 +97,16 @@ fn candidate(on: &Marks, target: Chip, radius: Radius, number: u16) -> Option<Ch
 }
 
 // Whether the first chip comes before the second in the order of distance to the target, then x, then y.
-fn is_nearer(machine: &Machine, target: Chip, c: Chip, e: Chip) -> bool
-    requires target_inside { IsInside machine.now target }
-    requires this_inside { IsInside machine.now c }
-    requires that_inside { IsInside machine.now e }
+fn is_nearer(search: Search<'_, '_>, c: Chip, e: Chip) -> bool
+    requires this_inside { IsInside search.on.now.machine.now c }
+    requires that_inside { IsInside search.on.now.machine.now e }
     ensures { MatchBool result
-        (IsNotFarther machine.now target c e) (IsNotFarther machine.now target e c) }
+        (IsNotFarther search.entry.on.now.machine.now search.entry.target c e)
+        (IsNotFarther search.entry.on.now.machine.now search.entry.target e c) }
 {
-    let (one, other) = (distance(machine, c, target), distance(machine, e, target));
+    let machine = search.on.machine();
+    let one = distance(machine, c, search.target);
+    let other = distance(machine, e, search.target);
     if one == other {
         machine.index(c) < machine.index(e)
     } else {
@@ -105,35 +115,36 @@ fn is_nearer(machine: &Machine, target: Chip, c: Chip, e: Chip) -> bool
 }
 
 // The nearest chip of the tree from which the target is at most `radius` links away.
-fn nearest_within(on: &Marks, target: Chip, radius: Radius) -> Option<Chip>
-    requires { IsInside on.now.machine.now target }
-    ensures found { IfSome result
-        (IsNearestOn on.now.machine.now on.now.items.items target radius.chips) }
-    ensures none { IfNone result
-        (IsNoneOn on.now.machine.now on.now.items.items target radius.chips) }
+fn nearest_within(search: Search<'_, '_>, radius: Radius) -> Option<Chip>
+    ensures found { IfSome result (IsNearestOn search.entry.on.now.machine.now
+        search.entry.on.now.items.items search.entry.target radius.chips) }
+    ensures none { IfNone result (IsNoneOn search.entry.on.now.machine.now
+        search.entry.on.now.items.items search.entry.target radius.chips) }
 {
     let side = 2 * u16::from(radius.chips) + 1;
     let mut best = None;
     for number in 0..side * side {
-        if let Some(chip) = candidate(on, target, radius, number) {
-            best = Some(nearer(on.machine(), target, best, chip));
+        if let Some(chip) = candidate(search, radius, number) {
+            best = Some(nearer(search, best, chip));
         }
     }
     best
 }
 
 // The chip that comes first in the order of distance to the target, then x, then y.
-fn nearer(machine: &Machine, target: Chip, best: Option<Chip>, chip: Chip) -> Chip
-    requires target_inside { IsInside machine.now target }
-    requires best_inside { IfSome best (IsInside machine.now) }
-    requires inside { IsInside machine.now chip }
+fn nearer(search: Search<'_, '_>, best: Option<Chip>, chip: Chip) -> Chip
+    requires best_inside { IfSome best (IsInside search.on.now.machine.now) }
+    requires inside { IsInside search.on.now.machine.now chip }
     ensures first { IfNone best (result ≡ chip) }
-    ensures nearer { IfSome best (λ b. ((result ≡ b) × IsNotFarther machine.now target b chip)
-        ⊎ ((result ≡ chip) × IsNotFarther machine.now target chip b)) }
+    ensures nearer { IfSome best (λ b.
+        ((result ≡ b)
+        × IsNotFarther search.entry.on.now.machine.now search.entry.target b chip)
+        ⊎ ((result ≡ chip)
+        × IsNotFarther search.entry.on.now.machine.now search.entry.target chip b)) }
 {
     match best {
         None => chip,
-        Some(other) => if is_nearer(machine, target, chip, other) {
+        Some(other) => if is_nearer(search, chip, other) {
             chip
         } else {
             other
@@ -150,10 +161,8 @@ struct Found {
 
 // Of two chips the one that comes first in the order of distance to the target, then x, then y.
 fn first_of(machine: &Machine, target: Chip, old: Found, new: Found) -> Found
-    requires old_inside { IsInside machine.now old.chip }
-    requires new_inside { IsInside machine.now new.chip }
-    requires old_far { old.far ≡ distance_of machine.now old.chip target }
-    requires new_far { new.far ≡ distance_of machine.now new.chip target }
+    requires old { IsFoundAt machine.now target old }
+    requires new { IsFoundAt machine.now target new }
     ensures { ((result ≡ old) × IsNotFarther machine.now target old.chip new.chip)
         ⊎ ((result ≡ new) × IsNotFarther machine.now target new.chip old.chip) }
 {
@@ -174,8 +183,7 @@ fn first_of(machine: &Machine, target: Chip, old: Found, new: Found) -> Found
 fn closer(machine: &Machine, target: Chip, best: Option<Found>, chip: Chip) -> Option<Found>
     requires target_inside { IsInside machine.now target }
     requires inside { IsInside machine.now chip }
-    requires best_inside { IfSome best (λ b. IsInside machine.now b.chip) }
-    requires best_far { IfSome best (λ b. b.far ≡ distance_of machine.now b.chip target) }
+    requires best { IfSome best (IsFoundAt machine.now target) }
     ensures { IsCloser machine.now target best chip result }
 {
     let far = distance(machine, chip, target);
@@ -190,13 +198,14 @@ fn closer(machine: &Machine, target: Chip, best: Option<Found>, chip: Chip) -> O
 }
 
 // The nearest chip of the tree within 20 links of the target, found by going over the tree's edges.
-fn nearest_of_edges(machine: &Machine, root: Chip, edges: &[Edge], target: Chip) -> Option<Found>
-    requires root_inside { IsInside machine.now root }
-    requires edges_inside { All (λ e. IsInside machine.now e.chip) edges.now }
-    requires target_inside { IsInside machine.now target }
-    ensures { IsLeastFound machine.now root edges.now target result }
+fn nearest_of_edges(tree: &GrowingTree, target: Chip) -> Option<Found>
+    requires { IsInside tree.now.on.machine.now target }
+    ensures { IsLeastFound
+        tree.now.on.machine.now tree.now.root tree.now.edges.items target result }
 {
-    let mut best = closer(machine, target, None, root);
+    let machine = tree.on.machine();
+    let edges: &[Edge] = &tree.edges;
+    let mut best = closer(machine, target, None, tree.root);
     for edge in edges {
         if let Some(chip) = machine.far(edge.chip, edge.dir) {
             best = closer(machine, target, best, chip);
@@ -206,16 +215,15 @@ fn nearest_of_edges(machine: &Machine, root: Chip, edges: &[Edge], target: Chip)
 }
 
 // The same as `nearest_within` where the tree has at least as many edges as the window has chips; else nothing.
-fn nearest_if_many(on: &Marks, edges: usize, target: Chip, radius: Radius) -> Option<Chip>
-    requires { IsInside on.now.machine.now target }
-    ensures { IfSome result
-        (IsNearestOn on.now.machine.now on.now.items.items target radius.chips) }
+fn nearest_if_many(search: Search<'_, '_>, edges: usize, radius: Radius) -> Option<Chip>
+    ensures { IfSome result (IsNearestOn search.entry.on.now.machine.now
+        search.entry.on.now.items.items search.entry.target radius.chips) }
 {
     let side = 2 * usize::from(radius.chips) + 1;
     if edges < side * side {
         return None;
     }
-    nearest_within(on, target, radius)
+    nearest_within(search, radius)
 }
 
 // The chip of the tree to which a target is joined: the nearest within 20 links, and the root where there is none. What
@@ -226,21 +234,24 @@ pub fn near_chip(tree: &GrowingTree, target: Chip) -> Chip
         tree.now.on.items.items tree.now.edges.items }
     ensures { IsNear tree.now.on.machine.now tree.now.root tree.now.edges.items target result }
 {
-    let on = &tree.on;
-    let edges: &[Edge] = &tree.edges;
-    if let Some(chip) = nearest_if_many(on, edges.len(), target, Radius { chips: 2 }) {
+    let search = Search {
+        on: &tree.on,
+        target,
+    };
+    let edges = tree.edges.len();
+    if let Some(chip) = nearest_if_many(search, edges, Radius { chips: 2 }) {
         return chip;
     }
-    if let Some(chip) = nearest_if_many(on, edges.len(), target, Radius { chips: 6 }) {
+    if let Some(chip) = nearest_if_many(search, edges, Radius { chips: 6 }) {
         return chip;
     }
-    if edges.len() < WIDEST_WINDOW {
-        return match nearest_of_edges(on.machine(), tree.root, edges, target) {
+    if edges < WIDEST_WINDOW {
+        return match nearest_of_edges(tree, target) {
             Some(found) => found.chip,
             None => tree.root,
         };
     }
-    match nearest_within(on, target, Radius { chips: 20 }) {
+    match nearest_within(search, Radius { chips: 20 }) {
         Some(chip) => chip,
         None => tree.root,
     }

@@ -1,6 +1,6 @@
 // Walks that go the longest dimension first.
 ghost use Rattle.std.specs.Prelude.{◌≡◌, ◌+◌, ◌-◌, ◌<◌, ◌≤◌, ◌∷◌, [], ◌++◌, IfOk, length, unsigned_abs, replicate, neg_ℤ, ◌-ℤ◌, pos};
-ghost use Rattle.ner_trees.specs.Geometry.{IsSmall, length_of, forth, back};
+ghost use Rattle.ner_trees.specs.Geometry.{length_of, forth, back};
 ghost use Rattle.ner_trees.specs.LongestFirst.{median, link_run_of, runs_of, longest_first, ldf_of, sum_of};
 
 use crate::displacements::{Disp, back, forth};
@@ -47,7 +47,6 @@ fn longest_first(x: Run, y: Run, z: Run) -> [Run; 3]
 
 // The displacement's runs along the three dimensions, one of them of no steps.
 fn runs(d: Disp) -> [Run; 3]
-    requires { IsSmall d }
     ensures { result ≡ longest_first (runs_of d) }
 {
     let (east, west) = (forth(d.a), back(d.a));
@@ -73,7 +72,6 @@ fn add_run(walk: &mut Vec<Dir>, run: Run) -> Result<(), Memory>
 /// The steps of a displacement, the longest dimension first: (a, b, 0) less its median gives steps by East, North and
 /// South-West, or by their opposites where negative; runs of more steps come first, and of equal ones x, then y, then z.
 pub fn ldf(alloc: Global, d: Disp) -> Result<Seq<Dir>, Memory>
-    requires { IsSmall d }
     ensures steps { IfOk result (λ s. s ≡ ldf_of d) }
     ensures as_many_as_the_length { IfOk result (λ s. length s ≡ length_of d) }
     ensures adds_up { IfOk result (λ s. sum_of s ≡ d) }

@@ -66,6 +66,19 @@ abbrev pub HasFairRooms : Description → Board → Type 0
 HasFairRooms m b = (q : ℕ) → q < length b.chips → 0 < slice_index b.rooms q →
     (slice_index b.cores.items q < 18) × (slice_index b.rooms q ≤ m.sdram + 1)
 
+-- a board whose places have such rooms
+pub record IsFairBoard (m : Description) (b : Board) : Type 0 where
+  pub board : IsBoard m b.level b
+  pub rooms : HasFairRooms m b
+
+-- a place of a board where a vertex that needs so many bytes may stand: its chip has a free core, and room
+pub record IsFreePlace (m : Description) (b : Board) (place sdram : ℕ) : Type 0 where
+  pub board : IsBoard m b.level b
+  pub within : place < length b.chips
+  pub free : slice_index b.cores.items place < 18
+  pub enough : sdram < slice_index b.rooms place
+  pub few : slice_index b.rooms place ≤ m.sdram + 1
+
 -- a vertex that is no device was put on a place with room
 pub record IsPutOnCore (m : Description) (old new : Board) (v : Vertex) (r : Placed) : Type 0 where
   pub place : ℕ

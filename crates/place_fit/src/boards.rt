@@ -1,6 +1,6 @@
 // How far the chips of a machine are filled.
 ghost use Rattle.std.specs.Prelude.{◌≡◌, ℕ, ◌+◌, ◌-◌, ◌==◌, ◌^◌, ◌<◌, ◌≤◌, Some, length, slice_get, slice_set, slice_index, if◌then◌else◌, nat_lt, IfOk, IfSome, IfNone};
-ghost use Rattle.place_fit.specs.Boards.{IsBoard, IsEmptyBoard, IsNextCore, IsPlaceWithRoom, HasNoPlace, HasNoRoomAt, HasFairRooms, IsFilled, IsPut, IsPutOnCore, HasNoSpot, first_room};
+ghost use Rattle.place_fit.specs.Boards.{IsBoard, IsEmptyBoard, IsNextCore, IsPlaceWithRoom, HasNoPlace, HasNoRoomAt, IsFairBoard, IsFreePlace, IsFilled, IsPut, IsPutOnCore, HasNoSpot, first_room};
 ghost use Rattle.place_fit.specs.Curve.{IsCurveLevel};
 ghost use Rattle.place_fit.specs.Placement.{HasDeviceRoom, device_spot};
 
@@ -91,8 +91,7 @@ fn next_core(machine: &Machine, chip: Chip, from: u8) -> u8
 impl Board {
     // Puts a vertex on the board: a device at its link, and any other on the least free core of the chip that is found.
     pub fn put(&mut self, machine: &Machine, vertex: &Vertex) -> Option<Placed>
-        requires board { IsBoard machine.now self.old.level self.old }
-        requires rooms { HasFairRooms machine.now self.old }
+        requires { IsFairBoard machine.now self.old }
         ensures placed { IfSome result (IsPut machine.now self.old self.new vertex.now) }
         ensures none { IfNone result (HasNoSpot machine.now self.old vertex.now) }
     {
@@ -104,8 +103,7 @@ impl Board {
 
     // Puts a vertex on the least free core of the chip that is found for it.
     fn put_on_core(&mut self, machine: &Machine, vertex: &Vertex) -> Option<Placed>
-        requires board { IsBoard machine.now self.old.level self.old }
-        requires rooms { HasFairRooms machine.now self.old }
+        requires { IsFairBoard machine.now self.old }
         ensures placed { IfSome result (IsPutOnCore machine.now self.old self.new vertex.now) }
         ensures none { IfNone result (HasNoPlace machine.now self.old vertex.now) }
     {
@@ -146,11 +144,7 @@ impl Board {
 
     // Puts a vertex that needs so many bytes on the least free core of the chip at a place.
     fn fill(&mut self, machine: &Machine, place: usize, sdram: u32) -> Placed
-        requires board { IsBoard machine.now self.old.level self.old }
-        requires within { place < length self.old.chips }
-        requires free { slice_index self.old.cores.items place < 18 }
-        requires enough { sdram < slice_index self.old.rooms place }
-        requires few { slice_index self.old.rooms place ≤ machine.now.sdram + 1 }
+        requires { IsFreePlace machine.now self.old place sdram }
         ensures { IsFilled machine.now place sdram self.old self.new result }
     {
         let total = machine.sdram();

@@ -59,8 +59,7 @@ impl Quarter {
     // A chip of a square of that side, as it stands in this quarter of the square of twice the side.
     fn chip(self, side: u8, c: Chip) -> Chip
         requires small { side ≤ 32 }
-        requires across { c.x < side }
-        requires up { c.y < side }
+        requires inside { (c.x < side) × (c.y < side) }
         ensures { result ≡ in_quarter self side c }
     {
         match self {
@@ -95,8 +94,7 @@ fn add_quarter(all: &mut Vec<Chip>, quarter: Quarter, square: Square) -> Result<
 // The place of a chip on the curve.
 pub(crate) fn place_on_curve(level: u32, c: Chip) -> usize
     requires small { level ≤ 6 }
-    requires across { c.x < 2 ^ level }
-    requires up { c.y < 2 ^ level }
+    requires inside { (c.x < 2 ^ level) × (c.y < 2 ^ level) }
     ensures place { result ≡ curve_place level c }
     ensures below { result < 4096 }
 {

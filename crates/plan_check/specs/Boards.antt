@@ -1,5 +1,5 @@
 -- What the checker's functions keep and answer.
-use Rattle.std.specs.Prelude.{◌≡◌, ◌≢◌, ℕ, ◌<◌, List, [], length, Option, Some, None, slice_get, slice_index_or}
+use Rattle.std.specs.Prelude.{◌≡◌, ◌≢◌, ℕ, ◌*◌, ◌<◌, List, [], length, Option, Some, None, slice_get, slice_index_or}
 use Rattle.std.specs.Option.{option_map_or}
 use Rattle.spin_base.specs.declared.blocks.Block.{Block}
 use Rattle.spin_base.specs.declared.blocks.ChipTable.{ChipTable}
@@ -12,6 +12,7 @@ use Rattle.machine_desc.specs.Live.{index_of}
 use Rattle.machine_desc.specs.declared.nets.NetPlan.{NetPlan}
 use Rattle.table_load.specs.declared.tables.Image.{Image}
 use Rattle.table_load.specs.Memories.{rows_of_index}
+use Rattle.net_tables.specs.Marks.{IsRouted, TellsPorts, TellsRoutes}
 use Rattle.net_tables.specs.PlainTable.{HasChip}
 use Rattle.plan_check.specs.declared.flaws.Flaw.{Flaw}
 use Rattle.plan_check.specs.declared.flaws.Flaw.TheVariants.{Wrong, Split}
@@ -44,6 +45,15 @@ IsAmiss b rows port wanted (Some (Split place)) = IsSplitAt b rows place
 abbrev pub IsAmissAt : Block → List Entry → Option Port → Route → Option Flaw → Type 0
 IsAmissAt b rows (Some port) wanted flaw = IsAmiss b rows port wanted flaw
 IsAmissAt b rows None wanted flaw = flaw ≡ None
+
+-- The boards have, for each index, the port at which the net's packets come in at the chip of that index, and the outputs
+-- that the net's tree wants there.
+pub record AreBoardsOf (m : Description) (net : NetPlan) (ports : List (Option Port)) (routes : List Route) : Type 0 where
+  pub routed : IsRouted m net
+  pub ports_long : length ports ≡ m.width * m.height
+  pub routes_long : length routes ≡ m.width * m.height
+  pub comes_in : TellsPorts m net.tree.root net.tree.edges ports
+  pub outputs : TellsRoutes m net.tree.edges net.targets routes
 
 -- What is amiss with a net at a chip of its tree.
 abbrev pub IsFlaw : Description → Image → NetPlan → Chip → Flaw → Type 0

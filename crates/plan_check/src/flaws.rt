@@ -1,5 +1,6 @@
 // What is amiss with a block of keys in the rows of one chip.
 ghost use Rattle.std.specs.Prelude.{◌≡◌, ◌≢◌, ◌↔◌, ◌≤◌, ◌<◌, ℕ, IsTrue, All, MatchOption, length};
+ghost use Rattle.std.proofs.Props.{props};
 ghost use Rattle.spin_base.specs.declared.blocks.Entry.{Entry};
 ghost use Rattle.spin_base.specs.Lookup.{default_route};
 ghost use Rattle.spin_base.specs.declared.sizes.TheConstants.{ROUTER_ENTRIES};
@@ -19,16 +20,23 @@ pub enum Flaw {
     Split { row: u32 },
 }
 
+// The rows of one chip's table.
+#[derive(Clone, Copy)]
+pub struct Rows<'a> {
+    pub entries: &'a [Entry],
+    pub ghost valid: { All IsRow entries.now } by { Prim.hlevel props },
+    pub ghost few: { length entries.now ≤ ROUTER_ENTRIES },
+}
+
 // What is amiss with a block in rows where its packets come in at that port: `None` where all its keys get the wanted route.
-pub fn flaw_in(rows: &[Entry], block: Block, port: Port, wanted: Route) -> Option<Flaw>
-    requires valid { All IsRow rows.now }
-    requires few { length rows.now ≤ ROUTER_ENTRIES }
-    ensures { IsAmiss block rows.now port wanted result }
+pub fn flaw_in(rows: Rows, block: Block, port: Port, wanted: Route) -> Option<Flaw>
+    ensures { IsAmiss block rows.entry.entries.now port wanted result }
 {
     match first_to_meet(rows, block) {
         None => flaw_by(default_route(port), wanted),
         Some(place) => {
-            let row = rows[place as usize];
+            let entries = rows.entries;
+            let row = entries[place as usize];
             if !lies_inside(block, row) {
                 return Some(Flaw::Split { row: place });
             }
@@ -49,14 +57,13 @@ fn flaw_by(route: Route, wanted: Route) -> Option<Flaw>
 }
 
 // The place of the first row that meets the block.
-fn first_to_meet(rows: &[Entry], block: Block) -> Option<u32>
-    requires valid { All IsRow rows.now }
-    requires few { length rows.now ≤ ROUTER_ENTRIES }
-    ensures { MatchOption result (NoneMeets block rows.now)
-        (λ place. (e : Entry) × IsFirstToMeet block rows.now place e) }
+fn first_to_meet(rows: Rows, block: Block) -> Option<u32>
+    ensures { MatchOption result (NoneMeets block rows.entry.entries.now)
+        (λ place. (e : Entry) × IsFirstToMeet block rows.entry.entries.now place e) }
 {
-    for place in 0..rows.len() {
-        if meets(block, rows[place]) {
+    let entries = rows.entries;
+    for place in 0..entries.len() {
+        if meets(block, entries[place]) {
             return Some(place as u32);
         }
     }

@@ -43,12 +43,13 @@ pub fn set_places(image: &Image, places: &mut [u16])
 }
 
 // The rows of the chip of an index, and none where it has no table.
-pub fn rows_of<'a>(image: &'a Image, places: &[u16], index: usize) -> &'a [Entry]
-    requires told { TellsTables image.now.height image.now.chips places.now }
-    requires within { index < length places.now }
-    ensures { result.now ≡ rows_of_index image.now.height image.now.chips index }
+pub fn rows_of<'a>(tables: &PlacedTables<'a>, index: usize) -> &'a [Entry]
+    requires { index < length tables.now.places.now }
+    ensures { result.now ≡
+        rows_of_index tables.now.image.now.height tables.now.image.now.chips index }
 {
-    match image.chips.as_slice().get(usize::from(places[index])) {
+    let place = tables.places[index];
+    match tables.image.chips.as_slice().get(usize::from(place)) {
         Some(table) => table.entries.as_slice(),
         None => &[],
     }

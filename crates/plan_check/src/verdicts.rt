@@ -1,20 +1,19 @@
 // The verdict on the tables of an image.
-ghost use Rattle.std.specs.Prelude.{◌≡◌, ◌*◌, ◌<◌, ◌≤◌, ◌^◌, ℕ, List, All, Some, length, slice_get, slice_index};
+ghost use Rattle.std.specs.Prelude.{◌≡◌, ◌*◌, ◌<◌, ◌^◌, ℕ, List, All, Some, length, slice_get, slice_index};
 ghost use Rattle.spin_base.specs.declared.blocks.Entry.{Entry};
 ghost use Rattle.spin_base.specs.declared.chips.Chip.{Chip};
-ghost use Rattle.spin_base.specs.declared.sizes.TheConstants.{ROUTER_ENTRIES};
 ghost use Rattle.machine_desc.specs.Live.{chip_of};
 ghost use Rattle.machine_desc.specs.declared.nets.NetPlan.{NetPlan};
 ghost use Rattle.machine_desc.specs.RightTables.{AreRight};
-ghost use Rattle.net_tables.specs.Marks.{IsRouted, TellsPorts, TellsRoutes};
-ghost use Rattle.table_load.specs.Images.{IsValid, IsRow};
+ghost use Rattle.net_tables.specs.Marks.{IsRouted};
+ghost use Rattle.table_load.specs.Images.{IsValid};
 ghost use Rattle.table_load.specs.Memories.{IsLoaded};
 ghost use Rattle.plan_check.specs.declared.verdicts.Verdict.TheVariants.{Right, Wrong};
-ghost use Rattle.plan_check.specs.Boards.{IsFirstFlaw, IsAmissAt, verdict_on};
+ghost use Rattle.plan_check.specs.Boards.{AreBoardsOf, IsFirstFlaw, IsAmissAt, verdict_on};
 ghost use Rattle.plan_check.specs.Verdicts.{IsVerdict, IsMisrouted};
 
 use crate::boards::{set_ports, set_routes};
-use crate::flaws::{Flaw, flaw_in};
+use crate::flaws::{Flaw, Rows, flaw_in};
 use crate::places::{PlacedTables, rows_of, set_places};
 use machine_desc::{Machine, NetPlan};
 use spin_base::{Block, Chip, Entry, Port, Route, Seq};
@@ -127,19 +126,13 @@ fn first_flaw(
     ports: &[Option<Port>],
     routes: &[Route],
 ) -> Option<(Chip, Flaw)>
-    requires routed { IsRouted tables.now.machine.now net.now }
-    requires ports_long { length ports.now
-        ≡ tables.now.machine.now.width * tables.now.machine.now.height }
-    requires routes_long { length routes.now
-        ≡ tables.now.machine.now.width * tables.now.machine.now.height }
-    requires ports { TellsPorts tables.now.machine.now net.now.tree.root net.now.tree.edges
-        ports.now }
-    requires outputs { TellsRoutes tables.now.machine.now net.now.tree.edges net.now.targets
-        routes.now }
+    requires { AreBoardsOf tables.now.machine.now net.now ports.now routes.now }
     ensures { IsFirstFlaw tables.now.machine.now tables.now.image.now net.now result }
 {
     for index in 0..tables.machine.chips() {
-        let rows = rows_of(tables.image, tables.places, index);
+        let rows = Rows {
+            entries: rows_of(tables, index),
+        };
         if let Some(flaw) = flaw_at(rows, net.block, ports[index], routes[index]) {
             return Some((tables.machine.chip_at(index as u32), flaw));
         }
@@ -148,10 +141,8 @@ fn first_flaw(
 }
 
 // What is amiss with a block at a chip where its packets come in at that port, if they do.
-fn flaw_at(rows: &[Entry], block: Block, port: Option<Port>, wanted: Route) -> Option<Flaw>
-    requires valid { All IsRow rows.now }
-    requires few { length rows.now ≤ ROUTER_ENTRIES }
-    ensures { IsAmissAt block rows.now port wanted result }
+fn flaw_at(rows: Rows, block: Block, port: Option<Port>, wanted: Route) -> Option<Flaw>
+    ensures { IsAmissAt block rows.entry.entries.now port wanted result }
 {
     flaw_in(rows, block, port?, wanted)
 }

@@ -1,12 +1,15 @@
-use Rattle.std.proofs.Common.{◌≡◌, to_z, of_z, w32, pos, ◌-ℤ◌, sym, ◌∙◌, arith}
+use Rattle.std.proofs.Common.{◌≡◌, to_z, of_z, w32, pos, ◌-ℤ◌, sym, ap, ◌∙◌, arith}
 use Rattle.std.proofs.lemmas.Int.{ints}
+use Rattle.ner_trees.specs.Geometry.{ahead_by}
 use Rattle.ner_trees.proofs.Signed.{displaced_on_torus, displaced_on_grid}
 use Rattle.ner_trees.proofs.displacements.displacement.Goals as goal
 
 pub returns-then-wrap-clause-value : goal.returns-then-wrap-clause-value
 returns-then-wrap-clause-value c =
-    displaced_on_torus c.args.machine.now c.args.p c.args.q _ _ _ _ _ (sym c.wrap.ensures ∙ c.if-wrap.true) c.width-width.ensures.value c.height-height.ensures.value
-    c.ahead_by.ensures.value c.ahead_by-then-wrap.ensures.value c.on_torus.ensures.value
+    displaced_on_torus c.args.machine.now c.args.p c.args.q _ _ _ _ _ (sym c.wrap.ensures ∙ c.if-wrap.true) (c.ahead_by.ensures.places ∙ c.width.ensures.value) (c.ahead_by-then-wrap.ensures.places ∙ c.height.ensures.value)
+    (c.ahead_by.ensures.value ∙ ap (λ k. ahead_by k c.args.p.x c.args.q.x) (sym c.ahead_by.ensures.places))
+    (c.ahead_by-then-wrap.ensures.value ∙ ap (λ k. ahead_by k c.args.p.y c.args.q.y) (sym c.ahead_by-then-wrap.ensures.places))
+    c.on_torus.ensures.value
 
 pub returns-else-wrap-clause-value : goal.returns-else-wrap-clause-value
 returns-else-wrap-clause-value c =

@@ -4,5 +4,5 @@ use Rattle.ner_trees.proofs.displacements.length_on_torus.Goals as goal
 
 pub returns-clause-value : goal.returns-clause-value
 returns-clause-value c =
-    let length = torus_length c.args.width c.args.height c.args.a c.args.b c.requires.across c.requires.up in
+    let length = torus_length c.args.across.places c.args.up.places c.args.across.place c.args.up.place c.args.across.inside c.args.up.inside in
     omega arith ∙ sym length

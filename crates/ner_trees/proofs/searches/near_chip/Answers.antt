@@ -16,8 +16,7 @@ returns-in-Some-nearest_if_many c =
 
 pub returns-in-Some-nearest_of_edges : goal.returns-in-Some-nearest_of_edges
 returns-in-Some-nearest_of_edges c =
-    near_found c.args.tree.now.on.machine.now c.args.tree.now.root c.args.target c.args.tree.now.edges.items c.in-Some-nearest_of_edges.found
-    (rw (c.machine.ensures, c.deref-edges.ensures.value) at c.in-Some-nearest_of_edges.ensures)
+    near_found c.args.tree.now.on.machine.now c.args.tree.now.root c.args.target c.args.tree.now.edges.items c.in-Some-nearest_of_edges.found c.in-Some-nearest_of_edges.ensures
 
 pub returns-in-Some-nearest_within : goal.returns-in-Some-nearest_within
 returns-in-Some-nearest_within c =

@@ -42,9 +42,11 @@ returns-in_default-clause-no_room c =
       none = finds_none m (take c.loop-i.i vertices) c.loop-i.spots b v.stands c.vertex-item.result c.in_default.ensures.none;
     }
 
-pub put-requires-clause-rooms : goal.put-requires-clause-rooms
-put-requires-clause-rooms c =
-    fair c.args.machine.now (take c.loop-i.i c.args.graph.now.vertices) c.loop-i.spots c.loop-i.board c.loop-i.invariant.stands c.vertex-item.result
+pub put-requires : goal.put-requires
+put-requires c = record {
+  board = c.loop-i.invariant.stands.board;
+  rooms = fair c.args.machine.now (take c.loop-i.i c.args.graph.now.vertices) c.loop-i.spots c.loop-i.board c.loop-i.invariant.stands c.vertex-item.result;
+}
 
 pub loop-i-preserved : goal.loop-i-preserved
 loop-i-preserved c =

@@ -1,3 +1,5 @@
+use Rattle.std.proofs.Common.{sym, subst}
+use Rattle.net_tables.specs.Marks.{IsRouted}
 use Rattle.plan_check.proofs.Chips.{verdict_found, nets_more, all_fine}
 use Rattle.plan_check.proofs.verdicts.verdict_of.Goals as goal
 
@@ -16,3 +18,12 @@ loop-at-preserved c = (
 
 pub returns : goal.returns
 returns c = all_fine c.args.tables.now.machine.now c.args.tables.now.image.now c.args.nets.now c.loop-at.at c.loop-at-test.false c.loop-at.invariant.0
+
+pub first_flaw-requires : goal.first_flaw-requires
+first_flaw-requires c = record {
+  routed = subst (IsRouted c.args.tables.now.machine.now) (sym c.index-nets-at.is) (c.requires.routed c.loop-at.at c.index-nets-at.result c.loop-at-test.true);
+  ports_long = c.set_ports.ensures.long;
+  routes_long = c.set_routes.ensures.long;
+  comes_in = c.set_ports.ensures.told;
+  outputs = c.set_routes.ensures.told;
+}
