@@ -15,7 +15,7 @@ use Rattle.app_loads.specs.declared.places.Region.TheVariants.{Rows}
 use Rattle.app_loads.specs.Regions.{ShareNoPlace, IsRangeWithin, chip_count, is_taken, place_of}
 
 -- the table has all its entries, and so many from a place on are among them
-pub record HasPlaces (table : List Entry) (first count : ℕ) : Type 0 where
+pub record HasEntriesFrom (table : List Entry) (first count : ℕ) : Type 0 where
   pub size : length table ≡ ROUTER_ENTRIES
   pub fits : first + count ≤ ROUTER_ENTRIES
 

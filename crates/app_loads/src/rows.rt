@@ -6,7 +6,7 @@ ghost use Rattle.tern_word.specs.Entries.{entry_of};
 ghost use Rattle.net_tables.specs.PlainTable.{AtEach, IsPlainTable};
 ghost use Rattle.app_loads.specs.Host.{net_with, nets_of};
 ghost use Rattle.app_loads.specs.Joining.{HasRoutes};
-ghost use Rattle.app_loads.specs.Writing.{AreCopied, AreUnused, AreUnusedFrom, CanClear, CanCopy, HasPlaces};
+ghost use Rattle.app_loads.specs.Writing.{AreCopied, AreUnused, AreUnusedFrom, CanClear, CanCopy, HasEntriesFrom};
 
 use crate::loaded::{LoadedApp, Range};
 use crate::places::Region;
@@ -79,7 +79,7 @@ pub fn write_rows(machine: &Machine, tables: &mut [Tcam], rows: &[Table], ranges
 
 // Puts rows at the places from one on.
 fn put_rows(table: &mut Tcam, first: u32, rows: &[Row])
-    requires { HasPlaces table.old first (length rows.now) }
+    requires { HasEntriesFrom table.old first (length rows.now) }
     ensures { table.new ≡ take first table.old
         ++ (map entry_of rows.now ++ drop (first + length rows.now) table.old) }
 {
@@ -106,7 +106,7 @@ pub fn clear_rows(machine: &Machine, tables: &mut [Tcam], ranges: &[Range])
 
 // Makes so many entries unused, from a place on.
 fn clear_entries(table: &mut Tcam, first: u32, count: u32)
-    requires { HasPlaces table.old first count }
+    requires { HasEntriesFrom table.old first count }
     ensures { AreUnusedFrom first count table.old table.new }
 {
     for at in 0..count {

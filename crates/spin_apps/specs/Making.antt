@@ -27,13 +27,13 @@ pub record IsPlaced (h : Host) (job : AppJob) (spots : List Spot) : Type 0 where
   pub different : AllPairs (λ a b. a ≢ b) spots
 
 -- a net of vertices that have these cores can be routed on the machine, whose live links are known
-pub record CanRoute (m : Description) (links : Roads) (spots : List Spot) (net : Net) : Type 0 where
+pub record CanRouteNet (m : Description) (links : Roads) (spots : List Spot) (net : Net) : Type 0 where
   pub roads : AreRoadsOf m links
   pub valid : IsValidNet (length spots) net
   pub sites : All (IsSite m) spots
 
 -- the same of each net of an application
-pub record CanRouteAll (m : Description) (links : Roads) (spots : List Spot) (nets : List Net) : Type 0 where
+pub record CanRouteNets (m : Description) (links : Roads) (spots : List Spot) (nets : List Net) : Type 0 where
   pub roads : AreRoadsOf m links
   pub few : length nets ≤ 4096
   pub valid : All (IsValidNet (length spots)) nets

@@ -8,7 +8,7 @@ ghost use Rattle.net_plans.specs.CutOffTargets.{HasNoneCutOff};
 ghost use Rattle.job_requests.specs.Valid.{IsValidJob};
 ghost use Rattle.app_loads.specs.Plans.{IsAppNet, IsPlan};
 ghost use Rattle.app_loads.specs.Host.{is_spot_taken};
-ghost use Rattle.spin_apps.specs.Making.{CanRoute, CanRouteAll, IsPlaced, unplaced, unrouted, unrouted_net};
+ghost use Rattle.spin_apps.specs.Making.{CanRouteNet, CanRouteNets, IsPlaced, unplaced, unrouted, unrouted_net};
 ghost use Rattle.spin_apps.specs.Plans.{IsNetFor, IsPlanFor, IsWhyUnplanned};
 
 use crate::free::free_machine;
@@ -136,7 +136,7 @@ fn app_nets(
     spots: &Seq<Spot>,
     nets: &Seq<Net>,
 ) -> Result<Seq<AppNet>, NetErr>
-    requires { CanRouteAll machine.now roads.now spots.now nets.now }
+    requires { CanRouteNets machine.now roads.now spots.now nets.now }
     ensures nets { IfOk result (λ apps. AllZip (IsNetFor machine.now spots.now) nets.now apps) }
     ensures valid { IfOk result (All (IsAppNet machine.now spots.now)) }
     ensures why { IfErr result (IsNetCause machine.now spots.now nets.now) }
@@ -171,7 +171,7 @@ fn app_net(
     spots: &Seq<Spot>,
     net: &Net,
 ) -> Result<AppNet, RepairErr>
-    requires { CanRoute machine.now roads.now spots.now net.now }
+    requires { CanRouteNet machine.now roads.now spots.now net.now }
     ensures net { IfOk result (IsNetFor machine.now spots.now net.now) }
     ensures valid { IfOk result (IsAppNet machine.now spots.now) }
     ensures reached { IfOk result (λ _. HasNoneCutOff machine.now spots.now net.now) }
