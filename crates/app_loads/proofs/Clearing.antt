@@ -1,5 +1,5 @@
 -- Entries made unused.
-use Rattle.std.proofs.Common.{◌≡◌, ◌≢◌, ℕ, ◌+◌, ◌<◌, ◌≤◌, Bool, true, false, ◌||◌, ◌&&◌, ◌==◌, List, take, get_or, length, refl, sym, ap, ◌∙◌, inl, inr, arith, Some}
+use Rattle.std.proofs.Common.{◌≡◌, ◌≢◌, ℕ, ◌+◌, ◌<◌, ◌≤◌, Bool, true, false, ◌||◌, ◌&&◌, ◌==◌, List, take, get_or, length, refl, sym, ap, ◌∙◌, inl, inr, arith, subst, Some}
 use Rattle.std.specs.List.{slice_get, slice_set}
 use Rattle.std.proofs.lemmas.Bool.{cases_Bool, cases_eq, eq-eqb, ne_eqb}
 use Rattle.std.proofs.lemmas.List.{length-set}
@@ -13,9 +13,10 @@ use Rattle.machine_desc.specs.RightTables.{table_at}
 use Rattle.range_store.specs.Regions.{in_range}
 use Rattle.app_loads.specs.declared.loaded.Range.{Range}
 use Rattle.app_loads.specs.declared.places.Region.TheVariants.{Rows}
-use Rattle.app_loads.specs.Regions.{IsRangeWithin, chip_count, range_has, is_taken, place_of}
+use Rattle.app_loads.specs.Regions.{IsRangeWithin, chip_count, range_has, is_taken, place_of, region_size}
 use Rattle.app_loads.specs.Writing.{AreUnused, AreUnusedFrom, CanClear}
 use Rattle.app_loads.proofs.Copying.{changed_here, same_elsewhere, was_here, none_more, taken_more}
+use Rattle.app_loads.proofs.Settling.{rows_size}
 use Rattle.std.proofs.Math.Bool.{or-false}
 
 -- ---- entries of one table
@@ -60,6 +61,9 @@ module _ (m : Description) (old : List (List Entry)) (ranges : List Range) (can 
 
     region_at : range.region ≡ 1 + (n + j)
     region_at = sym is_rows ∙ ap (λ k. 1 + (n + k)) index0
+
+    pub range_fits : range.place + range.size ≤ 1024
+    range_fits = subst (λ r. range.place + range.size ≤ r) (ap (region_size m) region_at ∙ rows_size m j) within.within
 
     cur_long : length cur ≡ n
     cur_long = so_far.all ∙ can.tables_long

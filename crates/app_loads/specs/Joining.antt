@@ -14,6 +14,7 @@ use Rattle.range_store.specs.Views.{Region}
 use Rattle.machine_desc.specs.declared.nets.NetPlan.{NetPlan}
 use Rattle.machine_desc.specs.NetsOn.{vertex_at}
 use Rattle.machine_desc.specs.RightTables.{table_at}
+use Rattle.net_tables.specs.PlainTable.{AreRoutedApart}
 use Rattle.mesh_core.specs.State.{State}
 use Rattle.mesh_core.specs.Opened.{first_copy}
 use Rattle.app_loads.specs.declared.answers.LoadRefusal.TheVariants.{KeysOut}
@@ -103,6 +104,16 @@ pub record CanJoin (s : State) (regions : List Region) (first : ℕ) (plan : App
   pub vertices : s.setup.spots ≡ usable_spots s.setup.machine
   pub none : NoneUnsent s.setup.spots plan.nets s.unsent
   pub long : (c : Chip) → IsInside s.setup.machine c → length (table_at s.setup.machine s.setup.tables c) ≡ ROUTER_ENTRIES
+
+-- the regions are those of the machine, on which the plan is one
+pub record CanServePlan (m : Description) (held : List Region) (of_app : AppPlan) : Type 0 where
+  pub plan : IsPlan m of_app
+  pub regions : AreRegionsOf m held
+
+-- the application's nets have trees and a block each, and no two blocks share a key
+pub record HasRoutes (m : Description) (app : LoadedApp) : Type 0 where
+  pub routed : AreRoutedApart m (nets_of app)
+  pub blocks : length app.blocks ≡ length app.plan.nets
 
 -- the application is a loaded one, whose ranges are its own
 pub record CanSettle (s : State) (app : LoadedApp) : Type 0 where

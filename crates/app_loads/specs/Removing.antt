@@ -1,11 +1,12 @@
 -- What unloading an application makes of the parts of a host, as the private functions say it.
-use Rattle.std.specs.Prelude.{◌≡◌, ◌≤◌, List, filter, length}
+use Rattle.std.specs.Prelude.{◌≡◌, ◌≤◌, ℕ, List, Option, IfSome, filter, length}
 use Rattle.spin_base.specs.declared.chips.Chip.{Chip}
 use Rattle.spin_base.specs.declared.sizes.TheConstants.{ROUTER_ENTRIES}
 use Rattle.machine_desc.specs.Live.{IsInside}
 use Rattle.range_store.specs.Views.{Region}
 use Rattle.machine_desc.specs.RightTables.{table_at}
 use Rattle.mesh_core.specs.State.{State}
+use Rattle.mesh_drain.specs.Draining.{SendAlone}
 use Rattle.app_loads.specs.declared.answers.Ended.{Ended}
 use Rattle.app_loads.specs.declared.answers.UnloadErr.{UnloadErr}
 use Rattle.app_loads.specs.declared.answers.UnloadErr.TheVariants.{NotLoaded, Waiting, Memory}
@@ -22,6 +23,11 @@ pub record CanLeave (s : State) (regions : List Region) (app : LoadedApp) : Type
   pub taken : AreTaken s.setup.machine others app.ranges regions
   pub few : length app.ranges ≤ 262144
   pub long : (c : Chip) → IsInside s.setup.machine c → length (table_at s.setup.machine s.setup.tables c) ≡ ROUTER_ENTRIES
+
+-- An application can leave, and where senders are known, they alone have packets unsent.
+pub record CanLeaveFrom (s : State) (regions : List Region) (senders : Option (List ℕ)) (app : LoadedApp) : Type 0 where
+  pub can : CanLeave s regions app
+  pub known : IfSome senders (λ vertices. SendAlone vertices s)
 
 -- The mesh has the application's rows, deliveries and dump records no more.
 pub record HasLeft (app : LoadedApp) (old : State) (ended : Ended) (new : State) : Type 0 where

@@ -1,5 +1,5 @@
 -- How ranges are taken from regions and given back, as the private functions say it.
-use Rattle.std.specs.Prelude.{◌≡◌, ℕ, ◌+◌, ◌%◌, ◌<◌, ◌≤◌, ◌==◌, List, [], ◌∷◌, ◌++◌, All, AllPairs, Some, IfSome, count_by, length, map, slice_get}
+use Rattle.std.specs.Prelude.{◌≡◌, ℕ, ◌+◌, ◌%◌, ◌<◌, ◌≤◌, ◌==◌, List, [], ◌∷◌, ◌++◌, All, AllPairs, Some, IfSome, count_by, length, map, replicate, slice_get}
 use Rattle.machine_desc.specs.Description.{Description}
 use Rattle.range_store.specs.Views.{Region}
 use Rattle.app_loads.specs.declared.loaded.Claim.{Claim}
@@ -41,6 +41,40 @@ pub record IsFairFor (claim : Claim) (region : Region) : Type 0 where
 abbrev pub CanServe : Description → List Claim → List Region → Type 0
 CanServe m claims regions = AreRegionsOf m regions × All (IsFair m (length regions)) claims
 
+-- they can be served, and are no more than a plan can ask for
+pub record CanServeAll (m : Description) (claims : List Claim) (regions : List Region) : Type 0 where
+  pub can : CanServe m claims regions
+  pub few : length claims ≤ 262144
+
+-- besides, no range is counted or listed yet, and the list has room for one of each claim
+pub record CanServeEach (m : Description) (claims : List Claim) (regions : List Region) (counted : List ℕ) (listed : List Range) (capacity : ℕ) : Type 0 where
+  pub can : CanServe m claims regions
+  pub few : length claims ≤ 262144
+  pub counts : counted ≡ replicate (length regions) 0
+  pub none : listed ≡ []
+  pub room : length claims ≤ capacity
+
+-- one claim can be served, and the ranges of its region that were taken before are no more than a plan can ask for
+pub record CanServeOne (claim : Claim) (held : ℕ) (region : Region) : Type 0 where
+  pub fair : IsFairFor claim region
+  pub few : held ≤ 262144
+
+-- a range asked for at a place has some places, all within the region
+pub record IsRangeOf (region : Region) (place size : ℕ) : Type 0 where
+  pub some : 0 < size
+  pub within : place + size ≤ region.size
+
+-- each range is of one of the regions, and they are no more than a plan can ask for
+pub record AreFewOf (regions : ℕ) (ranges : List Range) : Type 0 where
+  pub there : All (λ (range : Range). range.region < regions) ranges
+  pub few : length ranges ≤ 262144
+
+-- besides, no range is counted yet
+pub record AreFewUncounted (regions : ℕ) (ranges : List Range) (counts : List ℕ) : Type 0 where
+  pub there : All (λ (range : Range). range.region < regions) ranges
+  pub few : length ranges ≤ 262144
+  pub none : counts ≡ replicate regions 0
+
 -- the regions' lists of holes have room for so many more as there are ranges of each region
 abbrev pub HaveRoom : List Range → List Region → Type 0
 HaveRoom ranges regions = (i : ℕ) (r : Region) → slice_get regions i ≡ Some r → count_by (λ (range : Range). range.region == i) ranges ≤ r.spare
@@ -69,6 +103,11 @@ AreGivenBack m ranges old new = (others : List Range) → AreTaken m others rang
 -- the ranges are taken beside some others
 abbrev pub AreTakenBesideSome : List Range → List Region → Type 0
 AreTakenBesideSome ranges regions = (m : Description) × (others : List Range) × AreTaken m others ranges regions
+
+-- the ranges are taken, and the regions have room for them
+pub record CanGiveAll (ranges : List Range) (regions : List Region) : Type 0 where
+  pub taken : AreTakenBesideSome ranges regions
+  pub room : HaveRoom ranges regions
 
 -- whatever was taken before, the claims got these ranges beside it
 abbrev pub AreServedAlways : Description → List Claim → List Region → List Range → Type 0

@@ -14,6 +14,11 @@ use Rattle.app_loads.specs.declared.loaded.Range.{Range}
 use Rattle.app_loads.specs.declared.places.Region.TheVariants.{Rows}
 use Rattle.app_loads.specs.Regions.{ShareNoPlace, IsRangeWithin, chip_count, is_taken, place_of}
 
+-- the table has all its entries, and so many from a place on are among them
+pub record HasEntriesFrom (table : List Entry) (first count : ℕ) : Type 0 where
+  pub size : length table ≡ ROUTER_ENTRIES
+  pub fits : first + count ≤ ROUTER_ENTRIES
+
 -- the range lies within the chip's table, and has as many places as the chip has rows
 abbrev pub FitsTable : Description → List Table → Range → Type 0
 FitsTable m rows range =

@@ -1,9 +1,10 @@
 // The applications of a machine, and what can be asked of them.
-ghost use Rattle.std.specs.Prelude.{◌≡◌, ◌==◌, ◌+◌, ◌<◌, ◌≤◌, ◌++◌, ◌∷◌, [], All, IfOk, OnOk, Some, vec_capacity, vec_len};
+ghost use Rattle.std.specs.Prelude.{◌≡◌, ◌==◌, ◌+◌, ◌≤◌, ◌++◌, ◌∷◌, [], All, IfOk, OnOk, Some, vec_capacity, vec_len};
 ghost use Rattle.std.specs.List.{list_any, remove};
 ghost use Rattle.spin_base.specs.Equality.{spot_eq};
 ghost use Rattle.app_loads.specs.Applications.{AreApps};
 ghost use Rattle.app_loads.specs.Host.{all_spots, is_free_spot, is_loaded, is_spot_taken};
+ghost use Rattle.app_loads.specs.Inner.{HaveRoomForOne, IsInBoth};
 ghost use Rattle.app_loads.specs.Opening.{bare_host};
 
 use crate::loaded::LoadedApp;
@@ -164,8 +165,8 @@ pub fn reserve_one(apps: &mut Vec<LoadedApp>, numbers: &mut Vec<u32>) -> Result<
 
 // Puts an application and its number at the back of the lists, which have room for them.
 pub fn add(apps: &mut Vec<LoadedApp>, numbers: &mut Vec<u32>, app: LoadedApp)
-    requires room { vec_len apps.old + 1 ≤ vec_capacity apps.old }
-    requires number_room { vec_len numbers.old + 1 ≤ vec_capacity numbers.old }
+    requires { HaveRoomForOne (vec_len apps.old) (vec_capacity apps.old)
+        (vec_len numbers.old) (vec_capacity numbers.old) }
     ensures apps { apps.new.items ≡ apps.old.items ++ app ∷ [] }
     ensures numbers { numbers.new.items ≡ numbers.old.items ++ app.number ∷ [] }
 {
@@ -175,8 +176,7 @@ pub fn add(apps: &mut Vec<LoadedApp>, numbers: &mut Vec<u32>, app: LoadedApp)
 
 // Takes the application at a place and its number out of the lists.
 pub fn take_out(apps: &mut Vec<LoadedApp>, numbers: &mut Vec<u32>, at: usize)
-    requires there { at < vec_len apps.old }
-    requires number_there { at < vec_len numbers.old }
+    requires { IsInBoth at (vec_len apps.old) (vec_len numbers.old) }
     ensures apps { apps.new.items ≡ remove apps.old.items at }
     ensures numbers { numbers.new.items ≡ remove numbers.old.items at }
 {

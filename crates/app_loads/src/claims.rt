@@ -7,7 +7,7 @@ ghost use Rattle.machine_desc.specs.Live.{IsInside};
 ghost use Rattle.app_graph.specs.ValidGraph.{IsFixedFor};
 ghost use Rattle.app_loads.specs.declared.plans.AppNet.{AppNet as ANet};
 ghost use Rattle.app_loads.specs.Claims.{claims_of, memory_claim, fixed_claim, key_claim, entries_claim, row_claim, size_for};
-ghost use Rattle.app_loads.specs.Counting.{HasTree, IsKeyCount, IsRunEnd, end_places, run_claim, tree_places};
+ghost use Rattle.app_loads.specs.Counting.{AreIndices, AreNeeds, HasTree, IsKeyCount, NeedKeys, IsRunEnd, end_places, run_claim, tree_places};
 ghost use Rattle.app_loads.specs.Plans.{IsPlan, IsAppNet};
 ghost use Rattle.app_loads.specs.Regions.{chip_count};
 
@@ -42,8 +42,7 @@ pub fn claims_of(alloc: Global, machine: &Machine, plan: &AppPlan) -> Result<Vec
 
 // Each vertex's memory.
 fn claim_memory(claims: &mut Vec<Claim>, spots: &[Spot], sdram: &[u32]) -> Result<(), Memory>
-    requires each { length sdram.now ≡ length spots.now }
-    requires few { length spots.now < 2 ^ 32 }
+    requires { AreNeeds spots.now sdram.now }
     ensures { OnOk result (claims.new.items ≡ claims.old.items
         ++ gathered memory_claim 0 (zip spots.now sdram.now)) }
 {
@@ -100,8 +99,7 @@ fn push_fixed(claims: &mut Vec<Claim>, net: u32, fixed: Option<Block>) -> Result
 
 // The blocks of the nets that have no fixed one.
 fn claim_keys(claims: &mut Vec<Claim>, nets: &[AppNet]) -> Result<(), Memory>
-    requires few { length nets.now < 2 ^ 32 }
-    requires keys { All (λ (net : ANet). IsKeyCount net.keys) nets.now }
+    requires { NeedKeys nets.now }
     ensures { OnOk result (claims.new.items ≡ claims.old.items
         ++ gathered (λ j (net : ANet). key_claim j net.keys net.fixed) 0 nets.now) }
 {
@@ -159,8 +157,7 @@ fn claim_rows(
 
 // Entries for each run of equal indices in a list in order: as many as the run is long.
 fn claim_runs(claims: &mut Vec<Claim>, machine: &Machine, chips: &[u32]) -> Result<(), Memory>
-    requires sorted { AllPairs (λ a b. a ≤ b) chips.now }
-    requires inside { All (λ i. i < chip_count machine.now) chips.now }
+    requires { AreIndices machine.now chips.now }
     ensures { OnOk result (claims.new.items ≡ claims.old.items
         ++ flat_map (run_claim machine.now chips.now) (range_with_len 0 (chip_count machine.now))) }
 {

@@ -1,9 +1,9 @@
 // All copies brought to their targets.
 ghost use Rattle.std.specs.Prelude.{IfSome, OnOk};
 ghost use Rattle.mesh_core.specs.Expected.{IsAtRest};
-ghost use Rattle.mesh_drain.specs.Draining.{IsMoved, MeetsSomeLedger, SendAlone};
+ghost use Rattle.mesh_drain.specs.Draining.{IsMoved, SendAlone};
 ghost use Rattle.app_loads.specs.Applications.{AreApps};
-ghost use Rattle.app_loads.specs.Running.{HasMovedMesh};
+ghost use Rattle.app_loads.specs.Running.{CanDrain, HasMovedMesh};
 
 use crate::apps::Apps;
 use mesh_core::Mesh;
@@ -39,8 +39,7 @@ fn drain_known(
     mesh: &mut Mesh,
     senders: &mut Option<Seq<usize>>,
 ) -> Result<(), Memory>
-    requires kept { MeetsSomeLedger mesh.old }
-    requires known { IfSome senders.old (λ vertices. SendAlone vertices mesh.old) }
+    requires { CanDrain mesh.old senders.old }
     ensures at_rest { OnOk result (IsAtRest mesh.new) }
     ensures moved { IsMoved mesh.old mesh.new }
     ensures known { IfSome senders.new (λ vertices. SendAlone vertices mesh.new) }

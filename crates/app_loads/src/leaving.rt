@@ -2,7 +2,7 @@
 ghost use Rattle.std.specs.Prelude.{◌≡◌, [], ◌∷◌, ◌++◌, not, if◌then◌else◌, ◌<◌, filter, All, length, IfOk, IfSome, IfNone, OnOk};
 ghost use Rattle.std.specs.List.{flat_map};
 ghost use Rattle.mesh_core.specs.State.{IsMesh};
-ghost use Rattle.mesh_drain.specs.Draining.{SendAlone};
+ghost use Rattle.app_loads.specs.Running.{AreKnownIn};
 ghost use Rattle.app_loads.specs.Leaving.{is_packet_of, is_delivery_of, is_record_of, IsPartedBy, IsLeastUnderWay, NoneUnderWay, lesser_of, own_packet, least_own_packet, packet_numbers_of, held_packets, unsent_numbers};
 
 use crate::answers::Ended;
@@ -96,8 +96,7 @@ pub fn least_waiting(
     senders: &Option<Seq<usize>>,
     app: &LoadedApp,
 ) -> Option<u32>
-    requires mesh { IsMesh parts.now }
-    requires known { IfSome senders.now (λ vertices. SendAlone vertices parts.now) }
+    requires { AreKnownIn parts.now senders.now }
     ensures some { IfSome result (IsLeastUnderWay parts.now app.now) }
     ensures none { IfNone result (NoneUnderWay parts.now app.now) }
 {

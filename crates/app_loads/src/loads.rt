@@ -2,10 +2,10 @@
 ghost use Rattle.std.specs.Prelude.{◌≡◌, ◌+◌, ◌<◌, IfOk, IfErr, OnOk, OnErr, length};
 ghost use Rattle.app_loads.specs.Applications.{AreApps};
 ghost use Rattle.app_loads.specs.Claims.{AreBlocks, claims_of};
-ghost use Rattle.app_loads.specs.Joining.{AreKeyed, CanJoin, CanSettle, HaveBlocks, IsServedApp, IsSettled};
+ghost use Rattle.app_loads.specs.Joining.{AreKeyed, CanJoin, CanServePlan, CanSettle, HaveBlocks, IsServedApp, IsSettled};
 ghost use Rattle.app_loads.specs.Loading.{HasLoaded, IsWhyNotLoaded};
-ghost use Rattle.app_loads.specs.Plans.{IsPlan, MayLoad};
-ghost use Rattle.app_loads.specs.Taking.{AreFreeAgain, AreRegionsOf, HaveRoom, IsDueAlways};
+ghost use Rattle.app_loads.specs.Plans.{MayLoad};
+ghost use Rattle.app_loads.specs.Taking.{AreFreeAgain, HaveRoom, IsDueAlways};
 ghost use Rattle.app_loads.specs.Writing.{AreCopied, CanCopy};
 
 use crate::answers::{LoadErr, LoadRefusal};
@@ -108,8 +108,7 @@ fn serve(
     first: u32,
     plan: &AppPlan,
 ) -> Result<LoadedApp, LoadErr>
-    requires plan { IsPlan machine.now plan.now }
-    requires regions { AreRegionsOf machine.now regions.old }
+    requires { CanServePlan machine.now regions.old plan.now }
     ensures served { IfOk result (λ app.
         IsServedApp machine.now regions.old number first plan.now app regions.new) }
     ensures room { IfOk result (λ app. HaveRoom app.ranges regions.new) }

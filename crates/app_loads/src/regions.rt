@@ -1,10 +1,9 @@
 // Ranges taken from the regions, and given back.
 ghost use Rattle.std.specs.Prelude.{vec_capacity};
-ghost use Rattle.std.specs.Prelude.{◌≡◌, ℕ, ◌+◌, ◌<◌, ◌≤◌, ◌&&◌, not, [], All, IfOk, IfErr, IfSome, IfNone, OnOk, OnErr, length, replicate, Some, true, false};
+ghost use Rattle.std.specs.Prelude.{◌≡◌, ℕ, ◌+◌, ◌≤◌, ◌&&◌, not, IfOk, IfErr, IfSome, IfNone, OnOk, OnErr, length, Some, true, false};
 ghost use Rattle.machine_desc.specs.Description.{Description};
 ghost use Rattle.range_store.specs.Regions.{AreRuns, is_free, is_hole_range, in_range};
-ghost use Rattle.app_loads.specs.declared.loaded.Range.{Range as ARange};
-ghost use Rattle.app_loads.specs.Taking.{free_places_in, frees, ServesClaim, RefusesClaim, CanServe, IsDueOf, IsFairFor, HaveRoom, AreFreeAgain, AreGivenBack, AreTakenAlways, AreTakenBesideSome, AreServedAlways, IsDueAlways};
+ghost use Rattle.app_loads.specs.Taking.{free_places_in, frees, ServesClaim, RefusesClaim, AreFewOf, AreFewUncounted, CanGiveAll, CanServeAll, CanServeEach, CanServeOne, IsDueOf, IsFairFor, IsRangeOf, HaveRoom, AreFreeAgain, AreGivenBack, AreTakenAlways, AreServedAlways, IsDueAlways};
 
 use crate::answers::LoadErr;
 use crate::loaded::{Claim, Range};
@@ -20,8 +19,7 @@ pub fn take_all(
     regions: &mut [Ranges],
     claims: &[Claim],
 ) -> Result<Vec<Range>, LoadErr>
-    requires can { CanServe machine.now claims.now regions.old }
-    requires few { length claims.now ≤ 262144 }
+    requires { CanServeAll machine.now claims.now regions.old }
     ensures served { IfOk result (λ ranges. AreServedAlways machine.now claims.now regions.old ranges.items) }
     ensures taken { IfOk result (λ ranges. AreTakenAlways machine.now regions.old ranges.items regions.new) }
     ensures room { IfOk result (λ ranges. HaveRoom ranges.items regions.new) }
@@ -52,11 +50,8 @@ fn take_each(
     claims: &[Claim],
     ranges: &mut Vec<Range>,
 ) -> Result<(), LoadErr>
-    requires can { CanServe machine.now claims.now regions.old }
-    requires counts { counts.old ≡ replicate (length regions.old) 0 }
-    requires none { ranges.old.items ≡ [] }
-    requires room { length claims.now ≤ vec_capacity ranges.old }
-    requires few { length claims.now ≤ 262144 }
+    requires { CanServeEach machine.now claims.now regions.old counts.old ranges.old.items
+        (vec_capacity ranges.old) }
     ensures served { OnOk result (AreServedAlways machine.now claims.now regions.old ranges.new.items) }
     ensures refused { IfErr result (IsDueAlways machine.now claims.now regions.old) }
     ensures taken { AreTakenAlways machine.now regions.old ranges.new.items regions.new }
@@ -82,8 +77,7 @@ fn take_each(
 
 // Serves one claim, where so many ranges of its region were taken before: room is made first, so that they can be given back.
 fn take_claim(region: &mut Ranges, claim: &Claim, held: u32) -> Result<u64, LoadErr>
-    requires fair { IsFairFor claim.now region.old }
-    requires few { held ≤ 262144 }
+    requires { CanServeOne claim.now held region.old }
     ensures taken { IfOk result (ServesClaim claim.now region.old region.new) }
     ensures refused { IfErr result (IsDueOf claim.now region.old) }
     ensures unchanged { OnErr result (free_places_in region.new ≡ free_places_in region.old) }
@@ -119,8 +113,7 @@ fn take_with_room(region: &mut Ranges, claim: &Claim, room: u32) -> Result<Optio
 
 // Takes the range from a place on, if it is free.
 fn take_fixed(region: &mut Ranges, place: u64, size: u64) -> Result<Option<u64>, Memory>
-    requires some { 0 < size }
-    requires within { place + size ≤ region.old.size }
+    requires { IsRangeOf region.old place size }
     ensures found { IfOk result (λ o. IfSome o (λ p.
         (p ≡ place) × (is_hole_range region.old.holes place size ≡ true))) }
     ensures free { IfOk result (λ o. IfSome o (λ p. (k : ℕ) →
@@ -142,8 +135,7 @@ fn take_fixed(region: &mut Ranges, place: u64, size: u64) -> Result<Option<u64>,
 
 // Makes room in each region to give back those of the ranges that are its own. What is free stays as it is.
 pub fn make_room(alloc: Global, regions: &mut [Ranges], ranges: &[Range]) -> Result<(), Memory>
-    requires there { All (λ (range : ARange). range.region < length regions.old) ranges.now }
-    requires few { length ranges.now ≤ 262144 }
+    requires { AreFewOf (length regions.old) ranges.now }
     ensures room { OnOk result (HaveRoom ranges.now regions.new) }
     ensures same { frees regions.new ≡ frees regions.old }
 {
@@ -157,9 +149,7 @@ fn make_room_for_each(
     counts: &mut [u32],
     ranges: &[Range],
 ) -> Result<(), Memory>
-    requires there { All (λ (range : ARange). range.region < length regions.old) ranges.now }
-    requires none { counts.old ≡ replicate (length regions.old) 0 }
-    requires few { length ranges.now ≤ 262144 }
+    requires { AreFewUncounted (length regions.old) ranges.now counts.old }
     ensures room { OnOk result (HaveRoom ranges.now regions.new) }
     ensures same { frees regions.new ≡ frees regions.old }
 {
@@ -174,8 +164,7 @@ fn make_room_for_each(
 
 // Gives ranges back, for which room was made.
 pub fn give_all(regions: &mut [Ranges], ranges: &[Range])
-    requires taken { AreTakenBesideSome ranges.now regions.old }
-    requires room { HaveRoom ranges.now regions.old }
+    requires { CanGiveAll ranges.now regions.old }
     ensures free { (m : Description) → AreGivenBack m ranges.now regions.old regions.new }
 {
     for range in ranges {

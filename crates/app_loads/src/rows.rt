@@ -1,12 +1,12 @@
 // The plain rows of an application, and their ranges in the tables.
 ghost use Rattle.std.specs.Prelude.{◌≡◌, ◌+◌, ◌*◌, ◌<◌, ◌≤◌, ◌++◌, All, IfOk, drop, length, map, take};
 ghost use Rattle.machine_desc.specs.declared.nets.NetPlan.{NetPlan as Plan};
-ghost use Rattle.spin_base.specs.declared.sizes.TheConstants.{ROUTER_ENTRIES};
 ghost use Rattle.tcam_find.specs.Memory.{unused};
 ghost use Rattle.tern_word.specs.Entries.{entry_of};
-ghost use Rattle.net_tables.specs.PlainTable.{AreRoutedApart, AtEach, IsPlainTable};
+ghost use Rattle.net_tables.specs.PlainTable.{AtEach, IsPlainTable};
 ghost use Rattle.app_loads.specs.Host.{net_with, nets_of};
-ghost use Rattle.app_loads.specs.Writing.{AreCopied, AreUnused, AreUnusedFrom, CanClear, CanCopy};
+ghost use Rattle.app_loads.specs.Joining.{HasRoutes};
+ghost use Rattle.app_loads.specs.Writing.{AreCopied, AreUnused, AreUnusedFrom, CanClear, CanCopy, HasEntriesFrom};
 
 use crate::loaded::{LoadedApp, Range};
 use crate::places::Region;
@@ -20,8 +20,7 @@ use tern_word::{Row, Table};
 
 // The plain tables of the application's nets, by the chips' indices.
 pub fn tables_of(alloc: Global, machine: &Machine, app: &LoadedApp) -> Result<Seq<Table>, Memory>
-    requires routed { AreRoutedApart machine.now (nets_of app.now) }
-    requires blocks { length app.now.blocks ≡ length app.now.plan.nets }
+    requires { HasRoutes machine.now app.now }
     ensures long { IfOk result (λ ts. length ts ≡ machine.now.width * machine.now.height) }
     ensures plain { IfOk result (λ ts.
         AtEach machine.now ts (IsPlainTable machine.now (nets_of app.now))) }
@@ -80,8 +79,7 @@ pub fn write_rows(machine: &Machine, tables: &mut [Tcam], rows: &[Table], ranges
 
 // Puts rows at the places from one on.
 fn put_rows(table: &mut Tcam, first: u32, rows: &[Row])
-    requires size { length table.old ≡ ROUTER_ENTRIES }
-    requires fits { first + length rows.now ≤ ROUTER_ENTRIES }
+    requires { HasEntriesFrom table.old first (length rows.now) }
     ensures { table.new ≡ take first table.old
         ++ (map entry_of rows.now ++ drop (first + length rows.now) table.old) }
 {
@@ -108,8 +106,7 @@ pub fn clear_rows(machine: &Machine, tables: &mut [Tcam], ranges: &[Range])
 
 // Makes so many entries unused, from a place on.
 fn clear_entries(table: &mut Tcam, first: u32, count: u32)
-    requires size { length table.old ≡ ROUTER_ENTRIES }
-    requires fits { first + count ≤ ROUTER_ENTRIES }
+    requires { HasEntriesFrom table.old first count }
     ensures { AreUnusedFrom first count table.old table.new }
 {
     for at in 0..count {

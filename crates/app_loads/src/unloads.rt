@@ -1,12 +1,10 @@
 // An application unloaded.
-ghost use Rattle.std.specs.Prelude.{◌≡◌, ◌==◌, ◌<◌, ◌≤◌, All, IfOk, IfErr, IfSome, OnOk, OnErr, length, position};
-ghost use Rattle.mesh_drain.specs.Draining.{SendAlone};
+ghost use Rattle.std.specs.Prelude.{◌≡◌, ◌==◌, IfOk, IfErr, OnOk, OnErr, length, position};
 ghost use Rattle.app_loads.specs.declared.loaded.LoadedApp.{LoadedApp as AnApp};
-ghost use Rattle.app_loads.specs.declared.loaded.Range.{Range as ARange};
 ghost use Rattle.app_loads.specs.Applications.{AreApps};
 ghost use Rattle.app_loads.specs.Leaving.{IsPartedBy, NoneUnderWay};
-ghost use Rattle.app_loads.specs.Removing.{CanLeave, HasLeft, IsWhyHere};
-ghost use Rattle.app_loads.specs.Taking.{AreGivenBack, HaveRoom, frees};
+ghost use Rattle.app_loads.specs.Removing.{CanLeaveFrom, HasLeft, IsWhyHere};
+ghost use Rattle.app_loads.specs.Taking.{AreFewOf, AreGivenBack, HaveRoom, frees};
 ghost use Rattle.app_loads.specs.Unloading.{HasUnloaded, IsWhyNotUnloaded, NoneWaits};
 ghost use Rattle.app_loads.specs.Writing.{AreUnused, CanClear};
 
@@ -79,8 +77,7 @@ fn leave(
     senders: &Option<Seq<usize>>,
     app: &LoadedApp,
 ) -> (Mesh, Result<Ended, UnloadErr>)
-    requires can { CanLeave mesh regions.old app.now }
-    requires known { IfSome senders.now (λ vertices. SendAlone vertices mesh) }
+    requires { CanLeaveFrom mesh regions.old senders.now app.now }
     ensures left { IfOk result.1 (λ ended. HasLeft app.now mesh ended result.0) }
     ensures none { OnOk result.1 (NoneUnderWay mesh app.now) }
     ensures given { OnOk result.1
@@ -115,8 +112,7 @@ fn make_ready(
     parts: &MeshParts,
     app: &LoadedApp,
 ) -> Result<Parted, Memory>
-    requires there { All (λ (range : ARange). range.region < length regions.old) app.now.ranges }
-    requires few { length app.now.ranges ≤ 262144 }
+    requires { AreFewOf (length regions.old) app.now.ranges }
     ensures parted { IfOk result (IsPartedBy app.now parts.now) }
     ensures room { OnOk result (HaveRoom app.now.ranges regions.new) }
     ensures same { frees regions.new ≡ frees regions.old }

@@ -13,13 +13,23 @@ use Rattle.chip_node.specs.declared.banks.CoreBank.{CoreBank}
 use Rattle.chip_node.specs.declared.banks.Injection.{Injection}
 use Rattle.chip_node.specs.declared.banks.Injection.TheVariants.{Entered, Refused}
 use Rattle.chip_node.specs.declared.ends.OutEnd.{OutEnd}
-use Rattle.chip_node.specs.Ends.{IsInEndOf}
+use Rattle.chip_node.specs.Ends.{IsInEndOf, IsOutEndOf}
 use Rattle.chip_node.specs.Numbers.{vertex_numbers_of}
 use Rattle.chip_node.specs.Offers.{RefusesOffers}
 
 -- each vertex has the receiving end of its link
 abbrev pub HaveInEndsOf : List Link → List BankVertex → Type 0
 HaveInEndsOf links vertices = All (λ v. IsInEndOf links v.end) vertices
+
+-- the end of the injection queue is the sending end of its link, and each vertex has the receiving end of its own
+pub record CanOffer (links : List Link) (e : OutEnd) (vertices : List BankVertex) : Type 0 where
+  pub inject : IsOutEndOf links e
+  pub ends : HaveInEndsOf links vertices
+
+-- each vertex has the receiving end of its link, and there is room for a delivery
+pub record CanCollect (links : List Link) (vertices : List BankVertex) (room : ℕ) : Type 0 where
+  pub ends : HaveInEndsOf links vertices
+  pub spare : 1 ≤ room
 
 -- the unsent copies of each vertex
 abbrev pub bank_unsent_of : List BankVertex → List (List McCopy)

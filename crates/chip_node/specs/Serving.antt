@@ -1,5 +1,5 @@
 -- What serving one copy at one output does to a router.
-use Rattle.std.specs.Prelude.{◌≡◌, ◌≢◌, ℕ, List, [], ◌∷◌, map, Option, None, Some, All, Contains}
+use Rattle.std.specs.Prelude.{◌≡◌, ◌≢◌, ◌≤◌, ℕ, List, [], ◌∷◌, map, Option, None, Some, All, Contains}
 use Rattle.spin_base.specs.declared.chips.Chip.{Chip}
 use Rattle.spin_base.specs.declared.chips.Port.{Port}
 use Rattle.spin_base.specs.declared.routes.Out.{Out}
@@ -34,6 +34,11 @@ AreInEndsOf links ends = All (λ e. IsInEndOf links e.1) ends
 -- each output end is the sending end of its link
 abbrev pub AreOutEndsOf : List Link → List (Out × OutEnd) → Type 0
 AreOutEndsOf links ends = All (λ e. IsOutEndOf links e.1) ends
+
+-- each output end is the sending end of its link, and there is room for so many records
+pub record HaveEndsAndRoom (links : List Link) (held : List (Out × OutEnd)) (room records : ℕ) : Type 0 where
+  pub ends : AreOutEndsOf links held
+  pub spare : records ≤ room
 
 -- What offering a copy by one output, with such a patience and such an end, does to the end of an output.
 pub record OffersBy (patience : ℕ) (o : Out) (k : McCopy) (s : Served) (before after : Out × OutEnd) : Type 0 where

@@ -51,7 +51,7 @@ pub struct BankTurn {
 }
 
 impl CoreBank {
-    ghost use Rattle.chip_node.specs.BankFlow.{AnswersOffer, HaveInEndsOf, bank_unsent_of, OffersOne, IsEmptyFor, CollectsNone, BankFlow, IsWaitingAt, OffersAny, CollectsAny};
+    ghost use Rattle.chip_node.specs.BankFlow.{AnswersOffer, CanCollect, CanOffer, HaveInEndsOf, bank_unsent_of, OffersOne, IsEmptyFor, CollectsNone, BankFlow, IsWaitingAt, OffersAny, CollectsAny};
 
     /// A bank of these vertices.
     pub fn new(inject: OutEnd, vertices: Seq<BankVertex>, log: Room<Delivery>) -> CoreBank
@@ -109,8 +109,7 @@ impl CoreBank {
 
     // Offers the first unsent copy of the first vertex that has one, and tells what became of the offer.
     fn send<R: Wait>(&mut self, rt: &R, links: &[Link], number: u32) -> Option<Injection>
-        requires inject { IsOutEndOf links.now self.old.inject }
-        requires ends { HaveInEndsOf links.now self.old.vertices.items }
+        requires { CanOffer links.now self.old.inject self.old.vertices.items }
         ensures offers { OffersAny self.old.inject self.new.inject
             self.old.vertices.items self.new.vertices.items }
         ensures told { AnswersOffer result (sending self.old.inject.tx) (sending self.new.inject.tx)
@@ -135,8 +134,7 @@ impl CoreBank {
 
     // Looks at the queues of the vertices, one after the other, until one gives a copy, and logs it. It tells whether one did.
     fn collect<R: Wait>(&mut self, rt: &R, links: &[Link], number: u32) -> bool
-        requires ends { HaveInEndsOf links.now self.old.vertices.items }
-        requires spare { 1 ≤ self.old.log.spare }
+        requires { CanCollect links.now self.old.vertices.items self.old.log.spare }
         ensures collects { CollectsAny self.old self.new }
         ensures told { length self.new.log.items ≡ length self.old.log.items
             + (if result then 1 else 0) }

@@ -3,7 +3,7 @@ ghost use Rattle.std.specs.Prelude.{◌≡◌, ◌≢◌, ◌≤◌, ◌<◌, �
 ghost use Rattle.std.specs.List.{AllZip};
 ghost use Rattle.spin_base.specs.Equality.{out_eq};
 ghost use Rattle.spin_base.specs.Hops.{onward};
-ghost use Rattle.chip_node.specs.Serving.{ports_of, outs_with_ends, AreInEndsOf, AreOutEndsOf, IsLinkOf, OffersBy, records_of};
+ghost use Rattle.chip_node.specs.Serving.{ports_of, outs_with_ends, AreInEndsOf, AreOutEndsOf, HaveEndsAndRoom, IsLinkOf, OffersBy, records_of};
 
 use crate::ends::{InEnd, OutEnd, Served};
 use crate::rings::Ring;
@@ -192,8 +192,7 @@ impl RouterNode {
 
     // Serves a copy at these outputs.
     fn serve_all<R: Wait>(&mut self, rt: &R, links: &[Link], outs: &[Out], copy: McCopy)
-        requires ends { AreOutEndsOf links.now self.old.outputs.items }
-        requires spare { length outs.now ≤ self.old.log.spare }
+        requires { HaveEndsAndRoom links.now self.old.outputs.items self.old.log.spare (length outs.now) }
         ensures serves { ServesAll outs.now copy self.old self.new }
         ensures inputs { self.new.inputs ≡ self.old.inputs }
         ensures spare { self.old.log.spare ≤ self.new.log.spare + length outs.now }

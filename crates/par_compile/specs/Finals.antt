@@ -1,5 +1,5 @@
 -- The final tables of chips: the entries that are loaded of each chip's plain table (this project's own).
-use Rattle.std.specs.Prelude.{◌≡◌, ℕ, ◌*◌, ◌<◌, ◌^◌, Bool, List, [], All, None, Some, length, map, nat_lt, position, slice_get, slice_index_or, true}
+use Rattle.std.specs.Prelude.{◌≡◌, ℕ, ◌*◌, ◌<◌, ◌≤◌, ◌^◌, Bool, List, [], All, None, Some, length, map, nat_lt, position, slice_get, slice_index_or, true}
 use Rattle.spin_base.specs.declared.blocks.Entry.{Entry}
 use Rattle.spin_base.specs.declared.chips.Chip.{Chip}
 use Rattle.spin_base.specs.declared.sizes.TheConstants.{ROUTER_ENTRIES}
@@ -13,7 +13,7 @@ use Rattle.default_routes.specs.declared.stripping.Final.{Final}
 use Rattle.default_routes.specs.FinalTable.{HaveRoutesOf, IsFinalOf, IsShortened, RoutesAlone}
 use Rattle.net_tables.specs.declared.marks.Mark.{Mark}
 use Rattle.net_tables.specs.Marks.{AreApart, IsTableOf, original_of}
-use Rattle.net_tables.specs.PlainTable.{AreOriginals, IsPlainTable}
+use Rattle.net_tables.specs.PlainTable.{AreOriginals, AreRoutedApart, IsPlainTable}
 use Rattle.table_load.specs.Images.{IsRow}
 use Rattle.table_load.specs.Memories.{loaded}
 use Rattle.par_compile.specs.declared.workers.Work.{Work}
@@ -34,6 +34,21 @@ pub record StandsFor (target : ℕ) (rows : List Row) (f : Final) : Type 0 where
 pub record AreCoverable (marks : List Mark) : Type 0 where
   pub few : length marks < 2 ^ 32
   pub apart : AreApart marks
+
+-- such blocks that are no more than the target, so that their table is not covered
+pub record AreFewCoverable (marks : List Mark) (target : ℕ) : Type 0 where
+  pub few : length marks ≤ target
+  pub coverable : AreCoverable marks
+
+-- the original blocks of chips, of which each has a number of 32 bits
+pub record CanBeCovered (blocks : List (List Mark)) : Type 0 where
+  pub few : length blocks < 2 ^ 32
+  pub coverable : All AreCoverable blocks
+
+-- the nets are routed, no two of their blocks share a key, and each has a number of 32 bits
+pub record AreFewRouted (m : Description) (nets : List NetPlan) : Type 0 where
+  pub few : length nets < 2 ^ 32
+  pub routed : AreRoutedApart m nets
 
 -- the final table at a chip is that of the nets' plain table there
 pub record HasFinal (m : Description) (nets : List NetPlan) (target : ℕ) (c : Chip) (f : Final) : Type 0 where
@@ -65,6 +80,11 @@ abbrev pub IsPlainWork : Work → Type 0
 IsPlainWork (Plain marks) = AreCoverable marks
 IsPlainWork (Done f) = ⊥
 IsPlainWork Refused = ⊥
+
+-- the work of chips, none of it done, of which each has a number of 32 bits
+pub record AreAllPlain (works : List Work) : Type 0 where
+  pub few : length works < 2 ^ 32
+  pub ready : All IsPlainWork works
 
 -- the final table of the plain table of original blocks
 pub record IsFinalFor (target : ℕ) (marks : List Mark) (f : Final) : Type 0 where

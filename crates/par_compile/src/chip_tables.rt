@@ -1,9 +1,8 @@
 // From nets to the final tables of all chips.
-ghost use Rattle.std.specs.Prelude.{◌≡◌, ◌*◌, ◌<◌, ◌≤◌, ◌^◌, All, IfOk, length, map};
+ghost use Rattle.std.specs.Prelude.{◌≡◌, ◌*◌, ◌≤◌, All, IfOk, length, map};
 ghost use Rattle.machine_desc.specs.RightTables.{AreRight};
-ghost use Rattle.net_tables.specs.PlainTable.{AreRoutedApart};
 ghost use Rattle.default_routes.specs.declared.stripping.Final.{Final};
-ghost use Rattle.par_compile.specs.Finals.{AreAllUnlessLong, AreBlocksFor, AreCoverable, AreFinals, KeepsRows, loaded_of};
+ghost use Rattle.par_compile.specs.Finals.{AreAllUnlessLong, AreBlocksFor, AreCoverable, AreFewRouted, AreFinals, KeepsRows, loaded_of};
 
 use crate::requests::CompileRequest;
 use crate::workers::finals;
@@ -24,8 +23,7 @@ pub(crate) fn final_tables<R: Threads + Sync, G: Gate>(
     nets: &Seq<NetPlan>,
     gate: &G,
 ) -> Result<Seq<Final>, Memory>
-    requires few { length nets.now < 2 ^ 32 }
-    requires routed { AreRoutedApart request.now.machine.now nets.now }
+    requires { AreFewRouted request.now.machine.now nets.now }
     ensures all { IfOk result (AreAllUnlessLong
         (request.now.machine.now.width * request.now.machine.now.height)) }
     ensures within { IfOk result
@@ -52,8 +50,7 @@ fn blocks_for(
     request: &CompileRequest<'_>,
     nets: &Seq<NetPlan>,
 ) -> Result<Seq<Seq<Mark>>, Memory>
-    requires few { length nets.now < 2 ^ 32 }
-    requires routed { AreRoutedApart request.now.machine.now nets.now }
+    requires { AreFewRouted request.now.machine.now nets.now }
     ensures blocks { IfOk result (AreBlocksFor request.now.machine.now nets.now request.now.target) }
     ensures coverable { IfOk result (All AreCoverable) }
 {

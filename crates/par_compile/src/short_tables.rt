@@ -1,6 +1,6 @@
 // Final tables of chips with few nets, without a row of the plain table.
-ghost use Rattle.std.specs.Prelude.{◌≡◌, ◌≤◌, ◌++◌, IfOk, OnOk, length};
-ghost use Rattle.par_compile.specs.Finals.{AreCoverable, IsFinalFor};
+ghost use Rattle.std.specs.Prelude.{◌≡◌, ◌++◌, IfOk, OnOk};
+ghost use Rattle.par_compile.specs.Finals.{AreFewCoverable, IsFinalFor};
 ghost use Rattle.par_compile.specs.ShortTables.{kept_entries, kept_entry};
 
 use default_routes::Final;
@@ -13,8 +13,7 @@ use std::alloc::Global;
 /// entry of each block that does not go straight on, in the order of the rows. That is all that default routing asks, since no
 /// key is in two of the blocks. So no row is made, and none has a list of aliases.
 pub(crate) fn short_table(alloc: Global, marks: Seq<Mark>, target: u32) -> Result<Final, Memory>
-    requires few { length marks ≤ target }
-    requires coverable { AreCoverable marks }
+    requires { AreFewCoverable marks target }
     ensures { IfOk result (IsFinalFor target marks) }
 {
     let sorted = in_row_order(marks)?;

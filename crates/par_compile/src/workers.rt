@@ -3,7 +3,7 @@ ghost use Rattle.std.specs.Prelude.{◌≡◌, ℕ, ◌<◌, ◌≤◌, ◌^◌,
 ghost use Rattle.std.specs.List.{AllZip};
 ghost use Rattle.par_compile.specs.declared.workers.Work.{Work};
 ghost use Rattle.par_compile.specs.declared.workers.Work.TheVariants.{Plain, Done};
-ghost use Rattle.par_compile.specs.Finals.{AreAllUnlessLong, AreCoverable, GivesFinal, IsFinalFor, IsLeft, HasLong, IsPlainWork, IsWorked, is_long};
+ghost use Rattle.par_compile.specs.Finals.{AreAllPlain, AreAllUnlessLong, AreCoverable, CanBeCovered, GivesFinal, IsFinalFor, IsLeft, HasLong, IsPlainWork, IsWorked, is_long};
 
 use crate::requests::CompileRequest;
 use crate::short_tables::short_table;
@@ -36,8 +36,7 @@ pub(crate) fn finals<R: Threads + Sync, G: Gate>(
     request: &CompileRequest<'_>,
     gate: &G,
 ) -> Result<Seq<Final>, Memory>
-    requires few { length blocks < 2 ^ 32 }
-    requires coverable { All AreCoverable blocks }
+    requires { CanBeCovered blocks }
     ensures finals { IfOk result (λ finals. AllZip (IsFinalFor request.now.target)
         (take (length finals) blocks) finals) }
     ensures all { IfOk result (AreAllUnlessLong (length blocks)) }
@@ -104,8 +103,7 @@ fn cover_all<R: Threads + Sync, G: Gate>(
     request: &CompileRequest<'_>,
     gate: &G,
 )
-    requires few { length works.old.items < 2 ^ 32 }
-    requires ready { All IsPlainWork works.old.items }
+    requires { AreAllPlain works.old.items }
     ensures long { length works.new.items ≡ length works.old.items }
     ensures worked { (i : ℕ) (d : Work) → i < length works.old.items → IsWorked request.now.target
         (slice_index_or works.old.items i d) (slice_index_or works.new.items i d) }

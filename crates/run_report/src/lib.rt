@@ -2,8 +2,8 @@
 //!
 //! `report_of` gathers what a plan says and what a mesh holds after a run, for every machine, each list in its order, and
 //! `text_of` writes it by lines. `plan_text` writes the lines of a plan that is not run, and `summary_text` the four
-//! lines of a generated job. A plan is given by its parts: the
-//! graph, the spots and nets that it has on the machine, and the image of its tables. The report and its text are this project's own;
+//! lines of a generated job. A plan is given by its parts: a `PlannedGraph`, which is the
+//! graph with the spots and nets that it has on the machine, and the image of its tables. The report and its text are this project's own;
 //! placement, keys, tables and routes are those of the SpiNNaker datasheet.
 //!
 //! Why a call of the program gives no text of its own: each refusal with its status and its line.
@@ -17,6 +17,7 @@ pub mod laws;
 mod lines;
 mod lists;
 mod orders;
+mod planned;
 mod plans;
 mod reports;
 mod summaries;
@@ -26,6 +27,7 @@ mod waits;
 
 pub use causes::Refusal;
 pub use lines::{OUT_OF_MEMORY, line_of};
+pub use planned::PlannedGraph;
 pub use plans::plan_text;
 pub use reports::{Report, report_of};
 pub use summaries::summary_text;

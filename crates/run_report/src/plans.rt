@@ -1,13 +1,12 @@
 // The text of a plan that is not run.
-ghost use Rattle.std.specs.Prelude.{◌≡◌, length, IfOk};
+ghost use Rattle.std.specs.Prelude.{◌≡◌, IfOk};
 ghost use Rattle.table_load.specs.Images.{IsValid};
 ghost use Rattle.run_report.specs.ReportText.{plan_text};
 
 use crate::lists::{keys_of, placed_of};
+use crate::planned::PlannedGraph;
 use crate::texts::listed_text;
-use app_graph::Graph;
-use machine_desc::NetPlan;
-use spin_base::{Memory, Seq, Spot};
+use spin_base::{Memory, Seq};
 use std::alloc::Global;
 use table_load::Image;
 
@@ -19,18 +18,15 @@ use table_load::Image;
 /// `Memory` where memory runs out.
 pub fn plan_text(
     alloc: Global,
-    graph: &Graph,
-    spots: &Seq<Spot>,
-    nets: &Seq<NetPlan>,
+    planned: &PlannedGraph<'_>,
     image: &Image,
 ) -> Result<Seq<u8>, Memory>
-    requires spots { length spots.now ≡ length graph.now.vertices }
-    requires nets { length nets.now ≡ length graph.now.nets }
     requires image { IsValid image.now }
-    ensures { IfOk result (λ text. text ≡ plan_text graph.now spots.now nets.now image.now.chips) }
+    ensures { IfOk result (λ text. text ≡ plan_text planned.now.graph.now planned.now.spots.now
+        planned.now.nets.now image.now.chips) }
 {
-    let placed = placed_of(alloc, &graph.vertices, spots)?;
-    let keys = keys_of(alloc, &graph.nets, nets)?;
+    let placed = placed_of(alloc, &planned.graph.vertices, planned.spots)?;
+    let keys = keys_of(alloc, &planned.graph.nets, planned.nets)?;
     let tables = image.chips.as_slice();
     listed_text(alloc, placed.as_slice(), keys.as_slice(), tables)
 }

@@ -1,14 +1,13 @@
 // What became of a job.
-ghost use Rattle.std.specs.Prelude.{◌≡◌, length, IfOk};
+ghost use Rattle.std.specs.Prelude.{◌≡◌, IfOk};
 ghost use Rattle.app_graph.specs.ValidGraph.{IsValidGraph};
 ghost use Rattle.run_report.specs.RunReport.{IsReportOf};
 
 use crate::lists::{keys_of, placed_of};
 use crate::orders::{delivered_of, dumped_of};
+use crate::planned::PlannedGraph;
 use crate::unsents::unsent_of;
 use crate::waits::waiting_of;
-use app_graph::Graph;
-use machine_desc::NetPlan;
 use mesh_core::{Did, Mesh, Place};
 use spin_base::{Block, ChipTable, DumpRec, McCopy, Memory, Name, Seq, Spot};
 use std::alloc::Global;
@@ -43,22 +42,18 @@ pub struct Report {
 /// `Memory` where memory runs out.
 pub fn report_of(
     alloc: Global,
-    graph: &Graph,
-    spots: &Seq<Spot>,
-    nets: &Seq<NetPlan>,
+    planned: &PlannedGraph<'_>,
     tables: Seq<ChipTable>,
     mesh: &Mesh,
     did: Seq<Did>,
 ) -> Result<Report, Memory>
-    requires graph { IsValidGraph graph.now }
-    requires spots { length spots.now ≡ length graph.now.vertices }
-    requires nets { length nets.now ≡ length graph.now.nets }
-    requires mesh { mesh.now.setup.spots ≡ spots.now }
-    ensures { IfOk result (λ report.
-        IsReportOf graph.now spots.now nets.now tables mesh.now did report) }
+    requires graph { IsValidGraph planned.now.graph.now }
+    requires mesh { mesh.now.setup.spots ≡ planned.now.spots.now }
+    ensures { IfOk result (λ report. IsReportOf planned.now.graph.now planned.now.spots.now
+        planned.now.nets.now tables mesh.now did report) }
 {
-    let placed = placed_of(alloc, &graph.vertices, spots)?;
-    let keys = keys_of(alloc, &graph.nets, nets)?;
+    let placed = placed_of(alloc, &planned.graph.vertices, planned.spots)?;
+    let keys = keys_of(alloc, &planned.graph.nets, planned.nets)?;
     let delivered = delivered_of(alloc, placed.as_slice(), mesh)?;
     let dumped = dumped_of(alloc, mesh)?;
     let waiting = waiting_of(alloc, mesh)?;

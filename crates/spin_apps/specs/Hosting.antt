@@ -1,9 +1,10 @@
 -- A machine with its applications, as the private functions say it.
-use Rattle.std.specs.Prelude.{◌≡◌, ℕ, ◌++◌, List, Option, Some, None, IfSome, IsOk, Result, is_some, true}
+use Rattle.std.specs.Prelude.{◌≡◌, ℕ, ◌+◌, ◌^◌, ◌<◌, ◌≤◌, ◌++◌, All, List, [], length, Option, Some, None, IfSome, IsOk, Result, is_some, true}
 use Rattle.link_detours.specs.LiveRoads.{AreRoadsOf}
+use Rattle.job_requests.specs.declared.steps.AppJob.{AppJob}
 use Rattle.job_requests.specs.declared.steps.Step.{Step}
 use Rattle.job_requests.specs.declared.steps.Step.TheVariants.{Load, Unload, Run}
-use Rattle.job_requests.specs.Valid.{HasFirstMachine}
+use Rattle.job_requests.specs.Valid.{HasFirstMachine, IsValidJob, IsValidStep}
 use Rattle.app_loads.specs.Applications.{AreApps}
 use Rattle.app_loads.specs.declared.plans.AppPlan.{AppPlan}
 use Rattle.app_loads.specs.Host.{Host}
@@ -56,6 +57,36 @@ FindHosts (Some h) steps = Unit {0}
 abbrev pub packet_count_of : Option Host → ℕ
 packet_count_of None = 0
 packet_count_of (Some h) = h.packets
+
+-- each step can be taken, from where no step was taken and nothing was told
+pub record CanTakeAll (steps : List Step) (before : Option Host) (text : List ℕ) : Type 0 where
+  pub valid : All IsValidStep steps
+  pub few : length steps ≤ 65535
+  pub machine : HasFirstMachine steps
+  pub none : before ≡ None
+  pub no_text : text ≡ []
+
+-- a step is valid, finds its host, and the numbers of packets do not run out
+pub record CanTake (before : Option Host) (step : Step) : Type 0 where
+  pub valid : IsValidStep step
+  pub host : FindsHost before step
+  pub numbers : packet_count_of before + 65536 < 2 ^ 32
+
+-- the same of a load
+pub record CanLoad (before : Option Host) (job : AppJob) : Type 0 where
+  pub valid : IsValidJob job
+  pub host : is_some (host_at before job) ≡ true
+  pub numbers : packet_count_of before + 65536 < 2 ^ 32
+
+-- the same of a load on the host that it found
+pub record CanLoadOn (h : Host) (job : AppJob) : Type 0 where
+  pub valid : IsValidJob job
+  pub numbers : h.packets + 65536 < 2 ^ 32
+
+-- a job is valid, and the host has numbers for its packets
+pub record HasNumbersFor (h : Host) (job : AppJob) : Type 0 where
+  pub valid : IsValidJob job
+  pub numbers : h.packets + length job.run.packets < 2 ^ 32
 
 -- what was answered, where all steps were done
 pub record IsAnsweredBy (taken : Result Unit Memory) (text : List ℕ) (apps : Option Host) (a : Answered) : Type 0 where

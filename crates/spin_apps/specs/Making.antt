@@ -1,6 +1,12 @@
 -- Where vertices are placed, and what refusals are made of, as the private functions say it.
-use Rattle.std.specs.Prelude.{◌≢◌, ℕ, List, AllPairs}
+use Rattle.std.specs.Prelude.{◌≢◌, ◌≤◌, ℕ, List, All, AllPairs, length}
 use Rattle.spin_base.specs.declared.chips.Spot.{Spot}
+use Rattle.machine_desc.specs.Description.{Description}
+use Rattle.machine_desc.specs.Live.{IsSite}
+use Rattle.app_graph.specs.declared.graphs.Net.{Net}
+use Rattle.app_graph.specs.ValidGraph.{IsValidNet}
+use Rattle.link_detours.specs.LiveRoads.{AreRoadsOf}
+use Rattle.link_detours.specs.declared.roads.Roads.{Roads}
 use Rattle.job_requests.specs.declared.steps.AppJob.{AppJob}
 use Rattle.link_detours.specs.declared.repairs.RepairErr.{RepairErr}
 use Rattle.link_detours.specs.declared.repairs.RepairErr.TheVariants as repairs
@@ -19,6 +25,19 @@ pub record IsPlaced (h : Host) (job : AppJob) (spots : List Spot) : Type 0 where
   pub memory : List ℕ
   pub is : IsPlacement (free_machine h) job.graph.vertices spots memory
   pub different : AllPairs (λ a b. a ≢ b) spots
+
+-- a net of vertices that have these cores can be routed on the machine, whose live links are known
+pub record CanRouteNet (m : Description) (links : Roads) (spots : List Spot) (net : Net) : Type 0 where
+  pub roads : AreRoadsOf m links
+  pub valid : IsValidNet (length spots) net
+  pub sites : All (IsSite m) spots
+
+-- the same of each net of an application
+pub record CanRouteNets (m : Description) (links : Roads) (spots : List Spot) (nets : List Net) : Type 0 where
+  pub roads : AreRoadsOf m links
+  pub few : length nets ≤ 4096
+  pub valid : All (IsValidNet (length spots)) nets
+  pub sites : All (IsSite m) spots
 
 -- the same refusal, in the words of each caller
 abbrev pub unplaced : PlaceErr → PlanErr

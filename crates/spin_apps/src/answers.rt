@@ -1,13 +1,13 @@
 // The answers of steps, one after the other.
-ghost use Rattle.std.specs.Prelude.{◌≡◌, ◌≤◌, ◌<◌, ◌+◌, ◌^◌, ℕ, List, [], All, IfOk, IfSome, OnOk, Option, Some, None, is_some, length, string_bytes, true};
+ghost use Rattle.std.specs.Prelude.{◌≡◌, ◌≤◌, ℕ, List, All, IfOk, IfSome, OnOk, Option, Some, is_some, length, string_bytes};
 ghost use Rattle.std.specs.List.{list_any};
 ghost use Rattle.job_requests.specs.declared.steps.Step.TheVariants.{Load, Unload, Run};
 ghost use Rattle.job_requests.specs.Steps.{is_load};
-ghost use Rattle.job_requests.specs.Valid.{HasFirstMachine, IsValidJob, IsValidStep};
+ghost use Rattle.job_requests.specs.Valid.{HasFirstMachine, IsValidStep};
 ghost use Rattle.app_loads.specs.Applications.{AreApps};
 ghost use Rattle.app_loads.specs.Host.{Host};
 ghost use Rattle.spin_apps.specs.Answers.{AreAnswered, host_at};
-ghost use Rattle.spin_apps.specs.Hosting.{IsAnsweredBy, HasAddedLine, FindsHost, packet_count_of};
+ghost use Rattle.spin_apps.specs.Hosting.{CanLoad, CanLoadOn, CanTake, CanTakeAll, IsAnsweredBy, HasAddedLine};
 
 use crate::hosts::{Hosted, UnloadAnswer};
 use crate::laws::steps_have_one_text;
@@ -94,11 +94,7 @@ fn take_all(
     steps: &[Step],
     text: &mut String,
 ) -> Result<(), Memory>
-    requires valid { All IsValidStep steps.now }
-    requires few { length steps.now ≤ 65535 }
-    requires machine { HasFirstMachine steps.now }
-    requires none { hosted.old ≡ None }
-    requires no_text { string_bytes text.old ≡ [] }
+    requires { CanTakeAll steps.now hosted.old (string_bytes text.old) }
     ensures { OnOk result (AreAnswered steps.now (string_bytes text.new) hosted.new) }
 {
     for step in steps {
@@ -114,9 +110,7 @@ fn take(
     step: &Step,
     text: &mut String,
 ) -> Result<(), Memory>
-    requires valid { IsValidStep step.now }
-    requires host { FindsHost hosted.old step.now }
-    requires numbers { packet_count_of hosted.old + 65536 < 2 ^ 32 }
+    requires { CanTake hosted.old step.now }
     ensures { OnOk result (HasAddedLine step.now hosted.old (string_bytes text.old)
         (string_bytes text.new) hosted.new) }
 {
@@ -135,9 +129,7 @@ fn load(
     job: &AppJob,
     text: &mut String,
 ) -> Result<(), Memory>
-    requires valid { IsValidJob job.now }
-    requires host { is_some (host_at hosted.old job.now) ≡ true }
-    requires numbers { packet_count_of hosted.old + 65536 < 2 ^ 32 }
+    requires { CanLoad hosted.old job.now }
     ensures { OnOk result (HasAddedLine (Load number job.now) hosted.old (string_bytes text.old)
         (string_bytes text.new) hosted.new) }
 {
@@ -159,8 +151,7 @@ fn load_on(
     job: &AppJob,
     text: &mut String,
 ) -> Result<(), Memory>
-    requires valid { IsValidJob job.now }
-    requires numbers { host.old.packets + 65536 < 2 ^ 32 }
+    requires { CanLoadOn host.old job.now }
     ensures { (before : Option Host) → host_at before job.now ≡ Some host.old →
         OnOk result (HasAddedLine (Load number job.now) before (string_bytes text.old)
         (string_bytes text.new) (Some host.new)) }

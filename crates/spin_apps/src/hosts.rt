@@ -1,11 +1,10 @@
 // A machine with its applications, and what it answers.
-ghost use Rattle.std.specs.Prelude.{◌≡◌, ◌+◌, ◌^◌, ◌<◌, ◌≤◌, IfOk, OnOk, length};
-ghost use Rattle.job_requests.specs.Valid.{IsValidJob};
+ghost use Rattle.std.specs.Prelude.{◌≡◌, ◌≤◌, IfOk, OnOk};
 ghost use Rattle.app_loads.specs.Applications.{AreApps};
 ghost use Rattle.app_loads.specs.Opening.{bare_host};
 ghost use Rattle.app_loads.specs.Plans.{MayLoad};
 ghost use Rattle.spin_apps.specs.Answers.{HasDrained, IsLoadAnswer, IsUnloadAnswer};
-ghost use Rattle.spin_apps.specs.Hosting.{IsTaken};
+ghost use Rattle.spin_apps.specs.Hosting.{HasNumbersFor, IsTaken};
 
 use crate::free::unusable_spots;
 use crate::plans::{PlanErr, plan_of};
@@ -94,8 +93,7 @@ impl Hosted {
         number: u32,
         job: &AppJob,
     ) -> Result<LoadAnswer, Memory>
-        requires valid { IsValidJob job.now }
-        requires numbers { self.old.packets + length job.now.run.packets < 2 ^ 32 }
+        requires { HasNumbersFor self.old job.now }
         ensures answer { IfOk result (λ a. IsLoadAnswer self.old number job.now a self.new) }
         ensures apps { AreApps self.new }
     {

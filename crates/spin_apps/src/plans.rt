@@ -1,16 +1,14 @@
 // The plan by which a job is loaded.
-ghost use Rattle.std.specs.Prelude.{◌≡◌, ◌≤◌, All, IfOk, IfErr, false, length, map};
+ghost use Rattle.std.specs.Prelude.{◌≡◌, All, IfOk, IfErr, false, map};
 ghost use Rattle.std.specs.List.{AllZip};
-ghost use Rattle.machine_desc.specs.Live.{IsSite, IsUsable};
+ghost use Rattle.machine_desc.specs.Live.{IsUsable};
 ghost use Rattle.app_graph.specs.declared.graphs.Vertex.{Vertex as VertexOf};
-ghost use Rattle.app_graph.specs.ValidGraph.{IsValidNet};
-ghost use Rattle.link_detours.specs.LiveRoads.{AreRoadsOf};
 ghost use Rattle.net_plans.specs.Cause.{IsNetCause, IsCauseOne};
 ghost use Rattle.net_plans.specs.CutOffTargets.{HasNoneCutOff};
 ghost use Rattle.job_requests.specs.Valid.{IsValidJob};
 ghost use Rattle.app_loads.specs.Plans.{IsAppNet, IsPlan};
 ghost use Rattle.app_loads.specs.Host.{is_spot_taken};
-ghost use Rattle.spin_apps.specs.Making.{IsPlaced, unplaced, unrouted, unrouted_net};
+ghost use Rattle.spin_apps.specs.Making.{CanRouteNet, CanRouteNets, IsPlaced, unplaced, unrouted, unrouted_net};
 ghost use Rattle.spin_apps.specs.Plans.{IsNetFor, IsPlanFor, IsWhyUnplanned};
 
 use crate::free::free_machine;
@@ -138,10 +136,7 @@ fn app_nets(
     spots: &Seq<Spot>,
     nets: &Seq<Net>,
 ) -> Result<Seq<AppNet>, NetErr>
-    requires roads { AreRoadsOf machine.now roads.now }
-    requires few { length nets.now ≤ 4096 }
-    requires valid { All (IsValidNet (length spots.now)) nets.now }
-    requires sites { All (IsSite machine.now) spots.now }
+    requires { CanRouteNets machine.now roads.now spots.now nets.now }
     ensures nets { IfOk result (λ apps. AllZip (IsNetFor machine.now spots.now) nets.now apps) }
     ensures valid { IfOk result (All (IsAppNet machine.now spots.now)) }
     ensures why { IfErr result (IsNetCause machine.now spots.now nets.now) }
@@ -176,9 +171,7 @@ fn app_net(
     spots: &Seq<Spot>,
     net: &Net,
 ) -> Result<AppNet, RepairErr>
-    requires roads { AreRoadsOf machine.now roads.now }
-    requires valid { IsValidNet (length spots.now) net.now }
-    requires sites { All (IsSite machine.now) spots.now }
+    requires { CanRouteNet machine.now roads.now spots.now net.now }
     ensures net { IfOk result (IsNetFor machine.now spots.now net.now) }
     ensures valid { IfOk result (IsAppNet machine.now spots.now) }
     ensures reached { IfOk result (λ _. HasNoneCutOff machine.now spots.now net.now) }

@@ -13,7 +13,7 @@ use mesh_core::laws::deliveries_are_as_many_as_expected;
 use mesh_core::{Did, Mesh};
 use mesh_round::RoundGate;
 use par_compile::{image_of, images_fill_their_tables};
-use run_report::{Report, plan_text, report_of, summary_text, text_of};
+use run_report::{PlannedGraph, Report, plan_text, report_of, summary_text, text_of};
 use spin_base::{Memory, Seq};
 use std::alloc::Global;
 use std::sync::Wait;
@@ -84,8 +84,12 @@ pub(crate) fn list(alloc: Global, planned: &PlannedJob<'_>) -> Result<WordOutput
     ensures { IfOk result (IsOutputAs Lists planned.now) }
 {
     let image = image_of(alloc, &planned.job.machine, &planned.plan.tables)?;
-    let spots = &planned.plan.placement.spots;
-    let text = plan_text(alloc, &planned.job.graph, spots, &planned.plan.nets, &image)?;
+    let graph = PlannedGraph {
+        graph: &planned.job.graph,
+        spots: &planned.plan.placement.spots,
+        nets: &planned.plan.nets,
+    };
+    let text = plan_text(alloc, &graph, &image)?;
     Ok(WordOutput {
         mesh: None,
         report: None,
@@ -161,15 +165,10 @@ fn report(
     ensures few { IfOk result (λ report. row_total report.tables < 2 ^ 64) }
 {
     let image = image_of(alloc, &planned.job.machine, &planned.plan.tables)?;
-    let spots = &planned.plan.placement.spots;
-    let tables = image.chips;
-    report_of(
-        alloc,
-        &planned.job.graph,
-        spots,
-        &planned.plan.nets,
-        tables,
-        mesh,
-        did,
-    )
+    let graph = PlannedGraph {
+        graph: &planned.job.graph,
+        spots: &planned.plan.placement.spots,
+        nets: &planned.plan.nets,
+    };
+    report_of(alloc, &graph, image.chips, mesh, did)
 }

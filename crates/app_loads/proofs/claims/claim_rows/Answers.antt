@@ -1,12 +1,14 @@
-use Rattle.std.proofs.Common.{subst, sym, ◌<◌}
-use Rattle.std.specs.List.{All}
+use Rattle.std.proofs.Common.{subst, sym, ◌<◌, ◌≤◌, ℕ, List}
+use Rattle.std.specs.List.{All, AllPairs}
 use Rattle.app_loads.specs.Regions.{chip_count}
 use Rattle.app_loads.proofs.RowClaims.{rows_counted_in, places_inside}
 use Rattle.app_loads.proofs.claims.claim_rows.Goals as goal
 
-pub claim_runs-requires-clause-inside : goal.claim_runs-requires-clause-inside
-claim_runs-requires-clause-inside c =
-    subst (All (λ i. i < chip_count c.args.machine.now)) (sym c.deref.ensures.value) (places_inside c.args.machine.now c.args.nets.now c.in_ok-chips.chips.items c.requires c.in_ok-chips.ensures.same)
+pub claim_runs-requires : goal.claim_runs-requires
+claim_runs-requires c = record {
+  inside = subst (All (λ i. i < chip_count c.args.machine.now)) (sym c.deref.ensures.value) (places_inside c.args.machine.now c.args.nets.now c.in_ok-chips.chips.items c.requires c.in_ok-chips.ensures.same);
+  sorted = subst (λ (l : List ℕ). AllPairs (λ a b. a ≤ b) l) (sym c.deref.ensures.value) c.in_ok-chips.ensures.sorted;
+}
 
 pub returns : goal.returns
 returns c =

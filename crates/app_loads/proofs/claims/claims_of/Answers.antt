@@ -1,4 +1,4 @@
-use Rattle.std.proofs.Common.{◌≤◌, length, subst, sym, arith, List}
+use Rattle.std.proofs.Common.{◌≤◌, length, subst, sym, ap, arith, List}
 use Rattle.std.specs.List.{All}
 use Rattle.std.proofs.lemmas.List.Elements.{All-weaker}
 use Rattle.app_loads.specs.declared.loaded.Claim.{Claim}
@@ -18,10 +18,12 @@ prove-unreachable-requires c =
     let more = c.if-prove.true in
     omega (arith, few, total, long, more)
 
-pub claim_keys-requires-clause-keys : goal.claim_keys-requires-clause-keys
-claim_keys-requires-clause-keys c =
-    subst (λ (l : List AppNet). All (λ (net : AppNet). IsKeyCount net.keys) l) (sym c.as_slice-4.ensures)
-    (All-weaker (IsAppNet c.args.machine.now c.args.plan.now.spots) (λ (net : AppNet). IsKeyCount net.keys) (λ net is. record { some = is.some_key; few = is.few_keys }) c.args.plan.now.nets c.requires.nets)
+pub claim_keys-requires : goal.claim_keys-requires
+claim_keys-requires c = record {
+  keys = subst (λ (l : List AppNet). All (λ (net : AppNet). IsKeyCount net.keys) l) (sym c.as_slice-4.ensures)
+      (All-weaker (IsAppNet c.args.machine.now c.args.plan.now.spots) (λ (net : AppNet). IsKeyCount net.keys) (λ net is. record { some = is.some_key; few = is.few_keys }) c.args.plan.now.nets c.requires.nets);
+  few = let same = ap length c.as_slice-4.ensures in let few = c.requires.few_nets in omega (arith, same, few);
+}
 
 pub returns-clause-claims : goal.returns-clause-claims
 returns-clause-claims c =

@@ -8,11 +8,11 @@ use Rattle.app_loads.specs.Taking.{AreFreeAgain, AreRegionsOf, AreTaken, HaveRoo
 use Rattle.app_loads.proofs.JoinLaws.{can_settle}
 use Rattle.app_loads.proofs.loads.join.Goals as goal
 
-pub serve-requires-clause-plan : goal.serve-requires-clause-plan
-serve-requires-clause-plan c = subst (λ (m : Description). IsPlan m c.args.plan.now) (sym c.machine.ensures) c.requires.valid
-
-pub serve-requires-clause-regions : goal.serve-requires-clause-regions
-serve-requires-clause-regions c = subst (λ (m : Description). AreRegionsOf m c.args.regions.now) (sym c.machine.ensures) c.requires.of_machine
+pub serve-requires : goal.serve-requires
+serve-requires c = record {
+  plan = subst (λ (m : Description). IsPlan m c.args.plan.now) (sym c.machine.ensures) c.requires.valid;
+  regions = subst (λ (m : Description). AreRegionsOf m c.args.regions.now) (sym c.machine.ensures) c.requires.of_machine;
+}
 
 pub returns-in-Err-clause-due : goal.returns-in-Err-clause-due
 returns-in-Err-clause-due c = subst (λ (m : Description). IsDueAlways m (claims_of m c.args.plan.now) c.args.regions.now c.in-Err.refusal) c.machine.ensures c.in-Err.ensures.due
@@ -32,17 +32,16 @@ pub returns-in-Ok-settled-clause-served : goal.returns-in-Ok-settled-clause-serv
 returns-in-Ok-settled-clause-served c =
     subst (λ (m : Description). IsServedApp m c.args.regions.now c.args.number c.args.first c.args.plan.now c.in-Ok.app c.serve.new.regions) c.machine.ensures c.in-Ok.ensures.served
 
-pub give_all-requires-clause-taken : goal.give_all-requires-clause-taken
-give_all-requires-clause-taken c =
-    let own = c.requires.of_machine in (
-      c.args.mesh.setup.machine,
-      own.taken,
-      subst (λ (l : List Range). AreTaken c.args.mesh.setup.machine own.taken l c.serve.new.regions) (sym c.as_slice.ensures)
-          ((subst (λ (m : Description). IsServedApp m c.args.regions.now c.args.number c.args.first c.args.plan.now c.in-Ok.app c.serve.new.regions) c.machine.ensures c.in-Ok.ensures.served).taken own.taken own.apart own.free),
-    )
-
-pub give_all-requires-clause-room : goal.give_all-requires-clause-room
-give_all-requires-clause-room c = subst (λ (l : List Range). HaveRoom l c.serve.new.regions) (sym c.as_slice.ensures) c.in-Ok.ensures.room
+pub give_all-requires : goal.give_all-requires
+give_all-requires c = record {
+  taken = let own = c.requires.of_machine in (
+    c.args.mesh.setup.machine,
+    own.taken,
+    subst (λ (l : List Range). AreTaken c.args.mesh.setup.machine own.taken l c.serve.new.regions) (sym c.as_slice.ensures)
+        ((subst (λ (m : Description). IsServedApp m c.args.regions.now c.args.number c.args.first c.args.plan.now c.in-Ok.app c.serve.new.regions) c.machine.ensures c.in-Ok.ensures.served).taken own.taken own.apart own.free),
+  );
+  room = subst (λ (l : List Range). HaveRoom l c.serve.new.regions) (sym c.as_slice.ensures) c.in-Ok.ensures.room;
+}
 
 pub returns-in-Err-settled-clause-back : goal.returns-in-Err-settled-clause-back
 returns-in-Err-settled-clause-back c taken apart free =

@@ -1,14 +1,17 @@
-use Rattle.std.proofs.Common.{◌∙◌, sym, subst, List, length}
+use Rattle.std.proofs.Common.{◌∙◌, ◌≤◌, sym, subst, List, length}
 use Rattle.app_loads.specs.declared.loaded.Claim.{Claim}
 use Rattle.app_loads.specs.declared.loaded.Range.{Range}
 use Rattle.app_loads.specs.Claims.{AreBlocks, AreServed, claims_of}
 use Rattle.app_loads.specs.Joining.{AreKeyed}
-use Rattle.app_loads.specs.Taking.{AreServedAlways, AreTaken, AreTakenAlways}
+use Rattle.app_loads.specs.Taking.{AreServedAlways, AreTaken, AreTakenAlways, HaveRoom}
 use Rattle.app_loads.proofs.Served.{can_serve, keyed_from}
 use Rattle.app_loads.proofs.loads.serve.Goals as goal
 
-pub take_all-requires-clause-can : goal.take_all-requires-clause-can
-take_all-requires-clause-can c = can_serve c.args.machine.now c.args.plan.now c.args.regions.now c.deref.result.now c.requires.plan c.requires.regions (c.deref.ensures.value ∙ c.in-Ok.ensures.claims)
+pub take_all-requires : goal.take_all-requires
+take_all-requires c = record {
+  can = can_serve c.args.machine.now c.args.plan.now c.args.regions.now c.deref.result.now c.requires.plan c.requires.regions (c.deref.ensures.value ∙ c.in-Ok.ensures.claims);
+  few = subst (λ (l : List Claim). length l ≤ 262144) (sym c.deref.ensures.value) c.in-Ok.ensures.few;
+}
 
 pub app_of-requires : goal.app_of-requires
 app_of-requires c =
@@ -35,14 +38,16 @@ returns-in-Ok-app_of-clause-served c =
           (subst (λ (l : List Range). AreBlocks c.deref-2.result.now l c.args.plan.now.nets c.in-Ok-app_of.app.blocks) (sym made.ranges) made.blocks);
     }
 
-pub give_all-requires-clause-taken : goal.give_all-requires-clause-taken
-give_all-requires-clause-taken c =
-    let own = c.requires.regions in (
-      c.args.machine.now,
-      own.taken,
-      subst (λ (l : List Range). AreTaken c.args.machine.now own.taken l c.take_all.new.regions) (sym c.deref-in-Err-app_of.ensures.value)
-          (c.in-Ok-take_all.ensures.taken own.taken own.apart own.free),
-    )
+pub give_all-requires : goal.give_all-requires
+give_all-requires c = record {
+  taken = let own = c.requires.regions in (
+    c.args.machine.now,
+    own.taken,
+    subst (λ (l : List Range). AreTaken c.args.machine.now own.taken l c.take_all.new.regions) (sym c.deref-in-Err-app_of.ensures.value)
+        (c.in-Ok-take_all.ensures.taken own.taken own.apart own.free),
+  );
+  room = subst (λ (l : List Range). HaveRoom l c.take_all.new.regions) (sym c.deref-in-Err-app_of.ensures.value) c.in-Ok-take_all.ensures.room;
+}
 
 pub returns-clause-back : goal.returns-clause-back
 returns-clause-back c taken apart free =

@@ -9,9 +9,11 @@ use Rattle.app_loads.proofs.AppNets.{routed}
 use Rattle.app_loads.proofs.Settling.{settled_bare, parted_send, parted_mesh, parted_copy, parted_whole, parted_settled, sent_as_long}
 use Rattle.app_loads.proofs.loads.settle.Goals as goal
 
-pub tables_of-requires-clause-routed : goal.tables_of-requires-clause-routed
-tables_of-requires-clause-routed c =
-    subst (λ (m : Description). AreRoutedApart m (nets_of c.args.app.now)) (sym c.machine.ensures) (routed c.args.mesh.setup.machine c.args.app.now c.requires.loaded c.requires.apart)
+pub tables_of-requires : goal.tables_of-requires
+tables_of-requires c = record {
+  routed = subst (λ (m : Description). AreRoutedApart m (nets_of c.args.app.now)) (sym c.machine.ensures) (routed c.args.mesh.setup.machine c.args.app.now c.requires.loaded c.requires.apart);
+  blocks = search;
+}
 
 pub returns-then-is_empty-clause-settled : goal.returns-then-is_empty-clause-settled
 returns-then-is_empty-clause-settled c = settled_bare c.args.mesh c.args.app.now c.requires (c.is_empty.ensures.0 c.if-is_empty.true)

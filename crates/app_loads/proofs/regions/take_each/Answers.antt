@@ -16,10 +16,15 @@ loop-claim-init c = record {
   counted = λ k n at. none_counted (length c.args.regions.now) k n (ap (λ l. slice_get l k) (sym c.requires.counts) ∙ at) ∙ ap (of_region k) (sym c.requires.none);
 }
 
-pub take_claim-requires-clause-fair : goal.take_claim-requires-clause-fair
-take_claim-requires-clause-fair c =
-    claim_fair c.args.machine.now c.args.claims.now c.args.regions.now c.loop-claim.regions c.loop-claim.ranges.items c.loop-claim.claim-index _ c.index-regions-at.result c.loop-claim-test.true
-    c.loop-claim.invariant.each_one c.loop-claim.invariant.served c.requires.can c.place-at.result c.place-at.ensures
+pub take_claim-requires : goal.take_claim-requires
+take_claim-requires c = record {
+  fair = claim_fair c.args.machine.now c.args.claims.now c.args.regions.now c.loop-claim.regions c.loop-claim.ranges.items c.loop-claim.claim-index _ c.index-regions-at.result c.loop-claim-test.true
+      c.loop-claim.invariant.each_one c.loop-claim.invariant.served c.requires.can c.place-at.result c.place-at.ensures;
+  few = let none : Claim = record { region = Keys; size = 0; align = 0; fixed = None; refusal = Loaded } in
+      let few = few_held c.args.machine.now c.args.claims.now c.args.regions.now c.loop-claim.regions c.loop-claim.ranges.items c.loop-claim.claim-index none c.index-regions-at.result c.loop-claim-test.true
+      c.loop-claim.invariant.each_one c.loop-claim.invariant.served c.requires.can c.place-at.result c.place-at.ensures c.loop-claim.counts 0 c.loop-claim.invariant.counts c.loop-claim.invariant.counted c.requires.few in
+      omega (arith, few);
+}
 
 pub returns-in-Err-clause-refused : goal.returns-in-Err-clause-refused
 returns-in-Err-clause-refused c =
@@ -61,13 +66,6 @@ loop-claim-preserved c =
 pub returns-clause-served : goal.returns-clause-served
 returns-clause-served c =
     all_served c.args.machine.now c.args.claims.now c.args.regions.now c.loop-claim.regions c.loop-claim.ranges.items c.loop-claim.claim-index c.loop-claim-test.false c.loop-claim.invariant.each_one c.loop-claim.invariant.served
-
-pub take_claim-requires-clause-few : goal.take_claim-requires-clause-few
-take_claim-requires-clause-few c =
-    let none : Claim = record { region = Keys; size = 0; align = 0; fixed = None; refusal = Loaded } in
-    let few = few_held c.args.machine.now c.args.claims.now c.args.regions.now c.loop-claim.regions c.loop-claim.ranges.items c.loop-claim.claim-index none c.index-regions-at.result c.loop-claim-test.true
-    c.loop-claim.invariant.each_one c.loop-claim.invariant.served c.requires.can c.place-at.result c.place-at.ensures c.loop-claim.counts 0 c.loop-claim.invariant.counts c.loop-claim.invariant.counted c.requires.few in
-    omega (arith, few)
 
 pub overflow_add-counts : goal.overflow_add-counts
 overflow_add-counts c =

@@ -1,12 +1,14 @@
 use Rattle.std.proofs.Common.{◌+◌, sym, subst, take}
 use Rattle.app_loads.specs.Writing.{AreUnused}
 use Rattle.app_loads.proofs.Copying.{inside_of, rows_at, place_of_no_rows}
-use Rattle.app_loads.proofs.Clearing.{T_long, unused_more, unused_skip}
+use Rattle.app_loads.proofs.Clearing.{T_long, range_fits, unused_more, unused_skip}
 use Rattle.app_loads.proofs.rows.clear_rows.Goals as goal
 
-pub clear_entries-requires-clause-size : goal.clear_entries-requires-clause-size
-clear_entries-requires-clause-size c =
-    T_long c.args.machine.now c.args.tables.now c.args.ranges.now c.requires c.loop-range.tables c.loop-range.range-index _ c.loop-range-test.true c.loop-range.invariant c.in-Rows.chip (inside_of c.args.machine.now c.at.result c.in-Rows.chip c.in-Rows.is c.at.ensures.its) (rows_at c.args.machine.now c.at.result c.in-Rows.chip _ c.in-Rows.is c.at.ensures.place) c.index.result c.index.ensures.value c.index-tables-index.result
+pub clear_entries-requires : goal.clear_entries-requires
+clear_entries-requires c = record {
+  size = T_long c.args.machine.now c.args.tables.now c.args.ranges.now c.requires c.loop-range.tables c.loop-range.range-index _ c.loop-range-test.true c.loop-range.invariant c.in-Rows.chip (inside_of c.args.machine.now c.at.result c.in-Rows.chip c.in-Rows.is c.at.ensures.its) (rows_at c.args.machine.now c.at.result c.in-Rows.chip _ c.in-Rows.is c.at.ensures.place) c.index.result c.index.ensures.value c.index-tables-index.result;
+  fits = range_fits c.args.machine.now c.args.tables.now c.args.ranges.now c.requires c.loop-range.tables c.loop-range.range-index _ c.loop-range-test.true c.loop-range.invariant c.in-Rows.chip (inside_of c.args.machine.now c.at.result c.in-Rows.chip c.in-Rows.is c.at.ensures.its) (rows_at c.args.machine.now c.at.result c.in-Rows.chip _ c.in-Rows.is c.at.ensures.place) c.index.result c.index.ensures.value;
+}
 
 pub loop-range-preserved : goal.loop-range-preserved
 loop-range-preserved c = elim c.match-at.branch [

@@ -25,14 +25,13 @@ offset_bounds-rows-at c =
 pub overflow_cast-range : goal.overflow_cast-range
 overflow_cast-range c = record { fits = place_small c.args.machine.now c.args.tables.now c.args.rows.now c.args.ranges.now c.requires c.loop-range.tables c.loop-range.range-index _ c.loop-range-test.true c.loop-range.invariant c.in-Rows.chip (inside_of c.args.machine.now c.at.result c.in-Rows.chip c.in-Rows.is c.at.ensures.its) (rows_at c.args.machine.now c.at.result c.in-Rows.chip _ c.in-Rows.is c.at.ensures.place) c.index-at.result c.index-at.ensures.value c.index-tables-at.result (record { rows = [] }) }
 
-pub put_rows-requires-clause-size : goal.put_rows-requires-clause-size
-put_rows-requires-clause-size c = T_long c.args.machine.now c.args.tables.now c.args.rows.now c.args.ranges.now c.requires c.loop-range.tables c.loop-range.range-index _ c.loop-range-test.true c.loop-range.invariant c.in-Rows.chip (inside_of c.args.machine.now c.at.result c.in-Rows.chip c.in-Rows.is c.at.ensures.its) (rows_at c.args.machine.now c.at.result c.in-Rows.chip _ c.in-Rows.is c.at.ensures.place) c.index-at.result c.index-at.ensures.value c.index-tables-at.result c.index-rows-at.result
-
-pub put_rows-requires-clause-fits : goal.put_rows-requires-clause-fits
-put_rows-requires-clause-fits c =
-    let fits = R_fits c.args.machine.now c.args.tables.now c.args.rows.now c.args.ranges.now c.requires c.loop-range.tables c.loop-range.range-index _ c.loop-range-test.true c.loop-range.invariant c.in-Rows.chip (inside_of c.args.machine.now c.at.result c.in-Rows.chip c.in-Rows.is c.at.ensures.its) (rows_at c.args.machine.now c.at.result c.in-Rows.chip _ c.in-Rows.is c.at.ensures.place) c.index-at.result c.index-at.ensures.value c.index-tables-at.result c.index-rows-at.result in
-    let same = ap (λ (l : List Row). length l) c.as_slice.ensures in
-    omega (arith, fits, same)
+pub put_rows-requires : goal.put_rows-requires
+put_rows-requires c = record {
+  size = T_long c.args.machine.now c.args.tables.now c.args.rows.now c.args.ranges.now c.requires c.loop-range.tables c.loop-range.range-index _ c.loop-range-test.true c.loop-range.invariant c.in-Rows.chip (inside_of c.args.machine.now c.at.result c.in-Rows.chip c.in-Rows.is c.at.ensures.its) (rows_at c.args.machine.now c.at.result c.in-Rows.chip _ c.in-Rows.is c.at.ensures.place) c.index-at.result c.index-at.ensures.value c.index-tables-at.result c.index-rows-at.result;
+  fits = let fits = R_fits c.args.machine.now c.args.tables.now c.args.rows.now c.args.ranges.now c.requires c.loop-range.tables c.loop-range.range-index _ c.loop-range-test.true c.loop-range.invariant c.in-Rows.chip (inside_of c.args.machine.now c.at.result c.in-Rows.chip c.in-Rows.is c.at.ensures.its) (rows_at c.args.machine.now c.at.result c.in-Rows.chip _ c.in-Rows.is c.at.ensures.place) c.index-at.result c.index-at.ensures.value c.index-tables-at.result c.index-rows-at.result in
+      let same = ap (λ (l : List Row). length l) c.as_slice.ensures in
+      omega (arith, fits, same);
+}
 
 pub at-requires : goal.at-requires
 at-requires c = there c.args.machine.now c.args.tables.now c.args.rows.now c.args.ranges.now c.requires c.loop-range.tables c.loop-range.range-index _ c.loop-range-test.true c.loop-range.invariant

@@ -29,22 +29,24 @@ returns-in-Some-clause-why c = subst (λ (s : State). IsLeastUnderWay s c.args.a
 pub returns-in-Some-clause-mesh_refused : goal.returns-in-Some-clause-mesh_refused
 returns-in-Some-clause-mesh_refused c = c.put_together.ensures ∙ c.take_apart-parts.ensures.parts
 
-pub make_ready-requires-clause-there : goal.make_ready-requires-clause-there
-make_ready-requires-clause-there c =
-    All-weaker (IsRangeWithin c.args.mesh.setup.machine (length c.args.regions.now)) (λ (r : Range). r.region < length c.args.regions.now) (λ r within. within.there) c.args.app.now.ranges c.requires.can.taken.within
+pub make_ready-requires : goal.make_ready-requires
+make_ready-requires c = record {
+  there = All-weaker (IsRangeWithin c.args.mesh.setup.machine (length c.args.regions.now)) (λ (r : Range). r.region < length c.args.regions.now) (λ r within. within.there) c.args.app.now.ranges c.requires.can.taken.within;
+  few = c.requires.can.few;
+}
 
 pub returns-in-Err-clause-back : goal.returns-in-Err-clause-back
 returns-in-Err-clause-back c = c.make_ready.ensures.same
 
-pub give_all-requires-clause-taken : goal.give_all-requires-clause-taken
-give_all-requires-clause-taken c = (
-  c.args.mesh.setup.machine,
-  c.requires.can.others,
-  taken_still c.args.mesh.setup.machine c.requires.can.others c.args.app.now.ranges c.as_slice.result.now c.args.regions.now c.make_ready.new.regions c.make_ready.ensures.same c.as_slice.ensures c.requires.can.taken,
-)
-
-pub give_all-requires-clause-room : goal.give_all-requires-clause-room
-give_all-requires-clause-room c = subst (λ (l : List Range). HaveRoom l c.make_ready.new.regions) (sym c.as_slice.ensures) c.in-Ok.ensures.room
+pub give_all-requires : goal.give_all-requires
+give_all-requires c = record {
+  taken = (
+    c.args.mesh.setup.machine,
+    c.requires.can.others,
+    taken_still c.args.mesh.setup.machine c.requires.can.others c.args.app.now.ranges c.as_slice.result.now c.args.regions.now c.make_ready.new.regions c.make_ready.ensures.same c.as_slice.ensures c.requires.can.taken,
+  );
+  room = subst (λ (l : List Range). HaveRoom l c.make_ready.new.regions) (sym c.as_slice.ensures) c.in-Ok.ensures.room;
+}
 
 pub uninstall-requires : goal.uninstall-requires
 uninstall-requires c =

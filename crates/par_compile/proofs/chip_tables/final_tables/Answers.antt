@@ -7,11 +7,11 @@ use Rattle.par_compile.specs.Finals.{AreAllUnlessLong, AreFinals, IsFinalFor, Ke
 use Rattle.par_compile.proofs.Righted.{all_final, all_keep, all_right, few_chips, few_entries, finals_within}
 use Rattle.par_compile.proofs.chip_tables.final_tables.Goals as goal
 
-pub finals-requires-clause-few : goal.finals-requires-clause-few
-finals-requires-clause-few g c κs within = few_chips c.args.request.now.machine.now c.chips-chips.ensures.size (length c.in_ok-blocks.blocks) c.in_ok-blocks.ensures.blocks.long
-
-pub finals-requires-clause-coverable : goal.finals-requires-clause-coverable
-finals-requires-clause-coverable g c κs within = c.in_ok-blocks.ensures.coverable
+pub finals-requires-after_bounds : goal.finals-requires-after_bounds
+finals-requires-after_bounds g c κs within = record {
+  few = few_chips c.args.request.now.machine.now c.chips-chips.ensures.size (length c.in_ok-blocks.blocks) c.in_ok-blocks.ensures.blocks.long;
+  coverable = c.in_ok-blocks.ensures.coverable;
+}
 
 pub returns-clause-all : goal.returns-clause-all
 returns-clause-all g c =

@@ -1,4 +1,4 @@
-use Rattle.std.proofs.Common.{◌≡◌, ◌∙◌, length, ap, sym, subst, Some, rules}
+use Rattle.std.proofs.Common.{◌≡◌, ◌∙◌, length, ap, sym, subst, Some, arith, rules}
 use Rattle.std.specs.List.{position, slice_get}
 use Rattle.par_compile.specs.Compiled.{HasLongTable}
 use Rattle.par_compile.specs.Finals.{is_long}
@@ -7,13 +7,15 @@ use Rattle.par_compile.proofs.Standing.{routing_is}
 use Rattle.par_compile.proofs.Unique.{long_has_many, long_has_no_pair, none_long, one_plan, routed_of}
 use Rattle.par_compile.proofs.compiling.compile.Goals as goal
 
-pub final_tables-requires-clause-routed : goal.final_tables-requires-clause-routed
-final_tables-requires-clause-routed g c κs within =
-    let routing =
-    routing_is c.args.request.now.machine.now c.args.request.now.graph.now c.in-Ok.placement c.in-Ok-keys.blocks c.in-Ok-net_plans.nets c.in-Ok.ensures.placed c.in-Ok.ensures.different c.in-Ok.ensures.sites
-    c.in-Ok.ensures.cores c.in-Ok-keys.ensures.blocks c.in-Ok-keys.ensures.apart c.in-Ok-keys.ensures.enough c.in-Ok-net_plans.ensures.planned c.in-Ok-net_plans.ensures.routing
-    in
-    routed_of c.args.request.now.machine.now c.in-Ok.placement.spots c.in-Ok-net_plans.nets c.in-Ok.ensures.sites routing.stand
+pub final_tables-requires-after_bounds : goal.final_tables-requires-after_bounds
+final_tables-requires-after_bounds g c κs within = record {
+  routed = let routing =
+      routing_is c.args.request.now.machine.now c.args.request.now.graph.now c.in-Ok.placement c.in-Ok-keys.blocks c.in-Ok-net_plans.nets c.in-Ok.ensures.placed c.in-Ok.ensures.different c.in-Ok.ensures.sites
+      c.in-Ok.ensures.cores c.in-Ok-keys.ensures.blocks c.in-Ok-keys.ensures.apart c.in-Ok-keys.ensures.enough c.in-Ok-net_plans.ensures.planned c.in-Ok-net_plans.ensures.routing
+      in
+      routed_of c.args.request.now.machine.now c.in-Ok.placement.spots c.in-Ok-net_plans.nets c.in-Ok.ensures.sites routing.stand;
+  few = let long = c.in-Ok-net_plans.ensures.planned.one_plan_each in let few = c.requires.few_nets in omega (arith, long, few);
+}
 
 pub returns-in-None-clause-plan : goal.returns-in-None-clause-plan
 returns-in-None-clause-plan g c = record {

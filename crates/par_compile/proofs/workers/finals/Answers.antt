@@ -1,4 +1,4 @@
-use Rattle.std.proofs.Common.{◌∙◌, List, length, take, ap}
+use Rattle.std.proofs.Common.{◌∙◌, List, length, take, ap, arith}
 use Rattle.std.specs.List.{AllZip}
 use Rattle.std.proofs.lemmas.List.{length-map}
 use Rattle.std.proofs.lemmas.Result.{IfOk-weaker}
@@ -8,9 +8,11 @@ use Rattle.par_compile.specs.Finals.{AreAllUnlessLong, GivesFinal, IsFinalFor}
 use Rattle.par_compile.proofs.Working.{all_beside, all_left, all_ready}
 use Rattle.par_compile.proofs.workers.finals.Goals as goal
 
-pub cover_all-requires-clause-ready : goal.cover_all-requires-clause-ready
-cover_all-requires-clause-ready g c κs within =
-    all_ready c.args.blocks c.in_ok-works.works.items c.in_ok-works.ensures c.requires.coverable
+pub cover_all-requires-after_bounds : goal.cover_all-requires-after_bounds
+cover_all-requires-after_bounds g c κs within = record {
+  ready = all_ready c.args.blocks c.in_ok-works.works.items c.in_ok-works.ensures c.requires.coverable;
+  few = let same = ap length c.in_ok-works.ensures in let long = length-map c.args.blocks Plain in let few = c.requires.few in omega (arith, same, long, few);
+}
 
 pub finals_of-requires : goal.finals_of-requires
 finals_of-requires g c κs within =

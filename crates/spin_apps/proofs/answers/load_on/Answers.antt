@@ -2,11 +2,13 @@ use Rattle.std.proofs.Common.{string_bytes, arith}
 use Rattle.spin_apps.proofs.Chain.{told_load}
 use Rattle.spin_apps.proofs.answers.load_on.Goals as goal
 
-pub load-requires-clause-numbers : goal.load-requires-clause-numbers
-load-requires-clause-numbers c =
-    let few = c.requires.valid.run.few_packets in
-    let numbers = c.requires.numbers in
-    omega (arith, few, numbers)
+pub load-requires : goal.load-requires
+load-requires c = record {
+  numbers = let few = c.requires.valid.run.few_packets in
+      let numbers = c.requires.numbers in
+      omega (arith, few, numbers);
+  valid = c.requires.valid;
+}
 
 pub returns : goal.returns
 returns c = λ before is.

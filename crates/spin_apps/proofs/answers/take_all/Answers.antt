@@ -15,19 +15,18 @@ loop-step-init c = record {
   few = (let none = ap packet_count_of c.requires.none in omega (arith, none));
 }
 
-pub take-requires-clause-host : goal.take-requires-clause-host
-take-requires-clause-host c =
-    let steps = c.args.steps.now in
-    let i = c.loop-step.step-index in
-    let at : slice_get steps i ≡ Some c.step-item.result = slice_get_read steps _ i c.step-item.result refl c.loop-step-test.true c.step-item.is in
-    finds_host steps i c.step-item.result c.loop-step.hosted at c.loop-step.invariant.find
-
-pub take-requires-clause-numbers : goal.take-requires-clause-numbers
-take-requires-clause-numbers c =
-    let few = c.loop-step.invariant.few in
-    let below = c.loop-step-test.true in
-    let most = c.requires.few in
-    omega (arith, few, below, most)
+pub take-requires : goal.take-requires
+take-requires c = record {
+  host = let steps = c.args.steps.now in
+      let i = c.loop-step.step-index in
+      let at : slice_get steps i ≡ Some c.step-item.result = slice_get_read steps _ i c.step-item.result refl c.loop-step-test.true c.step-item.is in
+      finds_host steps i c.step-item.result c.loop-step.hosted at c.loop-step.invariant.find;
+  numbers = let few = c.loop-step.invariant.few in
+      let below = c.loop-step-test.true in
+      let most = c.requires.few in
+      omega (arith, few, below, most);
+  valid = All-at IsValidStep c.args.steps.now c.loop-step.step-index c.step-item.result c.requires.valid (slice_get_read c.args.steps.now _ c.loop-step.step-index c.step-item.result refl c.loop-step-test.true c.step-item.is);
+}
 
 pub loop-step-preserved : goal.loop-step-preserved
 loop-step-preserved c =

@@ -5,14 +5,15 @@ use Rattle.spin_apps.proofs.FreeSpots.{free_sites, free_untaken, placed_free}
 use Rattle.spin_apps.proofs.Planning.{nets_on, plan_for, plan_valid, why_unrouted}
 use Rattle.spin_apps.proofs.plans.plan_of.Goals as goal
 
-pub app_nets-requires-clause-valid : goal.app_nets-requires-clause-valid
-app_nets-requires-clause-valid c = nets_on _ c.in_ok-spots.spots c.args.job.now.graph.nets c.in_ok-spots.ensures.placed.is.all c.requires.graph.nets
-
-pub app_nets-requires-clause-sites : goal.app_nets-requires-clause-sites
-app_nets-requires-clause-sites c =
-    let placed = c.in_ok-spots.ensures.placed in
-    free_sites c.args.hosted.now c.hosted.inside.machine c.in_ok-spots.spots (subst (λ (h : Host). h.mesh.setup.machine ≡ c.hosted.inside.machine) c.hosted.view_is c.hosted.invariant.machine)
-    (placed_free c.args.hosted.now c.args.job.now.graph.vertices c.in_ok-spots.spots placed.memory placed.is c.requires.cores)
+pub app_nets-requires : goal.app_nets-requires
+app_nets-requires c = record {
+  valid = nets_on _ c.in_ok-spots.spots c.args.job.now.graph.nets c.in_ok-spots.ensures.placed.is.all c.requires.graph.nets;
+  sites = let placed = c.in_ok-spots.ensures.placed in
+      free_sites c.args.hosted.now c.hosted.inside.machine c.in_ok-spots.spots (subst (λ (h : Host). h.mesh.setup.machine ≡ c.hosted.inside.machine) c.hosted.view_is c.hosted.invariant.machine)
+      (placed_free c.args.hosted.now c.args.job.now.graph.vertices c.in_ok-spots.spots placed.memory placed.is c.requires.cores);
+  roads = search;
+  few = search;
+}
 
 pub returns-in-Ok-clause-plan : goal.returns-in-Ok-clause-plan
 returns-in-Ok-clause-plan c =

@@ -59,12 +59,11 @@ overflow_add-self c =
     let long = c.len.ensures ∙ ap (λ (p : AppPlan). length p.packets) (IfOk-at_ok (λ (a : LoadedApp). IsServedApp c.in-Some.mesh.setup.machine c.deref_mut.result.now c.args.number c.self.inside.packets c.args.plan.now a c.join-mesh.new.regions) c.in-Ok.is c.join-mesh.ensures.served).plan_is in
     record { fits = omega (arith, fit, long) }
 
-pub add-requires-clause-room : goal.add-requires-clause-room
-add-requires-clause-room c = on_ok (vec_len c.reserve_one.new.apps + 1 ≤ vec_capacity c.reserve_one.new.apps) c.reserve_one.result (sym c.is_err.ensures.value ∙ c.if-is_err.false) c.reserve_one.ensures.room
-
-pub add-requires-clause-number_room : goal.add-requires-clause-number_room
-add-requires-clause-number_room c =
-    on_ok (vec_len c.reserve_one.new.numbers + 1 ≤ vec_capacity c.reserve_one.new.numbers) c.reserve_one.result (sym c.is_err.ensures.value ∙ c.if-is_err.false) c.reserve_one.ensures.number_room
+pub add-requires : goal.add-requires
+add-requires c = record {
+  room = on_ok (vec_len c.reserve_one.new.apps + 1 ≤ vec_capacity c.reserve_one.new.apps) c.reserve_one.result (sym c.is_err.ensures.value ∙ c.if-is_err.false) c.reserve_one.ensures.room;
+  number_room = on_ok (vec_len c.reserve_one.new.numbers + 1 ≤ vec_capacity c.reserve_one.new.numbers) c.reserve_one.result (sym c.is_err.ensures.value ∙ c.if-is_err.false) c.reserve_one.ensures.number_room;
+}
 
 pub invariant_of-self-in-Ok : goal.invariant_of-self-in-Ok
 invariant_of-self-in-Ok c =
