@@ -4,10 +4,11 @@ ghost use Rattle.spin_base.specs.declared.copies.Event.TheVariants.{Inject, Coll
 ghost use Rattle.chip_node.specs.Routing.{outputs_at};
 ghost use Rattle.mesh_core.specs.State.{IsMesh, State, behind, queue_at as place_of_queue};
 ghost use Rattle.mesh_core.specs.Queues.{drop_front, front_of};
-ghost use Rattle.mesh_core.specs.Step.{after_event, has_room_behind, outputs, step_of};
+ghost use Rattle.mesh_core.specs.Step.{after_event, has_room_behind, outputs, push_behind, step_of};
+ghost use Rattle.mesh_core.specs.Serving.{queue_named, IsPlace};
+ghost use Rattle.spin_base.specs.Hops.{onward};
 ghost use Rattle.mesh_round.specs.Turning.{IsMeshWith, router_step, served_at, served_at_all, served_or_dumped};
 
-use crate::reinjecting::{has_room, onward, push_behind, queue_behind};
 use crate::waking::Awake;
 use mesh_core::{MeshParts, Queue};
 use spin_base::{Chip, Delivery, DumpRec, Fifo, McCopy, Memory, Out, Outs, Port, Seq};
@@ -229,5 +230,50 @@ fn drop_front(queues: &mut [Fifo<McCopy>], place: usize)
 {
     if place < queues.len() {
         let _ = queues[place].pop();
+    }
+}
+
+// The queue behind an output.
+pub(crate) fn queue_behind(parts: &MeshParts, chip: Chip, out: Out) -> Queue
+    requires { IsMesh parts.now }
+    ensures queue { queue_named result ≡ behind parts.now.setup chip out }
+    ensures place { IsPlace (length parts.now.inputs) (length parts.now.cores) result }
+{
+    parts.setup.behind(chip, out)
+}
+
+// Whether a queue has room.
+pub(crate) fn has_room(parts: &MeshParts, queue: Queue) -> bool
+    requires { IsPlace (length parts.now.inputs) (length parts.now.cores) queue }
+    ensures { result ≡ has_room_behind parts.now (queue_named queue) }
+{
+    let capacity = parts.setup.capacity() as usize;
+    match queue {
+        Queue::Input(place) => parts.inputs[place].len() < capacity,
+        Queue::Core(vertex) => parts.cores[vertex].len() < capacity,
+        Queue::Nowhere => false,
+    }
+}
+
+// Puts a copy at the back of a queue.
+pub(crate) fn push_behind(parts: &mut MeshParts, queue: Queue, copy: McCopy) -> Result<(), Memory>
+    requires { IsPlace (length parts.old.inputs) (length parts.old.cores) queue }
+    ensures ok { OnOk result (parts.new ≡ push_behind parts.old (queue_named queue) copy) }
+    ensures err { OnErr result (parts.new ≡ parts.old) }
+{
+    match queue {
+        Queue::Input(place) => parts.inputs[place].push(copy),
+        Queue::Core(vertex) => parts.cores[vertex].push(copy),
+        Queue::Nowhere => Ok(()),
+    }
+}
+
+// The copy behind a router: one hop more.
+pub(crate) fn onward(copy: McCopy) -> McCopy
+    ensures { result ≡ onward copy }
+{
+    McCopy {
+        hop: copy.hop.saturating_add(1),
+        ..copy
     }
 }

@@ -1,10 +1,7 @@
 // Dumped copies put back where they were dropped, until every target has its own.
 ghost use Rattle.std.specs.Prelude.{◌≡◌, ◌<◌, ℕ, [], length, IfErr, IfOk, OnErr, OnOk};
 ghost use Rattle.mesh_core.specs.declared.places.Did.TheVariants.{Moved};
-ghost use Rattle.mesh_core.specs.State.{IsMesh, behind};
-ghost use Rattle.spin_base.specs.Hops.{onward};
-ghost use Rattle.mesh_core.specs.Step.{has_room_behind, push_behind};
-ghost use Rattle.mesh_core.specs.Serving.{queue_named, IsPlace};
+ghost use Rattle.mesh_core.specs.State.{IsMesh};
 ghost use Rattle.mesh_core.specs.PutBack.{after_put_back};
 ghost use Rattle.mesh_core.specs.Expected.{IsAtRest};
 ghost use Rattle.mesh_round.specs.RoundFlow.{HasNoHand};
@@ -15,12 +12,13 @@ ghost use Rattle.mesh_round.specs.Reinjecting.{put_back_answer, HasPasses, IsOfN
 use crate::flow_laws::a_round_leaves_less_to_do;
 use crate::gates::RoundGate;
 use crate::laws::passes_keep_the_ledger;
+use crate::moves::{has_room, onward, push_behind, queue_behind};
 use crate::rounds::run_parts;
 use crate::waking::Awake;
 use mesh_core::laws::a_mesh_stays_a_mesh;
-use mesh_core::{Did, Mesh, MeshParts, Queue};
+use mesh_core::{Did, Mesh, MeshParts};
 use mesh_run::Pace;
-use spin_base::{Chip, McCopy, Memory, Out};
+use spin_base::Memory;
 use std::alloc::Global;
 use std::sync::Wait;
 use std::thread::Threads;
@@ -166,49 +164,4 @@ fn put_first_back(parts: MeshParts) -> Result<(MeshParts, Did), (MeshParts, Memo
     }
     let _ = parts.dumped.pop();
     Ok((parts, Did::Moved))
-}
-
-// The queue behind an output.
-pub(crate) fn queue_behind(parts: &MeshParts, chip: Chip, out: Out) -> Queue
-    requires { IsMesh parts.now }
-    ensures queue { queue_named result ≡ behind parts.now.setup chip out }
-    ensures place { IsPlace (length parts.now.inputs) (length parts.now.cores) result }
-{
-    parts.setup.behind(chip, out)
-}
-
-// Whether a queue has room.
-pub(crate) fn has_room(parts: &MeshParts, queue: Queue) -> bool
-    requires { IsPlace (length parts.now.inputs) (length parts.now.cores) queue }
-    ensures { result ≡ has_room_behind parts.now (queue_named queue) }
-{
-    let capacity = parts.setup.capacity() as usize;
-    match queue {
-        Queue::Input(place) => parts.inputs[place].len() < capacity,
-        Queue::Core(vertex) => parts.cores[vertex].len() < capacity,
-        Queue::Nowhere => false,
-    }
-}
-
-// Puts a copy at the back of a queue.
-pub(crate) fn push_behind(parts: &mut MeshParts, queue: Queue, copy: McCopy) -> Result<(), Memory>
-    requires { IsPlace (length parts.old.inputs) (length parts.old.cores) queue }
-    ensures ok { OnOk result (parts.new ≡ push_behind parts.old (queue_named queue) copy) }
-    ensures err { OnErr result (parts.new ≡ parts.old) }
-{
-    match queue {
-        Queue::Input(place) => parts.inputs[place].push(copy),
-        Queue::Core(vertex) => parts.cores[vertex].push(copy),
-        Queue::Nowhere => Ok(()),
-    }
-}
-
-// The copy behind a router: one hop more.
-pub(crate) fn onward(copy: McCopy) -> McCopy
-    ensures { result ≡ onward copy }
-{
-    McCopy {
-        hop: copy.hop.saturating_add(1),
-        ..copy
-    }
 }
