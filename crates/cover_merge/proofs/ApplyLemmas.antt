@@ -1,14 +1,13 @@
 -- Taking rows out, and the table after a merge.
-use Rattle.std.proofs.Common.{◌≡◌, ℕ, zero, suc, ◌+◌, ◌-◌, ◌<◌, ◌≤◌, ◌==◌, ◌||◌, ◌≢◌, Bool, true, false, cond, List, [], ◌∷◌, ◌++◌, length, get_or, take, drop, inl, inr, ◌⊎◌, refl, sym, ap, ◌∙◌, subst, Option, length-take, length-drop, get_or-drop, arith}
-use Rattle.std.specs.Prelude.{All, AllPairs, not, insert, remove, map}
+use Rattle.std.proofs.Common.{◌≡◌, ℕ, zero, suc, ◌+◌, ◌<◌, ◌≤◌, ◌==◌, ◌||◌, ◌≢◌, Bool, true, false, cond, List, [], ◌∷◌, ◌++◌, length, get_or, take, drop, inl, inr, ◌⊎◌, refl, sym, ap, ◌∙◌, subst, Option, length-take, arith}
+use Rattle.std.specs.Prelude.{All, not, insert, remove, map}
 use Rattle.std.specs.Prelude.{Result, Ok, Err, OnOk}
 use Rattle.std.specs.List.{flat_map, cons_option}
 use Rattle.std.proofs.lemmas.Bool.{eq-eqb, ne_eqb, or_from}
 use Rattle.std.proofs.lemmas.Bool.Decides.{eqb_tells}
-use Rattle.std.proofs.lemmas.List.Elements.{All-nil, All-head, All-tail, All-weaker}
+use Rattle.std.proofs.lemmas.List.Elements.{All-head, All-tail, All-weaker}
 use Rattle.std.proofs.lemmas.Grind.{flat_map-append}
-use Rattle.std.proofs.lemmas.List.{append-nil, take_more, drop_all, get_or_default}
-use Rattle.std.proofs.Math.Seq.{drop-cons}
+use Rattle.std.proofs.lemmas.List.{append-nil, take_more, get_or_default}
 use Rattle.std.proofs.lemmas.Option.{slice_get-get_or}
 use Rattle.spin_base.specs.declared.blocks.Block.{Block}
 use Rattle.tern_word.specs.declared.tables.Alias.{Alias}
@@ -62,7 +61,7 @@ kept_passed s rest j (x ∷ xs) behind =
     differs (inl same) = absurd (omega (arith, same.1))
     differs (inr other) = other.0
 
--- ---- taking out one place after another, the last first
+-- ---- the first place is taken out behind the rest
 
 module _ (s : ℕ) (rest : List ℕ) (above : All (λ t. s < t) rest) where
   pub first_kept : (j : ℕ) → j ≤ s → has_row rest j ≡ false
@@ -91,34 +90,6 @@ module _ (s : ℕ) (rest : List ℕ) (above : All (λ t. s < t) rest) where
       not_here : ((s == j) ≡ true) × (s ≡ j) ⊎ ((s == j) ≡ false) × (s ≢ j) → (s == j) ≡ false
       not_here (inl same) = absurd (omega (arith, same.1))
       not_here (inr other) = other.0
-
--- the place before the rest
-drop_before : (places : List ℕ) (i : ℕ) → 0 < i → i ≤ length places → drop (i - 1) places ≡ get_or places (i - 1) 0 ∷ drop i places
-drop_before places i some within =
-    let next : suc (i - 1) ≡ i = omega arith in drop-cons places (i - 1) 0 (omega arith) ∙ ap (λ n. get_or places (i - 1) 0 ∷ drop n places) next
-
-pub above_rest : (places : List ℕ) (i : ℕ) → AllPairs (λ s t. s < t) places → 0 < i → i ≤ length places → All (λ t. get_or places (i - 1) 0 < t) (drop i places)
-above_rest places i ascending some within k d inside =
-    let far : i + k < length places = omega (arith, length-drop i places) in
-    let less : get_or places (i - 1) d < get_or places (i + k) d = ascending (i - 1) (i + k) d (omega arith) far in
-    subst (λ x. get_or places (i - 1) 0 < x) (sym (get_or-drop i places k d))
-    (subst (λ x. x < get_or places (i + k) d) (get_or_default places (i - 1) d 0 (omega arith)) less)
-
-pub one_out : {X : Type 0} (places : List ℕ) (i : ℕ) (start now new : List X) → AllPairs (λ s t. s < t) places → All (λ s. s < length start) places → 0 < i → i ≤ length places
-    → now ≡ left (drop i places) 0 start → new ≡ remove now (get_or places (i - 1) 0) → new ≡ left (drop (i - 1) places) 0 start
-one_out places i start now new ascending in_range some within is removed =
-    removed ∙ ap (λ l. remove l (get_or places (i - 1) 0)) is
-    ∙ kept_remove (get_or places (i - 1) 0) (drop i places) (above_rest places i ascending some within) 0 (get_or places (i - 1) 0) start (omega arith) (in_range (i - 1) 0 (omega arith))
-    ∙ ap (λ l. left l 0 start) (sym (drop_before places i some within))
-
-pub still_in : {X : Type 0} (places : List ℕ) (i : ℕ) (start now : List X) → AllPairs (λ s t. s < t) places → All (λ s. s < length start) places → 0 < i → i ≤ length places
-    → now ≡ left (drop i places) 0 start → get_or places (i - 1) 0 < length now
-still_in places i start now ascending in_range some within is =
-    rw is (kept_longer (get_or places (i - 1) 0) (drop i places) (above_rest places i ascending some within) 0 (get_or places (i - 1) 0) start (omega arith) (in_range (i - 1) 0 (omega arith)))
-
--- nothing is taken out yet
-pub none_out : {X : Type 0} (places : List ℕ) (start : List X) → start ≡ left (drop (length places) places) 0 start
-none_out places start = sym (ap (λ l. left l 0 start) (drop_all (length places) places (omega arith)) ∙ kept_none [] 0 start (All-nil (λ t. t < 0)))
 
 -- ---- the table after a merge
 

@@ -85,19 +85,19 @@ places_ascend bits i (r ∷ rows) = by_test (r.route.bits == bits) (places_ascen
     by_test true rest are = AllPairs-cons (λ s t. s < t) i (places_of bits (suc i) rows) (λ k d within. let place = are k d within in omega (arith, place.from)) rest
     by_test false rest are = rest
 
+has_bits : (bits : ℕ) (rows : List Row) (k d : ℕ) → k < length (places_of bits 0 rows) → (e : Row) → (get_or rows (get_or (places_of bits 0 rows) k d) e).route.bits ≡ bits
+has_bits bits rows k d within e =
+    let place = places_are bits 0 rows k d within in
+    let whole : get_or (places_of bits 0 rows) k d - 0 ≡ get_or (places_of bits 0 rows) k d = omega arith in
+    subst (λ n. (get_or rows n e).route.bits ≡ bits) whole (place.route e)
+
 -- they are places of one route
 pub places_of-one_route : (bits : ℕ) (rows : List Row) → IsOneRoute rows (places_of bits 0 rows)
 places_of-one_route bits rows = record {
   ascending = places_ascend bits 0 rows;
   in_range = λ k d within. let place = places_are bits 0 rows k d within in omega (arith, place.below);
-  one_route = λ a b d less within e. same_route (get_or rows (get_or (places_of bits 0 rows) a d) e).route (get_or rows (get_or (places_of bits 0 rows) b d) e).route (has_bits a d (omega arith) e ∙ sym (has_bits b d within e));
+  one_route = λ a b d less within e. same_route (get_or rows (get_or (places_of bits 0 rows) a d) e).route (get_or rows (get_or (places_of bits 0 rows) b d) e).route (has_bits bits rows a d (omega arith) e ∙ sym (has_bits bits rows b d within e));
 }
-  where
-    has_bits : (k : ℕ) (d : ℕ) → k < length (places_of bits 0 rows) → (e : Row) → (get_or rows (get_or (places_of bits 0 rows) k d) e).route.bits ≡ bits
-    has_bits k d within e =
-        let place = places_are bits 0 rows k d within in
-        let whole : get_or (places_of bits 0 rows) k d - 0 ≡ get_or (places_of bits 0 rows) k d = omega arith in
-        subst (λ n. (get_or rows n e).route.bits ≡ bits) whole (place.route e)
 
 -- a route stands in the table, or has no places
 pub route_cases : (bits i : ℕ) (rows : List Row) → ((j : ℕ) × (j < length rows) × ((d : Row) → (get_or rows j d).route.bits ≡ bits)) ⊎ (places_of bits i rows ≡ [])
@@ -179,3 +179,39 @@ places_next rows bits place x old new inside same next before now =
 
 pub places_end : (rows : List Row) (bits place : ℕ) (found : List ℕ) → length rows ≤ place → found ≡ places_of bits 0 (take place rows) → found ≡ places_of bits 0 rows
 places_end rows bits place found all is = is ∙ ap (places_of bits 0) (take_all place rows all)
+
+-- ---- which rows the places of a route are of
+
+-- each row of the route is at one of them
+place_listed : (bits i : ℕ) (rows : List Row) (k : ℕ) (d : Row) → k < length rows → (get_or rows k d).route.bits ≡ bits → (m : ℕ) × (m < length (places_of bits i rows)) × (get_or (places_of bits i rows) m 0 ≡ i + k)
+place_listed bits i [] k d inside same = absurd (omega arith)
+place_listed bits i (r ∷ rows) zero d inside same =
+    subst (λ b. (m : ℕ) × (m < length (cond b (i ∷ places_of bits (suc i) rows) (places_of bits (suc i) rows))) × (get_or (cond b (i ∷ places_of bits (suc i) rows) (places_of bits (suc i) rows)) m 0 ≡ i + 0)) (sym (eq-eqb r.route.bits bits same))
+    (0, omega arith, omega arith)
+place_listed bits i (r ∷ rows) (suc k) d inside same = by_test (r.route.bits == bits) (place_listed bits (suc i) rows k d (omega arith) same)
+  where
+    by_test : (b : Bool) → (m : ℕ) × (m < length (places_of bits (suc i) rows)) × (get_or (places_of bits (suc i) rows) m 0 ≡ suc i + k)
+        → (m : ℕ) × (m < length (cond b (i ∷ places_of bits (suc i) rows) (places_of bits (suc i) rows))) × (get_or (cond b (i ∷ places_of bits (suc i) rows) (places_of bits (suc i) rows)) m 0 ≡ i + suc k)
+    by_test true rest = (suc rest.0, omega (arith, rest.1), omega (arith, rest.2))
+    by_test false rest = (rest.0, rest.1, omega (arith, rest.2))
+
+-- the places are just those of the rows of the route, in order
+pub record ArePlaces (bits : ℕ) (rows : List Row) (places : List ℕ) : Type 0 where
+  pub inside : (m : ℕ) → m < length places → get_or places m 0 < length rows
+  pub route : (m : ℕ) (d : Row) → m < length places → (get_or rows (get_or places m 0) d).route.bits ≡ bits
+  pub ascend : (m n : ℕ) → m < n → n < length places → get_or places m 0 < get_or places n 0
+  pub listed : (k : ℕ) (d : Row) → k < length rows → (get_or rows k d).route.bits ≡ bits → (m : ℕ) × (m < length places) × (get_or places m 0 ≡ k)
+
+pub are_places : (bits : ℕ) (rows : List Row) → ArePlaces bits rows (places_of bits 0 rows)
+are_places bits rows = record {
+  inside = λ m within. let place = places_are bits 0 rows m 0 within in omega (arith, place.below);
+  route = λ m d within. has_bits bits rows m 0 within d;
+  ascend = λ m n less within. places_ascend bits 0 rows m n 0 less within;
+  listed = λ k d within same. let at = place_listed bits 0 rows k d within same in (at.0, at.1, omega (arith, at.2));
+}
+
+-- such are those that were gathered from the first row on
+pub places_gathered : (rows list : List Row) (x : ℕ) (gathered places : List ℕ) → list ≡ rows → ((bits : ℕ) → IsFirstOfRoute list bits x → gathered ≡ places_of bits 0 list) → places ≡ gathered → (bits : ℕ) → IsFirstOfRoute rows bits x → ArePlaces bits rows places
+places_gathered rows list x gathered places same found is bits first =
+    let read = subst (λ l. ((b : ℕ) → IsFirstOfRoute l b x → gathered ≡ places_of b 0 l)) same found in
+    subst (ArePlaces bits rows) (sym (is ∙ read bits first)) (are_places bits rows)

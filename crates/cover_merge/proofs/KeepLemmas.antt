@@ -55,21 +55,6 @@ most_first routes kept most none = record {
 }
 
 module _ (routes : List ℕ) (kept : List (Option Kept)) (c : ℕ) (most : Most) (old : IsMostBefore routes kept c most) where
-  pub most_none : get_or kept c None ≡ None → IsMostBefore routes kept (c + 1) most
-  most_none none = record {
-    inside = old.inside;
-    own = old.own;
-    bits = old.bits;
-    no_larger = λ k it less is. elim (cases_lt k c) [
-      | inl before ↦ old.no_larger k it before is
-      | inr here ↦ let same : k ≡ c = omega (arith, less, here) in absurd (none_some it (sym none ∙ sym (ap (λ i. get_or kept i None) same) ∙ is))
-    ];
-    smaller = λ k it less is. elim (cases_lt k c) [
-      | inl before ↦ old.smaller k it before is
-      | inr here ↦ let same : k ≡ c = omega (arith, less, here) in absurd (none_some it (sym none ∙ sym (ap (λ i. get_or kept i None) same) ∙ is))
-    ];
-  }
-
   module _ (own : Kept) (here_is : get_or kept c None ≡ Some own) (bits : ℕ) (read : bits ≡ get_or routes c 0) where
     last_is : (k : ℕ) (it : Kept) → k < c + 1 → c ≤ k → get_or kept k None ≡ Some it → (it ≡ own) × (get_or routes k 0 ≡ bits)
     last_is k it less from is =
@@ -218,20 +203,6 @@ left_twice P Q R old now new first second both = record {
       let before = first.each k it later.0 in
       (before.0, both k it before.1 later.1);
 }
-
--- one row more
-module _ (b : Block) (rows : List Row) (numbers : List ℕ) (s k : ℕ) (old : MissesAllOf b rows numbers s k) where
-  pub misses_others : k ≢ get_or numbers s 0 → MissesAllOf b rows numbers (s + 1) k
-  misses_others apart t d less within same = elim (cases_lt t s) [
-    | inl before ↦ old t d before within same
-    | inr from ↦ let here : t ≡ s = omega (arith, less, from) in absurd (apart (sym same ∙ ap (λ i. get_or numbers i 0) here))
-  ]
-
-  pub misses_more : (row : Row) → s < length rows → row ≡ get_or rows s row → Misses b row → MissesAllOf b rows numbers (s + 1) k
-  misses_more row inside is misses t d less within same = elim (cases_lt t s) [
-    | inl before ↦ old t d before within same
-    | inr from ↦ let here : t ≡ s = omega (arith, less, from) in subst (Misses b) (is ∙ get_or_default rows s row d inside ∙ ap (λ i. get_or rows i d) (sym here)) misses
-  ]
 
 -- What is left of what was kept is so in the table after the merge.
 pub kept_over : (routes : List ℕ) (rows : List Row) (numbers : List ℕ) (old mid new : List (Option Kept)) (places : List ℕ) (merged : Block)

@@ -22,9 +22,8 @@ use Rattle.cover_merge.specs.Covering.{places_of, IsNoRival}
 use Rattle.cover_merge.specs.Kept.{RefinesWithin, IsKept, IsLeftBy}
 use Rattle.cover_merge.proofs.Positions.{has-at, has-place, has-later, All-has, rows_at-from, rows_at-has, rows_at-length, some_blocks, place_for-le, place_for-below, place_for-above, member_le}
 use Rattle.cover_merge.proofs.Lists.{All-from_map}
-use Rattle.cover_merge.proofs.Legal.{HoldsItsAliases-merge}
+use Rattle.cover_merge.proofs.Legal.{HoldsItsAliases-merge, narrower_misses, member_lies}
 use Rattle.cover_merge.proofs.ApplyLemmas.{block_is}
-use Rattle.cover_merge.proofs.CarryLemmas.{narrower_misses, member_lies}
 use Rattle.cover_merge.proofs.Determined.{one_refined}
 use Rattle.cover_merge.proofs.KeptLemmasMoved.{moved, moved_less, moved_get, moved_onto, moved_places}
 

@@ -11,8 +11,8 @@ use Rattle.tern_word.specs.declared.tables.Alias.{Alias}
 use Rattle.tern_word.specs.declared.tables.Row.{Row}
 use Rattle.tern_word.specs.Ternary.{Intersects, LiesIn, generality, merge_of}
 use Rattle.tern_word.specs.SoundTable.{Misses, HoldsItsAliases, IsSound}
-use Rattle.tern_word.proofs.BlockLaws.{LiesIn-trans, LiesIn-merge}
-use Rattle.cover_merge.specs.Merge.{has_row, rows_at, kept, merge_rows, merged_row, merged_block, insert_place, IsLegal, PassesUpCheck, PassesDownCheck}
+use Rattle.tern_word.proofs.BlockLaws.{Intersects-sym, Intersects-wider, LiesIn-trans, LiesIn-merge}
+use Rattle.cover_merge.specs.Merge.{has_row, rows_at, kept, merge_rows, merged_row, merged_block, insert_place, IsLegal, IsMergeSet, PassesUpCheck, PassesDownCheck}
 use Rattle.cover_merge.proofs.Lists.{All-picked, picked-at, picked-from, All-from_map, All-flat_map, All-from_flat_map, AllPairs-around, AllPairs-into, AllPairs-out}
 use Rattle.cover_merge.proofs.Positions.{All-has, rows_at-from, rows_at-has, place_for-le, place_for-below, place_for-above, member_before}
 
@@ -34,6 +34,17 @@ Misses-merge b rows all = subst (All (λ (a : Alias). Intersects b a.block → �
 
 pub Misses-members : (b : Block) (rows : List Row) → Misses b (merge_rows rows) → All (Misses b) rows
 Misses-members b rows misses = All-from_flat_map (λ (a : Alias). Intersects b a.block → ⊥) (λ (x : Row). x.aliases) rows (subst (All (λ (a : Alias). Intersects b a.block → ⊥)) (merge_rows-aliases rows) misses)
+
+-- what a block misses, a narrower one misses
+pub narrower_misses : (b x : Block) (r : Row) → LiesIn x b → Misses b r → Misses x r
+narrower_misses b x r lies misses k d within meets =
+    let a = (get_or r.aliases k d).block in
+    misses k d within (Intersects-sym a b (Intersects-wider a x b lies (Intersects-sym x a meets)))
+
+-- each member lies in the merge
+pub member_lies : (rows : List Row) (places : List ℕ) → IsMergeSet rows places → (b : Block) → b ≡ merged_block rows places → (s : ℕ) (d : Row) → has_row places s ≡ true → LiesIn (get_or rows s d).block b
+member_lies rows places merge b is = rows_at-has (λ (r : Row). LiesIn r.block b) rows places merge.set.in_range
+    (subst (λ x. All (λ (r : Row). LiesIn r.block x) (rows_at rows places)) (sym is) (All-from_map (λ x. LiesIn x (merged_block rows places)) (λ (x : Row). x.block) (rows_at rows places) (LiesIn-merge (map (λ (x : Row). x.block) (rows_at rows places)))))
 
 -- a merge holds its aliases where its members do
 pub HoldsItsAliases-merge : (rows : List Row) → All HoldsItsAliases rows → HoldsItsAliases (merge_rows rows)

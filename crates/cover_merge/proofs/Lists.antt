@@ -68,3 +68,14 @@ module _ {X : Type 0} (R : X → X → Type 0) where
 
     pub AllPairs-out : AllPairs R (picked q 0 (take n xs) ++ m ∷ picked q n (drop n xs)) → All (R m) (picked q n (drop n xs))
     AllPairs-out all = AllPairs-head R m (picked q n (drop n xs)) (AllPairs-right R (picked q 0 (take n xs)) (m ∷ picked q n (drop n xs)) all)
+
+-- as many of two lists of one length are picked
+pub picked_lengths : {X Y : Type 0} (q : ℕ → Bool) (i : ℕ) (xs : List X) (ys : List Y) → length ys ≡ length xs → length (picked q i ys) ≡ length (picked q i xs)
+picked_lengths q i [] [] same = refl
+picked_lengths q i [] (y ∷ ys) same = absurd (omega arith)
+picked_lengths q i (x ∷ xs) [] same = absurd (omega arith)
+picked_lengths {X = X} {Y = Y} q i (x ∷ xs) (y ∷ ys) same = by_test (q i) (picked_lengths q (suc i) xs ys (omega arith))
+  where
+    by_test : (t : Bool) → length (picked q (suc i) ys) ≡ length (picked q (suc i) xs) → length (cond t (y ∷ picked q (suc i) ys) (picked q (suc i) ys)) ≡ length (cond t (x ∷ picked q (suc i) xs) (picked q (suc i) xs))
+    by_test true rest = ap suc rest
+    by_test false rest = rest

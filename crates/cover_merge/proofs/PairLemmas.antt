@@ -1,7 +1,8 @@
 -- A pair of rows that is legal after a merge was legal before it, where neither loses a row behind it by the merge.
-use Rattle.std.proofs.Common.{◌≡◌, ◌==◌, ◌||◌, ℕ, zero, suc, ◌<◌, ◌≤◌, ◌⊎◌, true, false, List, [], ◌∷◌, length, get_or, inl, inr, refl, sym, ap, ◌∙◌, subst, arith}
-use Rattle.std.specs.Prelude.{All, insert, map, slice_get}
+use Rattle.std.proofs.Common.{◌≡◌, ◌==◌, ◌||◌, ℕ, zero, suc, ◌<◌, ◌≤◌, ◌⊎◌, true, false, List, [], ◌∷◌, length, get_or, take, drop, length-append, length-take, length-drop, inl, inr, refl, sym, ap, ◌∙◌, subst, arith}
+use Rattle.std.specs.Prelude.{All, insert, map, not, slice_get}
 use Rattle.std.specs.List.{cons_option}
+use mathlib.Core.Bool.{true≢false}
 use Rattle.std.proofs.lemmas.Bool.{cases_Bool, cases_lt}
 use Rattle.std.proofs.lemmas.List.Elements.{All-nil, All-cons}
 use Rattle.std.proofs.lemmas.List.Kept.{AllPairs-cons}
@@ -13,11 +14,13 @@ use Rattle.tern_word.specs.SoundTable.{IsSound, Misses}
 use Rattle.tern_word.proofs.BlockLaws.{generality-merge}
 use Rattle.cover_merge.specs.Merge.{has_row, rows_at, merged_row, merged_block, place_for, insert_place, after, SameRoute, IsMergeSet, IsLegal, PassesUp, PassesUpCheck, PassesDown, PassesDownCheck}
 use Rattle.cover_merge.specs.Covering.{IsLegalPair}
-use Rattle.cover_merge.specs.declared.guards.Guard.{Guard}
+use Rattle.cover_merge.specs.declared.rivals.Rival.{Rival}
+use Rattle.cover_merge.specs.declared.times.Times.{Times}
 use Rattle.cover_merge.specs.Links.{place_of_route}
+use Rattle.cover_merge.specs.Rivals.{AreRivalsAt, HasSerial, MeetsNone, is_at_one}
 use Rattle.cover_merge.specs.Tried.{AreTriedUpTo, AreTouched, AreNoLater, IsFresh, LosesNone}
-use Rattle.cover_merge.proofs.Lists.{All-from_map}
-use Rattle.cover_merge.proofs.Positions.{has-at, has-place, rows_at-has, place_for-le, place_for-below, place_for-above}
+use Rattle.cover_merge.proofs.Lists.{All-from_map, picked_lengths}
+use Rattle.cover_merge.proofs.Positions.{All-has, at_one_of, has-at, has-place, rows_at-has, place_for-le, place_for-below, place_for-above}
 use Rattle.cover_merge.proofs.Legal.{Misses-members, legal_from_checks, up_from_legal, down_from_legal}
 use Rattle.cover_merge.proofs.ApplyLemmas.{left, after_is, block_is, route_is}
 use Rattle.cover_merge.proofs.TriedLemmas.{all_before}
@@ -134,82 +137,106 @@ module _ (rows : List Row) (merge : List ℕ) (sound : IsSound rows) (set : IsMe
 
   -- ---- what was tried, and when
 
-  module _ (gs : List Guard) (nothing : Guard) (one_each : length gs ≡ length rows) (p : ℕ) (place : p ≡ insert_place rows merge) where
-    abbrev carried_guards : ℕ → List Guard
-    carried_guards n = left merge 0 (insert gs n nothing)
+  module _ (times : List Times) (nothing : Times) (one_each : length times ≡ length rows) (p : ℕ) (place : p ≡ insert_place rows merge) where
+    abbrev carried_times : ℕ → List Times
+    carried_times n = left merge 0 (insert times n nothing)
 
-    -- a guard is that of a row that moved, or that of the merged row
-    guard_onto : (l : ℕ) (e : Guard) → l < length (carried_guards (insert_place rows merge))
-        → ((k : ℕ) × (k < length gs) × (has_row merge k ≡ false) × (to k ≡ l) × (get_or (carried_guards (insert_place rows merge)) l e ≡ get_or gs k e)) ⊎ (get_or (carried_guards (insert_place rows merge)) l e ≡ nothing)
-    guard_onto l e within = by_place (item_onto rows merge sound.ordered set gs nothing one_each l within)
+    -- times are those of a row that moved, or those of the merged row
+    time_onto : (l : ℕ) (e : Times) → l < length (carried_times (insert_place rows merge))
+        → ((k : ℕ) × (k < length times) × (has_row merge k ≡ false) × (to k ≡ l) × (get_or (carried_times (insert_place rows merge)) l e ≡ get_or times k e)) ⊎ (get_or (carried_times (insert_place rows merge)) l e ≡ nothing)
+    time_onto l e within = by_place (item_onto rows merge sound.ordered set times nothing one_each l within)
       where
-        by_place : ((k : ℕ) × (k < length gs) × (has_row merge k ≡ false) × (to k ≡ l)) ⊎ (l ≡ merged_at rows merge)
-            → ((k : ℕ) × (k < length gs) × (has_row merge k ≡ false) × (to k ≡ l) × (get_or (carried_guards (insert_place rows merge)) l e ≡ get_or gs k e)) ⊎ (get_or (carried_guards (insert_place rows merge)) l e ≡ nothing)
-        by_place (inl (k, inside, out, at)) = inl (k, inside, out, at, ap (λ n. get_or (carried_guards (insert_place rows merge)) n e) (sym at) ∙ (item_moved rows merge sound.ordered set gs nothing one_each k e inside out).1)
-        by_place (inr is) = inr (ap (λ n. get_or (carried_guards (insert_place rows merge)) n e) is ∙ (item_merged rows merge sound.ordered set gs nothing one_each e).1)
+        by_place : ((k : ℕ) × (k < length times) × (has_row merge k ≡ false) × (to k ≡ l)) ⊎ (l ≡ merged_at rows merge)
+            → ((k : ℕ) × (k < length times) × (has_row merge k ≡ false) × (to k ≡ l) × (get_or (carried_times (insert_place rows merge)) l e ≡ get_or times k e)) ⊎ (get_or (carried_times (insert_place rows merge)) l e ≡ nothing)
+        by_place (inl (k, inside, out, at)) = inl (k, inside, out, at, ap (λ n. get_or (carried_times (insert_place rows merge)) n e) (sym at) ∙ (item_moved rows merge sound.ordered set times nothing one_each k e inside out).1)
+        by_place (inr is) = inr (ap (λ n. get_or (carried_times (insert_place rows merge)) n e) is ∙ (item_merged rows merge sound.ordered set times nothing one_each e).1)
+
+    -- each row of the table after the merge has its times
+    pub carried_length : length (carried_times p) ≡ length new
+    carried_length =
+        let n = insert_place rows merge in
+        let m = merged_row rows merge in
+        let longer : length (insert times n nothing) ≡ length (insert rows n m) =
+        omega (arith, one_each, length-append (take n times) (nothing ∷ drop n times), length-append (take n rows) (m ∷ drop n rows), length-take n times, length-take n rows, length-drop n times, length-drop n rows) in
+        ap (λ q. length (carried_times q)) place
+        ∙ picked_lengths (λ k. not (has_row merge k)) 0 (insert rows n m) (insert times n nothing) longer
+        ∙ ap length (after_is rows merge sound.ordered set)
 
     module _ (now : ℕ) (fresh : IsFresh now nothing) where
-      marks_after : AreTouched merge now rows gs → AreTriedUpTo now rows gs → AreTriedUpTo now new (carried_guards (insert_place rows merge))
+      marks_after : AreTouched merge now rows times → AreTriedUpTo now rows times → AreTriedUpTo now new (carried_times (insert_place rows merge))
       marks_after touched marks = record {
-        tried = λ l m e less within earlier pair. by_places l m e less earlier pair (guard_onto l e (omega (arith, less, within))) (guard_onto m e within);
-        bound = λ l e within. bounded l e (guard_onto l e within);
+        tried = λ l m e less within earlier pair. by_places l m e less earlier pair (time_onto l e (omega (arith, less, within))) (time_onto m e within);
+        bound = λ l e within. bounded l e (time_onto l e within);
       }
         where
-          after_guards : List Guard
-          after_guards = carried_guards (insert_place rows merge)
+          after_times : List Times
+          after_times = carried_times (insert_place rows merge)
 
-          bounded : (l : ℕ) (e : Guard) → ((k : ℕ) × (k < length gs) × (has_row merge k ≡ false) × (to k ≡ l) × (get_or after_guards l e ≡ get_or gs k e)) ⊎ (get_or after_guards l e ≡ nothing)
-              → ((get_or after_guards l e).tried ≤ now) × ((get_or after_guards l e).changed ≤ now)
-          bounded l e (inl (k, inside, out, at, is)) = subst (λ (x : Guard). (x.tried ≤ now) × (x.changed ≤ now)) (sym is) (marks.bound k e inside)
-          bounded l e (inr is) = subst (λ (x : Guard). (x.tried ≤ now) × (x.changed ≤ now)) (sym is) (omega (arith, fresh.tried), omega (arith, fresh.changed))
+          bounded : (l : ℕ) (e : Times) → ((k : ℕ) × (k < length times) × (has_row merge k ≡ false) × (to k ≡ l) × (get_or after_times l e ≡ get_or times k e)) ⊎ (get_or after_times l e ≡ nothing)
+              → ((get_or after_times l e).tried ≤ now) × ((get_or after_times l e).changed ≤ now)
+          bounded l e (inl (k, inside, out, at, is)) = subst (λ (x : Times). (x.tried ≤ now) × (x.changed ≤ now)) (sym is) (marks.bound k e inside)
+          bounded l e (inr is) = subst (λ (x : Times). (x.tried ≤ now) × (x.changed ≤ now)) (sym is) (omega (arith, fresh.tried), omega (arith, fresh.changed))
 
           -- a row that was tried did not change now, so it loses none
-          tried_loses : (k t : ℕ) (e : Guard) → t < (get_or gs k e).tried → (LosesNone rows merge k) ⊎ (IsFresh now (get_or gs k e)) → LosesNone rows merge k
+          tried_loses : (k t : ℕ) (e : Times) → t < (get_or times k e).tried → (LosesNone rows merge k) ⊎ (IsFresh now (get_or times k e)) → LosesNone rows merge k
           tried_loses k t e low (inl none) = none
           tried_loses k t e low (inr new_one) = absurd (omega (arith, low, new_one.tried))
 
-          old_loses : (k : ℕ) (e : Guard) → (get_or gs k e).changed < now → (LosesNone rows merge k) ⊎ (IsFresh now (get_or gs k e)) → LosesNone rows merge k
+          old_loses : (k : ℕ) (e : Times) → (get_or times k e).changed < now → (LosesNone rows merge k) ⊎ (IsFresh now (get_or times k e)) → LosesNone rows merge k
           old_loses k e low (inl none) = none
           old_loses k e low (inr new_one) = absurd (omega (arith, low, new_one.changed))
 
-          by_places : (l m : ℕ) (e : Guard) → l < m → (get_or after_guards m e).changed < (get_or after_guards l e).tried → IsLegalPair new l m
-              → ((k : ℕ) × (k < length gs) × (has_row merge k ≡ false) × (to k ≡ l) × (get_or after_guards l e ≡ get_or gs k e)) ⊎ (get_or after_guards l e ≡ nothing)
-              → ((k : ℕ) × (k < length gs) × (has_row merge k ≡ false) × (to k ≡ m) × (get_or after_guards m e ≡ get_or gs k e)) ⊎ (get_or after_guards m e ≡ nothing) → ⊥
-          by_places l m e less earlier pair (inr is) other = omega (arith, earlier, ap (λ (x : Guard). x.tried) is, fresh.tried)
+          by_places : (l m : ℕ) (e : Times) → l < m → (get_or after_times m e).changed < (get_or after_times l e).tried → IsLegalPair new l m
+              → ((k : ℕ) × (k < length times) × (has_row merge k ≡ false) × (to k ≡ l) × (get_or after_times l e ≡ get_or times k e)) ⊎ (get_or after_times l e ≡ nothing)
+              → ((k : ℕ) × (k < length times) × (has_row merge k ≡ false) × (to k ≡ m) × (get_or after_times m e ≡ get_or times k e)) ⊎ (get_or after_times m e ≡ nothing) → ⊥
+          by_places l m e less earlier pair (inr is) other = omega (arith, earlier, ap (λ (x : Times). x.tried) is, fresh.tried)
           by_places l m e less earlier pair (inl (i, in_i, out_i, at_i, is_i)) (inr is) =
-              omega (arith, earlier, ap (λ (x : Guard). x.changed) is, fresh.changed, ap (λ (x : Guard). x.tried) is_i, (marks.bound i e in_i).0)
+              omega (arith, earlier, ap (λ (x : Times). x.changed) is, fresh.changed, ap (λ (x : Times). x.tried) is_i, (marks.bound i e in_i).0)
           by_places l m e less earlier pair (inl (i, in_i, out_i, at_i, is_i)) (inl (j, in_j, out_j, at_j, is_j)) =
-              let told : (get_or gs j e).changed < (get_or gs i e).tried = omega (arith, earlier, ap (λ (x : Guard). x.changed) is_j, ap (λ (x : Guard). x.tried) is_i) in
+              let told : (get_or times j e).changed < (get_or times i e).tried = omega (arith, earlier, ap (λ (x : Times). x.changed) is_j, ap (λ (x : Times). x.tried) is_i) in
               marks.tried i j e (from_less rows merge sound set legal i j out_j (omega (arith, less, at_i, at_j))) in_j told
               (pair_before i j (omega (arith, in_i, one_each)) (omega (arith, in_j, one_each)) out_i out_j
-              (tried_loses i (get_or gs j e).changed e told (touched i e in_i))
+              (tried_loses i (get_or times j e).changed e told (touched i e in_i))
               (old_loses j e (omega (arith, told, (marks.bound i e in_i).0)) (touched j e in_j))
               (subst (λ n. IsLegalPair new n (to j)) (sym at_i) (subst (λ n. IsLegalPair new l n) (sym at_j) pair)))
 
-      pub marks_carried : AreTouched merge now rows gs → AreTriedUpTo now rows gs → AreTriedUpTo now new (carried_guards p)
-      marks_carried touched marks = subst (λ n. AreTriedUpTo now new (carried_guards n)) (sym place) (marks_after touched marks)
+      pub marks_carried : AreTouched merge now rows times → AreTriedUpTo now rows times → AreTriedUpTo now new (carried_times p)
+      marks_carried touched marks = subst (λ n. AreTriedUpTo now new (carried_times n)) (sym place) (marks_after touched marks)
 
       -- the merged row has the route of the first member
-      pub latest_carried : (routes latest : List ℕ) → AreNoLater routes latest rows gs → ((d : Row) → get_or latest (place_of_route routes (get_or rows (get_or merge 0 0) d).route.bits) 0 ≡ now) → AreNoLater routes latest new (carried_guards p)
-      latest_carried routes latest old own = subst (λ n. AreNoLater routes latest new (carried_guards n)) (sym place) by_row
+      pub latest_carried : (routes latest : List ℕ) → AreNoLater routes latest rows times → ((d : Row) → get_or latest (place_of_route routes (get_or rows (get_or merge 0 0) d).route.bits) 0 ≡ now) → AreNoLater routes latest new (carried_times p)
+      latest_carried routes latest old own = subst (λ n. AreNoLater routes latest new (carried_times n)) (sym place) by_row
         where
           time_of : Row → ℕ
           time_of r = get_or latest (place_of_route routes r.route.bits) 0
 
-          by_row : AreNoLater routes latest new (carried_guards (insert_place rows merge))
-          by_row l d e within = by_place (item_onto rows merge sound.ordered set gs nothing one_each l within)
+          by_row : AreNoLater routes latest new (carried_times (insert_place rows merge))
+          by_row l d e within = by_place (item_onto rows merge sound.ordered set times nothing one_each l within)
             where
-              by_place : ((k : ℕ) × (k < length gs) × (has_row merge k ≡ false) × (to k ≡ l)) ⊎ (l ≡ merged_at rows merge) → (get_or (carried_guards (insert_place rows merge)) l e).changed ≤ time_of (get_or new l d)
+              by_place : ((k : ℕ) × (k < length times) × (has_row merge k ≡ false) × (to k ≡ l)) ⊎ (l ≡ merged_at rows merge) → (get_or (carried_times (insert_place rows merge)) l e).changed ≤ time_of (get_or new l d)
               by_place (inl (k, inside, out, at)) =
                   let in_rows : k < length rows = omega (arith, inside, one_each) in
-                  let guard_is = ap (λ n. (get_or (carried_guards (insert_place rows merge)) n e).changed) (sym at) ∙ ap (λ (x : Guard). x.changed) (item_moved rows merge sound.ordered set gs nothing one_each k e inside out).1 in
+                  let time_is = ap (λ n. (get_or (carried_times (insert_place rows merge)) n e).changed) (sym at) ∙ ap (λ (x : Times). x.changed) (item_moved rows merge sound.ordered set times nothing one_each k e inside out).1 in
                   let row_is = ap (λ n. time_of (get_or new n d)) (sym at) ∙ ap time_of (get_to rows merge sound set legal k d in_rows out) in
-                  omega (arith, guard_is, row_is, old k d e inside)
+                  omega (arith, time_is, row_is, old k d e inside)
               by_place (inr is) =
                   let some : 0 < length merge = omega (arith, set.two) in
                   let z = merged_row rows merge in
-                  let guard_is = ap (λ n. (get_or (carried_guards (insert_place rows merge)) n e).changed) is ∙ ap (λ (x : Guard). x.changed) (item_merged rows merge sound.ordered set gs nothing one_each e).1 in
+                  let time_is = ap (λ n. (get_or (carried_times (insert_place rows merge)) n e).changed) is ∙ ap (λ (x : Times). x.changed) (item_merged rows merge sound.ordered set times nothing one_each e).1 in
                   let row_is = ap (λ n. time_of (get_or new n d)) is
                   ∙ ap time_of (subst (λ x. get_or x (merged_at rows merge) d ≡ z) (after_is rows merge sound.ordered set) (item_merged rows merge sound.ordered set rows z refl d).1)
                   ∙ ap (λ (r : Route). get_or latest (place_of_route routes r.bits) 0) (route_is rows merge d set.set.in_range some) in
-                  omega (arith, guard_is, row_is, fresh.changed, own d)
+                  omega (arith, time_is, row_is, fresh.changed, own d)
+
+-- ---- rivals at places
+
+-- a row of which no rival is at one of the places loses none
+pub none_lost : (rows : List Row) (serials places : List ℕ) (s : ℕ) (list : List Rival) → All (λ r. r < length rows) places → AreRivalsAt rows serials s list
+    → ((n : ℕ) (e : Rival) → n < length list → is_at_one serials places (get_or list n e).serial ≡ false) → LosesNone rows places s
+none_lost rows serials places s list in_range rivals none r d found behind = by_case (rivals.all r behind (All-has (λ x. x < length rows) places r in_range found))
+  where
+    by_case : (MeetsNone rows r s) ⊎ (HasSerial list (get_or serials r 0)) → Misses (get_or rows r d).block (get_or rows s d)
+    by_case (inl missed) = missed d
+    by_case (inr it) =
+        let e : Rival = record { serial = 0; general = 0; bits = 0 } in
+        absurd (true≢false (sym (at_one_of serials places r found) ∙ ap (is_at_one serials places) (sym (it.found e)) ∙ none it.at e it.within))

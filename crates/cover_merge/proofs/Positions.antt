@@ -3,7 +3,7 @@ use Rattle.std.proofs.Common.{◌≡◌, ℕ, zero, suc, ◌+◌, ◌-◌, ◌<�
 use Rattle.std.specs.Prelude.{All, AllPairs, map, nat_le, ◌==◌, slice_get}
 use Rattle.std.specs.List.{cons_option}
 use Rattle.std.proofs.lemmas.List.{take_more, map-append, get_or_default}
-use Rattle.std.proofs.lemmas.Bool.{eqb-true, eq-eqb, or_right}
+use Rattle.std.proofs.lemmas.Bool.{eqb-true, eq-eqb, or_left, or_right}
 use Rattle.std.proofs.lemmas.Bool.Decides.{leb_tells, eqb_tells, nat_tests}
 use Rattle.std.proofs.lemmas.List.Elements.{All-take, All-drop, filter_map-append, All-nil, All-cons, All-head, All-tail}
 use Rattle.std.proofs.lemmas.List.Sums.{sum_by-append, count_by-le-length}
@@ -15,6 +15,7 @@ use Rattle.tern_word.specs.SoundTable.{IsOrdered}
 use Rattle.tern_word.proofs.BlockLaws.{generality-merge, merge_of-push}
 use Rattle.spin_base.proofs.RouteBits.{same_route}
 use Rattle.cover_merge.specs.Merge.{SameRoute, has_row, rows_at, merged_block, place_for, insert_place, IsMergeSet}
+use Rattle.cover_merge.specs.Rivals.{is_at_one}
 use Rattle.cover_merge.proofs.Lists.{All-from_map, AllPairs-head, AllPairs-tail}
 
 -- ---- places of a set
@@ -232,3 +233,14 @@ pair_set_read list rows same i j d e less within equal =
     subst (λ l. IsMergeSet l (i ∷ j ∷ [])) same
     (pair_set list i j less within (get_or list i d) (get_or list j e) (get_or_default list i d (get_or list i d) (omega arith)) (get_or_default list j e (get_or list j e) within)
     (same_route (get_or list i d).route (get_or list j e).route (eqb-true (get_or list i d).route.bits (get_or list j e).route.bits equal)))
+
+-- ---- numbers of rows at places
+
+-- the number of a row at one of the places is found
+pub at_one_of : (serials places : List ℕ) (r : ℕ) → has_row places r ≡ true → is_at_one serials places (get_or serials r 0) ≡ true
+at_one_of serials [] r found = absurd (grind (arith, found))
+at_one_of serials (s ∷ places) r found = by_head (eqb_tells s r) (λ rest. at_one_of serials places r rest)
+  where
+    by_head : ((s == r) ≡ true) × (s ≡ r) ⊎ ((s == r) ≡ false) × (s ≡ r → ⊥) → (has_row places r ≡ true → is_at_one serials places (get_or serials r 0) ≡ true) → is_at_one serials (s ∷ places) (get_or serials r 0) ≡ true
+    by_head (inl here) rest = or_left (get_or serials s 0 == get_or serials r 0) (is_at_one serials places (get_or serials r 0)) (eq-eqb (get_or serials s 0) (get_or serials r 0) (ap (λ i. get_or serials i 0) here.1))
+    by_head (inr other) rest = or_right (get_or serials s 0 == get_or serials r 0) (is_at_one serials places (get_or serials r 0)) (rest (subst (λ b. (b || has_row places r) ≡ true) other.0 found))

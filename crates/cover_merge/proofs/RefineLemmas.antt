@@ -20,7 +20,6 @@ use Rattle.tern_word.specs.SoundTable.{IsSound}
 use Rattle.cover_merge.proofs.Legal.{legal_from_checks}
 use Rattle.cover_merge.proofs.Answering.{fails}
 use Rattle.cover_merge.proofs.Positions.{has-at, has-place, All-has, rows_at-from, rows_at-length, some_blocks}
-use Rattle.spin_base.proofs.RouteBits.{zero_of}
 use Rattle.cover_merge.specs.Refinement.{can_choose, parts, keeps, kept_by, IsLastFailing, IsUpStep, IsFirstMetFrom, IsNarrowed, IsDownStep}
 
 -- ---- the tests of bits
@@ -42,16 +41,6 @@ parts_on b met i on =
     one : (n : ℕ) → n < 2 → (n ≡ 0 → ⊥) → n ≡ 1
     one zero low not_zero = absurd (not_zero refl)
     one (suc n) low not_zero = omega arith
-
-pub choose_off : (merged met : Block) (i : ℕ) → bit_and (merged.mask / 2 ^ i) 1 ≡ 1 → false ≡ can_choose merged met i
-unfolding can_choose
-choose_off merged met i on = let one_bit : bit_at merged.mask i ≡ 1 = sym (shr_and_one merged.mask i) ∙ on in rw one_bit refl
-
-pub choose_on : (merged met : Block) (i : ℕ) → bit_and (merged.mask / 2 ^ i) 1 ≢ 1 → (bit_and (met.mask / 2 ^ i) 1 == 1) ≡ can_choose merged met i
-unfolding can_choose
-choose_on merged met i off =
-    let zero_bit : bit_at merged.mask i ≡ 0 = zero_of (bit_at merged.mask i) (bit_at-lt merged.mask i) (λ e. off (shr_and_one merged.mask i ∙ e)) in
-    rw (zero_bit, shr_and_one met.mask i) refl
 
 -- a bit that can be chosen is one for which the merge does not care
 pub chosen_off : (merged met : Block) (i : ℕ) → can_choose merged met i ≡ true → bit_at merged.mask i ≡ 0

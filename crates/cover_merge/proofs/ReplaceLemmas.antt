@@ -1,10 +1,10 @@
 -- Putting an item in and taking out those at places before it, in one pass.
-use Rattle.std.proofs.Common.{◌≡◌, ℕ, zero, suc, ◌+◌, ◌-◌, ◌<◌, ◌≤◌, true, false, List, [], ◌∷◌, ◌++◌, length, get_or, take, drop, set, inl, inr, refl, sym, ap, ◌∙◌, subst, length-append, length-take, length-drop, length-set, arith}
+use Rattle.std.proofs.Common.{◌≡◌, ℕ, zero, suc, ◌+◌, ◌-◌, ◌<◌, ◌≤◌, true, false, List, [], ◌∷◌, ◌++◌, length, get_or, take, drop, set, inl, inr, refl, sym, ap, ◌∙◌, subst, length-append, length-take, length-drop, arith}
 use Rattle.std.specs.Prelude.{All, AllPairs, insert, not}
 use Rattle.std.specs.List.{copy_within}
 use Rattle.std.proofs.Math.Seq.{drop-cons, drop-drop, get_or-append_seam, paste, take-add}
 use Rattle.std.proofs.lemmas.Bool.{cases_lt, false_from_ne_true}
-use Rattle.std.proofs.lemmas.List.{append_assoc, get_or_append_left, take_all, take_more_set, drop-set-lt}
+use Rattle.std.proofs.lemmas.List.{append_assoc, get_or_append_left, take_all, take_more_set, drop-set-lt, take_at, drop-take}
 use Rattle.std.proofs.lemmas.List.Edits.{take-paste, drop-paste, length-paste}
 use Rattle.std.proofs.lemmas.List.Elements.{All-cons, All-nil}
 use Rattle.std.proofs.lemmas.List.Kept.{AllPairs-cons}
@@ -12,6 +12,73 @@ use Rattle.cover_merge.specs.Merge.{has_row}
 use Rattle.cover_merge.proofs.ApplyLemmas.{left, kept_in, kept_out, kept_none, picked-append}
 use Rattle.cover_merge.proofs.Lists.{AllPairs-append, AllPairs-nil}
 use Rattle.cover_merge.proofs.Positions.{has-at, has-place}
+use Rattle.std.proofs.lemmas.Slice.{drop-put_mid}
+
+-- ---- items moved down
+
+-- Items from place `from` up to `to` are moved down by so many places, and those from `to` on are as they were.
+pub record IsMovedDown {X : Type 0} (from to by : ℕ) (old new : List X) : Type 0 where
+  pub one_each : length new ≡ length old
+  pub front : take (to - by) new ≡ take (from - by) old ++ take (to - from) (drop from old)
+  pub rest : drop to new ≡ drop to old
+
+-- by a rotation of the part that starts so many places before them
+pub rotated_down : {X : Type 0} (from to by len : ℕ) (old held part beyond : List X) → by ≤ from → from ≤ to → to ≤ length old → len ≡ length old → held ≡ old
+    → part ≡ drop by (take (to - (from - by)) (drop (from - by) held)) ++ take by (take (to - (from - by)) (drop (from - by) held))
+    → IsMovedDown from to by old (take len ((take (from - by) held ++ (part ++ drop (to - (from - by)) (drop (from - by) held))) ++ beyond))
+rotated_down from to by len old held part beyond fits order inside many same made =
+    let a = from - by in
+    let n = to - a in
+    let m = to - from in
+    let mid = take n (drop a old) in
+    let behind = drop n (drop a old) in
+    let first = take a old ++ take m (drop from old) in
+    let start : a + by ≡ from = omega (arith, fits) in
+    let parts : n ≡ by + m = omega (arith, fits, order) in
+    let moved : drop by mid ≡ take m (drop from old) =
+    ap (λ k. drop by (take k (drop a old))) parts ∙ drop-take by m (drop a old) ∙ ap (take m) (drop-drop by a old ∙ ap (λ k. drop k old) start) in
+    let is : part ≡ take m (drop from old) ++ take by mid =
+    made ∙ ap (λ l. drop by (take n (drop a l)) ++ take by (take n (drop a l))) same ∙ ap (λ l. l ++ take by mid) moved in
+    let long : length part ≡ n =
+    omega (arith, ap length is, length-append (take m (drop from old)) (take by mid), length-take m (drop from old), length-drop from old, length-take by mid, length-take n (drop a old), length-drop a old, fits, order, inside) in
+    let whole : length (take a old ++ (part ++ behind)) ≡ len =
+    omega (arith, length-append (take a old) (part ++ behind), length-append part behind, long, length-take a old, length-drop n (drop a old), length-drop a old, many, fits, order, inside) in
+    let now_is : take len ((take a held ++ (part ++ drop n (drop a held))) ++ beyond) ≡ take a old ++ (part ++ behind) =
+    ap (λ l. take len ((take a l ++ (part ++ drop n (drop a l))) ++ beyond)) same ∙ take_at (take a old ++ (part ++ behind)) beyond len whole in
+    let count : length first ≡ to - by =
+    omega (arith, length-append (take a old) (take m (drop from old)), length-take a old, length-take m (drop from old), length-drop from old, fits, order, inside) in
+    let split : take a old ++ (part ++ behind) ≡ first ++ (take by mid ++ behind) =
+    ap (λ l. take a old ++ (l ++ behind)) is
+    ∙ ap (λ l. take a old ++ l) (append_assoc (take m (drop from old)) (take by mid) behind)
+    ∙ sym (append_assoc (take a old) (take m (drop from old)) (take by mid ++ behind)) in record {
+      one_each = ap length now_is ∙ whole ∙ many;
+      front = ap (take (to - by)) (now_is ∙ split) ∙ take_at first (take by mid ++ behind) (to - by) count;
+      rest = ap (drop to) now_is ∙ drop-put_mid a n old part to (omega (arith, fits, order)) (omega (arith, order, inside)) long;
+    }
+
+-- the same by one copy
+pub copied_down : {X : Type 0} (from to by dest : ℕ) (old new : List X) → by ≤ from → from ≤ to → to ≤ length old → dest ≡ from - by → new ≡ copy_within old from to dest → IsMovedDown from to by old new
+copied_down from to by dest old new fits order inside at made =
+    let goes_to = from - by in
+    let n = to - from in
+    let tail = drop from old in
+    let is : new ≡ paste old goes_to tail n = made ∙ ap (λ m. copy_within old from to m) at in
+    let behind : goes_to + n ≡ to - by = omega (arith, fits, order) in
+    let goes : goes_to ≤ length old = omega (arith, order, inside) in
+    let enough : n ≤ length tail = omega (arith, length-drop from old, order, inside) in
+    let beyond : to ≡ goes_to + n + by = omega (arith, fits, order) in record {
+      one_each = ap length is ∙ length-paste old goes_to tail n (omega (arith, fits, order, inside)) enough;
+      front = ap (take (to - by)) is ∙ ap (λ m. take m (paste old goes_to tail n)) (sym behind) ∙ take-paste old goes_to tail n goes enough;
+      rest =
+          ap (drop to) is
+          ∙ ap (λ m. drop m (paste old goes_to tail n)) beyond
+          ∙ sym (drop-drop by (goes_to + n) (paste old goes_to tail n))
+          ∙ ap (drop by) (drop-paste old goes_to tail n goes enough)
+          ∙ drop-drop by (goes_to + n) old
+          ∙ ap (λ m. drop m old) (sym beyond);
+    }
+
+-- ---- the places one after another
 
 -- where none of the places is one of the list, all are kept
 kept_free : {X : Type 0} (places : List ℕ) (j : ℕ) (xs : List X) → ((k : ℕ) → j ≤ k → k < j + length xs → has_row places k ≡ false) → left places j xs ≡ xs
@@ -130,72 +197,45 @@ module _ (places : List ℕ) (place : ℕ) (ascending : AllPairs (λ s t. s < t)
             omega (arith, read, a, ends, next, most, fits, closed.one_each),
           )
 
-      moved : new ≡ copy_within items (end_at i + 1) (end_at (i + 1)) (end_at i - i) → IsClosedUp places place old (i + 1) new
-      moved is =
+      pub one_closed : (from to : ℕ) → from ≡ get_or places i 0 + 1 → to ≡ end_at (i + 1) → IsMovedDown from to (i + 1) items new → IsClosedUp places place old (i + 1) new
+      one_closed from to read ends moved =
           let a = end_at i in
           let b = end_at (i + 1) in
           let n = b - (a + 1) in
-          let to = a - i in
-          let tail = drop (a + 1) items in
-          let next = end_next i within in
-          let most = end_most (i + 1) (omega (arith, within)) in
-          let least = end_least i (omega (arith, within)) in
-          let behind : to + n ≡ b - (i + 1) = omega (arith, next, least) in
-          let goes : to ≤ length items = omega (arith, closed.one_each, next, most, fits) in
-          let enough : n ≤ length tail = omega (arith, length-drop (a + 1) items, closed.one_each, next, most, fits) in
-          let beyond : b ≡ to + n + (i + 1) = omega (arith, next, least) in
-          let apart : b ≡ a + (b - a) = omega (arith, next) in record {
-            one_each = ap length is ∙ length-paste items to tail n (omega (arith, closed.one_each, next, most, fits)) enough ∙ closed.one_each;
+          let from_is : from ≡ a + 1 = omega (arith, read, end_is i within) in
+          let same : a + 1 - (i + 1) ≡ a - i = omega arith in
+          let apart : b ≡ a + (b - a) = omega (arith, end_next i within) in
+          let down : IsMovedDown (a + 1) b (i + 1) items new = subst (λ m. IsMovedDown m b (i + 1) items new) from_is (subst (λ m. IsMovedDown from m (i + 1) items new) ends moved) in record {
+            one_each = down.one_each ∙ closed.one_each;
             front =
-                ap (take (b - (i + 1))) is
-                ∙ ap (λ m. take m (paste items to tail n)) (sym behind)
-                ∙ take-paste items to tail n goes enough
-                ∙ ap (λ l. l ++ take n tail) closed.front
+                down.front
+                ∙ ap (λ m. take m items ++ take n (drop (a + 1) items)) same
+                ∙ ap (λ l. l ++ take n (drop (a + 1) items)) closed.front
                 ∙ ap (λ l. left places 0 (take a old) ++ take n l) (rest_on 1)
                 ∙ sym front_more;
-            rest =
-                ap (drop b) is
-                ∙ ap (λ m. drop m (paste items to tail n)) beyond
-                ∙ sym (drop-drop (i + 1) (to + n) (paste items to tail n))
-                ∙ ap (drop (i + 1)) (drop-paste items to tail n goes enough)
-                ∙ drop-drop (i + 1) (to + n) items
-                ∙ ap (λ m. drop m items) (sym beyond ∙ apart)
-                ∙ rest_on (b - a)
-                ∙ ap (λ m. drop m old) (sym apart);
+            rest = down.rest ∙ ap (λ m. drop m items) apart ∙ rest_on (b - a) ∙ ap (λ m. drop m old) (sym apart);
           }
-
-      pub one_closed : (from to : ℕ) → from ≡ get_or places i 0 + 1 → to ≡ end_at (i + 1) → new ≡ copy_within items from to (from - 1 - i) → IsClosedUp places place old (i + 1) new
-      one_closed from to read ends made =
-          let from_is : from ≡ end_at i + 1 = omega (arith, read, end_is i within) in
-          let dest_is : from - 1 - i ≡ end_at i - i = omega (arith, from_is) in
-          moved (made ∙ ap (λ n. copy_within items n to (from - 1 - i)) from_is ∙ ap (λ n. copy_within items (end_at i + 1) n (from - 1 - i)) ends ∙ ap (λ n. copy_within items (end_at i + 1) (end_at (i + 1)) n) dest_is)
 
     -- the item goes behind those that are left, and the rest closes up
     pub room : 0 < length places → (length places ≤ place) × (place - length places < length old)
     room some = let least : length places ≤ place = omega (arith, end_least (length places) (omega arith), end_last) in (least, omega (arith, least, some, fits))
 
-    pub all_closed : (items new : List X) → 0 < length places → IsClosedUp places place old (length places) items
-        → new ≡ copy_within (set items (place - length places) item) place (length old) (place - (length places - 1))
+    all_closed : (items new : List X) → 0 < length places → IsClosedUp places place old (length places) items
+        → IsMovedDown place (length old) (length places - 1) (set items (place - length places) item) new
         → take (length old - (length places - 1)) new ≡ left places 0 (insert old place item)
-    all_closed items new some closed is =
+    all_closed items new some closed moved =
         let k = length places in
         let at = place - k in
         let written = set items at item in
-        let to = place - (k - 1) in
         let n = length old - place in
-        let tail = drop place written in
         let least : k ≤ place = omega (arith, end_least k (omega arith), end_last) in
-        let after : to ≡ at + 1 = omega (arith, least, some) in
-        let whole : length old - (k - 1) ≡ to + n = omega (arith, least, some, fits) in
-        let long : length written ≡ length old = length-set items at item ∙ closed.one_each in
+        let after : place - (k - 1) ≡ at + 1 = omega (arith, least, some) in
         let front : take at items ≡ left places 0 (take place old) = subst (λ p. take (p - k) items ≡ left places 0 (take p old)) end_last closed.front in
         let rest : drop place items ≡ drop place old = subst (λ p. drop p items ≡ drop p old) end_last closed.rest in
         let count : 0 + length (take place old) ≡ place = omega (arith, length-take place old, fits) in
-        ap (take (length old - (k - 1))) is
-        ∙ ap (λ m. take m (paste written to tail n)) whole
-        ∙ take-paste written to tail n (omega (arith, long, least, some, fits)) (omega (arith, length-drop place written, long))
-        ∙ ap (λ m. take m written ++ take n tail) after
-        ∙ ap (λ l. l ++ take n tail) (take_more_set items at item (omega (arith, closed.one_each, least, some, fits)) ∙ ap (λ l. l ++ item ∷ []) front)
+        moved.front
+        ∙ ap (λ m. take m written ++ take n (drop place written)) after
+        ∙ ap (λ l. l ++ take n (drop place written)) (take_more_set items at item (omega (arith, closed.one_each, least, some, fits)) ∙ ap (λ l. l ++ item ∷ []) front)
         ∙ ap (λ l. (left places 0 (take place old) ++ item ∷ []) ++ take n l) (drop-set-lt place items at item (omega (arith, least, some)) ∙ rest)
         ∙ ap (λ l. (left places 0 (take place old) ++ item ∷ []) ++ l) (take_all n (drop place old) (omega (arith, length-drop place old)))
         ∙ append_assoc (left places 0 (take place old)) (item ∷ []) (drop place old)
@@ -205,12 +245,12 @@ module _ (places : List ℕ) (place : ℕ) (ascending : AllPairs (λ s t. s < t)
 
     -- the same of what the code makes
     pub all_replaced : (i len : ℕ) (items new done : List X) → 0 < length places → IsClosedUp places place old i items → length places ≤ i → i ≤ length places → len ≡ length items
-        → new ≡ copy_within (set items (place - length places) item) place len (place - (length places - 1)) → done ≡ take (len - (length places - 1)) new
+        → IsMovedDown place len (length places - 1) (set items (place - length places) item) new → done ≡ take (len - (length places - 1)) new
         → done ≡ left places 0 (insert old place item)
-    all_replaced i len items new done some closed from to many is taken =
+    all_replaced i len items new done some closed from to many moved taken =
         let last : i ≡ length places = omega (arith, from, to) in
         let whole : len ≡ length old = many ∙ closed.one_each in
         taken
         ∙ ap (λ n. take (n - (length places - 1)) new) whole
         ∙ all_closed items new some (subst (λ n. IsClosedUp places place old n items) last closed)
-        (is ∙ ap (λ n. copy_within (set items (place - length places) item) place n (place - (length places - 1))) whole)
+        (subst (λ n. IsMovedDown place n (length places - 1) (set items (place - length places) item) new) whole moved)

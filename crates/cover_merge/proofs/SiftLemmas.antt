@@ -18,7 +18,7 @@ use Rattle.cover_merge.proofs.Lists.{All-from_map, All-left, All-right, AllPairs
 use Rattle.cover_merge.proofs.Positions.{All-has, has-at, merged_block-push, place_for-above, place_for-below, place_for-le, rows_at-from, rows_at-has, rows_at-length, some_blocks}
 use Rattle.cover_merge.specs.Refinement.{IsLastFailing, IsUpStep, set_without}
 use Rattle.cover_merge.proofs.RefineLemmas.{last_found, one_route_after}
-use Rattle.cover_merge.proofs.GuardLemmas.{one_route}
+use Rattle.cover_merge.proofs.RivalLemmas.{one_route}
 
 -- ---- merges of the first places
 

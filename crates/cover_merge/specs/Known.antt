@@ -4,7 +4,7 @@ use Rattle.spin_base.specs.declared.blocks.Block.{Block}
 use Rattle.tern_word.specs.declared.tables.Row.{Row}
 use Rattle.tern_word.specs.Ternary.{Intersects, generality}
 use Rattle.tern_word.specs.SoundTable.{Misses}
-use Rattle.cover_merge.specs.Guards.{IsGuarded, IsGuardedBut, AreJoined}
+use Rattle.cover_merge.specs.Rivals.{IsRivaled}
 use Rattle.cover_merge.specs.Kept.{IsKept}
 use Rattle.cover_merge.specs.Links.{IsEachOnce, AreNumbers}
 use Rattle.cover_merge.specs.Tried.{AreNoLater, AreTriedUpTo}
@@ -21,31 +21,28 @@ AreRoutesKept routes rows kept =
 abbrev pub AreAllKept : List ℕ → List (Option Kept) → Type 0
 AreAllKept routes kept = (c : ℕ) → c < length routes → (it : Kept) × (slice_index_or kept c None ≡ Some it)
 
--- The table is sound and has fewer than 2^32 rows. Each row has its guard, its number, whether it is joined, and its route, of which something may be kept, with when a row
--- of it last changed.
+-- The table is sound and has fewer than 2^32 rows. Each row has its rivals, its times, and the number of its route; of each
+-- route something may be kept, and when a row of it last changed.
 pub record IsKnown (rows : List Row) (known : Known) : Type 0 where
-  pub one_each : length known.guards.items ≡ length rows
-  pub guarded : IsGuarded rows known.guards.items
-  pub joined : AreJoined rows known.joined.items
+  pub rivaled : IsRivaled rows known.rivals
+  pub one_each : length known.times.items ≡ length rows
   pub one_time : length known.latest.items ≡ length known.routes.items
-  pub latest : AreNoLater known.routes.items known.latest.items rows known.guards.items
+  pub latest : AreNoLater known.routes.items known.latest.items rows known.times.items
   pub once : IsEachOnce known.routes.items
   pub numbers : AreNumbers known.routes.items rows known.numbers.items
   pub one_route : length known.kept.items ≡ length known.routes.items
   pub kept : AreRoutesKept known.routes.items rows known.kept.items
 
--- The same of the table after a merge of this block, but for guards of rows of which the block meets an alias; and which
--- pairs were tried.
-pub record IsCarried (block : Block) (now : ℕ) (rows : List Row) (known : Known) : Type 0 where
-  pub guarded : IsGuardedBut block rows known.guards.items
-  pub joined : AreJoined rows known.joined.items
+-- The same, but for the rivals; and which pairs were tried.
+pub record IsCarried (now : ℕ) (rows : List Row) (known : Known) : Type 0 where
+  pub one_each : length known.times.items ≡ length rows
   pub one_time : length known.latest.items ≡ length known.routes.items
-  pub latest : AreNoLater known.routes.items known.latest.items rows known.guards.items
+  pub latest : AreNoLater known.routes.items known.latest.items rows known.times.items
   pub once : IsEachOnce known.routes.items
   pub numbers : AreNumbers known.routes.items rows known.numbers.items
   pub one_route : length known.kept.items ≡ length known.routes.items
   pub kept : AreRoutesKept known.routes.items rows known.kept.items
-  pub marks : AreTriedUpTo now rows known.guards.items
+  pub marks : AreTriedUpTo now rows known.times.items
 
 -- the rows have the same routes
 pub record HasSameRoutes (old new : Known) : Type 0 where

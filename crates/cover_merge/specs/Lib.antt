@@ -3,10 +3,11 @@ pub use Rattle.tern_word.specs.Ternary
 pub mod Merge
 pub mod Aliases
 pub mod Covering
-pub mod Guards
 pub mod Kept
 pub mod Known
 pub mod Links
 pub mod Merges
 pub mod Refinement
+pub mod Rivals
+pub mod Trails
 pub mod Tried

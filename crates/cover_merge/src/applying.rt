@@ -1,11 +1,11 @@
 // The table after a merge.
-ghost use Rattle.std.specs.Prelude.{◌≡◌, ◌<◌, ◌≤◌, ◌^◌, ◌++◌, ◌∷◌, [], All, AllPairs, IfOk, OnOk, OnErr, length, slice_index, insert, not};
+ghost use Rattle.std.specs.Prelude.{◌≡◌, ◌<◌, ◌≤◌, ◌^◌, ◌++◌, ◌∷◌, [], All, AllPairs, IfOk, OnOk, OnErr, length, slice_index, insert, not, take, drop, ◌-◌};
 ghost use Rattle.tern_word.specs.SoundTable.{IsOrdered};
 ghost use Rattle.cover_merge.specs.Merge.{IsMergeSet, after, has_row, kept, merged_row, picked, rows_at};
 ghost use Rattle.cover_merge.specs.Aliases.{aliases_at};
 
-use crate::guards::place_in;
 use crate::merged_block;
+use crate::rivals::place_in;
 use spin_base::{Memory, Seq};
 use std::alloc::Global;
 use std::mem;
@@ -24,9 +24,9 @@ pub fn apply(alloc: Global, table: &mut Table, places: &Seq<u32>) -> Result<(), 
     let merged = merged_row(alloc, table.rows.as_slice(), members)?;
     let place = place_in(table.rows.as_slice(), generality(merged.block));
     let mut rows = mem::replace(&mut table.rows, Seq::new(alloc)).into_vec();
-    let done = put_in(&mut rows, merged, place, members);
+    put_in(&mut rows, merged, place, members);
     table.rows = Seq::from_vec(rows);
-    done
+    Ok(())
 }
 
 // The merge of the rows at the places.
@@ -55,31 +55,37 @@ fn all_aliases(alloc: Global, rows: &[Row], places: &[u32]) -> Result<Seq<Alias>
     Ok(Seq::from_vec(aliases))
 }
 
-// Puts the merge in at its place, behind all rows of the set, and takes those out.
-fn put_in(rows: &mut Vec<Row>, merged: Row, place: u32, places: &[u32]) -> Result<(), Memory>
-    requires place { place ≤ length rows.old.items }
+// Puts the merge in at its place, behind all rows of the set, and takes those out. Each row moves once.
+fn put_in(rows: &mut Vec<Row>, merged: Row, place: u32, places: &[u32])
+    requires some { 0 < length places.now }
     requires ascending { AllPairs (λ s t. s < t) places.now }
     requires before { All (λ s. s < place) places.now }
-    ensures ok { OnOk result (rows.new.items
-        ≡ kept places.now 0 (insert rows.old.items place merged)) }
-    ensures err { OnErr result (rows.new.items ≡ rows.old.items) }
+    requires place { place ≤ length rows.old.items }
+    ensures { rows.new.items ≡ kept places.now 0 (insert rows.old.items place merged) }
 {
-    rows.insert(place as usize, merged)?;
-    take_out_all(rows, places);
-    Ok(())
+    for i in 0..places.len() {
+        let from = places[i] as usize + 1;
+        let to = next_place(places, i + 1, place);
+        move_down(rows, from, to, i + 1);
+    }
+    rows[place as usize - places.len()] = merged;
+    let len = rows.len();
+    let gap = places.len() - 1;
+    move_down(rows, place as usize, len, gap);
+    rows.truncate(len - gap);
 }
 
-// Takes out the items at the places, the last first.
-fn take_out_all<T: Drop>(items: &mut Vec<T>, places: &[u32])
-    requires ascending { AllPairs (λ s t. s < t) places.now }
-    requires in_range { All (λ s. s < length items.old.items) places.now }
-    ensures { items.new.items ≡ picked (λ k. not (has_row places.now k)) 0 items.old.items }
+// Moves the rows from place `from` up to `to` down by so many places. What stood in their way stands behind them.
+fn move_down(rows: &mut Vec<Row>, from: usize, to: usize, by: usize)
+    requires by { by ≤ from }
+    requires order { from ≤ to }
+    requires inside { to ≤ length rows.old.items }
+    ensures one_each { length rows.new.items ≡ length rows.old.items }
+    ensures front { take (to - by) rows.new.items
+        ≡ take (from - by) rows.old.items ++ take (to - from) (drop from rows.old.items) }
+    ensures rest { drop to rows.new.items ≡ drop to rows.old.items }
 {
-    let mut i = places.len();
-    while i > 0 {
-        i -= 1;
-        let _ = items.remove(places[i] as usize);
-    }
+    rows[from - by..to].rotate_left(by);
 }
 
 /// Puts the item in at the place, and takes out those at the places, which are before it. Each item moves once.

@@ -1,99 +1,116 @@
-// Guards from one merge to the next: only those of rows that the merge meets are found anew.
-ghost use Rattle.std.specs.Prelude.{◌≡◌, ◌<◌, ◌^◌, ℕ, suc, List, All, OnOk, MatchBool, ⊤, length, slice_index, slice_index_or};
+// What is known from one merge to the next.
+ghost use Rattle.std.specs.Prelude.{◌≡◌, ◌<◌, ◌≤◌, ◌^◌, [], ℕ, List, All, AllPairs, IfOk, OnOk, MatchBool, ⊤, length, slice_index, slice_index_or};
 ghost use Rattle.tern_word.specs.declared.tables.Row.{Row as ARow};
-ghost use Rattle.tern_word.specs.SoundTable.{HoldsItsAliases, IsOrdered, IsSound, Misses};
-ghost use Rattle.cover_merge.specs.Merge.{IsLegalMerge, IsMergeSet, after, merged_block};
-ghost use Rattle.cover_merge.specs.Guards.{AreGuards, AreGuardsBut, AreJoined, AreJoinedFrom, IsGuarded, IsGuardedBut};
+ghost use Rattle.tern_word.specs.SoundTable.{HoldsItsAliases, IsSound};
+ghost use Rattle.tern_word.specs.Ternary.{generality};
+ghost use Rattle.cover_merge.specs.Merge.{IsLegalMerge, IsMergeSet, PassesDown, after, merged_block};
 ghost use Rattle.cover_merge.specs.Known.{AreStillKept, HasSameRoutes, IsKnown, MissesAllOf};
 ghost use Rattle.cover_merge.specs.Links.{place_of_route};
-ghost use Rattle.cover_merge.specs.Tried.{AreNoLater, AreTouched, AreTriedUpTo, HaveSameTimes, IsRenewedAt, IsTouchedAt, LosesNone};
+ghost use Rattle.cover_merge.specs.Rivals.{AreMet, AreRivalsAfter, IsPutIn, IsRivaled, rivals_left};
+ghost use Rattle.cover_merge.specs.Tried.{AreNoLater, AreTouched, AreTriedUpTo, IsTouchedAt, LosesNone};
 
-use crate::applying::replace_all;
-use crate::guards::{Guard, add_joined, changed, guard_of, is_missed, place_in, unknown};
+use crate::applying::{apply, replace_all};
 use crate::knowing::Known;
-use spin_base::{Block, Memory};
+use crate::merged_block;
+use crate::rivals::{Rival, Rivals, is_at_one, is_missed, place_in, rivals_behind};
+use crate::times::{Times, changed};
+use spin_base::{Block, Memory, Seq};
 use std::alloc::Global;
-use tern_word::{Row, generality};
+use std::mem;
+use tern_word::{Row, Table, generality};
 
-/// Carries the guards over to the table after the merge of the rows at the places. Those of rows with an alias that the
-/// merged block meets may be wrong there, and nothing is known of the merged row.
-pub(crate) fn carry(
+/// The places of the rows of which the block meets an alias, where it meets none of a row from this place on.
+pub(crate) fn met_places(
+    alloc: Global,
     rows: &[Row],
-    guards: &mut Vec<Guard>,
+    block: Block,
+    place: u32,
+) -> Result<Vec<u32>, Memory>
+    requires few { length rows.now < 2 ^ 32 }
+    requires holds { All HoldsItsAliases rows.now }
+    requires behind { (place ≤ length rows.now) × (PassesDown rows.now block place) }
+    ensures { IfOk result (λ met. AreMet block rows.now met.items) }
+{
+    let mut met = Vec::new(alloc);
+    for s in 0..place as usize {
+        if !is_missed(block, &rows[s]) {
+            met.push(s as u32)?;
+        }
+    }
+    Ok(met)
+}
+
+/// Carries over when rows were tried and changed to the table after the merge of the rows at the places. The merged row
+/// changed now.
+pub(crate) fn carry_times(
+    rows: &[Row],
+    times: &mut Vec<Times>,
     places: &[u32],
     merged: Block,
     now: usize,
 )
-    requires guarded { IsGuarded rows.now guards.old.items }
-    requires one_each { length guards.old.items ≡ length rows.now }
-    requires marks { AreTriedUpTo now rows.now guards.old.items }
-    requires touched { AreTouched places.now now rows.now guards.old.items }
+    requires table { (length rows.now < 2 ^ 32) × (IsSound rows.now) }
+    requires one_each { length times.old.items ≡ length rows.now }
+    requires marks { (AreTriedUpTo now rows.now times.old.items) × (AreTouched places.now now rows.now times.old.items) }
     requires merge { IsLegalMerge rows.now places.now merged }
-    ensures guards { AreGuardsBut merged (after rows.now places.now) guards.new.items }
-    ensures one_each { length guards.new.items ≡ length (after rows.now places.now) }
-    ensures marks { AreTriedUpTo now (after rows.now places.now) guards.new.items }
-    ensures latest { (routes latest : List ℕ) → AreNoLater routes latest rows.now guards.old.items
+    ensures one_each { length times.new.items ≡ length (after rows.now places.now) }
+    ensures marks { AreTriedUpTo now (after rows.now places.now) times.new.items }
+    ensures latest { (routes latest : List ℕ) → AreNoLater routes latest rows.now times.old.items
         → ((d : ARow) → slice_index latest (place_of_route routes
         (slice_index_or rows.now (slice_index places.now 0) d).route.bits) ≡ now)
-        → AreNoLater routes latest (after rows.now places.now) guards.new.items }
+        → AreNoLater routes latest (after rows.now places.now) times.new.items }
 {
     let place = place_in(rows, generality(merged));
-    replace_all(guards, places, place, unknown(now));
-}
-
-/// Carries over which rows are not original.
-pub(crate) fn carry_joined(rows: &[Row], joined: &mut Vec<bool>, places: &[u32], merged: Block)
-    requires few { length rows.now < 2 ^ 32 }
-    requires ordered { IsOrdered rows.now }
-    requires joined { AreJoined rows.now joined.old.items }
-    requires set { IsMergeSet rows.now places.now }
-    requires merged { merged ≡ merged_block rows.now places.now }
-    ensures { AreJoined (after rows.now places.now) joined.new.items }
-{
-    let place = place_in(rows, generality(merged));
-    replace_all(joined, places, place, true);
+    replace_all(times, places, place, changed(now));
 }
 
 /// Forgets what is kept of routes with a row of which the merge of the rows at the places meets an alias. Says that rows
 /// changed now which lose a row behind them by it, and so may become legal pairs; and that a row of the merge's route did.
-pub(crate) fn touch(rows: &[Row], known: &mut Known, places: &[u32], merged: Block, now: usize)
+pub(crate) fn touch(
+    rows: &[Row],
+    known: &mut Known,
+    places: &[u32],
+    met: &[u32],
+    merged: Block,
+    now: usize,
+)
     requires known { IsKnown rows.now known.old }
-    requires marks { AreTriedUpTo now rows.now known.old.guards.items }
+    requires marks { AreTriedUpTo now rows.now known.old.times.items }
     requires merge { (IsMergeSet rows.now places.now) × (merged ≡ merged_block rows.now places.now) }
+    requires met { AreMet merged rows.now met.now }
     ensures known { IsKnown rows.now known.new }
-    ensures marks { AreTriedUpTo now rows.now known.new.guards.items }
-    ensures touched { AreTouched places.now now rows.now known.new.guards.items }
+    ensures marks { AreTriedUpTo now rows.now known.new.times.items }
+    ensures touched { AreTouched places.now now rows.now known.new.times.items }
     ensures own { (d : ARow) → slice_index known.new.latest.items (place_of_route known.new.routes.items
         (slice_index_or rows.now (slice_index places.now 0) d).route.bits) ≡ now }
+    ensures rivals { known.new.rivals ≡ known.old.rivals }
     ensures same { HasSameRoutes known.old known.new }
     ensures left { AreStillKept (λ c it. MissesAllOf merged rows.now known.old.numbers.items
         (length rows.now) c) known.old.kept.items known.new.kept.items }
 {
     let own = known.numbers[places[0] as usize];
     known.latest[own as usize] = now;
-    for s in 0..rows.len() {
-        touch_at(rows, known, places, merged, now, s);
+    for k in 0..met.len() {
+        touch_at(rows, known, places, now, met[k] as usize);
     }
 }
 
-// The same of row `s`, where the merged block meets an alias of it.
-fn touch_at(rows: &[Row], known: &mut Known, places: &[u32], merged: Block, now: usize, s: usize)
+// The same of row `s`, an alias of which the merge meets.
+fn touch_at(rows: &[Row], known: &mut Known, places: &[u32], now: usize, s: usize)
     requires known { IsKnown rows.now known.old }
-    requires marks { AreTriedUpTo now rows.now known.old.guards.items }
-    requires merge { (IsMergeSet rows.now places.now) × (merged ≡ merged_block rows.now places.now) }
+    requires marks { AreTriedUpTo now rows.now known.old.times.items }
+    requires set { IsMergeSet rows.now places.now }
     requires inside { s < length rows.now }
     ensures known { IsKnown rows.now known.new }
-    ensures marks { AreTriedUpTo now rows.now known.new.guards.items }
-    ensures touched { IsTouchedAt places.now now rows.now s known.old.guards.items known.new.guards.items }
+    ensures marks { AreTriedUpTo now rows.now known.new.times.items }
+    ensures touched { IsTouchedAt places.now now rows.now s known.old.times.items known.new.times.items }
     ensures times { (c : ℕ) → slice_index known.old.latest.items c ≡ now
         → slice_index known.new.latest.items c ≡ now }
+    ensures rivals { known.new.rivals ≡ known.old.rivals }
     ensures same { HasSameRoutes known.old known.new }
-    ensures left { AreStillKept (λ c it. c ≡ slice_index known.old.numbers.items s → (d : ARow)
-        → Misses merged (slice_index_or rows.now s d)) known.old.kept.items known.new.kept.items }
+    ensures left { AreStillKept (λ c it. c ≡ slice_index known.old.numbers.items s
+        → ⊥) known.old.kept.items known.new.kept.items }
 {
-    if is_missed(merged, &rows[s]) {
-        return;
-    }
     let number = known.numbers[s] as usize;
     known.kept[number] = None;
     change_at(rows, known, places, now, s);
@@ -102,86 +119,147 @@ fn touch_at(rows: &[Row], known: &mut Known, places: &[u32], merged: Block, now:
 // Says of row `s` that it changed now, where it loses a row behind it.
 fn change_at(rows: &[Row], known: &mut Known, places: &[u32], now: usize, s: usize)
     requires known { IsKnown rows.now known.old }
-    requires marks { AreTriedUpTo now rows.now known.old.guards.items }
+    requires marks { AreTriedUpTo now rows.now known.old.times.items }
     requires set { IsMergeSet rows.now places.now }
     requires inside { s < length rows.now }
     ensures known { IsKnown rows.now known.new }
-    ensures marks { AreTriedUpTo now rows.now known.new.guards.items }
-    ensures touched { IsTouchedAt places.now now rows.now s known.old.guards.items known.new.guards.items }
+    ensures marks { AreTriedUpTo now rows.now known.new.times.items }
+    ensures touched { IsTouchedAt places.now now rows.now s known.old.times.items known.new.times.items }
     ensures times { (c : ℕ) → slice_index known.old.latest.items c ≡ now
         → slice_index known.new.latest.items c ≡ now }
+    ensures rivals { known.new.rivals ≡ known.old.rivals }
     ensures same { HasSameRoutes known.old known.new }
     ensures kept { known.new.kept.items ≡ known.old.kept.items }
 {
-    if !loses(rows, places, s) {
+    if !loses(rows, &known.rivals, places, s) {
         return;
     }
     let number = known.numbers[s] as usize;
     known.latest[number] = now;
-    known.guards[s] = changed(known.guards[s], now);
+    known.times[s] = changed(now);
 }
 
-// Whether a row at one of the places behind row `s` meets an alias of it.
-fn loses(rows: &[Row], places: &[u32], s: usize) -> bool
-    requires inside { All HoldsItsAliases rows.now }
+// Whether a row at one of the places is a rival of row `s`.
+fn loses(rows: &[Row], rivals: &Rivals, places: &[u32], s: usize) -> bool
+    requires rivaled { IsRivaled rows.now rivals.now }
     requires set { IsMergeSet rows.now places.now }
     requires row { s < length rows.now }
     ensures { MatchBool result ⊤ (LosesNone rows.now places.now s) }
 {
-    for place in places {
-        if meets_behind(rows, *place as usize, s) {
+    let serial = rivals.serials[s];
+    let list = rivals.of[serial].as_slice();
+    for k in 0..list.len() {
+        if is_at_one(&rivals.serials, places, list[k].serial) {
             return true;
         }
     }
     false
 }
 
-// Whether row `r` stands behind row `s` and meets an alias of it.
-fn meets_behind(rows: &[Row], r: usize, s: usize) -> bool
-    requires inside { All HoldsItsAliases rows.now }
-    requires first { r < length rows.now }
-    requires second { s < length rows.now }
-    ensures { MatchBool result ⊤ ((d : ARow) → s < r
-        → Misses (slice_index_or rows.now r d).block (slice_index_or rows.now s d)) }
+/// Merges the rows at the places, and carries the rivals of all rows over to the table after it. The merge meets an alias of
+/// each row at one of the places of `met`, and of no other.
+pub(crate) fn merge_rows(
+    alloc: Global,
+    table: &mut Table,
+    rivals: &mut Rivals,
+    places: &Seq<u32>,
+    met: &[u32],
+) -> Result<(), Memory>
+    requires rivaled { IsRivaled table.old.rows rivals.old }
+    requires merge { IsLegalMerge table.old.rows places.now (merged_block table.old.rows places.now) }
+    requires met { AreMet (merged_block table.old.rows places.now) table.old.rows met.now }
+    ensures table { OnOk result (table.new.rows ≡ after table.old.rows places.now) }
+    ensures rivaled { OnOk result (IsRivaled table.new.rows rivals.new) }
 {
-    if r <= s {
-        return false;
-    }
-    !is_missed(rows[r].block, &rows[s])
+    let members = places.as_slice();
+    let merged = merged_rival(table.rows.as_slice(), rivals, members);
+    renew_all(alloc, table.rows.as_slice(), rivals, members, met, merged)?;
+    let place = place_in(table.rows.as_slice(), merged.general);
+    apply(alloc, table, places)?;
+    replace_all(&mut rivals.serials, members, place, merged.serial);
+    let at = place as usize - members.len();
+    let list = rivals_behind(alloc, table.rows.as_slice(), &rivals.serials, at)?;
+    rivals.of.push(list)?;
+    Ok(())
 }
 
-/// Finds the guards anew of rows with an alias that the merged block meets. When rows were tried and changed stays.
-pub(crate) fn renew(
+// The merge of the rows at the places, as a rival. Its number is a new one.
+fn merged_rival(rows: &[Row], rivals: &Rivals, places: &[u32]) -> Rival
+    requires set { IsMergeSet rows.now places.now }
+    ensures serial { result.serial ≡ length rivals.now.of.items }
+    ensures general { result.general ≡ generality (merged_block rows.now places.now) }
+    ensures bits { (d : ARow) → result.bits
+        ≡ (slice_index_or rows.now (slice_index places.now 0) d).route.bits }
+{
+    Rival {
+        serial: rivals.of.len(),
+        general: generality(merged_block(rows, places)),
+        bits: rows[places[0] as usize].route.bits,
+    }
+}
+
+// Renews the rivals of rows of which the merge meets an alias: those that are merged go, and the merged row comes.
+fn renew_all(
     alloc: Global,
     rows: &[Row],
-    guards: &mut Vec<Guard>,
-    joined: &[bool],
-    merged: Block,
+    rivals: &mut Rivals,
+    places: &[u32],
+    met: &[u32],
+    merged: Rival,
 ) -> Result<(), Memory>
-    requires guarded { IsGuardedBut merged rows.now guards.old.items }
-    requires joined { AreJoined rows.now joined.now }
-    ensures guards { OnOk result (AreGuards rows.now guards.new.items) }
-    ensures times { OnOk result (HaveSameTimes guards.old.items guards.new.items) }
+    requires rivaled { IsRivaled rows.now rivals.old }
+    requires set { IsMergeSet rows.now places.now }
+    requires met { AreMet (merged_block rows.now places.now) rows.now met.now }
+    requires merged { (merged.serial ≡ length rivals.old.of.items) × (merged.general ≡ generality (merged_block rows.now places.now)) }
+    ensures serials { OnOk result (rivals.new.serials.items ≡ rivals.old.serials.items) }
+    ensures one_each { OnOk result (length rivals.new.of.items ≡ length rivals.old.of.items) }
+    ensures after { OnOk result ((s : ℕ) → s < length rows.now
+        → AreRivalsAfter rows.now rivals.old.serials.items places.now (merged_block rows.now places.now) merged s
+        (slice_index_or rivals.new.of.items (slice_index rivals.old.serials.items s) [])) }
 {
-    let mut behind = Vec::new(alloc);
-    let mut s = rows.len();
-    while s > 0 {
-        s -= 1;
-        renew_at(rows, guards, &behind, merged, s);
-        add_joined(&mut behind, joined, s)?;
+    for k in 0..met.len() {
+        renew(alloc, rivals, places, merged, met[k] as usize)?;
     }
     Ok(())
 }
 
-// Finds the guard of row `s` anew where the merged block meets an alias of the row.
-fn renew_at(rows: &[Row], guards: &mut Vec<Guard>, behind: &[u32], merged: Block, s: usize)
-    requires guarded { IsGuardedBut merged rows.now guards.old.items }
-    requires joined { AreJoinedFrom rows.now (suc s) behind.now }
-    requires inside { s < length rows.now }
-    ensures { IsRenewedAt rows.now s guards.old.items guards.new.items }
+// Renews the rivals of row `s`.
+fn renew(
+    alloc: Global,
+    rivals: &mut Rivals,
+    places: &[u32],
+    merged: Rival,
+    s: usize,
+) -> Result<(), Memory>
+    requires inside { s < length rivals.old.serials.items }
+    requires below { slice_index rivals.old.serials.items s < length rivals.old.of.items }
+    requires places { All (λ r. r < length rivals.old.serials.items) places.now }
+    requires ordered { AllPairs (λ v w. v.general ≤ w.general) (slice_index_or rivals.old.of.items (slice_index rivals.old.serials.items s) []) }
+    ensures serials { rivals.new.serials.items ≡ rivals.old.serials.items }
+    ensures one_each { length rivals.new.of.items ≡ length rivals.old.of.items }
+    ensures own { OnOk result (IsPutIn merged (rivals_left rivals.old.serials.items places.now
+        (slice_index_or rivals.old.of.items (slice_index rivals.old.serials.items s) []))
+        (slice_index_or rivals.new.of.items (slice_index rivals.old.serials.items s) [])) }
+    ensures others { (k : ℕ) → (k ≡ slice_index rivals.old.serials.items s → ⊥)
+        → slice_index_or rivals.new.of.items k [] ≡ slice_index_or rivals.old.of.items k [] }
 {
-    if is_missed(merged, &rows[s]) {
-        return;
+    let serial = rivals.serials[s];
+    let mut list = mem::replace(&mut rivals.of[serial], Seq::new(alloc)).into_vec();
+    list.retain(|v| !is_at_one(&rivals.serials, places, v.serial));
+    let done = put_rival(&mut list, merged);
+    rivals.of[serial] = Seq::from_vec(list);
+    done
+}
+
+// Puts a rival into its place in the order of generality, behind those that are at most as general.
+fn put_rival(list: &mut Vec<Rival>, rival: Rival) -> Result<(), Memory>
+    requires { AllPairs (λ v w. v.general ≤ w.general) list.old.items }
+    ensures { OnOk result (IsPutIn rival list.old.items list.new.items) }
+{
+    let mut at = 0;
+    while at < list.len() && list[at].general <= rival.general {
+        at += 1;
     }
-    guards[s] = guard_of(rows, behind, s, guards[s]);
+    list.insert(at, rival)?;
+    Ok(())
 }

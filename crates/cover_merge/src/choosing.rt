@@ -1,19 +1,21 @@
 // Which rows are merged next.
-ghost use Rattle.std.specs.Prelude.{◌≡◌, ◌<◌, ◌^◌, ◌==◌, ℕ, suc, [], ◌∷◌, All, IfOk, OnOk, IsTrue, MatchOption, length, slice_index, slice_index_or};
-ghost use Rattle.tern_word.specs.SoundTable.{IsSound};
-ghost use Rattle.cover_merge.specs.Guards.{IsGuarded};
-ghost use Rattle.cover_merge.specs.Tried.{AreTried, AreTriedUpTo, AreTrailsFrom, IsNextSince, AreNewerFrom};
-ghost use Rattle.cover_merge.specs.declared.guards.Guard.{Guard as AGuard};
+ghost use Rattle.std.specs.Prelude.{◌≡◌, ◌<◌, ◌^◌, ℕ, suc, [], ◌∷◌, All, IfOk, OnOk, IsTrue, MatchOption, length, slice_index, slice_index_or};
+ghost use Rattle.cover_merge.specs.Rivals.{IsRivaled};
+ghost use Rattle.cover_merge.specs.Tried.{AreNewerOf, AreTrailsFrom, AreTried, AreTriedUpTo, IsNextSince};
+ghost use Rattle.cover_merge.specs.declared.times.Times.{Times as ATimes};
+ghost use Rattle.tern_word.specs.declared.tables.Row.{Row as ARow};
 ghost use Rattle.cover_merge.specs.Links.{AreLinks, AreNexts, IsFirstOfRoute};
 ghost use Rattle.cover_merge.specs.Kept.{IsKept};
 ghost use Rattle.cover_merge.specs.Known.{AreAllKept, IsKnown};
+ghost use Rattle.cover_merge.specs.Trails.{AreTrails};
 ghost use Rattle.cover_merge.specs.Covering.{places_of, IsFirstPartner, IsLargest, HasNoLargest, IsLegalPair, HasNoLegalPair, IsFirstLegalPair, IsChosen, HasNoChosen};
 
-use crate::guards::{Guard, is_legal_pair, marked};
 use crate::keeping::{Kept, most_of};
 use crate::knowing::Known;
 use crate::links::{Links, links_of};
 use crate::refining::{Refined, refine_within};
+use crate::rivals::{Rivals, is_legal_pair};
+use crate::times::{Times, marked};
 use spin_base::{Memory, Seq};
 use std::alloc::Global;
 use tern_word::{Row, Table};
@@ -27,11 +29,11 @@ pub(crate) fn chosen(
     now: usize,
 ) -> Result<Option<Seq<u32>>, Memory>
     requires known { IsKnown table.now.rows known.old }
-    requires marks { AreTriedUpTo now table.now.rows known.old.guards.items }
+    requires marks { AreTriedUpTo now table.now.rows known.old.times.items }
     ensures found { IfOk result (λ found. MatchOption found (HasNoChosen table.now.rows) (λ set.
         IsChosen table.now.rows set)) }
     ensures known { OnOk result (IsKnown table.now.rows known.new) }
-    ensures marks { OnOk result (AreTriedUpTo now table.now.rows known.new.guards.items) }
+    ensures marks { OnOk result (AreTriedUpTo now table.now.rows known.new.times.items) }
 {
     let rows = table.rows.as_slice();
     let links = links_of(alloc, rows, &known.numbers, &known.routes)?;
@@ -49,7 +51,7 @@ fn keep_all(alloc: Global, table: &Table, known: &mut Known, links: &Links) -> R
         links.now.heads.items }
     ensures known { OnOk result (IsKnown table.now.rows known.new) }
     ensures all { OnOk result (AreAllKept known.new.routes.items known.new.kept.items) }
-    ensures guards { OnOk result (known.new.guards.items ≡ known.old.guards.items) }
+    ensures times { OnOk result (known.new.times.items ≡ known.old.times.items) }
     ensures routes { OnOk result (known.new.routes.items ≡ known.old.routes.items) }
 {
     for c in 0..known.routes.len() {
@@ -78,7 +80,7 @@ fn kept_of(
         return Ok(it);
     }
     let places = places_from(alloc, table.rows.as_slice(), links, links.heads[c])?;
-    let Refined { set: _, kept } = refine_within(alloc, table, &known.guards, places)?;
+    let Refined { set: _, kept } = refine_within(alloc, table, &known.rivals, places)?;
     Ok(kept)
 }
 
@@ -102,7 +104,7 @@ fn largest(
     }
     let first = links.heads[most.number];
     let places = places_from(alloc, table.rows.as_slice(), links, first)?;
-    let Refined { set, kept: _ } = refine_within(alloc, table, &known.guards, places)?;
+    let Refined { set, kept: _ } = refine_within(alloc, table, &known.rivals, places)?;
     Ok(Some(set))
 }
 
@@ -122,6 +124,13 @@ fn places_from(alloc: Global, rows: &[Row], links: &Links, first: u32) -> Result
     Ok(Seq::from_vec(places))
 }
 
+// For each row the next one of its route that changed later, for the routes that are ready.
+#[derive(Drop)]
+struct Trails {
+    newer: Vec<u32>,
+    ready: Vec<bool>,
+}
+
 // The first legal pair. A row that is no legal pair with a later one is marked, and is not tried again until a row of its
 // route changes.
 fn first_pair(
@@ -132,98 +141,146 @@ fn first_pair(
     now: usize,
 ) -> Result<Option<Seq<u32>>, Memory>
     requires known { IsKnown table.now.rows known.old }
-    requires marks { AreTriedUpTo now table.now.rows known.old.guards.items }
-    requires links { AreNexts table.now.rows links.now.next.items }
+    requires marks { AreTriedUpTo now table.now.rows known.old.times.items }
+    requires links { AreLinks known.old.routes.items table.now.rows links.now.next.items
+        links.now.heads.items }
     ensures found { IfOk result (λ found. MatchOption found (HasNoLegalPair table.now.rows) (λ set.
         IsFirstLegalPair table.now.rows set)) }
     ensures known { OnOk result (IsKnown table.now.rows known.new) }
-    ensures marks { OnOk result (AreTriedUpTo now table.now.rows known.new.guards.items) }
+    ensures marks { OnOk result (AreTriedUpTo now table.now.rows known.new.times.items) }
 {
-    let newer = newer_of(alloc, table, &known.guards, links)?;
+    let mut trails = Trails {
+        newer: vec![in alloc; 0u32; table.rows.len()]?,
+        ready: vec![in alloc; false; known.routes.len()]?,
+    };
     for i in 0..table.rows.len() {
         if is_settled(known, i) {
             continue;
         }
-        if let Some(j) = partner(table, &known.guards, links, &newer, i as u32) {
+        make_ready(alloc, table, known, links, &mut trails, i)?;
+        if let Some(j) = partner(table, known, links, &trails.newer, i as u32) {
             return Ok(Some(two_places(alloc, i as u32, j)?));
         }
-        known.guards[i] = marked(known.guards[i], now);
+        known.times[i] = marked(known.times[i], now);
     }
     Ok(None)
 }
 
 // Whether no row of the route of row `i` changed since this row was tried: then it is no legal pair with a later one.
 fn is_settled(known: &Known, i: usize) -> bool
-    requires inside { i < length known.now.guards.items }
-    requires one_each { length known.now.numbers.items ≡ length known.now.guards.items }
+    requires inside { i < length known.now.times.items }
+    requires one_each { length known.now.numbers.items ≡ length known.now.times.items }
     requires below { All (λ c. c < length known.now.latest.items) known.now.numbers.items }
-    ensures { IsTrue result → (e : AGuard) → slice_index known.now.latest.items (slice_index known.now.numbers.items i)
-        < (slice_index_or known.now.guards.items i e).tried }
+    ensures { IsTrue result → (e : ATimes) → slice_index known.now.latest.items (slice_index known.now.numbers.items i)
+        < (slice_index_or known.now.times.items i e).tried }
 {
-    known.latest[known.numbers[i] as usize] < known.guards[i].tried
+    known.latest[known.numbers[i] as usize] < known.times[i].tried
 }
 
-// For each row the next of its route that changed later.
-fn newer_of(
+// Makes the trails of the route of row `i` ready, where they are not.
+fn make_ready(
     alloc: Global,
     table: &Table,
-    guards: &[Guard],
+    known: &Known,
     links: &Links,
-) -> Result<Vec<u32>, Memory>
-    requires few { length table.now.rows < 2 ^ 32 }
-    requires one_each { length guards.now ≡ length table.now.rows }
-    requires links { AreNexts table.now.rows links.now.next.items }
-    ensures newer { IfOk result (λ v. AreNewerFrom 0 table.now.rows guards.now v.items) }
-    ensures places { IfOk result (λ v. length v.items ≡ length table.now.rows) }
+    trails: &mut Trails,
+    i: usize,
+) -> Result<(), Memory>
+    requires known { IsKnown table.now.rows known.now }
+    requires links { AreLinks known.now.routes.items table.now.rows links.now.next.items
+        links.now.heads.items }
+    requires trails { AreTrails table.now.rows known.now.times.items known.now.routes.items trails.old }
+    requires inside { i < length table.now.rows }
+    ensures trails { OnOk result (AreTrails table.now.rows known.now.times.items known.now.routes.items trails.new) }
+    ensures own { OnOk result ((d : ARow) → AreNewerOf (slice_index_or table.now.rows i d).route.bits 0
+        table.now.rows known.now.times.items trails.new.newer.items) }
 {
-    let mut newer = vec![in alloc; 0u32; table.rows.len()]?;
-    let mut k = table.rows.len();
+    let c = known.numbers[i] as usize;
+    if !trails.ready[c] {
+        find_newer(
+            alloc,
+            table,
+            &known.times,
+            links,
+            &mut trails.newer,
+            links.heads[c],
+        )?;
+        trails.ready[c] = true;
+    }
+    Ok(())
+}
+
+// Finds for each row of the route whose first row is that at the place the next of it that changed later.
+fn find_newer(
+    alloc: Global,
+    table: &Table,
+    times: &[Times],
+    links: &Links,
+    newer: &mut Vec<u32>,
+    first: u32,
+) -> Result<(), Memory>
+    requires few { length table.now.rows < 2 ^ 32 }
+    requires one_each { (length times.now ≡ length table.now.rows) × (length newer.old.items ≡ length table.now.rows) }
+    requires nexts { AreNexts table.now.rows links.now.next.items }
+    requires first { (bits : ℕ) × IsFirstOfRoute table.now.rows bits first }
+    ensures one_each { OnOk result (length newer.new.items ≡ length table.now.rows) }
+    ensures own { OnOk result ((bits : ℕ) → IsFirstOfRoute table.now.rows bits first
+        → AreNewerOf bits 0 table.now.rows times.now newer.new.items) }
+    ensures others { OnOk result ((bits k : ℕ) (d : ARow) → IsFirstOfRoute table.now.rows bits first
+        → k < length table.now.rows → ((slice_index_or table.now.rows k d).route.bits ≡ bits → ⊥)
+        → slice_index newer.new.items k ≡ slice_index newer.old.items k) }
+{
+    let list = places_from(alloc, table.rows.as_slice(), links, first)?;
+    let places = list.as_slice();
+    let mut k = places.len();
     while k > 0 {
         k -= 1;
-        newer[k] = changed_after(
+        let place = places[k];
+        newer[place as usize] = changed_after(
             table,
-            guards,
+            times,
             links,
-            &newer,
-            k as u32,
-            changed_at(guards, k),
+            newer,
+            place,
+            changed_at(times, place as usize),
         );
     }
-    Ok(newer)
+    Ok(())
 }
 
 // When the row at the place last changed.
-fn changed_at(guards: &[Guard], place: usize) -> usize
-    requires { place < length guards.now }
-    ensures { (e : AGuard) → (slice_index_or guards.now place e).changed ≡ result }
+fn changed_at(times: &[Times], place: usize) -> usize
+    requires { place < length times.now }
+    ensures { (e : ATimes) → (slice_index_or times.now place e).changed ≡ result }
 {
-    guards[place].changed
+    times[place].changed
 }
 
 // When the row at the place was last tried.
-fn tried_at(guards: &[Guard], place: usize) -> usize
-    requires { place < length guards.now }
-    ensures { (e : AGuard) → (slice_index_or guards.now place e).tried ≡ result }
+fn tried_at(times: &[Times], place: usize) -> usize
+    requires { place < length times.now }
+    ensures { (e : ATimes) → (slice_index_or times.now place e).tried ≡ result }
 {
-    guards[place].tried
+    times[place].tried
 }
 
 // The next row of the route of row `k` that changed after the time.
 fn changed_after(
     table: &Table,
-    guards: &[Guard],
+    times: &[Times],
     links: &Links,
     newer: &[u32],
     k: u32,
     time: usize,
 ) -> u32
-    requires trails { AreTrailsFrom (suc k) table.now.rows guards.now links.now.next.items newer.now }
+    requires trails { (d : ARow) → AreTrailsFrom (slice_index_or table.now.rows k d).route.bits (suc k)
+        table.now.rows times.now links.now.next.items newer.now }
     requires inside { k < length table.now.rows }
-    ensures { IsNextSince table.now.rows guards.now k (suc time) result }
+    ensures { IsNextSince table.now.rows times.now k (suc time) result }
 {
     let mut place = links.next[k as usize];
     while (place as usize) < table.rows.len() {
-        let changed = changed_at(guards, place as usize);
+        let changed = changed_at(times, place as usize);
         if changed > time {
             return place;
         }
@@ -236,21 +293,22 @@ fn changed_after(
 // tried then.
 fn next_to_try(
     table: &Table,
-    guards: &[Guard],
+    times: &[Times],
     links: &Links,
     newer: &[u32],
     k: u32,
     time: usize,
 ) -> u32
-    requires trails { AreTrailsFrom 0 table.now.rows guards.now links.now.next.items newer.now }
+    requires trails { (d : ARow) → AreTrailsFrom (slice_index_or table.now.rows k d).route.bits 0 table.now.rows
+        times.now links.now.next.items newer.now }
     requires inside { k < length table.now.rows }
-    ensures { IsNextSince table.now.rows guards.now k time result }
+    ensures { IsNextSince table.now.rows times.now k time result }
 {
     let next = links.next[k as usize];
     if time == 0 {
         return next;
     }
-    changed_after(table, guards, links, newer, k, time - 1)
+    changed_after(table, times, links, newer, k, time - 1)
 }
 
 // The list of two places.
@@ -264,21 +322,23 @@ fn two_places(alloc: Global, i: u32, j: u32) -> Result<Seq<u32>, Memory>
 }
 
 // The first row behind row `i` that can be merged with it: only those of its route can that changed since it was tried.
-fn partner(table: &Table, guards: &[Guard], links: &Links, newer: &[u32], i: u32) -> Option<u32>
-    requires guarded { IsGuarded table.now.rows guards.now }
-    requires tried { AreTried table.now.rows guards.now }
-    requires trails { AreTrailsFrom 0 table.now.rows guards.now links.now.next.items newer.now }
+fn partner(table: &Table, known: &Known, links: &Links, newer: &[u32], i: u32) -> Option<u32>
+    requires rivaled { IsRivaled table.now.rows known.now.rivals }
+    requires tried { AreTried table.now.rows known.now.times.items }
+    requires trails { (d : ARow) → AreTrailsFrom (slice_index_or table.now.rows i d).route.bits 0 table.now.rows
+        known.now.times.items links.now.next.items newer.now }
     requires inside { i < length table.now.rows }
     ensures { MatchOption result ((b : ℕ) → IsLegalPair table.now.rows i b
         → ⊥) (λ j. IsFirstPartner table.now.rows i j) }
 {
-    let tried = tried_at(guards, i as usize);
-    let mut j = next_to_try(table, guards, links, newer, i, tried);
+    let times = known.times.as_slice();
+    let tried = tried_at(times, i as usize);
+    let mut j = next_to_try(table, times, links, newer, i, tried);
     while (j as usize) < table.rows.len() {
-        if is_legal_pair(table, guards, i, j) {
+        if is_legal_pair(table, &known.rivals, i, j) {
             return Some(j);
         }
-        j = next_to_try(table, guards, links, newer, j, tried);
+        j = next_to_try(table, times, links, newer, j, tried);
     }
     None
 }

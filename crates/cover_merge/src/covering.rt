@@ -4,20 +4,21 @@ ghost use Rattle.tern_word.specs.SoundTable.{IsSound, served};
 ghost use Rattle.std.specs.List.Sorted.{IsPermutation};
 ghost use Rattle.cover_merge.specs.Merge.{IsLegal, IsLegalMerge, IsMergeSet, after};
 ghost use Rattle.cover_merge.specs.Known.{AreStillKept, IsApart, IsCarried, IsKnown};
+ghost use Rattle.cover_merge.specs.Rivals.{AreMet};
 ghost use Rattle.cover_merge.specs.Tried.{AreTriedUpTo};
 ghost use Rattle.cover_merge.specs.Covering.{Covers, HasNoChosen, HasNoLegalPair, HasRoutesOf, IsChosen};
 ghost use Rattle.cover_merge.specs.Merges.{sets_of};
 
-use crate::applying::apply;
-use crate::carrying::{carry, carry_joined, renew, touch};
+use crate::carrying::{carry_times, merge_rows, met_places, touch};
 use crate::choosing::chosen;
 use crate::keeping::{forget_near, forget_own};
 use crate::knowing::{Known, known_of};
 use crate::links::carry_numbers;
 use crate::merged_block;
+use crate::rivals::place_in;
 use spin_base::{Block, Memory, Seq, Shared};
 use std::alloc::Global;
-use tern_word::{Row, Table};
+use tern_word::{Row, Table, generality};
 
 /// A merge that was made: the places of the rows in the table before it.
 #[derive(Drop)]
@@ -68,13 +69,13 @@ fn merge_next(
     now: usize,
 ) -> Result<Option<Seq<u32>>, Memory>
     requires known { IsKnown table.old.rows known.old }
-    requires marks { AreTriedUpTo now table.old.rows known.old.guards.items }
+    requires marks { AreTriedUpTo now table.old.rows known.old.times.items }
     ensures found { IfOk result (λ made. MatchOption made (HasNoChosen table.old.rows)
         (IsChosen table.old.rows)) }
     ensures table { IfOk result (λ made. MatchOption made (table.new.rows
         ≡ table.old.rows) (λ places. table.new.rows ≡ after table.old.rows places)) }
     ensures known { OnOk result (IsKnown table.new.rows known.new) }
-    ensures marks { OnOk result (AreTriedUpTo now table.new.rows known.new.guards.items) }
+    ensures marks { OnOk result (AreTriedUpTo now table.new.rows known.new.times.items) }
 {
     match chosen(alloc, table, known, now)? {
         Some(places) => {
@@ -94,38 +95,40 @@ fn merge_at(
     now: usize,
 ) -> Result<(), Memory>
     requires known { IsKnown table.old.rows known.old }
-    requires marks { AreTriedUpTo now table.old.rows known.old.guards.items }
+    requires marks { AreTriedUpTo now table.old.rows known.old.times.items }
     requires merge { (IsMergeSet table.old.rows places.now) × (IsLegal table.old.rows places.now) }
     ensures table { OnOk result (table.new.rows ≡ after table.old.rows places.now) }
     ensures known { OnOk result (IsKnown table.new.rows known.new) }
-    ensures marks { OnOk result (AreTriedUpTo now table.new.rows known.new.guards.items) }
+    ensures marks { OnOk result (AreTriedUpTo now table.new.rows known.new.times.items) }
 {
     let rows = table.rows.as_slice();
     let members = places.as_slice();
     let merged = merged_block(rows, members);
-    carry_over(rows, known, members, merged, now);
-    apply(alloc, table, places)?;
-    renew(
-        alloc,
-        table.rows.as_slice(),
-        &mut known.guards,
-        &known.joined,
-        merged,
-    )
+    let place = place_in(rows, generality(merged));
+    let met = met_places(alloc, rows, merged, place)?;
+    carry_over(rows, known, members, &met, merged, now);
+    merge_rows(alloc, table, &mut known.rivals, places, &met)
 }
 
-// Carries over what is known to the table after the merge of the rows at the places. Guards of rows with an alias that the
-// merged block meets may be wrong there.
-fn carry_over(rows: &[Row], known: &mut Known, places: &[u32], merged: Block, now: usize)
-    requires known { (IsKnown rows.now known.old) × (AreTriedUpTo now rows.now known.old.guards.items) }
+// Carries over what is known to the table after the merge of the rows at the places, but for the rivals of rows.
+fn carry_over(
+    rows: &[Row],
+    known: &mut Known,
+    places: &[u32],
+    met: &[u32],
+    merged: Block,
+    now: usize,
+)
+    requires known { (IsKnown rows.now known.old) × (AreTriedUpTo now rows.now known.old.times.items) }
     requires merge { IsLegalMerge rows.now places.now merged }
-    ensures { IsCarried merged now (after rows.now places.now) known.new }
+    requires met { AreMet merged rows.now met.now }
+    ensures carried { IsCarried now (after rows.now places.now) known.new }
+    ensures rivals { known.new.rivals ≡ known.old.rivals }
 {
-    touch(rows, known, places, merged, now);
+    touch(rows, known, places, met, merged, now);
     forget(rows, known, places, merged);
     carry_numbers(rows, &mut known.numbers, places);
-    carry_joined(rows, &mut known.joined, places, merged);
-    carry(rows, &mut known.guards, places, merged, now);
+    carry_times(rows, &mut known.times, places, merged, now);
 }
 
 // Forgets what is kept of the route of the rows at the places, and of routes for which a block was down-checked that their
@@ -135,9 +138,9 @@ fn forget(rows: &[Row], known: &mut Known, places: &[u32], merged: Block)
     requires set { IsMergeSet rows.now places.now }
     ensures left { AreStillKept (λ c it. (c ≡ slice_index known.old.numbers.items (slice_index places.now 0)
         → ⊥) × (IsApart merged it)) known.old.kept.items known.new.kept.items }
-    ensures guards { known.new.guards.items ≡ known.old.guards.items }
+    ensures times { known.new.times.items ≡ known.old.times.items }
     ensures numbers { known.new.numbers.items ≡ known.old.numbers.items }
-    ensures joined { known.new.joined.items ≡ known.old.joined.items }
+    ensures rivals { known.new.rivals ≡ known.old.rivals }
     ensures routes { known.new.routes.items ≡ known.old.routes.items }
     ensures latest { known.new.latest.items ≡ known.old.latest.items }
 {

@@ -4,20 +4,21 @@ ghost use Rattle.tern_word.specs.SoundTable.{IsSound};
 ghost use Rattle.cover_merge.specs.Known.{IsKnown};
 ghost use Rattle.cover_merge.specs.Tried.{AreTriedUpTo};
 
-use crate::guards::{Guard, guards_of, joined_of};
 use crate::keeping::Kept;
 use crate::links::{numbers_of, routes_of};
+use crate::rivals::{Rivals, rivals_of};
+use crate::times::{Times, changed};
 use spin_base::Memory;
 use std::alloc::Global;
 use tern_word::Row;
 
-/// A guard, the number of its route, and whether it is not original, for each row; and for each route its bits, what is
+/// The rivals of each row, when it was tried and changed, and the number of its route; and for each route its bits, what is
 /// kept of it, and when a row of it last changed.
 #[derive(Drop)]
 pub(crate) struct Known {
-    pub(crate) guards: Vec<Guard>,
+    pub(crate) rivals: Rivals,
+    pub(crate) times: Vec<Times>,
     pub(crate) numbers: Vec<u32>,
-    pub(crate) joined: Vec<bool>,
     pub(crate) routes: Vec<u32>,
     pub(crate) kept: Vec<Option<Kept>>,
     pub(crate) latest: Vec<usize>,
@@ -28,18 +29,18 @@ pub(crate) fn known_of(alloc: Global, rows: &[Row]) -> Result<Known, Memory>
     requires few { length rows.now < 2 ^ 32 }
     requires sound { IsSound rows.now }
     ensures known { IfOk result (IsKnown rows.now) }
-    ensures marks { IfOk result (λ known. AreTriedUpTo 0 rows.now known.guards.items) }
+    ensures marks { IfOk result (λ known. AreTriedUpTo 0 rows.now known.times.items) }
 {
-    let joined = joined_of(alloc, rows)?;
-    let guards = guards_of(alloc, rows, &joined)?;
+    let rivals = rivals_of(alloc, rows)?;
+    let times = vec![in alloc; changed(0); rows.len()]?;
     let routes = routes_of(alloc, rows)?;
     let numbers = numbers_of(alloc, rows, &routes)?;
     let kept = vec![in alloc; None::<Kept>; routes.len()]?;
     let latest = vec![in alloc; 0usize; routes.len()]?;
     Ok(Known {
-        guards,
+        rivals,
+        times,
         numbers,
-        joined,
         routes,
         kept,
         latest,

@@ -19,12 +19,13 @@ mod carrying;
 mod checking;
 mod choosing;
 mod covering;
-mod guards;
 mod keeping;
 mod knowing;
 mod laws;
 mod links;
 mod refining;
+mod rivals;
+mod times;
 
 pub use applying::apply;
 pub use checking::{

@@ -5,8 +5,8 @@ ghost use Rattle.cover_merge.specs.Merge.{IsMergeSet, after};
 ghost use Rattle.cover_merge.specs.Links.{place_of_route, AreRoutes, IsRouteAdded, IsEachOnce, AreNumbers, IsAhead, AreLinks};
 
 use crate::applying::replace_all;
-use crate::guards::place_in;
 use crate::merged_block;
+use crate::rivals::place_in;
 use spin_base::Memory;
 use std::alloc::Global;
 use tern_word::{Row, generality};

@@ -1,16 +1,17 @@
 // The refined set of places of one route.
-ghost use Rattle.std.specs.Prelude.{◌≡◌, ◌<◌, ◌≤◌, ◌^◌, ◌↔◌, ◌⊎◌, [], IsTrue, IfOk, MatchOption, MatchBool, All, length, filter, not, ◌==◌, ◌+◌, ℕ, List, take, drop, ◌++◌, slice_index_or};
+ghost use Rattle.std.specs.Prelude.{◌≡◌, ◌<◌, ◌≤◌, ◌^◌, ◌↔◌, ◌⊎◌, [], IsTrue, IfOk, MatchOption, MatchBool, All, length, filter, not, ◌==◌, ◌+◌, ℕ, List, take, drop, ◌++◌, slice_index, slice_index_or, if◌then◌else◌};
+ghost use Rattle.std.specs.Int.{bit_at};
 ghost use Rattle.spin_base.specs.declared.blocks.Block.{Block as ABlock};
 ghost use Rattle.tern_word.specs.Ternary.{Intersects};
-ghost use Rattle.tern_word.specs.SoundTable.{IsOrdered, IsSound, Misses};
+ghost use Rattle.tern_word.specs.SoundTable.{HoldsItsAliases, IsOrdered, IsSound, Misses};
 ghost use Rattle.cover_merge.specs.Merge.{has_row, IsOneRoute, IsMergeSet, IsLegal, merged_block, insert_place, place_for, PassesUp, PassesUpCheck, PassesDown, PassesDownCheck};
-ghost use Rattle.cover_merge.specs.Guards.{IsGuarded};
+ghost use Rattle.cover_merge.specs.Rivals.{IsRivaled};
 ghost use Rattle.cover_merge.specs.Kept.{LeadsWithin, RefinesWithin};
 ghost use Rattle.cover_merge.specs.Refinement.{AreMerges, IsLastFailing, IsFirstMet, IsFirstMetFrom, can_choose, keeps, parts, kept_by, kept_count, IsBestBit, IsNarrowed, IsDownStep, Refines};
 
-use crate::guards::{Guard, passes, place_in};
 use crate::keeping::Kept;
 use crate::merged_block;
+use crate::rivals::{Rivals, passes, place_in, rivals_of};
 use spin_base::{Block, Memory, Seq};
 use std::alloc::Global;
 use tern_word::{Alias, Row, Table, generality, intersects, merge_two};
@@ -26,7 +27,8 @@ pub fn refine(alloc: Global, table: &Table, places: Seq<u32>) -> Result<Seq<u32>
     ensures legal { IfOk result (λ answer. (answer ≡ [])
         ⊎ ((IsMergeSet table.now.rows answer) × (IsLegal table.now.rows answer))) }
 {
-    let Refined { set, kept: _ } = refine_within(alloc, table, &[], places)?;
+    let rivals = rivals_of(alloc, table.rows.as_slice())?;
+    let Refined { set, kept: _ } = refine_within(alloc, table, &rivals, places)?;
     Ok(set)
 }
 
@@ -40,14 +42,14 @@ pub(crate) struct Refined {
 // The generality of the last block that was down-checked, where none was: more than that of any block.
 const UNCHECKED: u32 = 33;
 
-/// The same, by what the guards tell.
+/// The same, by what the rivals of rows tell.
 pub(crate) fn refine_within(
     alloc: Global,
     table: &Table,
-    guards: &[Guard],
+    rivals: &Rivals,
     places: Seq<u32>,
 ) -> Result<Refined, Memory>
-    requires guarded { IsGuarded table.now.rows guards.now }
+    requires rivaled { IsRivaled table.now.rows rivals.now }
     requires set { IsOneRoute table.now.rows places }
     ensures refined { IfOk result (λ r. RefinesWithin table.now.rows r.kept.outer r.kept.low places
         r.set) }
@@ -60,7 +62,7 @@ pub(crate) fn refine_within(
     let mut outer = all_keys();
     let mut low = UNCHECKED;
     while set.len() >= 2 {
-        if let Some(merged) = sift(alloc, rows, guards, &mut set)? {
+        if let Some(merged) = sift(alloc, rows, rivals, &mut set)? {
             outer = outermost(outer, low, merged);
             low = generality(merged);
             if narrow(rows, &mut set, merged) {
@@ -104,10 +106,10 @@ fn with_bounds(set: Vec<u32>, outer: Block, low: u32) -> Refined
 fn sift(
     alloc: Global,
     rows: &[Row],
-    guards: &[Guard],
+    rivals: &Rivals,
     set: &mut Vec<u32>,
 ) -> Result<Option<Block>, Memory>
-    requires guarded { IsGuarded rows.now guards.now }
+    requires rivaled { IsRivaled rows.now rivals.now }
     requires set { IsMergeSet rows.now set.old.items }
     ensures one_route { IfOk result (λ found. IsOneRoute rows.now set.new.items) }
     ensures fewer { length set.new.items ≤ length set.old.items }
@@ -123,7 +125,7 @@ fn sift(
     let mut kept = set.len();
     while i > 0 && i + (set.len() - kept) >= 2 {
         i -= 1;
-        if passes(rows, guards, &set[kept..], set[i], generality(merged)) {
+        if passes(rows, rivals, &set[kept..], set[i], generality(merged)) {
             kept -= 1;
             set[kept] = set[i];
         } else {
@@ -186,7 +188,7 @@ fn merge_from(rows: &[Row], merges: &[Block], front: &[u32], back: &[u32]) -> Bl
 // Narrows the set where the down-check fails. Whether it was true, and the set stays as it was.
 fn narrow(rows: &[Row], set: &mut Vec<u32>, merged: Block) -> bool
     requires few { length rows.now < 2 ^ 32 }
-    requires ordered { IsOrdered rows.now }
+    requires sound { IsSound rows.now }
     requires set { IsMergeSet rows.now set.old.items }
     requires merged { merged ≡ merged_block rows.now set.old.items }
     requires up { PassesUpCheck rows.now set.old.items }
@@ -205,15 +207,27 @@ fn narrow(rows: &[Row], set: &mut Vec<u32>, merged: Block) -> bool
 
 // The block of the first alias that the block meets, of the first row from place `p` on that has one.
 fn first_met_from(rows: &[Row], block: Block, p: u32) -> Option<Block>
+    requires { All HoldsItsAliases rows.now }
     ensures { MatchOption result (PassesDown rows.now block p) (λ met.
         IsFirstMetFrom rows.now block p met) }
 {
     for r in p as usize..rows.len() {
-        if let Some(met) = first_met(rows[r].aliases.as_slice(), block) {
+        if let Some(met) = first_met_in(&rows[r], block) {
             return Some(met);
         }
     }
     None
+}
+
+// The block of the first of the row's aliases that the block meets: none lies outside the row's block.
+fn first_met_in(row: &Row, block: Block) -> Option<Block>
+    requires { HoldsItsAliases row.now }
+    ensures { MatchOption result (Misses block row.now) (λ met. IsFirstMet block row.now.aliases met) }
+{
+    if !intersects(block, row.block) {
+        return None;
+    }
+    first_met(row.aliases.as_slice(), block)
 }
 
 // The block of the first of the aliases that the block meets.
@@ -252,35 +266,64 @@ fn best_bit(rows: &[Row], places: &[u32], merged: Block, met: Block) -> Option<u
         → kept_count rows.now places.now merged met j ≡ 0) (λ i. (i < 32)
         × (IsBestBit rows.now places.now merged met i)) }
 {
+    let free = open_bits(merged, met);
+    let mut counts = [0; 32];
+    for s in places {
+        count_bits(&mut counts, keeping_bits(rows, free, met, *s));
+    }
+    greatest(&counts)
+}
+
+// The bits that can be chosen: the merge does not care for them, and the met alias does.
+fn open_bits(merged: Block, met: Block) -> u32
+    ensures { (j : ℕ) → j < 32 → bit_at result j ≡ if can_choose merged met j then 1 else 0 }
+{
+    met.mask & !merged.mask
+}
+
+// Those of the bits that keep the place; no place outside the table is kept.
+fn keeping_bits(rows: &[Row], free: u32, met: Block, s: u32) -> u32
+    ensures { (j : ℕ) → j < 32 → bit_at result j ≡ if keeps rows.now met j s then bit_at free j else 0 }
+{
+    if s as usize >= rows.len() {
+        return 0;
+    }
+    let block = rows[s as usize].block;
+    free & block.mask & (block.key ^ met.key)
+}
+
+// One more for each bit of the word.
+fn count_bits(counts: &mut [usize; 32], bits: u32)
+    requires { (j : ℕ) → j < 32 → slice_index counts.old j + 1 < 2 ^ 64 }
+    ensures { (j : ℕ) → j < 32 → slice_index counts.new j ≡ slice_index counts.old j + bit_at bits j }
+{
+    let mut left = bits;
+    while left != 0 {
+        let i = left.trailing_zeros();
+        left &= !(1 << i);
+        counts[i as usize] += 1;
+    }
+}
+
+// The place of the greatest, of equal ones the last, where one is above 0.
+fn greatest(counts: &[usize; 32]) -> Option<u32>
+    ensures { MatchOption result ((j : ℕ) → j < 32 → slice_index counts.now j ≡ 0) (λ i. (i < 32)
+        × (0 < slice_index counts.now i)
+        × ((j : ℕ) → j < 32 → slice_index counts.now j ≤ slice_index counts.now i)
+        × ((j : ℕ) → j < 32 → i < j → slice_index counts.now j < slice_index counts.now i)) }
+{
     let mut best = 0;
     let mut most = 0;
     let mut bit = 32;
     while bit > 0 {
         bit -= 1;
-        let count = kept_count(rows, places, merged, met, bit);
+        let count = counts[bit as usize];
         if count > most {
             best = bit;
             most = count;
         }
     }
     if most == 0 { None } else { Some(best) }
-}
-
-// How many places the bit keeps, and none where it cannot be chosen.
-fn kept_count(rows: &[Row], places: &[u32], merged: Block, met: Block, bit: u32) -> usize
-    requires { bit < 32 }
-    ensures value { result ≡ kept_count rows.now places.now merged met bit }
-{
-    if !can_choose(merged, met, bit) {
-        return 0;
-    }
-    let mut count = 0;
-    for s in places {
-        if keeps(rows, met, bit, *s) {
-            count += 1;
-        }
-    }
-    count
 }
 
 // Whether the bit keeps the place; no place outside the table is kept.
@@ -301,15 +344,4 @@ fn parts(block: Block, met: Block, bit: u32) -> bool
         return false;
     }
     (block.key >> bit) & 1 != (met.key >> bit) & 1
-}
-
-// Whether the bit can be chosen: the merge does not care for it, and the met alias does.
-fn can_choose(merged: Block, met: Block, bit: u32) -> bool
-    requires { bit < 32 }
-    ensures { result ≡ can_choose merged met bit }
-{
-    if (merged.mask >> bit) & 1 == 1 {
-        return false;
-    }
-    (met.mask >> bit) & 1 == 1
 }

@@ -1,12 +1,12 @@
 -- The place is the insertion place, behind all members.
 use Rattle.std.proofs.Common.{◌≡◌, ◌<◌, ap, sym, subst, ◌∙◌}
 use Rattle.std.specs.Prelude.{All, insert}
-use Rattle.cover_merge.specs.Merge.{kept, merged_row, after}
-use Rattle.cover_merge.proofs.ApplyLemmas.{found_before, after_found, on_ok}
+use Rattle.cover_merge.specs.Merge.{kept, merged_row}
+use Rattle.cover_merge.proofs.ApplyLemmas.{found_before, after_found}
 use Rattle.cover_merge.proofs.applying.apply.Goals as goal
 
-pub put_in-done-requires-clause-before : goal.put_in-done-requires-clause-before
-put_in-done-requires-clause-before c =
+pub put_in-requires-clause-before : goal.put_in-requires-clause-before
+put_in-requires-clause-before c =
     let made : c.in_ok-merged.merged ≡ merged_row c.args.table.now.rows c.args.places.now = c.in_ok-merged.ensures ∙ ap (λ l. merged_row l c.as_slice-members.result.now) c.as_slice.ensures ∙ ap (merged_row c.args.table.now.rows) c.as_slice-members.ensures in
     subst (All (λ t. t < c.place_in-place.result)) (sym c.as_slice-members.ensures) (found_before c.args.table.now.rows c.args.places.now c.requires.ordered c.requires.set c.as_slice-2.result.now c.as_slice-2.ensures c.in_ok-merged.merged made c.generality.result c.place_in-place.result c.generality.ensures.value c.place_in-place.ensures.value)
 
@@ -15,9 +15,7 @@ returns-clause-ok c =
     let rows = c.args.table.now.rows in
     let places = c.args.places.now in
     let made : c.in_ok-merged.merged ≡ merged_row rows places = c.in_ok-merged.ensures ∙ ap (λ l. merged_row l c.as_slice-members.result.now) c.as_slice.ensures ∙ ap (merged_row rows) c.as_slice-members.ensures in
-    on_ok c.put_in-done.result (c.put_in-done.new.rows.items ≡ kept c.as_slice-members.result.now 0 (insert c.into_vec-rows.result.items c.place_in-place.result c.in_ok-merged.merged)) (c.from_vec.result ≡ after rows places)
-    (λ now. after_found c.args.table.now.rows c.args.places.now c.requires.ordered c.requires.set c.as_slice-2.result.now c.as_slice-2.ensures c.in_ok-merged.merged made c.generality.result c.place_in-place.result c.generality.ensures.value c.place_in-place.ensures.value c.from_vec.result
-    (c.from_vec.ensures ∙ now
+    after_found rows places c.requires.ordered c.requires.set c.as_slice-2.result.now c.as_slice-2.ensures c.in_ok-merged.merged made c.generality.result c.place_in-place.result c.generality.ensures.value c.place_in-place.ensures.value c.from_vec.result
+    (c.from_vec.ensures ∙ c.put_in.ensures
     ∙ ap (λ l. kept l 0 (insert c.into_vec-rows.result.items c.place_in-place.result c.in_ok-merged.merged)) c.as_slice-members.ensures
-    ∙ ap (λ l. kept places 0 (insert l c.place_in-place.result c.in_ok-merged.merged)) (c.into_vec-rows.ensures ∙ c.replace.ensures.value)))
-    c.put_in-done.ensures.ok
+    ∙ ap (λ l. kept places 0 (insert l c.place_in-place.result c.in_ok-merged.merged)) (c.into_vec-rows.ensures ∙ c.replace.ensures.value))

@@ -1,6 +1,6 @@
 -- Each turn moves the items up to the next place down.
-use Rattle.std.proofs.Common.{◌≤◌, ◌+◌, ◌-◌, sym, subst, ◌∙◌, refl, get_or, length, arith}
-use Rattle.cover_merge.proofs.ReplaceLemmas.{all_replaced, none_closed, one_closed, room, starts}
+use Rattle.std.proofs.Common.{◌≡◌, ◌≤◌, ◌+◌, ◌-◌, sym, subst, ◌∙◌, refl, get_or, length, length-set, set, arith}
+use Rattle.cover_merge.proofs.ReplaceLemmas.{all_replaced, copied_down, none_closed, one_closed, room, starts}
 use Rattle.cover_merge.proofs.applying.replace_all.Goals as goal
 
 pub loop-i-init : goal.loop-i-init
@@ -30,8 +30,13 @@ copy_within-requires-clause-dest_in_bounds g c = subst (λ n. get_or c.args.plac
 
 pub loop-i-preserved : goal.loop-i-preserved
 loop-i-preserved g c =
+    let from = get_or c.args.places.now c.loop-i.i 0 + 1 in
+    let at = starts c.args.places.now c.args.place c.requires.ascending c.requires.before c.args.item c.args.items.now.items c.requires.place c.loop-i.i c.loop-i-test.true c.loop-i.items.items c.loop-i.items.items c.loop-i.invariant
+    from c.next_place-to.result refl c.next_place-to.ensures in
+    let dest : from - 1 - c.loop-i.i ≡ from - (c.loop-i.i + 1) = omega arith in
     one_closed c.args.places.now c.args.place c.requires.ascending c.requires.before c.args.item c.args.items.now.items c.requires.place c.loop-i.i c.loop-i-test.true c.loop-i.items.items c.copy_within.new.self.items c.loop-i.invariant
-    (get_or c.args.places.now c.loop-i.i 0 + 1) c.next_place-to.result refl c.next_place-to.ensures c.copy_within.ensures.items
+    from c.next_place-to.result refl c.next_place-to.ensures
+    (copied_down from c.next_place-to.result (c.loop-i.i + 1) (from - 1 - c.loop-i.i) c.loop-i.items.items c.copy_within.new.self.items (omega (arith, at.0)) at.1 at.2 dest c.copy_within.ensures.items)
 
 pub overflow_sub-place : goal.overflow_sub-place
 overflow_sub-place g c = (room c.args.places.now c.args.place c.requires.ascending c.requires.before c.args.item c.args.items.now.items c.requires.place c.requires.some).0
@@ -57,5 +62,13 @@ overflow_sub-len g c = omega (arith, (room c.args.places.now c.args.place c.requ
 
 pub returns : goal.returns
 returns g c =
-    all_replaced c.args.places.now c.args.place c.requires.ascending c.requires.before c.args.item c.args.items.now.items c.requires.place c.loop-i.i c.len-len.result c.loop-i.items.items c.copy_within-2.new.self.items c.truncate.new.self.items
-    c.requires.some c.loop-i.invariant c.loop-i-test.false c.loop-i.auto.i-end (c.len-len.ensures ∙ c.loop-i.items.ok.0) c.copy_within-2.ensures.items c.truncate.ensures.items
+    let items = c.loop-i.items.items in
+    let written = set items (c.args.place - length c.args.places.now) c.args.item in
+    let gap = length c.args.places.now - 1 in
+    let least = (room c.args.places.now c.args.place c.requires.ascending c.requires.before c.args.item c.args.items.now.items c.requires.place c.requires.some).0 in
+    let long : length written ≡ length items = length-set items (c.args.place - length c.args.places.now) c.args.item in
+    let fits : c.args.place ≤ c.len-len.result = omega (arith, c.len-len.ensures, c.loop-i.items.ok.0, c.loop-i.invariant.one_each, c.requires.place) in
+    let inside : c.len-len.result ≤ length written = omega (arith, long, c.len-len.ensures, c.loop-i.items.ok.0) in
+    all_replaced c.args.places.now c.args.place c.requires.ascending c.requires.before c.args.item c.args.items.now.items c.requires.place c.loop-i.i c.len-len.result items c.copy_within-2.new.self.items c.truncate.new.self.items
+    c.requires.some c.loop-i.invariant c.loop-i-test.false c.loop-i.auto.i-end (c.len-len.ensures ∙ c.loop-i.items.ok.0)
+    (copied_down c.args.place c.len-len.result gap (c.args.place - gap) written c.copy_within-2.new.self.items (omega (arith, least)) fits inside refl c.copy_within-2.ensures.items) c.truncate.ensures.items

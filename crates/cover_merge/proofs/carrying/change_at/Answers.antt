@@ -5,7 +5,7 @@ use Rattle.std.proofs.lemmas.Grind.{get_or-set_at}
 use Rattle.std.proofs.lemmas.List.{get_or_default, get_or-set_other, length-set}
 use Rattle.cover_merge.specs.Tried.{IsFresh}
 use Rattle.cover_merge.proofs.LinkLemmas.{as_many, number_at}
-use Rattle.cover_merge.proofs.TriedLemmas.{fresh_put, guard_kept, latest_put, guard_no_later}
+use Rattle.cover_merge.proofs.TriedLemmas.{fresh_put, latest_put, times_no_later}
 use Rattle.cover_merge.proofs.carrying.change_at.Goals as goal
 
 pub returns : goal.returns
@@ -13,7 +13,7 @@ returns c =
     let rows = c.args.rows.now in
     let known = c.args.known.now in
     let old = c.requires.known in
-    let gs = known.guards.items in
+    let gs = known.times.items in
     let s = c.args.s in
     let n = c.index.result.now in
     let now = c.args.now in
@@ -22,17 +22,12 @@ returns c =
     let counted : s < length known.numbers.items = omega (arith, as_many known.routes.items rows known.numbers.items old.numbers, c.requires.inside) in
     let n_is : n ≡ get_or known.numbers.items s 0 = c.index.ensures ∙ get_or_default known.numbers.items s n 0 counted in
     let low : n < length known.latest.items = omega (arith, n_is, old.one_time, old.numbers.below s 0 counted) in
-    let fresh : IsFresh now g = c.changed.ensures.fresh in record {
+    let fresh : IsFresh now g = c.changed.ensures in record {
       known = record {
+        rivaled = old.rivaled;
         one_each = length-set gs s g ∙ old.one_each;
-        guarded = record {
-          few = old.guarded.few;
-          sound = old.guarded.sound;
-          guards = guard_kept rows gs s g c.index-2.result.now inside c.index-2.ensures c.changed.ensures.rival c.changed.ensures.clear old.guarded.guards;
-        };
-        joined = old.joined;
         one_time = length-set known.latest.items n now ∙ old.one_time;
-        latest = guard_no_later known.routes.items (set known.latest.items n now) rows gs now c.requires.marks.bound s g inside
+        latest = times_no_later known.routes.items (set known.latest.items n now) rows gs now c.requires.marks.bound s g inside
             (λ d. omega (arith, fresh.changed, get_or-set_at known.latest.items n n now 0 refl low, ap (λ m. get_or (set known.latest.items n now) m 0) (n_is ∙ number_at known.routes.items rows known.numbers.items old.numbers s d c.requires.inside)))
             (latest_put known.routes.items known.latest.items rows gs now c.requires.marks.bound n low old.latest);
         once = old.once;
@@ -49,6 +44,7 @@ returns c =
         | inl same ↦ get_or-set_at known.latest.items n k now 0 same low
         | inr apart ↦ get_or-set_other known.latest.items n k now 0 apart ∙ is
       ];
+      rivals = refl;
       same = record { numbers = refl; routes = refl };
       kept = refl;
     }

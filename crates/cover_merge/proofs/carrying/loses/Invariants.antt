@@ -1,8 +1,8 @@
--- No row passed is met behind.
-use Rattle.std.proofs.Common.{◌<◌, ℕ, get_or}
-use Rattle.tern_word.specs.declared.tables.Row.{Row}
-use Rattle.tern_word.specs.SoundTable.{Misses}
+-- No rival passed is at one of the places.
+use Rattle.std.proofs.Common.{◌≡◌, ◌<◌, ℕ, false, get_or}
+use Rattle.cover_merge.specs.declared.rivals.Rival.{Rival}
+use Rattle.cover_merge.specs.Rivals.{is_at_one}
 use Rattle.cover_merge.proofs.carrying.loses.Given as goal
 
-abbrev pub invariant-loop-place : goal.invariant-loop-place
-invariant-loop-place l = (n : ℕ) (d : Row) → n < l.place-index → l.s < get_or l.places n 0 → Misses (get_or l.rows (get_or l.places n 0) d).block (get_or l.rows l.s d)
+abbrev pub invariant-loop-k : goal.invariant-loop-k
+invariant-loop-k l = (n : ℕ) (e : Rival) → n < l.k → is_at_one l.rivals.serials.items l.places (get_or l.list n e).serial ≡ false

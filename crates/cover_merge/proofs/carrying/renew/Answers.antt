@@ -1,54 +1,32 @@
--- One more guard, from the last on.
-use Rattle.std.proofs.Common.{◌≡◌, ◌-◌, ◌∙◌, suc, length, sym, subst, arith}
-use Rattle.cover_merge.specs.Guards.{AreJoinedFrom}
-use Rattle.cover_merge.proofs.JoinedLemmas.{guards_down, joined_none}
-use Rattle.cover_merge.proofs.RenewLemmas.{but_renewed, times_on, times_stay}
+-- The list of the row is written anew.
+use Rattle.std.proofs.Common.{◌≡◌, [], ◌∙◌, get_or, set, rules}
+use Rattle.std.proofs.lemmas.Fn.{filter_same}
+use Rattle.std.proofs.lemmas.List.{get_or_default}
+use Rattle.cover_merge.specs.Rivals.{IsPutIn, rivals_left}
+use Rattle.cover_merge.proofs.ApplyLemmas.{on_ok}
+use Rattle.cover_merge.proofs.PutInLemmas.{left_is, left_ordered, put_written}
 use Rattle.cover_merge.proofs.carrying.renew.Goals as goal
 
-pub loop-s-init : goal.loop-s-init
-loop-s-init c = record {
-  one_each = c.requires.guarded.one_each;
-  within = omega arith;
-  behind = subst (AreJoinedFrom c.args.rows.now (length c.args.rows.now)) (sym c.new-behind.ensures.items) (joined_none c.args.rows.now (length c.args.rows.now) (omega arith));
-  done = λ k e from within. absurd (omega (arith, from, within, c.requires.guarded.one_each));
-  rest = c.requires.guarded.guards;
-  times = times_stay c.args.guards.now.items;
-}
+pub put_rival-done-requires : goal.put_rival-done-requires
+put_rival-done-requires c =
+    let serials = c.args.rivals.now.serials.items in
+    let of = c.args.rivals.now.of.items in
+    let place = get_or serials c.args.s 0 in
+    let same : c.index-serial.result.now ≡ place = c.index-serial.ensures ∙ get_or_default serials c.args.s c.index-serial.result.now 0 c.requires.inside in
+    left_ordered serials c.args.places.now of c.index-serial.result.now place same c.requires.below c.retain.new.self.items c.requires.ordered
+    (left_is serials c.args.places.now of c.index-serial.result.now place same c.requires.below c.retain.new.self.items c.index_mut.result.now c.into_vec-list.result.items c.index_mut.ensures.value (c.into_vec-list.ensures ∙ c.replace.ensures.value)
+    (filter_same _ _ _ (λ x b f' k. search rules) _ _ c.retain.ensures.filtered))
 
-pub renew_at-requires-clause-joined : goal.renew_at-requires-clause-joined
-renew_at-requires-clause-joined c =
-    let at : c.loop-s.s ≡ suc (c.loop-s.s - 1) = omega (arith, c.loop-s-test.true) in
-    subst (λ n. AreJoinedFrom c.args.rows.now n c.deref.result.now) at (subst (AreJoinedFrom c.args.rows.now c.loop-s.s) (sym c.deref.ensures.value) c.loop-s.invariant.behind)
-
-pub renew_at-requires-clause-inside : goal.renew_at-requires-clause-inside
-renew_at-requires-clause-inside c = omega (arith, c.loop-s-test.true, c.loop-s.invariant.within)
-
-pub renew_at-requires-clause-guarded : goal.renew_at-requires-clause-guarded
-renew_at-requires-clause-guarded c = record { few = c.requires.guarded.few; sound = c.requires.guarded.sound; one_each = c.loop-s.invariant.one_each; guards = c.loop-s.invariant.rest }
-
-pub add_joined-requires-clause-inside : goal.add_joined-requires-clause-inside
-add_joined-requires-clause-inside c = omega (arith, c.loop-s-test.true, c.requires.joined.one_each, c.loop-s.invariant.within)
-
-pub loop-s-preserved : goal.loop-s-preserved
-loop-s-preserved c =
-    let rows = c.args.rows.now in
-    let gs = c.loop-s.guards.items in
-    let new = c.renew_at.new.guards.items in
-    let at = c.loop-s.s - 1 in
-    let old = c.loop-s.invariant in
-    let some = c.loop-s-test.true in
-    let told = c.renew_at.ensures in
-    let next : c.loop-s.s ≡ suc at = omega (arith, some) in record {
-      one_each = told.times.one_each ∙ old.one_each;
-      within = omega (arith, old.within);
-      behind = c.in_ok-add_joined.ensures rows c.requires.joined (subst (λ n. AreJoinedFrom rows n c.loop-s.behind.items) next old.behind);
-      done = guards_down rows gs new c.loop-s.s some told.times.one_each told.guard told.others old.done;
-      rest = but_renewed c.args.merged rows gs new at old.rest told;
-      times = times_on c.args.guards.now.items gs new old.times told.times;
-    }
-
-pub returns-clause-guards : goal.returns-clause-guards
-returns-clause-guards c s e within = c.loop-s.invariant.done s e (omega (arith, c.loop-s-test.false)) within
-
-pub returns-clause-times : goal.returns-clause-times
-returns-clause-times c = c.loop-s.invariant.times
+pub returns-clause-own : goal.returns-clause-own
+returns-clause-own c =
+    let serials = c.args.rivals.now.serials.items in
+    let of = c.args.rivals.now.of.items in
+    let place = get_or serials c.args.s 0 in
+    let same : c.index-serial.result.now ≡ place = c.index-serial.ensures ∙ get_or_default serials c.args.s c.index-serial.result.now 0 c.requires.inside in
+    let left = c.retain.new.self.items in
+    on_ok c.put_rival-done.result (IsPutIn c.args.merged left c.put_rival-done.new.list.items)
+    (IsPutIn c.args.merged (rivals_left serials c.args.places.now (get_or of place [])) (get_or (set (set of c.index-serial.result.now c.replace.new.dest) c.index-serial.result.now c.from_vec.result) place []))
+    (put_written serials c.args.places.now of c.index-serial.result.now place same c.requires.below left c.args.merged c.put_rival-done.new.list.items c.replace.new.dest c.from_vec.result
+    (left_is serials c.args.places.now of c.index-serial.result.now place same c.requires.below left c.index_mut.result.now c.into_vec-list.result.items c.index_mut.ensures.value (c.into_vec-list.ensures ∙ c.replace.ensures.value)
+    (filter_same _ _ _ (λ x b f' k. search rules) _ _ c.retain.ensures.filtered)) c.from_vec.ensures)
+    c.put_rival-done.ensures

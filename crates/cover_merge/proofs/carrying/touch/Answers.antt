@@ -1,57 +1,26 @@
--- One row more loses none, or changed now.
-use Rattle.std.proofs.Common.{◌≡◌, ◌+◌, ◌⊎◌, ◌∙◌, ◌<◌, ◌≤◌, ℕ, List, [], inl, inr, refl, sym, ap, subst, length, get_or, arith}
+-- The row at one place more loses none, or changed now, and nothing is kept of its route. The merge misses all other rows.
+use Rattle.std.proofs.Common.{◌≡◌, ◌+◌, ◌⊎◌, ◌∙◌, ◌<◌, ◌≤◌, ℕ, List, true, inl, inr, sym, ap, subst, get_or, arith}
 use Rattle.std.proofs.lemmas.Bool.{cases_eq, cases_lt}
-use Rattle.std.proofs.lemmas.Grind.{get_or-set_at}
-use Rattle.std.proofs.lemmas.List.{get_or_default, length-set}
-use Rattle.cover_merge.specs.declared.guards.Guard.{Guard}
+use Rattle.cover_merge.specs.declared.times.Times.{Times}
 use Rattle.tern_word.specs.declared.tables.Row.{Row}
 use Rattle.tern_word.specs.SoundTable.{Misses}
-use Rattle.cover_merge.specs.Merge.{merge_rows}
-use Rattle.cover_merge.specs.Known.{AreStillKept, MissesAllOf}
-use Rattle.cover_merge.specs.Links.{place_of_route}
+use Rattle.cover_merge.specs.Merge.{has_row}
+use Rattle.cover_merge.specs.Known.{AreStillKept}
 use Rattle.cover_merge.specs.Tried.{IsFresh, LosesNone}
-use Rattle.cover_merge.proofs.LinkLemmas.{as_many, number_at}
-use Rattle.cover_merge.proofs.KeepLemmas.{left_all, left_twice, misses_more, misses_others}
-use Rattle.cover_merge.proofs.TriedLemmas.{latest_put}
+use Rattle.cover_merge.proofs.KeepLemmas.{left_twice}
+use Rattle.cover_merge.proofs.Legal.{narrower_misses, member_lies}
+use Rattle.cover_merge.proofs.Positions.{has-place}
 use Rattle.cover_merge.proofs.carrying.touch.Goals as goal
 
-pub loop-s-init : goal.loop-s-init
-loop-s-init c =
-    let rows = c.args.rows.now in
-    let known = c.args.known.now in
-    let old = c.requires.known in
-    let set = c.requires.merge.0 in
-    let n = c.index-own.result.now in
-    let first = get_or c.args.places.now 0 0 in
-    let member : first < length known.numbers.items = omega (arith, as_many known.routes.items rows known.numbers.items old.numbers, set.set.in_range 0 0 (omega (arith, set.two))) in
-    let n_is : n ≡ get_or known.numbers.items first 0 = c.index-own.ensures ∙ get_or_default known.numbers.items first n 0 member in
-    let low : n < length known.latest.items = omega (arith, n_is, old.one_time, old.numbers.below first 0 member) in record {
-      known = record {
-        one_each = old.one_each;
-        guarded = old.guarded;
-        joined = old.joined;
-        one_time = length-set known.latest.items n c.args.now ∙ old.one_time;
-        latest = latest_put known.routes.items known.latest.items rows known.guards.items c.args.now c.requires.marks.bound n low old.latest;
-        once = old.once;
-        numbers = old.numbers;
-        one_route = old.one_route;
-        kept = old.kept;
-      };
-      marks = c.requires.marks;
-      done = λ k e less. absurd (omega (arith, less));
-      own = get_or-set_at known.latest.items n n c.args.now 0 refl low;
-      same = record { numbers = refl; routes = refl };
-      left = left_all (λ k it. MissesAllOf c.args.merged rows known.numbers.items 0 k) known.kept.items (λ k it is s d less. absurd (omega (arith, less)));
-    }
-
-pub loop-s-preserved : goal.loop-s-preserved
-loop-s-preserved c =
-    let old = c.loop-s.invariant in
+pub loop-k-preserved : goal.loop-k-preserved
+loop-k-preserved c =
+    let old = c.loop-k.invariant in
     let now = c.touch_at.ensures in record {
       known = now.known;
       marks = now.marks;
-      done = λ k e less. by_place k e (cases_lt k c.loop-s.s) less;
+      done = λ j e less. by_place j e (cases_eq (get_or met j 0) (get_or met c.loop-k.k 0)) (cases_lt j c.loop-k.k) less;
       own = now.times c.index-own.result.now old.own;
+      rivals = now.rivals ∙ old.rivals;
       same = record {
         numbers = now.same.numbers ∙ old.same.numbers;
         routes = now.same.routes ∙ old.same.routes;
@@ -62,47 +31,49 @@ loop-s-preserved c =
     numbers : List ℕ
     numbers = c.args.known.now.numbers.items
 
-    d : Row
-    d = merge_rows []
+    met : List ℕ
+    met = c.args.met.now
 
-    one_more : AreStillKept (λ k it. MissesAllOf c.args.merged c.args.rows.now numbers (c.loop-s.s + 1) k) c.args.known.now.kept.items c.touch_at.new.known.kept.items
+    apart_more : (k : ℕ) → ((j : ℕ) → j < c.loop-k.k → k ≡ get_or numbers (get_or met j 0) 0 → ⊥) → (k ≡ get_or numbers (get_or met c.loop-k.k 0) 0 → ⊥) → (j : ℕ) → (j < c.loop-k.k) ⊎ (c.loop-k.k ≤ j) → j < c.loop-k.k + 1 → k ≡ get_or numbers (get_or met j 0) 0 → ⊥
+    apart_more k before last j (inl earlier) less same = before j earlier same
+    apart_more k before last j (inr from) less same =
+        let here : j ≡ c.loop-k.k = omega (arith, from, less) in
+        last (same ∙ ap (λ i. get_or numbers (get_or met i 0) 0) here)
+
+    one_more : AreStillKept (λ k it. (j : ℕ) → j < c.loop-k.k + 1 → k ≡ get_or numbers (get_or met j 0) 0 → ⊥) c.args.known.now.kept.items c.touch_at.new.known.kept.items
     one_more =
-        left_twice (λ k it. MissesAllOf c.args.merged c.args.rows.now numbers c.loop-s.s k) (λ k it. k ≡ get_or numbers c.loop-s.s 0 → (e : Row) → Misses c.args.merged (get_or c.args.rows.now c.loop-s.s e))
-        (λ k it. MissesAllOf c.args.merged c.args.rows.now numbers (c.loop-s.s + 1) k) c.args.known.now.kept.items c.loop-s.known.kept.items c.touch_at.new.known.kept.items c.loop-s.invariant.left
-        (subst (λ n. AreStillKept (λ k it. k ≡ get_or n c.loop-s.s 0 → (e : Row) → Misses c.args.merged (get_or c.args.rows.now c.loop-s.s e)) c.loop-s.known.kept.items c.touch_at.new.known.kept.items) c.loop-s.invariant.same.numbers c.touch_at.ensures.left)
-        (λ k it was missed. elim (cases_eq k (get_or numbers c.loop-s.s 0)) [
-          | inl own ↦ misses_more c.args.merged c.args.rows.now numbers c.loop-s.s k was (get_or c.args.rows.now c.loop-s.s d) c.loop-s-test.true (get_or_default c.args.rows.now c.loop-s.s d (get_or c.args.rows.now c.loop-s.s d) c.loop-s-test.true) (missed own d)
-          | inr apart ↦ misses_others c.args.merged c.args.rows.now numbers c.loop-s.s k was apart
-        ])
+        left_twice (λ k it. (j : ℕ) → j < c.loop-k.k → k ≡ get_or numbers (get_or met j 0) 0 → ⊥) (λ k it. k ≡ get_or numbers (get_or met c.loop-k.k 0) 0 → ⊥)
+        (λ k it. (j : ℕ) → j < c.loop-k.k + 1 → k ≡ get_or numbers (get_or met j 0) 0 → ⊥) c.args.known.now.kept.items c.loop-k.known.kept.items c.touch_at.new.known.kept.items c.loop-k.invariant.left
+        (subst (λ n. AreStillKept (λ k it. k ≡ get_or n (get_or met c.loop-k.k 0) 0 → ⊥) c.loop-k.known.kept.items c.touch_at.new.known.kept.items) c.loop-k.invariant.same.numbers c.touch_at.ensures.left)
+        (λ k it before last j less. apart_more k before last j (cases_lt j c.loop-k.k) less)
 
-    by_place : (k : ℕ) (e : Guard) → (k < c.loop-s.s) ⊎ (c.loop-s.s ≤ k) → k < c.loop-s.s + 1 → (LosesNone c.args.rows.now c.args.places.now k) ⊎ (IsFresh c.args.now (get_or c.touch_at.new.known.guards.items k e))
-    by_place k e (inl earlier) less =
-        subst (λ g. (LosesNone c.args.rows.now c.args.places.now k) ⊎ (IsFresh c.args.now g)) (sym (c.touch_at.ensures.touched.others k e (λ same. omega (arith, same, earlier)))) (c.loop-s.invariant.done k e earlier)
-    by_place k e (inr last) less =
-        let same : k ≡ c.loop-s.s = omega (arith, last, less) in
-        subst (λ n. (LosesNone c.args.rows.now c.args.places.now n) ⊎ (IsFresh c.args.now (get_or c.touch_at.new.known.guards.items n e))) (sym same) (c.touch_at.ensures.touched.own e)
+    by_place : (j : ℕ) (e : Times) → (get_or met j 0 ≡ get_or met c.loop-k.k 0) ⊎ (get_or met j 0 ≡ get_or met c.loop-k.k 0 → ⊥) → (j < c.loop-k.k) ⊎ (c.loop-k.k ≤ j) → j < c.loop-k.k + 1
+        → (LosesNone c.args.rows.now c.args.places.now (get_or met j 0)) ⊎ (IsFresh c.args.now (get_or c.touch_at.new.known.times.items (get_or met j 0) e))
+    by_place j e (inl same) where_is less =
+        subst (λ n. (LosesNone c.args.rows.now c.args.places.now n) ⊎ (IsFresh c.args.now (get_or c.touch_at.new.known.times.items n e))) (sym same) (c.touch_at.ensures.touched.own e)
+    by_place j e (inr apart) (inl earlier) less =
+        subst (λ g. (LosesNone c.args.rows.now c.args.places.now (get_or met j 0)) ⊎ (IsFresh c.args.now g)) (sym (c.touch_at.ensures.touched.others (get_or met j 0) e apart)) (c.loop-k.invariant.done j e earlier)
+    by_place j e (inr apart) (inr from) less =
+        let here : j ≡ c.loop-k.k = omega (arith, from, less) in absurd (apart (ap (λ i. get_or met i 0) here))
 
 pub returns-clause-touched : goal.returns-clause-touched
-returns-clause-touched c k e within = c.loop-s.invariant.done k e (omega (arith, within, c.loop-s.invariant.known.one_each, c.loop-s-test.false))
-
-pub returns-clause-own : goal.returns-clause-own
-returns-clause-own c d =
-    let rows = c.args.rows.now in
-    let known = c.args.known.now in
-    let old = c.requires.known in
-    let set = c.requires.merge.0 in
-    let n = c.index-own.result.now in
-    let first = get_or c.args.places.now 0 0 in
-    let inside : first < length rows = set.set.in_range 0 0 (omega (arith, set.two)) in
-    let n_is : n ≡ get_or known.numbers.items first 0 = c.index-own.ensures ∙ get_or_default known.numbers.items first n 0 (omega (arith, as_many known.routes.items rows known.numbers.items old.numbers, inside)) in
-    ap (λ r. get_or c.loop-s.known.latest.items (place_of_route r (get_or rows first d).route.bits) 0) c.loop-s.invariant.same.routes
-    ∙ ap (λ m. get_or c.loop-s.known.latest.items m 0) (sym (n_is ∙ number_at known.routes.items rows known.numbers.items old.numbers first d inside))
-    ∙ c.loop-s.invariant.own
+returns-clause-touched c s e within = by_case (c.requires.met.all s (omega (arith, within, c.loop-k.invariant.known.one_each)))
+  where
+    by_case : ((d : Row) → Misses c.args.merged (get_or c.args.rows.now s d)) ⊎ (has_row c.args.met.now s ≡ true) → (LosesNone c.args.rows.now c.args.places.now s) ⊎ (IsFresh c.args.now (get_or c.loop-k.known.times.items s e))
+    by_case (inl missed) = inl (λ r d found behind. narrower_misses c.args.merged (get_or c.args.rows.now r d).block (get_or c.args.rows.now s d) (member_lies c.args.rows.now c.args.places.now c.requires.merge.0 c.args.merged c.requires.merge.1 r d found) (missed d))
+    by_case (inr found) =
+        let at = has-place c.args.met.now s found in
+        subst (λ n. (LosesNone c.args.rows.now c.args.places.now n) ⊎ (IsFresh c.args.now (get_or c.loop-k.known.times.items n e))) at.2 (c.loop-k.invariant.done at.0 e (omega (arith, at.1, c.loop-k-test.false)))
 
 pub returns-clause-left : goal.returns-clause-left
 returns-clause-left c = record {
-  one_each = c.loop-s.invariant.left.one_each;
-  each = λ k it is.
-      let told = c.loop-s.invariant.left.each k it is in
-      (told.0, λ s d less within. told.1 s d (omega (arith, within, c.loop-s-test.false)) within);
+  one_each = c.loop-k.invariant.left.one_each;
+  each = λ k it is. let told = c.loop-k.invariant.left.each k it is in (told.0, λ s d less within same. by_case k s d told.1 same (c.requires.met.all s within));
 }
+  where
+    by_case : (k s : ℕ) (d : Row) → ((j : ℕ) → j < c.loop-k.k → k ≡ get_or c.args.known.now.numbers.items (get_or c.args.met.now j 0) 0 → ⊥) → get_or c.args.known.now.numbers.items s 0 ≡ k
+        → ((e : Row) → Misses c.args.merged (get_or c.args.rows.now s e)) ⊎ (has_row c.args.met.now s ≡ true) → Misses c.args.merged (get_or c.args.rows.now s d)
+    by_case k s d apart same (inl missed) = missed d
+    by_case k s d apart same (inr found) =
+        let at = has-place c.args.met.now s found in
+        absurd (apart at.0 (omega (arith, at.1, c.loop-k-test.false)) (sym same ∙ ap (λ i. get_or c.args.known.now.numbers.items i 0) (sym at.2)))

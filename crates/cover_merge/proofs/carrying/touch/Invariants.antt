@@ -1,16 +1,17 @@
--- The rows passed lose none or changed now, and all is still known.
+-- The rows at the places passed lose none or changed now, nothing is kept of their routes, and all is still known.
 use Rattle.std.proofs.Common.{◌≡◌, ◌<◌, ◌⊎◌, ℕ, get_or}
-use Rattle.cover_merge.specs.declared.guards.Guard.{Guard}
-use Rattle.cover_merge.specs.Known.{AreStillKept, IsKnown, HasSameRoutes, MissesAllOf}
+use Rattle.cover_merge.specs.declared.times.Times.{Times}
+use Rattle.cover_merge.specs.Known.{AreStillKept, IsKnown, HasSameRoutes}
 use Rattle.cover_merge.specs.Tried.{AreTriedUpTo, IsFresh, LosesNone}
 use Rattle.cover_merge.proofs.carrying.touch.Given as goal
 
-abbrev pub invariant-loop-s : goal.invariant-loop-s
-invariant-loop-s l = record {
+abbrev pub invariant-loop-k : goal.invariant-loop-k
+invariant-loop-k l = record {
   known : IsKnown l.rows l.known;
-  marks : AreTriedUpTo l.now l.rows l.known.guards.items;
-  done : (k : ℕ) (e : Guard) → k < l.s → (LosesNone l.rows l.places k) ⊎ (IsFresh l.now (get_or l.known.guards.items k e));
+  marks : AreTriedUpTo l.now l.rows l.known.times.items;
+  done : (j : ℕ) (e : Times) → j < l.k → (LosesNone l.rows l.places (get_or l.met j 0)) ⊎ (IsFresh l.now (get_or l.known.times.items (get_or l.met j 0) e));
   own : get_or l.known.latest.items l.own 0 ≡ l.now;
+  rivals : l.known.rivals ≡ l.fn.known.rivals;
   same : HasSameRoutes l.fn.known l.known;
-  left : AreStillKept (λ k it. MissesAllOf l.merged l.rows l.fn.known.numbers.items l.s k) l.fn.known.kept.items l.known.kept.items;
+  left : AreStillKept (λ c it. (j : ℕ) → j < l.k → c ≡ get_or l.fn.known.numbers.items (get_or l.met j 0) 0 → ⊥) l.fn.known.kept.items l.known.kept.items;
 }

@@ -1,12 +1,9 @@
--- Nothing is kept of the row's route, unless the merge misses the row.
-use Rattle.std.proofs.Common.{◌≡◌, ◌≢◌, ◌∙◌, ◌<◌, ℕ, List, inl, refl, sym, ap, subst, set, length, length-set, get_or, arith}
+-- Nothing is kept of the row's route.
+use Rattle.std.proofs.Common.{◌≡◌, ◌≢◌, ◌∙◌, ◌<◌, ℕ, List, refl, sym, ap, set, length, length-set, get_or, arith}
 use Rattle.std.specs.Prelude.{None, Option}
 use Rattle.std.proofs.lemmas.List.{get_or_default}
-use Rattle.tern_word.specs.declared.tables.Row.{Row}
-use Rattle.tern_word.specs.SoundTable.{Misses}
 use Rattle.cover_merge.specs.Known.{AreStillKept}
 use Rattle.cover_merge.specs.declared.keeping.Kept.{Kept}
-use Rattle.cover_merge.proofs.CarryLemmas.{narrower_misses, member_lies}
 use Rattle.cover_merge.proofs.KeepLemmas.{left_all, left_set, none_some}
 use Rattle.cover_merge.proofs.LinkLemmas.{as_many}
 use Rattle.cover_merge.proofs.carrying.touch_at.Goals as goal
@@ -16,22 +13,6 @@ forgotten : (kept : List (Option Kept)) (n : ℕ) → n < length kept → AreSti
 forgotten kept n low =
     left_set (λ (k : ℕ) (it : Kept). k ≡ k) (λ (k : ℕ) (it : Kept). k ≢ n) kept kept _ n None low refl (left_all (λ (k : ℕ) (it : Kept). k ≡ k) kept (λ k it is. refl)) (λ k it apart same. apart) (λ it is. absurd (none_some it is))
 
-pub returns-then-is_missed : goal.returns-then-is_missed
-returns-then-is_missed c =
-    let rows = c.args.rows.now in
-    let s = c.args.s in
-    let misses : (d : Row) → Misses c.args.merged (get_or rows s d) = λ d. subst (Misses c.args.merged) (c.index-rows-s.is ∙ get_or_default rows s c.index-rows-s.result d c.requires.inside) (c.is_missed.ensures.0 c.if-is_missed.true) in record {
-      known = c.requires.known;
-      marks = c.requires.marks;
-      touched = record {
-        own = λ e. inl (λ r d found behind. narrower_misses c.args.merged (get_or rows r d).block (get_or rows s d) (member_lies rows c.args.places.now c.requires.merge.0 c.args.merged c.requires.merge.1 r d found) (misses d));
-        others = λ k e apart. refl;
-      };
-      times = λ k is. is;
-      same = record { numbers = refl; routes = refl };
-      left = left_all _ c.args.known.now.kept.items (λ k it is same d. misses d);
-    }
-
 pub change_at-requires-clause-known : goal.change_at-requires-clause-known
 change_at-requires-clause-known c =
     let rows = c.args.rows.now in
@@ -40,9 +21,8 @@ change_at-requires-clause-known c =
     let n = c.index.result.now in
     let counted : c.args.s < length known.numbers.items = omega (arith, as_many known.routes.items rows known.numbers.items old.numbers, c.requires.inside) in
     let low : n < length known.kept.items = omega (arith, c.index.ensures ∙ get_or_default known.numbers.items c.args.s n 0 counted, old.one_route, old.numbers.below c.args.s 0 counted) in record {
+      rivaled = old.rivaled;
       one_each = old.one_each;
-      guarded = old.guarded;
-      joined = old.joined;
       one_time = old.one_time;
       latest = old.latest;
       once = old.once;
@@ -66,11 +46,12 @@ returns c =
       marks = now.marks;
       touched = now.touched;
       times = now.times;
+      rivals = now.rivals;
       same = record { numbers = now.same.numbers; routes = now.same.routes };
       left = record {
         one_each = ap length now.kept ∙ left.one_each;
         each = λ k it is.
             let told = left.each k it (ap (λ l. get_or l k None) (sym now.kept) ∙ is) in
-            (told.0, λ same. absurd (told.1 (same ∙ sym n_is)));
+            (told.0, λ same. told.1 (same ∙ sym n_is));
       };
     }

@@ -2,21 +2,12 @@
 use Rattle.std.proofs.Common.{◌∙◌, ℕ, ◌<◌, refl, sym, ap, set, subst, length, length-set, get_or, arith}
 use Rattle.std.specs.Prelude.{MatchOption}
 use borrow.Author.Count.{below_more}
-use Rattle.cover_merge.specs.Guards.{IsGuarded}
-use Rattle.cover_merge.specs.Tried.{AreTried, AreNewerFrom, AreTrailsFrom}
+use Rattle.cover_merge.specs.Tried.{AreTrailsFrom}
 use Rattle.cover_merge.specs.Covering.{IsLegalPair, IsFirstPartner}
 use Rattle.cover_merge.proofs.ChooseLemmas.{first_found, no_pair}
 use Rattle.cover_merge.proofs.LinkLemmas.{as_many, number_at}
-use Rattle.cover_merge.proofs.TriedLemmas.{marked_put, guard_kept, guard_no_later, newer_kept, settled_none}
+use Rattle.cover_merge.proofs.TriedLemmas.{marked_put, times_no_later, newer_kept, settled_none}
 use Rattle.cover_merge.proofs.choosing.first_pair.Goals as goal
-
-pub loop-i-init : goal.loop-i-init
-loop-i-init c = record {
-  none = λ a less. absurd (omega (arith, less));
-  known = c.requires.known;
-  marks = c.requires.marks;
-  newer = subst (λ l. AreNewerFrom 0 c.args.table.now.rows l c.in_ok-newer.newer.items) c.deref.ensures.value c.in_ok-newer.ensures.newer;
-}
 
 pub is_settled-requires-clause-one_each : goal.is_settled-requires-clause-one_each
 is_settled-requires-clause-one_each c =
@@ -36,24 +27,20 @@ loop-i-preserved-then-is_settled c =
     let i = c.loop-i.i in
     let inside : i < length rows = omega (arith, c.len-i-end.ensures, c.loop-i-test.true) in record {
       none = below_more (λ a. (b : ℕ) → IsLegalPair rows a b → ⊥) i old.none
-          (settled_none known.routes.items known.latest.items rows known.guards.items i old.known.one_each old.marks.tried old.known.latest
+          (settled_none known.routes.items known.latest.items rows known.times.items i old.known.one_each old.marks.tried old.known.latest
           (λ d e. omega (arith, c.is_settled.ensures c.if-is_settled.true e, ap (λ n. get_or known.latest.items n 0) (number_at known.routes.items rows known.numbers.items old.known.numbers i d inside))));
       known = old.known;
+      routes = old.routes;
       marks = old.marks;
-      newer = old.newer;
+      trails = old.trails;
     }
 
 pub partner-requires-clause-trails : goal.partner-requires-clause-trails
-partner-requires-clause-trails c =
-    subst (λ l. AreTrailsFrom 0 c.args.table.now.rows l c.args.links.now.next.items c.deref-in-loop-i-2.result.now) (sym c.deref-in-loop-i.ensures.value)
-    (subst (AreTrailsFrom 0 c.args.table.now.rows c.loop-i.known.guards.items c.args.links.now.next.items) (sym c.deref-in-loop-i-2.ensures.value)
-    (record { one_each = c.loop-i.invariant.known.one_each; nexts = c.requires.links; newer = c.loop-i.invariant.newer; places = c.in_ok-newer.ensures.places }))
-
-pub partner-requires-clause-guarded : goal.partner-requires-clause-guarded
-partner-requires-clause-guarded c = subst (IsGuarded c.args.table.now.rows) (sym c.deref-in-loop-i.ensures.value) c.loop-i.invariant.known.guarded
-
-pub partner-requires-clause-tried : goal.partner-requires-clause-tried
-partner-requires-clause-tried c = subst (AreTried c.args.table.now.rows) (sym c.deref-in-loop-i.ensures.value) c.loop-i.invariant.marks.tried
+partner-requires-clause-trails c d =
+    let rows = c.args.table.now.rows in
+    let ready = c.in_ok-make_ready.ensures in
+    subst (AreTrailsFrom (get_or rows c.loop-i.i d).route.bits 0 rows c.loop-i.known.times.items c.args.links.now.next.items) (sym c.deref.ensures.value)
+    (record { one_each = c.loop-i.invariant.known.one_each; nexts = c.requires.links.next; newer = ready.own d; places = ready.trails.places })
 
 pub returns-in-Some-clause-found : goal.returns-in-Some-clause-found
 returns-in-Some-clause-found c =
@@ -65,33 +52,34 @@ pub loop-i-preserved : goal.loop-i-preserved
 loop-i-preserved c =
     let rows = c.args.table.now.rows in
     let known = c.loop-i.known in
-    let gs = known.guards.items in
+    let gs = known.times.items in
     let i = c.loop-i.i in
     let g = c.marked.result in
     let was = c.index.result.now in
     let mark = c.marked.ensures in
     let old = c.loop-i.invariant in
+    let ready = c.in_ok-make_ready.ensures.trails in
     let inside : i < length gs = omega (arith, old.known.one_each, c.len-i-end.ensures, c.loop-i-test.true) in
     let none : (b : ℕ) → IsLegalPair rows i b → ⊥ = subst (λ o. MatchOption o ((b : ℕ) → IsLegalPair rows i b → ⊥) (λ j. IsFirstPartner rows i j)) c.in_default.is c.partner.ensures in record {
       none = below_more (λ a. (b : ℕ) → IsLegalPair rows a b → ⊥) i old.none none;
       known = record {
+        rivaled = old.known.rivaled;
         one_each = length-set gs i g ∙ old.known.one_each;
-        guarded = record {
-          few = old.known.guarded.few;
-          sound = old.known.guarded.sound;
-          guards = guard_kept rows gs i g was inside c.index.ensures mark.rival mark.clear old.known.guarded.guards;
-        };
-        joined = old.known.joined;
         one_time = old.known.one_time;
-        latest = guard_no_later known.routes.items known.latest.items rows gs c.args.now old.marks.bound i g inside
+        latest = times_no_later known.routes.items known.latest.items rows gs c.args.now old.marks.bound i g inside
             (λ d. omega (arith, mark.changed, ap (λ x. x.changed) c.index.ensures, old.known.latest i d was inside)) old.known.latest;
         once = old.known.once;
         numbers = old.known.numbers;
         one_route = old.known.one_route;
         kept = old.known.kept;
       };
+      routes = old.routes;
       marks = marked_put c.args.now rows gs i g inside old.marks was c.index.ensures mark none;
-      newer = newer_kept c.args.now rows gs (set gs i g) c.in_ok-newer.newer.items i g was inside c.index.ensures refl mark old.newer;
+      trails = record {
+        places = ready.places;
+        one_each = ready.one_each;
+        newer = λ k e low is. newer_kept c.args.now (get_or known.routes.items k 0) rows gs (set gs i g) c.make_ready.new.trails.newer.items i g was inside c.index.ensures refl mark (ready.newer k e low is);
+      };
     }
 
 pub returns-clause-found : goal.returns-clause-found

@@ -14,8 +14,7 @@ loop-c-preserved c =
     let inside : c.loop-c.c < length known.kept.items = omega (arith, old.told.one_route, c.loop-c-test.true, c.len-c-end.ensures, ap length old.routes) in record {
       told = record {
         one_each = old.told.one_each;
-        guarded = old.told.guarded;
-        joined = old.told.joined;
+        rivaled = old.told.rivaled;
         one_time = old.told.one_time;
         latest = old.told.latest;
         once = old.told.once;
@@ -23,7 +22,7 @@ loop-c-preserved c =
         one_route = length-set known.kept.items c.loop-c.c (Some it) ∙ old.told.one_route;
         kept = kept_put known.routes.items rows known.kept.items c.loop-c.c it inside c.in_ok-it.ensures old.told.kept;
       };
-      guards = old.guards;
+      times = old.times;
       routes = old.routes;
       all = all_more known.kept.items c.loop-c.c it inside old.all;
     }

@@ -8,7 +8,7 @@ use Rattle.cover_merge.proofs.choosing.keep_all.Given as goal
 abbrev pub invariant-loop-c : goal.invariant-loop-c
 invariant-loop-c l = record {
   told : IsKnown l.table.rows l.known;
-  guards : l.known.guards.items ≡ l.fn.known.guards.items;
+  times : l.known.times.items ≡ l.fn.known.times.items;
   routes : l.known.routes.items ≡ l.fn.known.routes.items;
   all : (k : ℕ) → k < l.c → (it : Kept) × (get_or l.known.kept.items k None ≡ Some it);
 }

@@ -1,14 +1,10 @@
 -- The places are those of the route's rows.
 use Rattle.std.proofs.Common.{get_or, sym, subst}
 use Rattle.cover_merge.specs.Merge.{IsOneRoute}
-use Rattle.cover_merge.specs.Guards.{IsGuarded}
 use Rattle.cover_merge.specs.Kept.{RefinesWithin}
 use Rattle.cover_merge.proofs.ChooseLemmas.{places_of-one_route}
 use Rattle.cover_merge.proofs.KeepLemmas.{places_read}
 use Rattle.cover_merge.proofs.choosing.kept_of.Goals as goal
-
-pub refine_within-requires-clause-guarded : goal.refine_within-requires-clause-guarded
-refine_within-requires-clause-guarded c = subst (IsGuarded c.args.table.now.rows) (sym c.deref.ensures.value) c.requires.known.guarded
 
 pub refine_within-requires-clause-set : goal.refine_within-requires-clause-set
 refine_within-requires-clause-set c =

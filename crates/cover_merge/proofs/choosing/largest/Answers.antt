@@ -1,7 +1,6 @@
 -- The route of which most places are kept has the largest set.
 use Rattle.std.proofs.Common.{length, get_or, sym, subst, arith}
 use Rattle.cover_merge.specs.Merge.{IsOneRoute}
-use Rattle.cover_merge.specs.Guards.{IsGuarded}
 use Rattle.cover_merge.specs.Kept.{RefinesWithin}
 use Rattle.cover_merge.specs.Known.{IsMostBefore}
 use Rattle.cover_merge.proofs.ChooseLemmas.{places_of-one_route}
@@ -15,9 +14,6 @@ returns-then-most-lt2 c =
     let is : IsMostBefore known.routes.items known.kept.items (length known.routes.items) most =
     subst (λ l. IsMostBefore known.routes.items l (length known.routes.items) most) c.deref-2.ensures.value (subst (λ l. IsMostBefore l c.deref-2.result.now (length l) most) c.deref.ensures.value c.most_of-most.ensures) in
     none_largest known.routes.items c.args.table.now.rows known.numbers.items c.requires.known.numbers known.kept.items c.requires.known.kept c.requires.all most is c.if-most-lt2.true
-
-pub refine_within-requires-clause-guarded : goal.refine_within-requires-clause-guarded
-refine_within-requires-clause-guarded c = subst (IsGuarded c.args.table.now.rows) (sym c.deref-3.ensures.value) c.requires.known.guarded
 
 pub refine_within-requires-clause-set : goal.refine_within-requires-clause-set
 refine_within-requires-clause-set c =

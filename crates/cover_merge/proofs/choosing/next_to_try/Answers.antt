@@ -1,21 +1,30 @@
 -- The next of the route, or the next that changed after the time before.
-use Rattle.std.proofs.Common.{◌≡◌, ◌-◌, suc, subst, arith}
+use Rattle.std.proofs.Common.{◌≡◌, ◌-◌, suc, [], subst, arith}
+use Rattle.cover_merge.specs.Merge.{merge_rows}
 use Rattle.cover_merge.specs.Tried.{IsNextSince}
 use Rattle.cover_merge.proofs.ChooseLemmas.{link_next}
 use Rattle.cover_merge.proofs.TriedLemmas.{since_first}
 use Rattle.cover_merge.proofs.choosing.next_to_try.Goals as goal
 
+pub index-next-requires : goal.index-next-requires
+index-next-requires c = omega (arith, c.requires.inside, (c.requires.trails (merge_rows [])).nexts.one_each)
+
 pub returns-then-time-eq0 : goal.returns-then-time-eq0
 returns-then-time-eq0 c =
     let rows = c.args.table.now.rows in
-    since_first rows c.args.guards.now c.args.k c.index-next.result.now c.args.time
-    (link_next rows c.args.links.now.next.items c.requires.trails.nexts c.args.k c.index-next.result.now c.requires.inside c.index-next.ensures)
+    since_first rows c.args.times.now c.args.k c.index-next.result.now c.args.time
+    (link_next rows c.args.links.now.next.items (c.requires.trails (merge_rows [])).nexts c.args.k c.index-next.result.now c.requires.inside c.index-next.ensures)
 
 pub changed_after-requires-clause-trails : goal.changed_after-requires-clause-trails
-changed_after-requires-clause-trails c =
-    let trails = c.requires.trails in record { one_each = trails.one_each; nexts = trails.nexts; newer = λ j e from within. trails.newer j e (omega arith) within; places = trails.places }
+changed_after-requires-clause-trails c d =
+    let trails = c.requires.trails d in record {
+      one_each = trails.one_each;
+      nexts = trails.nexts;
+      newer = λ j e f from within same. trails.newer j e f (omega arith) within same;
+      places = trails.places;
+    }
 
 pub returns : goal.returns
 returns c =
     let whole : suc (c.args.time - 1) ≡ c.args.time = omega (arith, c.if-time-eq0.false) in
-    subst (λ n. IsNextSince c.args.table.now.rows c.args.guards.now c.args.k n c.changed_after.result) whole c.changed_after.ensures
+    subst (λ n. IsNextSince c.args.table.now.rows c.args.times.now c.args.k n c.changed_after.result) whole c.changed_after.ensures

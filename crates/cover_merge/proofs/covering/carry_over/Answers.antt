@@ -1,46 +1,40 @@
--- All that is known is carried over.
-use Rattle.std.proofs.Common.{◌≡◌, ◌∙◌, ap, sym, subst, length, get_or, arith}
-use Rattle.cover_merge.specs.Guards.{IsGuarded}
+-- All that is known is carried over, but for the rivals of rows.
+use Rattle.std.proofs.Common.{◌≡◌, ◌∙◌, ap, sym, subst, length, get_or}
 use Rattle.cover_merge.specs.Merge.{after}
 use Rattle.cover_merge.specs.Known.{AreRoutesKept, AreStillKept, IsApart}
 use Rattle.cover_merge.specs.Links.{AreNumbers, IsEachOnce, place_of_route}
 use Rattle.cover_merge.specs.Tried.{AreNoLater}
-use Rattle.cover_merge.proofs.CoverLemmas.{shorter}
 use Rattle.cover_merge.proofs.KeepLemmas.{kept_over}
 use Rattle.cover_merge.proofs.covering.carry_over.Goals as goal
-
-pub carry-requires-clause-guarded : goal.carry-requires-clause-guarded
-carry-requires-clause-guarded c = subst (IsGuarded c.args.rows.now) (sym c.forget.ensures.guards) c.touch.ensures.known.guarded
 
 pub returns : goal.returns
 returns c =
     let rows = c.args.rows.now in
-    let old = c.touch.ensures.known in
+    let places = c.args.places.now in
+    let first = c.args.known.now in
+    let start = c.requires.known.0 in
     let t = c.touch.new.known in
+    let old = c.touch.ensures.known in
     let f = c.forget.new.known in
     let same = c.forget.ensures in
-    let first = c.args.known.now in
-    let times : AreNoLater f.routes.items f.latest.items rows f.guards.items =
-    subst (λ g. AreNoLater f.routes.items f.latest.items rows g) (sym same.guards)
-    (subst (λ l. AreNoLater f.routes.items l rows t.guards.items) (sym same.latest) (subst (λ r. AreNoLater r t.latest.items rows t.guards.items) (sym same.routes) old.latest)) in
+    let times : AreNoLater f.routes.items f.latest.items rows f.times.items =
+    subst (λ g. AreNoLater f.routes.items f.latest.items rows g) (sym same.times)
+    (subst (λ l. AreNoLater f.routes.items l rows t.times.items) (sym same.latest) (subst (λ r. AreNoLater r t.latest.items rows t.times.items) (sym same.routes) old.latest)) in
     let numbers : AreNumbers f.routes.items rows f.numbers.items =
     subst (λ n. AreNumbers f.routes.items rows n) (sym same.numbers) (subst (λ r. AreNumbers r rows t.numbers.items) (sym same.routes) old.numbers) in record {
-      guarded = record {
-        few = omega (arith, c.requires.known.0.guarded.few, shorter rows c.args.places.now c.requires.merge.set);
-        sound = c.requires.merge.legal;
-        one_each = c.carry.ensures.one_each;
-        guards = c.carry.ensures.guards;
+      carried = record {
+        one_each = c.carry_times.ensures.one_each;
+        one_time = ap length same.latest ∙ old.one_time ∙ sym (ap length same.routes);
+        latest = c.carry_times.ensures.latest f.routes.items f.latest.items times
+            (λ d. ap (λ r. get_or f.latest.items (place_of_route r (get_or rows (get_or places 0 0) d).route.bits) 0) same.routes
+            ∙ ap (λ l. get_or l (place_of_route t.routes.items (get_or rows (get_or places 0 0) d).route.bits) 0) same.latest ∙ c.touch.ensures.own d);
+        once = subst IsEachOnce (sym same.routes) old.once;
+        numbers = c.carry_numbers.ensures f.routes.items numbers;
+        one_route = same.left.one_each ∙ old.one_route ∙ sym (ap length same.routes);
+        kept = subst (λ r. AreRoutesKept r (after rows places) f.kept.items) (sym (same.routes ∙ c.touch.ensures.same.routes))
+            (kept_over first.routes.items rows first.numbers.items first.kept.items t.kept.items f.kept.items places c.args.merged start.once start.numbers start.rivaled.sound c.requires.merge start.kept c.touch.ensures.left
+            (subst (λ n. AreStillKept (λ k it. (k ≡ get_or n (get_or places 0 0) 0 → ⊥) × (IsApart c.args.merged it)) t.kept.items f.kept.items) c.touch.ensures.same.numbers same.left));
+        marks = c.carry_times.ensures.marks;
       };
-      joined = c.carry_joined.ensures;
-      one_time = ap length same.latest ∙ old.one_time ∙ sym (ap length same.routes);
-      latest = c.carry.ensures.latest f.routes.items f.latest.items times
-          (λ d. ap (λ r. get_or f.latest.items (place_of_route r (get_or rows (get_or c.args.places.now 0 0) d).route.bits) 0) same.routes
-          ∙ ap (λ l. get_or l (place_of_route t.routes.items (get_or rows (get_or c.args.places.now 0 0) d).route.bits) 0) same.latest ∙ c.touch.ensures.own d);
-      once = subst IsEachOnce (sym same.routes) old.once;
-      numbers = c.carry_numbers.ensures f.routes.items numbers;
-      one_route = c.forget.ensures.left.one_each ∙ old.one_route ∙ sym (ap length same.routes);
-      kept = subst (λ r. AreRoutesKept r (after rows c.args.places.now) f.kept.items) (sym (same.routes ∙ c.touch.ensures.same.routes))
-          (kept_over first.routes.items rows first.numbers.items first.kept.items t.kept.items f.kept.items c.args.places.now c.args.merged c.requires.known.0.once c.requires.known.0.numbers c.requires.known.0.guarded.sound c.requires.merge c.requires.known.0.kept c.touch.ensures.left
-          (subst (λ n. AreStillKept (λ k it. (k ≡ get_or n (get_or c.args.places.now 0 0) 0 → ⊥) × (IsApart c.args.merged it)) t.kept.items f.kept.items) c.touch.ensures.same.numbers c.forget.ensures.left));
-      marks = c.carry.ensures.marks;
+      rivals = same.rivals ∙ c.touch.ensures.rivals;
     }

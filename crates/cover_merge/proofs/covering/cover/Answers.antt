@@ -16,7 +16,7 @@ pub merging-init : goal.merging-init
 merging-init c = record {
   so_far = subst (IsCoveredSoFar c.args.target c.args.table.rows c.args.table.rows) (sym c.new-merges.ensures) (so_far_first c.args.target c.args.table.rows c.requires.few c.requires.sound);
   told = subst (λ l. IsKnown l c.in_ok-known.known) c.as_slice.ensures c.in_ok-known.ensures.known;
-  marks = subst (λ n. AreTriedUpTo n c.args.table.rows c.in_ok-known.known.guards.items) (sym (ap length c.new-merges.ensures)) (subst (λ l. AreTriedUpTo 0 l c.in_ok-known.known.guards.items) c.as_slice.ensures c.in_ok-known.ensures.marks);
+  marks = subst (λ n. AreTriedUpTo n c.args.table.rows c.in_ok-known.known.times.items) (sym (ap length c.new-merges.ensures)) (subst (λ l. AreTriedUpTo 0 l c.in_ok-known.known.times.items) c.as_slice.ensures c.in_ok-known.ensures.marks);
 }
 
 pub merging-smaller : goal.merging-smaller
@@ -37,8 +37,8 @@ merging-preserved c =
       so_far = subst (IsCoveredSoFar c.args.target c.args.table.rows c.merge_next.new.table.rows) (sym c.in_ok-push-in-Some.ensures.ok)
           (so_far_more c.args.target c.args.table.rows rows c.merge_next.new.table.rows c.merging.merges (record { places = c.in-Some.places }) c.merging.invariant.so_far more chosen next);
       told = c.in_ok-places.ensures.known;
-      marks = subst (λ l. AreTriedUpTo (length l) c.merge_next.new.table.rows c.merge_next.new.known.guards.items) (sym c.in_ok-push-in-Some.ensures.ok)
-          (marked_later c.len-now.result c.merge_next.new.table.rows c.merge_next.new.known.guards.items (length (c.merging.merges ++ record { places = c.in-Some.places } ∷ []))
+      marks = subst (λ l. AreTriedUpTo (length l) c.merge_next.new.table.rows c.merge_next.new.known.times.items) (sym c.in_ok-push-in-Some.ensures.ok)
+          (marked_later c.len-now.result c.merge_next.new.table.rows c.merge_next.new.known.times.items (length (c.merging.merges ++ record { places = c.in-Some.places } ∷ []))
           (omega (arith, c.len-now.ensures, length-append c.merging.merges (record { places = c.in-Some.places } ∷ []))) c.in_ok-places.ensures.marks);
     }
 

@@ -10,7 +10,7 @@ abbrev pub invariant-merging : goal.invariant-merging
 invariant-merging l = record {
   so_far : IsCoveredSoFar l.target l.fn.table.rows l.table.rows l.merges;
   told : IsKnown l.table.rows l.known;
-  marks : AreTriedUpTo (length l.merges) l.table.rows l.known.guards.items;
+  marks : AreTriedUpTo (length l.merges) l.table.rows l.known.times.items;
 }
 
 abbrev pub decreases-merging : goal.decreases-merging

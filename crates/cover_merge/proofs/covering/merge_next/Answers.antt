@@ -9,4 +9,4 @@ pub merge_at-requires-clause-merge : goal.merge_at-requires-clause-merge
 merge_at-requires-clause-merge c =
     let rows = c.args.table.now.rows in
     let chosen : IsChosen rows c.in-Some.places = subst (λ o. MatchOption o (HasNoChosen rows) (IsChosen rows)) c.in-Some.is c.in_ok-places.ensures.found in
-    chosen_legal rows c.in-Some.places c.requires.known.guarded.sound chosen
+    chosen_legal rows c.in-Some.places c.requires.known.rivaled.sound chosen

@@ -1,6 +1,7 @@
 -- The row that was read is the first with an alias that the block meets.
 use Rattle.std.proofs.Common.{get_or, subst}
 use Rattle.std.proofs.lemmas.Option.{slice_get-get_or}
+use Rattle.tern_word.specs.declared.tables.Row.{Row}
 use Rattle.cover_merge.specs.Refinement.{IsFirstMet}
 use Rattle.cover_merge.proofs.refining.first_met_from.Goals as goal
 
@@ -10,6 +11,6 @@ returns-in-Some c = record {
   row = get_or c.args.rows.now c.loop-r.r c.index-rows-r.result;
   from = c.loop-r.auto.r;
   found = slice_get-get_or c.args.rows.now c.loop-r.r c.index-rows-r.result c.loop-r-test.true;
-  first = subst (λ l. IsFirstMet c.args.block l c.in-Some.met) c.as_slice.ensures c.in-Some.ensures;
+  first = subst (λ (x : Row). IsFirstMet c.args.block x.aliases c.in-Some.met) c.index-rows-r.is c.in-Some.ensures;
   before = c.loop-r.invariant;
 }

@@ -4,15 +4,15 @@ use Rattle.std.specs.Prelude.{MatchOption}
 use Rattle.spin_base.specs.declared.blocks.Block.{Block}
 use Rattle.tern_word.specs.SoundTable.{IsSound}
 use Rattle.cover_merge.specs.Merge.{IsOneRoute, IsMergeSet, IsLegal, PassesUpCheck, merged_block}
-use Rattle.cover_merge.specs.Guards.{IsGuarded}
+use Rattle.cover_merge.specs.Rivals.{IsRivaled}
 use Rattle.cover_merge.specs.Kept.{IsGone, RefinesWithin}
 use Rattle.cover_merge.proofs.KeptLemmasSteps.{gone_empty, gone_start, gone_up}
 use Rattle.cover_merge.proofs.KeepLemmas.{turn_down, turn_legal}
 use Rattle.cover_merge.proofs.RefineLemmas.{one_route_after, legal_here}
 use Rattle.cover_merge.proofs.refining.refine_within.Goals as goal
 
-pub sift-requires-clause-guarded : goal.sift-requires-clause-guarded
-sift-requires-clause-guarded c = subst (λ l. IsGuarded l c.args.guards.now) (sym c.as_slice-rows.ensures) c.requires.guarded
+pub sift-requires-clause-rivaled : goal.sift-requires-clause-rivaled
+sift-requires-clause-rivaled c = subst (λ l. IsRivaled l c.args.rivals.now) (sym c.as_slice-rows.ensures) c.requires.rivaled
 
 pub loop-rows-init : goal.loop-rows-init
 loop-rows-init c = record {
@@ -41,7 +41,7 @@ returns-then-narrow-clause-legal c =
     let sifted : (2 ≤ length left) × (c.in-Some.merged ≡ merged_block rows left) × (PassesUpCheck rows left) =
     subst (λ o. MatchOption o (length left < 2) (λ (m : Block). (2 ≤ length left) × (m ≡ merged_block rows left) × (PassesUpCheck rows left))) c.in-Some.is c.in_ok-merged.ensures.found in
     inr (subst (λ l. (IsMergeSet l made.set) × (IsLegal l made.set)) c.as_slice-rows.ensures
-    (legal_here rows left c.in_ok-merged.ensures.one_route (subst IsSound (sym c.as_slice-rows.ensures) c.requires.guarded.sound) sifted.0 c.narrow.new.set.items made.set
+    (legal_here rows left c.in_ok-merged.ensures.one_route (subst IsSound (sym c.as_slice-rows.ensures) c.requires.rivaled.sound) sifted.0 c.narrow.new.set.items made.set
     (sifted.2, c.if-narrow.ensures.0, c.if-narrow.ensures.1) c.with_bounds.ensures.set))
 
 pub loop-rows-preserved-else-narrow : goal.loop-rows-preserved-else-narrow

@@ -2,6 +2,7 @@
 use Rattle.std.proofs.Common.{◌≡◌, ◌<◌, ◌≤◌, ◌+◌, ◌-◌, ◌++◌, ◌↔◌, ℕ, List, IsTrue, true, take, drop, ap, sym, subst, refl, ◌∙◌, length, length-set, length-take, get_or, set, arith}
 use Rattle.std.specs.Prelude.{All}
 use Rattle.std.proofs.lemmas.List.{take_all, take-append-drop, take_rest, take-set-le}
+use Rattle.cover_merge.proofs.Lists.{All-right}
 use Rattle.tern_word.specs.Ternary.{generality}
 use Rattle.cover_merge.specs.Merge.{IsOneRoute, PassesUp, PassesUpCheck, has_row, merged_block, place_for}
 use Rattle.cover_merge.specs.Kept.{LeadsWithin}
@@ -56,6 +57,12 @@ passes-requires-clause-one_route c r less found =
     let old = c.loop-i.invariant in
     alike_behind c.args.rows.now xs c.loop-i.i c.loop-i.kept c.loop-i-test.true old.gap old.within old.set c.index.result.now c.index.ensures r less
     (subst (λ l. has_row l r ≡ true) (rest_of c.loop-i.kept c.deref-in-loop-i.result.now xs c.deref-in-loop-i.ensures.value) found)
+
+pub passes-requires-clause-in_range : goal.passes-requires-clause-in_range
+passes-requires-clause-in_range c =
+    let xs = c.loop-i.set.items in
+    subst (All (λ s. s < length c.args.rows.now)) (sym (rest_of c.loop-i.kept c.deref-in-loop-i.result.now xs c.deref-in-loop-i.ensures.value))
+    (All-right (λ s. s < length c.args.rows.now) (take c.loop-i.i xs) (drop c.loop-i.kept xs) c.loop-i.invariant.set.in_range)
 
 pub loop-i-preserved-then-passes : goal.loop-i-preserved-then-passes
 loop-i-preserved-then-passes c =
@@ -140,13 +147,13 @@ loop-i-preserved c =
       gap = omega (arith, old.gap);
       within = old.within;
       same = old.same;
-      set = sift_one rows now old.set c.requires.guarded.sound.ordered c.loop-i.merged old.merge g general (i - 1) inside last new gone count two;
+      set = sift_one rows now old.set c.requires.rivaled.sound.ordered c.loop-i.merged old.merge g general (i - 1) inside last new gone count two;
       some = omega (arith, count, two);
       merge = merge;
       before = begins_less (i - 1) i xs c.args.set.now.items (omega (arith, some)) old.before;
-      behind = sift_behind rows now old.set c.requires.guarded.sound.ordered c.loop-i.merged old.merge g general (i - 1) inside last new gone count two c.merge_from-merged.result merge _ refl;
+      behind = sift_behind rows now old.set c.requires.rivaled.sound.ordered c.loop-i.merged old.merge g general (i - 1) inside last new gone count two c.merge_from-merged.result merge _ refl;
       leads = λ outer low.
-          leads_on rows outer low c.args.set.now.items now new (old.leads outer low) (sift_leads rows now old.set c.requires.guarded.sound.ordered c.loop-i.merged old.merge g general (i - 1) inside last new gone count two outer low);
+          leads_on rows outer low c.args.set.now.items now new (old.leads outer low) (sift_leads rows now old.set c.requires.rivaled.sound.ordered c.loop-i.merged old.merge g general (i - 1) inside last new gone count two outer low);
     }
 
 pub returns-clause-found : goal.returns-clause-found
@@ -160,7 +167,7 @@ returns-clause-found c =
     let is : c.take_out_run.new.set.items ≡ now = c.take_out_run.ensures in
     let two : 2 ≤ length now = subst (λ l. 2 ≤ length l) is (omega (arith, c.len-2.ensures, c.if-len-lt2.false)) in
     subst (λ l. (2 ≤ length l) × (c.loop-i.merged ≡ merged_block rows l) × (PassesUpCheck rows l)) (sym is)
-    (two, old.merge, all_pass rows now old.set c.requires.guarded.sound.ordered c.loop-i.merged old.merge _ refl (none_fails rows now (place_for rows (generality c.loop-i.merged)) i (done two) old.behind))
+    (two, old.merge, all_pass rows now old.set c.requires.rivaled.sound.ordered c.loop-i.merged old.merge _ refl (none_fails rows now (place_for rows (generality c.loop-i.merged)) i (done two) old.behind))
   where
     done : 2 ≤ length (take c.loop-i.i c.loop-i.set.items ++ drop c.loop-i.kept c.loop-i.set.items) → c.loop-i.i ≤ 0
     done two = elim c.loop-i-test.branch [

@@ -1,0 +1,185 @@
+-- Counting, for each bit, the places that it keeps: one pass over the places, with a counter a bit.
+use Rattle.std.proofs.Common.{◌≡◌, ◌≢◌, ◌⊎◌, ℕ, zero, suc, ◌+◌, ◌-◌, ◌*◌, ◌^◌, ◌%◌, ◌<◌, ◌≤◌, ◌==◌, ◌&&◌, Bool, true, false, cond, List, length, get_or, set, take, refl, sym, ap, subst, ◌∙◌, inl, inr, ◌++◌, ◌∷◌, [], length-append, length-take, arith}
+use Rattle.std.specs.Prelude.{MatchOption, Option, None, Some, bit_and, bit_xor, min, filter, not}
+use Rattle.std.specs.Int.{bit_at, bit_not, trailing_zeros, w32}
+use Rattle.std.proofs.lemmas.Bool.{cases_eq}
+use Rattle.std.proofs.lemmas.Grind.{get_or-set_at}
+use Rattle.std.proofs.lemmas.List.{get_or-set_other, take_all, take_more}
+use Rattle.std.proofs.lemmas.List.Elements.{filter-append}
+use Rattle.std.proofs.lemmas.List.Sums.{count_by-le-length, length-filter}
+use Rattle.std.proofs.lemmas.Nat.{and_le_l}
+use Rattle.std.proofs.lemmas.Nat.Bits.{bit_at-lt, bit_at_and, bit_at_not, bit_at_xor, bit_at-zero, bit_at-trailing_zeros, bit_at_clear_same, bit_at_clear_other}
+use Rattle.spin_base.specs.declared.blocks.Block.{Block}
+use Rattle.tern_word.specs.declared.tables.Row.{Row}
+use Rattle.cover_merge.specs.Refinement.{can_choose, parts, keeps, kept_by, kept_count, IsBestBit}
+use Rattle.cover_merge.proofs.RefineLemmas.{keeps_inside, keeps_outside}
+
+-- ---- the words
+
+pub open_bit : (merged met : Block) (j : ℕ) → j < 32 → bit_at (bit_and met.mask (bit_not w32 merged.mask)) j ≡ cond (can_choose merged met j) 1 0
+unfolding can_choose
+open_bit merged met j low =
+    bit_at_and met.mask (bit_not w32 merged.mask) j ∙ ap (min (bit_at met.mask j)) (bit_at_not w32 merged.mask j merged.small low)
+    ∙ both (bit_at merged.mask j) (bit_at met.mask j) (bit_at-lt merged.mask j) (bit_at-lt met.mask j)
+  where
+    both : (x y : ℕ) → x < 2 → y < 2 → min y (1 - x) ≡ cond ((x == 0) && (y == 1)) 1 0
+    both zero zero lx ly = refl
+    both zero (suc zero) lx ly = refl
+    both (suc zero) zero lx ly = refl
+    both (suc zero) (suc zero) lx ly = refl
+    both (suc (suc x)) y lx ly = absurd (omega arith)
+    both zero (suc (suc y)) lx ly = absurd (omega arith)
+    both (suc zero) (suc (suc y)) lx ly = absurd (omega arith)
+
+keeping_bit : (b met : Block) (free j : ℕ) → bit_at (bit_and (bit_and free b.mask) (bit_xor b.key met.key)) j ≡ cond (parts b met j) (bit_at free j) 0
+unfolding parts
+keeping_bit b met free j =
+    bit_at_and (bit_and free b.mask) (bit_xor b.key met.key) j
+    ∙ ap (λ n. min n (bit_at (bit_xor b.key met.key) j)) (bit_at_and free b.mask j)
+    ∙ ap (min (min (bit_at free j) (bit_at b.mask j))) (bit_at_xor b.key met.key j)
+    ∙ by_mask (bit_at b.mask j) (bit_at b.key j) (bit_at met.key j) (bit_at free j) (bit_at-lt b.mask j) (bit_at-lt b.key j) (bit_at-lt met.key j) (bit_at-lt free j)
+  where
+    by_mask : (m k t x : ℕ) → m < 2 → k < 2 → t < 2 → x < 2 → min (min x m) ((k + t) % 2) ≡ cond ((m == 1) && not (k == t)) x 0
+    by_mask zero zero zero zero lm lk lt lx = refl
+    by_mask zero zero zero (suc zero) lm lk lt lx = refl
+    by_mask zero zero (suc zero) zero lm lk lt lx = refl
+    by_mask zero zero (suc zero) (suc zero) lm lk lt lx = refl
+    by_mask zero (suc zero) zero zero lm lk lt lx = refl
+    by_mask zero (suc zero) zero (suc zero) lm lk lt lx = refl
+    by_mask zero (suc zero) (suc zero) zero lm lk lt lx = refl
+    by_mask zero (suc zero) (suc zero) (suc zero) lm lk lt lx = refl
+    by_mask (suc zero) zero zero zero lm lk lt lx = refl
+    by_mask (suc zero) zero zero (suc zero) lm lk lt lx = refl
+    by_mask (suc zero) zero (suc zero) zero lm lk lt lx = refl
+    by_mask (suc zero) zero (suc zero) (suc zero) lm lk lt lx = refl
+    by_mask (suc zero) (suc zero) zero zero lm lk lt lx = refl
+    by_mask (suc zero) (suc zero) zero (suc zero) lm lk lt lx = refl
+    by_mask (suc zero) (suc zero) (suc zero) zero lm lk lt lx = refl
+    by_mask (suc zero) (suc zero) (suc zero) (suc zero) lm lk lt lx = refl
+    by_mask (suc (suc m)) k t x lm lk lt lx = absurd (omega arith)
+    by_mask zero (suc (suc k)) t x lm lk lt lx = absurd (omega arith)
+    by_mask (suc zero) (suc (suc k)) t x lm lk lt lx = absurd (omega arith)
+    by_mask zero zero (suc (suc t)) x lm lk lt lx = absurd (omega arith)
+    by_mask zero (suc zero) (suc (suc t)) x lm lk lt lx = absurd (omega arith)
+    by_mask (suc zero) zero (suc (suc t)) x lm lk lt lx = absurd (omega arith)
+    by_mask (suc zero) (suc zero) (suc (suc t)) x lm lk lt lx = absurd (omega arith)
+    by_mask zero zero zero (suc (suc x)) lm lk lt lx = absurd (omega arith)
+    by_mask zero zero (suc zero) (suc (suc x)) lm lk lt lx = absurd (omega arith)
+    by_mask zero (suc zero) zero (suc (suc x)) lm lk lt lx = absurd (omega arith)
+    by_mask zero (suc zero) (suc zero) (suc (suc x)) lm lk lt lx = absurd (omega arith)
+    by_mask (suc zero) zero zero (suc (suc x)) lm lk lt lx = absurd (omega arith)
+    by_mask (suc zero) zero (suc zero) (suc (suc x)) lm lk lt lx = absurd (omega arith)
+    by_mask (suc zero) (suc zero) zero (suc (suc x)) lm lk lt lx = absurd (omega arith)
+    by_mask (suc zero) (suc zero) (suc zero) (suc (suc x)) lm lk lt lx = absurd (omega arith)
+
+pub keeping_inside : (rows : List Row) (met : Block) (free j s : ℕ) (d : Row) → s < length rows
+    → bit_at (bit_and (bit_and free (get_or rows s d).block.mask) (bit_xor (get_or rows s d).block.key met.key)) j ≡ cond (keeps rows met j s) (bit_at free j) 0
+keeping_inside rows met free j s d within = keeping_bit (get_or rows s d).block met free j ∙ ap (λ t. cond t (bit_at free j) 0) (keeps_inside rows met j s d within)
+
+pub keeping_outside : (rows : List Row) (met : Block) (free j s : ℕ) → length rows ≤ s → bit_at 0 j ≡ cond (keeps rows met j s) (bit_at free j) 0
+keeping_outside rows met free j s past = bit_at-zero j ∙ ap (λ t. cond t (bit_at free j) 0) (keeps_outside rows met j s past)
+
+-- ---- the bits of a word, one after another
+
+abbrev pub without : ℕ → ℕ → ℕ
+without left i = bit_and left (bit_not w32 (1 * 2 ^ i % 2 ^ 32))
+
+-- What is counted, with the bits that are left, is what was counted and all bits.
+abbrev pub AreCounted : List ℕ → ℕ → List ℕ → ℕ → Type 0
+AreCounted counts left start word = (j : ℕ) → j < 32 → get_or counts j 0 + bit_at left j ≡ get_or start j 0 + bit_at word j
+
+module _ (counts start : List ℕ) (left word : ℕ) (small : left < 2 ^ 32) (some : left ≢ 0) (long : length counts ≡ 32) (counted : AreCounted counts left start word) where
+  abbrev i : ℕ
+  i = trailing_zeros w32 left
+
+  low : (i < 32) × (bit_at left i ≡ 1) × ((k : ℕ) → k < i → bit_at left k ≡ 0)
+  low = bit_at-trailing_zeros w32 left (omega (arith, some)) small
+
+  gone : bit_at (without left i) i ≡ 0
+  gone = bit_at_clear_same w32 left i low.0
+
+  pub count_fits : ((j : ℕ) → j < 32 → get_or start j 0 + 1 < 2 ^ 64) → get_or counts i 0 + 1 < 2 ^ 64
+  count_fits room = omega (arith, room i low.0, counted i low.0, low.1, bit_at-lt word i)
+
+  pub fewer_bits : without left i < left
+  fewer_bits = elim (cases_eq (without left i) left) [
+    | inl same ↦ absurd (omega (arith, gone, ap (λ n. bit_at n i) same, low.1))
+    | inr other ↦ omega (arith, and_le_l left (bit_not w32 (1 * 2 ^ i % 2 ^ 32)), other)
+  ]
+
+  pub one_counted : AreCounted (set counts i (get_or counts i 0 + 1)) (without left i) start word
+  one_counted j within = by_place (cases_eq j i)
+    where
+      by_place : (j ≡ i) ⊎ (j ≢ i) → get_or (set counts i (get_or counts i 0 + 1)) j 0 + bit_at (without left i) j ≡ get_or start j 0 + bit_at word j
+      by_place (inl same) =
+          let here : get_or (set counts i (get_or counts i 0 + 1)) i 0 ≡ get_or counts i 0 + 1 = get_or-set_at counts i i (get_or counts i 0 + 1) 0 refl (omega (arith, low.0, long)) in
+          subst (λ k. get_or (set counts i (get_or counts i 0 + 1)) k 0 + bit_at (without left i) k ≡ get_or start k 0 + bit_at word k) (sym same) (omega (arith, here, gone, counted i low.0, low.1))
+      by_place (inr other) =
+          let there : get_or (set counts i (get_or counts i 0 + 1)) j 0 ≡ get_or counts j 0 = get_or-set_other counts i j (get_or counts i 0 + 1) 0 other in
+          omega (arith, there, bit_at_clear_other w32 left i low.0 j within other, counted j within)
+
+-- ---- the places, one after another
+
+-- So far the places passed are counted for each bit.
+abbrev pub AreKeptCounts : List ℕ → List Row → List ℕ → Block → Block → Type 0
+AreKeptCounts counts rows places merged met = (j : ℕ) → j < 32 → get_or counts j 0 ≡ kept_count rows places merged met j
+
+-- a list of zeros counts none
+pub none_counted : (counts : List ℕ) (rows : List Row) (merged met : Block) → ((j : ℕ) → j < 32 → get_or counts j 0 ≡ 0) → AreKeptCounts counts rows [] merged met
+none_counted counts rows merged met zeros j low = zeros j low ∙ none (can_choose merged met j) 0
+  where
+    none : (b : Bool) (z : ℕ) → z ≡ cond b z z
+    none true z = refl
+    none false z = refl
+
+-- one more is counted where the bit can be chosen and keeps it
+more : (p : ℕ → Bool) (can : Bool) (xs : List ℕ) (x : ℕ) → cond can (length (filter p xs)) 0 + cond (p x) (cond can 1 0) 0 ≡ cond can (length (filter p (xs ++ x ∷ []))) 0
+more p can xs x = by_choice can (p x) (ap length (filter-append p xs (x ∷ [])) ∙ length-append (filter p xs) (filter p (x ∷ [])))
+  where
+    by_choice : (b q : Bool) → length (filter p (xs ++ x ∷ [])) ≡ length (filter p xs) + length (cond q (x ∷ []) []) → cond b (length (filter p xs)) 0 + cond q (cond b 1 0) 0 ≡ cond b (length (filter p (xs ++ x ∷ []))) 0
+    by_choice true true is = sym is
+    by_choice true false is = sym is
+    by_choice false true is = refl
+    by_choice false false is = refl
+
+module _ (rows : List Row) (places : List ℕ) (merged met : Block) (k : ℕ) (within : k < length places) (counts : List ℕ) (so_far : AreKeptCounts counts rows (take k places) merged met) where
+  pub room_for : length places < 2 ^ 64 → (j : ℕ) → j < 32 → get_or counts j 0 + 1 < 2 ^ 64
+  room_for short j low = omega (arith, so_far j low, at_most (can_choose merged met j), length-take k places, within, short)
+    where
+      at_most : (b : Bool) → cond b (length (kept_by rows met j (take k places))) 0 ≤ length (take k places)
+      at_most true = omega (arith, length-filter (keeps rows met j) (take k places), count_by-le-length (keeps rows met j) (take k places))
+      at_most false = omega arith
+
+  pub kept_more : (free word s : ℕ) → s ≡ get_or places k 0 → ((j : ℕ) → j < 32 → bit_at free j ≡ cond (can_choose merged met j) 1 0) → ((j : ℕ) → j < 32 → bit_at word j ≡ cond (keeps rows met j s) (bit_at free j) 0)
+      → (new : List ℕ) → ((j : ℕ) → j < 32 → get_or new j 0 ≡ get_or counts j 0 + bit_at word j) → AreKeptCounts new rows (take (k + 1) places) merged met
+  kept_more free word s read free_is word_is new new_is j low =
+      let can = can_choose merged met j in
+      let p = keeps rows met j in
+      new_is j low
+      ∙ ap (λ n. n + bit_at word j) (so_far j low)
+      ∙ ap (λ n. kept_count rows (take k places) merged met j + n) (word_is j low ∙ ap (λ n. cond (p s) n 0) (free_is j low))
+      ∙ more p can (take k places) s
+      ∙ ap (λ x. kept_count rows (take k places ++ x ∷ []) merged met j) read
+      ∙ ap (λ l. kept_count rows l merged met j) (sym (take_more places k 0 within))
+
+-- the place of the greatest count is the best bit
+pub best_of : (rows : List Row) (places : List ℕ) (merged met : Block) (counts : List ℕ) (n : ℕ) → length places ≤ n → AreKeptCounts counts rows (take n places) merged met → (found : Option ℕ)
+    → MatchOption found ((j : ℕ) → j < 32 → get_or counts j 0 ≡ 0) (λ i. (i < 32) × (0 < get_or counts i 0) × ((j : ℕ) → j < 32 → get_or counts j 0 ≤ get_or counts i 0) × ((j : ℕ) → j < 32 → i < j → get_or counts j 0 < get_or counts i 0))
+    → MatchOption found ((j : ℕ) → j < 32 → kept_count rows places merged met j ≡ 0) (λ i. (i < 32) × (IsBestBit rows places merged met i))
+best_of rows places merged met counts n whole so_far found greatest = by_answer found greatest
+  where
+    all : AreKeptCounts counts rows places merged met
+    all = subst (λ l. AreKeptCounts counts rows l merged met) (take_all n places whole) so_far
+
+    by_answer : (o : Option ℕ)
+        → MatchOption o ((j : ℕ) → j < 32 → get_or counts j 0 ≡ 0) (λ i. (i < 32) × (0 < get_or counts i 0) × ((j : ℕ) → j < 32 → get_or counts j 0 ≤ get_or counts i 0) × ((j : ℕ) → j < 32 → i < j → get_or counts j 0 < get_or counts i 0))
+        → MatchOption o ((j : ℕ) → j < 32 → kept_count rows places merged met j ≡ 0) (λ i. (i < 32) × (IsBestBit rows places merged met i))
+    by_answer None zero_all = λ j low. sym (all j low) ∙ zero_all j low
+    by_answer (Some i) best = (
+      best.0,
+      record {
+        some = omega (arith, all i best.0, best.1);
+        most = λ j low. omega (arith, all i best.0, all j low, best.2 j low);
+        highest = λ j low less. omega (arith, all i best.0, all j low, best.3 j low less);
+      },
+    )

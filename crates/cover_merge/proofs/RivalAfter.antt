@@ -1,0 +1,446 @@
+-- The rivals of rows in the table after a merge.
+use Rattle.std.proofs.Common.{◌≡◌, ◌≢◌, ◌==◌, ◌||◌, ◌^◌, ℕ, zero, suc, ◌+◌, ◌<◌, ◌≤◌, ◌⊎◌, Bool, true, false, cond, List, [], ◌∷◌, ◌++◌, length, get_or, take, drop, inl, inr, refl, sym, ap, ◌∙◌, subst, take-append-drop, length-append, length-take, length-drop, get_or-take, get_or-drop, arith}
+use Rattle.std.specs.Prelude.{All, AllPairs, filter, insert, not}
+use Rattle.std.proofs.Math.Seq.{get_or-append_seam}
+use Rattle.std.proofs.lemmas.Bool.{cases_Bool, cases_eq, cases_lt, eq-eqb, ne_eqb, not-true, not_from_false}
+use Rattle.std.proofs.lemmas.List.{get_or_append_left}
+use Rattle.std.proofs.lemmas.List.Edits.{length-insert}
+use Rattle.std.proofs.lemmas.List.Elements.{All-nil, All-head, All-tail, All-cons, All-append, All-take, All-drop, All-filter, filter_passes}
+use Rattle.std.proofs.lemmas.List.Kept.{AllPairs-cons, AllPairs-filter}
+use Rattle.spin_base.specs.declared.blocks.Block.{Block}
+use Rattle.tern_word.specs.declared.tables.Row.{Row}
+use Rattle.tern_word.specs.SoundTable.{IsSound, Misses}
+use Rattle.tern_word.specs.Ternary.{generality}
+use Rattle.cover_merge.specs.Merge.{has_row, merge_rows, merged_row, merged_block, place_for, insert_place, after, IsMergeSet, IsLegal}
+use Rattle.cover_merge.specs.Rivals.{AreMet, AreRivalsAt, AreRivalsAfter, HasSerial, IsPutIn, IsRivalBehind, IsRivalOf, IsRivaled, MeetsAliasOf, MeetsNone, is_at_one, rivals_left}
+use Rattle.cover_merge.specs.declared.rivals.Rival.{Rival}
+use Rattle.cover_merge.specs.declared.rivals.Rivals.{Rivals}
+use Rattle.cover_merge.proofs.Legal.{narrower_misses, member_lies}
+use Rattle.cover_merge.proofs.Lists.{All-picked, AllPairs-head, AllPairs-tail, AllPairs-append, AllPairs-left, AllPairs-right, AllPairs-across, picked_lengths}
+use Rattle.cover_merge.proofs.Positions.{has-place, place_for-le}
+use Rattle.cover_merge.proofs.ApplyLemmas.{left, first_kept, members_before, block_is, route_is, after_is}
+use Rattle.cover_merge.proofs.CoverLemmas.{shorter}
+use Rattle.cover_merge.proofs.KeptLemmas.{from_less, to_less}
+use Rattle.cover_merge.proofs.KeptLemmasMoved.{rank, moved, merged_at, moved_get, item_moved, item_merged, item_onto}
+
+-- ---- numbers in a list of rivals
+
+listed_cons : (v : Rival) (list : List Rival) (n : ℕ) → HasSerial list n → HasSerial (v ∷ list) n
+listed_cons v list n is = record { at = suc is.at; within = omega (arith, is.within); found = is.found }
+
+listed_here : (v : Rival) (list : List Rival) (n : ℕ) → v.serial ≡ n → HasSerial (v ∷ list) n
+listed_here v list n same = record { at = 0; within = omega arith; found = λ e. same }
+
+-- the first has it, or one behind
+listed_case : (v : Rival) (list : List Rival) (n : ℕ) → HasSerial (v ∷ list) n → (v.serial ≡ n) ⊎ (HasSerial list n)
+listed_case v list n is = by_place is.at is.within is.found
+  where
+    by_place : (at : ℕ) → at < suc (length list) → ((e : Rival) → (get_or (v ∷ list) at e).serial ≡ n) → (v.serial ≡ n) ⊎ (HasSerial list n)
+    by_place zero within found = inl (found v)
+    by_place (suc at) within found = inr (record { at = at; within = omega (arith, within); found = found })
+
+-- one that passes the test stays
+listed_filter : (f : Rival → Bool) (list : List Rival) (n : ℕ) → ((v : Rival) → v.serial ≡ n → f v ≡ true) → HasSerial list n → HasSerial (filter f list) n
+listed_filter f [] n pass is = is
+listed_filter f (v ∷ list) n pass is = by_case (listed_case v list n is) (λ rest. listed_filter f list n pass rest)
+  where
+    by_test : (b : Bool) → HasSerial (filter f list) n → HasSerial (cond b (v ∷ filter f list) (filter f list)) n
+    by_test true rest = listed_cons v (filter f list) n rest
+    by_test false rest = rest
+
+    by_case : (v.serial ≡ n) ⊎ (HasSerial list n) → (HasSerial list n → HasSerial (filter f list) n) → HasSerial (filter f (v ∷ list)) n
+    by_case (inl here) behind = subst (λ b. HasSerial (cond b (v ∷ filter f list) (filter f list)) n) (sym (pass v here)) (listed_here v (filter f list) n here)
+    by_case (inr rest) behind = by_test (f v) (behind rest)
+
+listed_insert : (list : List Rival) (p : ℕ) (v : Rival) (n : ℕ) → HasSerial list n → HasSerial (insert list p v) n
+listed_insert list zero v n is = listed_cons v list n is
+listed_insert [] (suc p) v n is = absurd (omega (arith, is.within))
+listed_insert (x ∷ list) (suc p) v n is = elim (listed_case x list n is) [
+  | inl here ↦ listed_here x (insert list p v) n here
+  | inr rest ↦ listed_cons x (insert list p v) n (listed_insert list p v n rest)
+]
+
+listed_new : (list : List Rival) (p : ℕ) (v : Rival) → p ≤ length list → HasSerial (insert list p v) v.serial
+listed_new list zero v within = listed_here v list v.serial refl
+listed_new [] (suc p) v within = absurd (omega (arith, within))
+listed_new (x ∷ list) (suc p) v within = listed_cons x (insert list p v) v.serial (listed_new list p v (omega (arith, within)))
+
+-- ---- one that is put in
+
+abbrev IsNoMore : Rival → Rival → Type 0
+IsNoMore v w = v.general ≤ w.general
+
+ordered_insert : (v : Rival) (old new : List Rival) → IsPutIn v old new → AllPairs IsNoMore old → AllPairs IsNoMore new
+ordered_insert v old new put ordered =
+    let n = put.at in
+    let whole : AllPairs IsNoMore (take n old ++ drop n old) = subst (AllPairs IsNoMore) (sym (take-append-drop n old)) ordered in
+    let across = AllPairs-across IsNoMore (take n old) (drop n old) whole in
+    subst (AllPairs IsNoMore) (sym put.result)
+    (AllPairs-append IsNoMore (take n old) (v ∷ drop n old) (AllPairs-left IsNoMore (take n old) (drop n old) whole)
+    (AllPairs-cons IsNoMore v (drop n old) later (AllPairs-right IsNoMore (take n old) (drop n old) whole))
+    (λ k d within. All-cons (IsNoMore (get_or (take n old) k d)) v (drop n old) (earlier k d within) (across k d within)))
+  where
+    later : All (IsNoMore v) (drop put.at old)
+    later k d within =
+        subst (IsNoMore v) (sym (get_or-drop put.at old k d)) (put.behind (put.at + k) d (omega arith) (omega (arith, length-drop put.at old, within)))
+
+    earlier : All (λ x. IsNoMore x v) (take put.at old)
+    earlier k d within =
+        let less : k < put.at = omega (arith, length-take put.at old, within) in
+        subst (λ x. IsNoMore x v) (sym (get_or-take put.at old k d less)) (put.before k d less)
+
+all_insert : (P : Rival → Type 0) (v : Rival) (old new : List Rival) → IsPutIn v old new → P v → All P old → All P new
+all_insert P v old new put here all =
+    subst (All P) (sym put.result)
+    (All-append P (take put.at old) (v ∷ drop put.at old) (All-take P put.at old all) (All-cons P v (drop put.at old) here (All-drop P put.at old all)))
+
+-- ---- rows at the places, by their numbers
+
+module _ (rows : List Row) (serials places : List ℕ) (apart : (i j : ℕ) → i < length rows → j < length rows → get_or serials i 0 ≡ get_or serials j 0 → i ≡ j) where
+  -- numbers are one where the rows are
+  same_serial : (i j : ℕ) → i < length rows → j < length rows → (get_or serials i 0 == get_or serials j 0) ≡ (i == j)
+  same_serial i j in_i in_j = elim (cases_eq i j) [
+    | inl same ↦ eq-eqb (get_or serials i 0) (get_or serials j 0) (ap (λ n. get_or serials n 0) same) ∙ sym (eq-eqb i j same)
+    | inr other ↦ ne_eqb (get_or serials i 0) (get_or serials j 0) (λ is. other (apart i j in_i in_j is)) ∙ sym (ne_eqb i j other)
+  ]
+
+  at_place : (set : List ℕ) (r : ℕ) → All (λ s. s < length rows) set → r < length rows → is_at_one serials set (get_or serials r 0) ≡ has_row set r
+  at_place [] r in_range inside = refl
+  at_place (s ∷ set) r in_range inside =
+      ap (λ b. b || is_at_one serials set (get_or serials r 0)) (same_serial s r (All-head (λ x. x < length rows) s set in_range) inside)
+      ∙ ap (λ b. (s == r) || b) (at_place set r (All-tail (λ x. x < length rows) s set in_range) inside)
+
+  module _ (in_range : All (λ s. s < length rows) places) (s : ℕ) (block : Block) (merged : Rival) where
+    -- a rival of a row, in the table after the merge
+    abbrev IsRivalAfter : Rival → Type 0
+    IsRivalAfter v = ((v ≡ merged) × ((d : Row) → Misses block (get_or rows s d) → ⊥)) ⊎ ((it : IsRivalBehind rows serials s v) × (has_row places it.place ≡ false))
+
+    -- The merge meets an alias of the row: those that are merged go, and the merged row comes.
+    pub renewed : (old new : List Rival) → ((d : Row) → Misses block (get_or rows s d) → ⊥) → AreRivalsAt rows serials s old → IsPutIn merged (rivals_left serials places old) new → AreRivalsAfter rows serials places block merged s new
+    renewed old new meets was put = record {
+      ordered = ordered_insert merged (rivals_left serials places old) new put (AllPairs-filter IsNoMore left_out old was.ordered);
+      each = all_insert IsRivalAfter merged (rivals_left serials places old) new put (inl (refl, meets)) left_each;
+      all = λ r behind inside out. by_case r inside out (was.all r behind inside);
+      own = inr (subst (λ l. HasSerial l merged.serial) (sym put.result) (listed_new (rivals_left serials places old) put.at merged put.within));
+    }
+      where
+        left_out : Rival → Bool
+        left_out v = not (is_at_one serials places v.serial)
+
+        left_each : All IsRivalAfter (rivals_left serials places old)
+        left_each k d within =
+            let it = All-filter left_out (IsRivalBehind rows serials s) old was.each k d within in
+            let passes = filter_passes left_out old k d within in
+            inr (it, sym (at_place places it.place in_range it.is.inside) ∙ ap (is_at_one serials places) (sym it.is.serial) ∙ not-true (is_at_one serials places (get_or (rivals_left serials places old) k d).serial) passes)
+
+        by_case : (r : ℕ) → r < length rows → has_row places r ≡ false → (MeetsNone rows r s) ⊎ (HasSerial old (get_or serials r 0)) → (MeetsNone rows r s) ⊎ (HasSerial new (get_or serials r 0))
+        by_case r inside out (inl none) = inl none
+        by_case r inside out (inr found) = inr (subst (λ l. HasSerial l (get_or serials r 0)) (sym put.result)
+            (listed_insert (rivals_left serials places old) put.at merged (get_or serials r 0)
+            (listed_filter left_out old (get_or serials r 0) (λ v is. not_from_false (is_at_one serials places v.serial) (ap (is_at_one serials places) is ∙ at_place places r in_range inside ∙ out)) found)))
+
+    -- The merge misses the row, so no member is a rival of it: the list stays.
+    pub unmet : (list : List Rival) → IsMergeSet rows places → block ≡ merged_block rows places → ((d : Row) → Misses block (get_or rows s d)) → AreRivalsAt rows serials s list → AreRivalsAfter rows serials places block merged s list
+    unmet list set is misses was = record {
+      ordered = was.ordered;
+      each = λ k d within. let it = was.each k d within in inr (it, no_member it.place it.meets (cases_Bool (has_row places it.place)));
+      all = λ r behind inside out. was.all r behind inside;
+      own = inl misses;
+    }
+      where
+        no_member : (r : ℕ) → MeetsAliasOf rows r s → (has_row places r ≡ true) ⊎ (has_row places r ≡ false) → has_row places r ≡ false
+        no_member r meets (inr out) = out
+        no_member r meets (inl found) = let d = merge_rows [] in absurd (meets d (narrower_misses block (get_or rows r d).block (get_or rows s d) (member_lies rows places set block is r d found) (misses d)))
+
+-- ---- one row after the other
+
+-- The rows at the first places of those that are met have their rivals after the merge, and all others as they were.
+pub record AreRenewed (rows : List Row) (serials places : List ℕ) (block : Block) (merged : Rival) (met : List ℕ) (k : ℕ) (old now : List (List Rival)) : Type 0 where
+  pub done : (i : ℕ) → i < k → AreRivalsAfter rows serials places block merged (get_or met i 0) (get_or now (get_or serials (get_or met i 0) 0) [])
+  pub others : (s : ℕ) → s < length rows → ((i : ℕ) → i < k → get_or met i 0 ≢ s) → get_or now (get_or serials s 0) [] ≡ get_or old (get_or serials s 0) []
+
+pub none_renewed : (rows : List Row) (serials places : List ℕ) (block : Block) (merged : Rival) (met : List ℕ) (old : List (List Rival)) → AreRenewed rows serials places block merged met 0 old old
+none_renewed rows serials places block merged met old = record {
+  done = λ i less. absurd (omega (arith, less));
+  others = λ s inside apart. refl;
+}
+
+module _ (rows : List Row) (serials places : List ℕ) (block : Block) (merged : Rival) (met : List ℕ) (are_met : AreMet block rows met) (old : List (List Rival))
+    (each : (s : ℕ) → s < length rows → AreRivalsAt rows serials s (get_or old (get_or serials s 0) [])) (apart : (i j : ℕ) → i < length rows → j < length rows → get_or serials i 0 ≡ get_or serials j 0 → i ≡ j) (set : IsMergeSet rows places) where
+  met_inside : (i : ℕ) → i < length met → get_or met i 0 < length rows
+  met_inside i within = are_met.inside i 0 within
+
+  -- the next row has its rivals as they were
+  pub next_list : (k : ℕ) (now : List (List Rival)) → k < length met → AreRenewed rows serials places block merged met k old now → AreRivalsAt rows serials (get_or met k 0) (get_or now (get_or serials (get_or met k 0) 0) [])
+  next_list k now within so_far =
+      let s = get_or met k 0 in
+      subst (AreRivalsAt rows serials s) (sym (so_far.others s (met_inside k within) (λ i less same. omega (arith, same, are_met.ascending i k 0 less within)))) (each s (met_inside k within))
+
+  pub one_renewed : (k : ℕ) (now new : List (List Rival)) → k < length met → AreRenewed rows serials places block merged met k old now
+      → IsPutIn merged (rivals_left serials places (get_or now (get_or serials (get_or met k 0) 0) [])) (get_or new (get_or serials (get_or met k 0) 0) [])
+      → ((n : ℕ) → n ≢ get_or serials (get_or met k 0) 0 → get_or new n [] ≡ get_or now n []) → AreRenewed rows serials places block merged met (k + 1) old new
+  one_renewed k now new within so_far put others = record {
+    done = λ i less. by_place i less (cases_lt i k);
+    others = λ s inside differ. others (get_or serials s 0) (λ same. differ k (omega arith) (sym (apart s (get_or met k 0) inside (met_inside k within) same))) ∙ so_far.others s inside (λ i less. differ i (omega (arith, less)));
+  }
+    where
+      by_place : (i : ℕ) → i < k + 1 → (i < k) ⊎ (k ≤ i) → AreRivalsAfter rows serials places block merged (get_or met i 0) (get_or new (get_or serials (get_or met i 0) 0) [])
+      by_place i less (inl earlier) =
+          let s = get_or met i 0 in
+          let differ : get_or serials s 0 ≢ get_or serials (get_or met k 0) 0 = λ same. omega (arith, apart s (get_or met k 0) (met_inside i (omega (arith, earlier, within))) (met_inside k within) same, are_met.ascending i k 0 earlier within) in
+          subst (AreRivalsAfter rows serials places block merged s) (sym (others (get_or serials s 0) differ)) (so_far.done i earlier)
+      by_place i less (inr last) =
+          let here : k ≡ i = omega (arith, less, last) in
+          let s = get_or met k 0 in
+          subst (λ j. AreRivalsAfter rows serials places block merged (get_or met j 0) (get_or new (get_or serials (get_or met j 0) 0) [])) here
+          (renewed rows serials places apart set.set.in_range s block merged (get_or now (get_or serials s 0) []) (get_or new (get_or serials s 0) []) (are_met.meets k 0 within) (next_list k now within so_far) put)
+
+  -- at the end, rows that are not met have the same rivals after the merge
+  pub all_renewed : (k : ℕ) (now : List (List Rival)) → block ≡ merged_block rows places → k ≡ length met → AreRenewed rows serials places block merged met k old now
+      → (s : ℕ) → s < length rows → AreRivalsAfter rows serials places block merged s (get_or now (get_or serials s 0) [])
+  all_renewed k now is all so_far s inside = by_case (are_met.all s inside)
+    where
+      by_case : ((d : Row) → Misses block (get_or rows s d)) ⊎ (has_row met s ≡ true) → AreRivalsAfter rows serials places block merged s (get_or now (get_or serials s 0) [])
+      by_case (inl misses) =
+          let d = merge_rows [] in
+          let same = so_far.others s inside (λ i less at. are_met.meets i 0 (omega (arith, less, all)) d (subst (λ t. Misses block (get_or rows t d)) (sym at) (misses d))) in
+          unmet rows serials places apart set.set.in_range s block merged (get_or now (get_or serials s 0) []) set is misses (subst (AreRivalsAt rows serials s) (sym same) (each s inside))
+      by_case (inr found) = let at = has-place met s found in subst (λ t. AreRivalsAfter rows serials places block merged t (get_or now (get_or serials t 0) [])) at.2 (so_far.done at.0 (omega (arith, at.1, all)))
+
+-- ---- where the merged row stands
+
+-- the rows outside the places, of those below a place
+abbrev below_out : List ℕ → ℕ → ℕ
+below_out places = rank (λ j. not (has_row places j))
+
+module _ (s : ℕ) (rest : List ℕ) (above : All (λ t. s < t) rest) where
+  -- at or before the first place, it makes no difference
+  first_same : (n : ℕ) → n ≤ s → below_out (s ∷ rest) n ≡ below_out rest n
+  first_same zero le = refl
+  first_same (suc n) le =
+      ap (λ b. cond (not (b || has_row rest n)) (suc (below_out (s ∷ rest) n)) (below_out (s ∷ rest) n)) (ne_eqb s n (λ same. omega (arith, same, le)))
+      ∙ ap (λ m. cond (not (has_row rest n)) (suc m) m) (first_same n (omega arith))
+
+  -- behind it, there is one fewer
+  first_fewer : (n : ℕ) → s < n → suc (below_out (s ∷ rest) n) ≡ below_out rest n
+  first_fewer zero less = absurd (omega arith)
+  first_fewer (suc n) less = elim (cases_lt s n) [
+    | inl earlier ↦
+        ap (λ b. suc (cond (not (b || has_row rest n)) (suc (below_out (s ∷ rest) n)) (below_out (s ∷ rest) n))) (ne_eqb s n (λ same. omega (arith, same, earlier)))
+        ∙ by_test (not (has_row rest n)) (first_fewer n earlier)
+    | inr last ↦
+        let same : s ≡ n = omega (arith, last, less) in
+        ap (λ b. suc (cond (not (b || has_row rest n)) (suc (below_out (s ∷ rest) n)) (below_out (s ∷ rest) n))) (eq-eqb s n same)
+        ∙ ap suc (first_same n last)
+        ∙ sym (ap (λ b. cond (not b) (suc (below_out rest n)) (below_out rest n)) (first_kept s rest above n last))
+  ]
+    where
+      by_test : {a c : ℕ} (b : Bool) → suc a ≡ c → suc (cond b (suc a) a) ≡ cond b (suc c) c
+      by_test true is = ap suc is
+      by_test false is = is
+
+all_out : (places : List ℕ) (n : ℕ) → AllPairs (λ s t. s < t) places → All (λ s. s < n) places → below_out places n + length places ≡ n
+all_out [] zero ascending before = refl
+all_out [] (suc n) ascending before =
+    let one : below_out [] (suc n) ≡ suc (below_out [] n) = refl in omega (arith, one, all_out [] n ascending (All-nil (λ s. s < n)))
+all_out (s ∷ rest) n ascending before =
+    let fewer = first_fewer s rest (AllPairs-head (λ a b. a < b) s rest ascending) n (All-head (λ x. x < n) s rest before) in
+    omega (arith, fewer, all_out rest n (AllPairs-tail (λ a b. a < b) s rest ascending) (All-tail (λ x. x < n) s rest before))
+
+-- the merged row stands before its insertion place by as many as are merged
+pub stands_at : (rows : List Row) (places : List ℕ) → IsSound rows → IsMergeSet rows places → merged_at rows places + length places ≡ insert_place rows places
+stands_at rows places sound set = all_out places (insert_place rows places) set.set.ascending (members_before rows places sound.ordered set)
+
+-- the insertion place, as the code finds it
+pub place_is : (rows one two : List Row) (places members : List ℕ) (general place : ℕ) → one ≡ rows → two ≡ rows → members ≡ places → general ≡ generality (merged_block one members) → place ≡ place_for two general → place ≡ insert_place rows places
+place_is rows one two places members general place first second same level found =
+    found ∙ ap (λ l. place_for l general) second
+    ∙ ap (place_for rows) (level ∙ ap (λ l. generality (merged_block l members)) first ∙ ap (λ l. generality (merged_block rows l)) same)
+
+-- ---- the rivals of all rows after a merge
+
+module _ (rows : List Row) (places : List ℕ) (sound : IsSound rows) (set : IsMergeSet rows places) (serials : List ℕ) (one_each : length serials ≡ length rows) (n : ℕ) where
+  abbrev new : List Row
+  new = after rows places
+
+  abbrev to : ℕ → ℕ
+  to = moved rows places
+
+  abbrev at : ℕ
+  at = merged_at rows places
+
+  abbrev carried : List ℕ
+  carried = left places 0 (insert serials (insert_place rows places) n)
+
+  abbrev grown : List Row
+  grown = insert rows (insert_place rows places) (merged_row rows places)
+
+  place_le : insert_place rows places ≤ length rows
+  place_le = place_for-le rows (generality (merged_block rows places))
+
+  pub carried_length : length carried ≡ length new
+  carried_length =
+      picked_lengths (λ j. not (has_row places j)) 0 grown (insert serials (insert_place rows places) n)
+      (length-insert serials (insert_place rows places) n (omega (arith, place_le, one_each)) ∙ ap (λ m. m + 1) one_each ∙ sym (length-insert rows (insert_place rows places) (merged_row rows places) place_le))
+      ∙ ap length (after_is rows places sound.ordered set)
+
+  merged_get : (d : Row) → (at < length new) × (get_or new at d ≡ merged_row rows places)
+  merged_get d = subst (λ l. (at < length l) × (get_or l at d ≡ merged_row rows places)) (after_is rows places sound.ordered set) (item_merged rows places sound.ordered set rows (merged_row rows places) refl d)
+
+  pub at_inside : at < length new
+  at_inside = (merged_get (merged_row rows places)).0
+
+  -- the block of the merged row
+  block_at : (d : Row) → (get_or new at d).block ≡ merged_block rows places
+  block_at d = ap (λ (r : Row). r.block) (merged_get d).1 ∙ block_is rows places sound.ordered set
+
+  row_to : (k : ℕ) (d : Row) → k < length rows → has_row places k ≡ false → get_or new (to k) d ≡ get_or rows k d
+  row_to k d inside out = (moved_get rows places sound.ordered set k d inside out).1
+
+  serial_to : (k : ℕ) → k < length rows → has_row places k ≡ false → get_or carried (to k) 0 ≡ get_or serials k 0
+  serial_to k inside out = (item_moved rows places sound.ordered set serials n one_each k 0 (omega (arith, inside, one_each)) out).1
+
+  serial_at : get_or carried at 0 ≡ n
+  serial_at = (item_merged rows places sound.ordered set serials n one_each 0).1
+
+  abbrev CameFrom : ℕ → Type 0
+  CameFrom l = ((k : ℕ) × (k < length rows) × (has_row places k ≡ false) × (to k ≡ l)) ⊎ (l ≡ at)
+
+  came_from : (l : ℕ) → l < length new → CameFrom l
+  came_from l within = by_case (item_onto rows places sound.ordered set serials n one_each l (omega (arith, within, carried_length)))
+    where
+      by_case : ((k : ℕ) × (k < length serials) × (has_row places k ≡ false) × (to k ≡ l)) ⊎ (l ≡ at) → CameFrom l
+      by_case (inl (k, inside, out, is)) = inl (k, omega (arith, inside, one_each), out, is)
+      by_case (inr is) = inr is
+
+  -- ---- numbers
+
+  -- the numbers, as the code makes them
+  pub carried_is : (members now items : List ℕ) (place serial : ℕ) → members ≡ places → now ≡ serials → place ≡ insert_place rows places → serial ≡ n → items ≡ left members 0 (insert now place serial) → items ≡ carried
+  carried_is members now items place serial same kept is number made =
+      made ∙ ap (λ l. left l 0 (insert now place serial)) same ∙ ap (λ l. left places 0 (insert l place serial)) kept
+      ∙ ap (λ m. left places 0 (insert serials m serial)) is ∙ ap (λ m. left places 0 (insert serials (insert_place rows places) m)) number
+
+  module _ (legal : IsLegal rows places) (below : All (λ k. k < n) serials) (apart : (i j : ℕ) → i < length rows → j < length rows → get_or serials i 0 ≡ get_or serials j 0 → i ≡ j) where
+    in_use : (k : ℕ) → k < length rows → get_or serials k 0 < n
+    in_use k inside = below k 0 (omega (arith, inside, one_each))
+
+    carried_below : All (λ k. k < n + 1) carried
+    carried_below =
+        let p = insert_place rows places in
+        let wider : All (λ k. k < n + 1) serials = λ k d within. omega (arith, below k d within) in
+        All-picked (λ k. k < n + 1) (λ j. not (has_row places j)) 0 (insert serials p n)
+        (All-append (λ k. k < n + 1) (take p serials) (n ∷ drop p serials) (All-take (λ k. k < n + 1) p serials wider)
+        (All-cons (λ k. k < n + 1) n (drop p serials) (omega arith) (All-drop (λ k. k < n + 1) p serials wider)))
+
+    carried_apart : (i j : ℕ) → i < length new → j < length new → get_or carried i 0 ≡ get_or carried j 0 → i ≡ j
+    carried_apart i j in_i in_j same = by_cases (came_from i in_i) (came_from j in_j)
+      where
+        read : (k l : ℕ) → k < length rows → has_row places k ≡ false → to k ≡ l → get_or carried l 0 ≡ get_or serials k 0
+        read k l inside out is = ap (λ m. get_or carried m 0) (sym is) ∙ serial_to k inside out
+
+        read_at : (l : ℕ) → l ≡ at → get_or carried l 0 ≡ n
+        read_at l is = ap (λ m. get_or carried m 0) is ∙ serial_at
+
+        by_cases : CameFrom i → CameFrom j → i ≡ j
+        by_cases (inl (k, inside, out, is)) (inl (m, within, gone, to_m)) =
+            sym is ∙ ap to (apart k m inside within (sym (read k i inside out is) ∙ same ∙ read m j within gone to_m)) ∙ to_m
+        by_cases (inl (k, inside, out, is)) (inr last) = absurd (omega (arith, in_use k inside, read k i inside out is, same, read_at j last))
+        by_cases (inr first) (inl (m, within, gone, to_m)) = absurd (omega (arith, in_use m within, read m j within gone to_m, same, read_at i first))
+        by_cases (inr first) (inr last) = first ∙ sym last
+
+    -- ---- the rivals of a row that moved
+
+    module _ (merged : Rival) (serial : merged.serial ≡ n) (general : merged.general ≡ generality (merged_block rows places)) (bits : (d : Row) → merged.bits ≡ (get_or rows (get_or places 0 0) d).route.bits) where
+      merged_is : IsRivalOf new carried at merged
+      merged_is = record {
+        inside = at_inside;
+        serial = serial ∙ sym serial_at;
+        general = λ d. general ∙ sym (ap generality (block_at d));
+        bits = λ d. bits d ∙ sym (ap (λ (r : Row). r.route.bits) (merged_get d).1 ∙ ap (λ r. r.bits) (route_is rows places d set.set.in_range (omega (arith, set.two))));
+      }
+
+      module _ (k : ℕ) (inside : k < length rows) (out : has_row places k ≡ false) (list : List Rival) (was : AreRivalsAfter rows serials places (merged_block rows places) merged k list) where
+        -- no row before a row meets an alias of it, as the table after the merge is sound
+        merged_behind : ((d : Row) → Misses (merged_block rows places) (get_or rows k d) → ⊥) → (to k < at) ⊎ (at ≤ to k) → to k < at
+        merged_behind meets (inl less) = less
+        merged_behind meets (inr le) = elim (cases_lt at (to k)) [
+          | inl less ↦
+              let d = merged_row rows places in
+              absurd (meets d (subst (Misses (merged_block rows places)) (row_to k d inside out) (subst (λ b. Misses b (get_or new (to k) d)) (block_at d)
+              (legal.unmet at (to k) d less (moved_get rows places sound.ordered set k d inside out).0))))
+          | inr most ↦
+              let same : at ≡ to k = omega (arith, le, most) in
+              absurd (omega (arith, in_use k inside, serial_to k inside out, serial_at, ap (λ m. get_or carried m 0) same))
+        ]
+
+        each_after : All (IsRivalBehind new carried (to k)) list
+        each_after i e within = by_case (was.each i e within)
+          where
+            by_case : ((get_or list i e ≡ merged) × ((d : Row) → Misses (merged_block rows places) (get_or rows k d) → ⊥)) ⊎ ((it : IsRivalBehind rows serials k (get_or list i e)) × (has_row places it.place ≡ false)) → IsRivalBehind new carried (to k) (get_or list i e)
+            by_case (inl (is, meets)) = record {
+              place = at;
+              behind = merged_behind meets (cases_lt (to k) at);
+              is = subst (IsRivalOf new carried at) (sym is) merged_is;
+              meets = λ d misses. meets d (subst (Misses (merged_block rows places)) (row_to k d inside out) (subst (λ b. Misses b (get_or new (to k) d)) (block_at d) misses));
+            }
+            by_case (inr (it, gone)) = record {
+              place = to it.place;
+              behind = to_less rows places sound set legal k it.place out it.behind;
+              is = record {
+                inside = (moved_get rows places sound.ordered set it.place (merged_row rows places) it.is.inside gone).0;
+                serial = it.is.serial ∙ sym (serial_to it.place it.is.inside gone);
+                general = λ d. it.is.general d ∙ sym (ap (λ (r : Row). generality r.block) (row_to it.place d it.is.inside gone));
+                bits = λ d. it.is.bits d ∙ sym (ap (λ (r : Row). r.route.bits) (row_to it.place d it.is.inside gone));
+              };
+              meets = λ d misses. it.meets d (subst (λ (r : Row). Misses r.block (get_or rows k d)) (row_to it.place d it.is.inside gone) (subst (Misses (get_or new (to it.place) d).block) (row_to k d inside out) misses));
+            }
+
+        all_after : (r : ℕ) → to k < r → r < length new → (MeetsNone new r (to k)) ⊎ (HasSerial list (get_or carried r 0))
+        all_after r behind within = by_place (came_from r within)
+          where
+            by_row : (m : ℕ) → m < length rows → has_row places m ≡ false → to m ≡ r → (MeetsNone rows m k) ⊎ (HasSerial list (get_or serials m 0)) → (MeetsNone new r (to k)) ⊎ (HasSerial list (get_or carried r 0))
+            by_row m inner gone is (inl none) = inl (λ d.
+                subst (λ x. Misses (get_or new x d).block (get_or new (to k) d)) is
+                (subst (λ (x : Row). Misses x.block (get_or new (to k) d)) (sym (row_to m d inner gone)) (subst (Misses (get_or rows m d).block) (sym (row_to k d inside out)) (none d))))
+            by_row m inner gone is (inr found) = inr (subst (HasSerial list) (sym (ap (λ x. get_or carried x 0) (sym is) ∙ serial_to m inner gone)) found)
+
+            by_own : r ≡ at → ((d : Row) → Misses (merged_block rows places) (get_or rows k d)) ⊎ (HasSerial list merged.serial) → (MeetsNone new r (to k)) ⊎ (HasSerial list (get_or carried r 0))
+            by_own is (inl none) = inl (λ d.
+                subst (λ x. Misses (get_or new x d).block (get_or new (to k) d)) (sym is)
+                (subst (λ b. Misses b (get_or new (to k) d)) (sym (block_at d)) (subst (Misses (merged_block rows places)) (sym (row_to k d inside out)) (none d))))
+            by_own is (inr found) = inr (subst (HasSerial list) (serial ∙ sym serial_at ∙ ap (λ x. get_or carried x 0) (sym is)) found)
+
+            by_place : CameFrom r → (MeetsNone new r (to k)) ⊎ (HasSerial list (get_or carried r 0))
+            by_place (inl (m, inner, gone, is)) = by_row m inner gone is (was.all m (from_less rows places sound set legal k m gone (omega (arith, behind, is))) inner gone)
+            by_place (inr is) = by_own is was.own
+
+        row_after : AreRivalsAt new carried (to k) list
+        row_after = record { ordered = was.ordered; each = each_after; all = all_after }
+
+      -- ---- all rows
+
+      -- The lists are those of the numbers, and that of the merged row is the last.
+      pub rivaled_after : length rows < 2 ^ 32 → (of : List (List Rival)) (own : List Rival) (rivals : Rivals) → length of ≡ n → ((s : ℕ) → s < length rows → AreRivalsAfter rows serials places (merged_block rows places) merged s (get_or of (get_or serials s 0) []))
+          → AreRivalsAt new carried at own → rivals.serials.items ≡ carried → rivals.of.items ≡ of ++ own ∷ [] → IsRivaled new rivals
+      rivaled_after few of own rivals many was last serials_are of_is = record {
+        few = omega (arith, few, shorter rows places set);
+        sound = legal;
+        one_each = ap length serials_are ∙ carried_length;
+        below = subst (All (λ k. k < length rivals.of.items)) (sym serials_are) (subst (λ m. All (λ k. k < m) carried) (sym longer) carried_below);
+        apart = subst (λ l. (i j : ℕ) → i < length new → j < length new → get_or l i 0 ≡ get_or l j 0 → i ≡ j) (sym serials_are) carried_apart;
+        each = λ s inside. subst (λ l. AreRivalsAt new l s (get_or rivals.of.items (get_or l s 0) [])) (sym serials_are)
+            (subst (λ l. AreRivalsAt new carried s (get_or l (get_or carried s 0) [])) (sym of_is) (by_place s (came_from s inside)));
+      }
+        where
+          longer : length rivals.of.items ≡ n + 1
+          longer = ap length of_is ∙ length-append of (own ∷ []) ∙ ap (λ m. m + 1) many
+
+          by_place : (s : ℕ) → CameFrom s → AreRivalsAt new carried s (get_or (of ++ own ∷ []) (get_or carried s 0) [])
+          by_place s (inl (k, inside, out, is)) =
+              subst (λ x. AreRivalsAt new carried x (get_or (of ++ own ∷ []) (get_or carried x 0) [])) is
+              (subst (AreRivalsAt new carried (to k)) (sym (ap (λ m. get_or (of ++ own ∷ []) m []) (serial_to k inside out) ∙ get_or_append_left of (own ∷ []) [] (get_or serials k 0) (omega (arith, in_use k inside, many))))
+              (row_after k inside out (get_or of (get_or serials k 0) []) (was k inside)))
+          by_place s (inr is) =
+              subst (λ x. AreRivalsAt new carried x (get_or (of ++ own ∷ []) (get_or carried x 0) [])) (sym is)
+              (subst (AreRivalsAt new carried at) (sym (ap (λ m. get_or (of ++ own ∷ []) m []) (serial_at ∙ sym many) ∙ get_or-append_seam of own [] [])) last)

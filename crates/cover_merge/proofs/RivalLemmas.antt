@@ -1,0 +1,453 @@
+-- Rivals of rows: what they tell of the up-check, and how they are found.
+use Rattle.std.proofs.Common.{◌≡◌, ℕ, zero, suc, ◌+◌, ◌<◌, ◌≤◌, ◌^◌, ◌⊎◌, ◌↔◌, IsTrue, Bool, true, false, List, [], ◌∷◌, ◌++◌, length, get_or, refl, sym, ap, subst, ◌∙◌, length-append, arith, inl, inr}
+use Rattle.std.specs.Prelude.{All, AllPairs, bit_and, ◌==◌}
+use Rattle.std.proofs.lemmas.Bool.{cases_order, cases_lt, eqb-false, eqb-true, or_parts, false_from_ne_true}
+use mathlib.Core.Bool.{true≢false}
+use borrow.Author.Count.{below_more}
+use Rattle.std.proofs.lemmas.List.{get_or_append_left, get_or_default, get_or_past, get_or_push}
+use Rattle.std.proofs.lemmas.List.Folds.{list_any-append, Any-from_list_any}
+use Rattle.std.proofs.lemmas.Option.{get_or_from_slice_get, slice_get_within}
+use Rattle.std.proofs.lemmas.List.Elements.{All-nil, All-push, All-weaker, pair_read}
+use Rattle.std.proofs.lemmas.List.Quantifiers.{all_pairs_push}
+use Rattle.spin_base.specs.declared.blocks.Block.{Block}
+use Rattle.tern_word.specs.declared.tables.Alias.{Alias}
+use Rattle.tern_word.specs.declared.tables.Row.{Row}
+use Rattle.tern_word.specs.Ternary.{Intersects, LiesIn, generality}
+use Rattle.tern_word.specs.SoundTable.{IsOrdered, IsSound, Misses}
+use Rattle.tern_word.proofs.BlockLaws.{Intersects-sym, Intersects-wider}
+use Rattle.cover_merge.specs.Merge.{has_row, merge_rows, merged_block, insert_place, SameRoute, IsOneRoute, IsMergeSet, IsLegal, place_for, PassesUp, PassesDown}
+use Rattle.cover_merge.proofs.Lists.{AllPairs-nil}
+use Rattle.cover_merge.proofs.Positions.{at_one_of, has-at, has-place, place_for-above, place_for-below, place_for-le}
+use Rattle.cover_merge.proofs.Answering.{answers_no, fails}
+use Rattle.cover_merge.proofs.Legal.{up_from_legal, down_from_legal, legal_from_checks}
+use Rattle.cover_merge.specs.declared.rivals.Rival.{Rival}
+use Rattle.cover_merge.specs.declared.rivals.Rivals.{Rivals}
+use Rattle.cover_merge.specs.Rivals.{AreJoined, AreRivalsAt, HasSerial, IsOriginal, IsRivalBehind, IsRivalOf, IsRivaled, MeetsAliasOf, MeetsNone, is_at_one}
+
+-- ---- the rows of a set
+
+-- the rows of a set have one route
+pub one_route : (rows : List Row) (places : List ℕ) → IsOneRoute rows places → (s r : ℕ) → has_row places s ≡ true → has_row places r ≡ true → s < r → SameRoute rows s r
+one_route rows places set s r in_s in_r less d =
+    let a = has-place places s in_s in
+    let b = has-place places r in_r in
+    let one = set.one_route in
+    elim (cases_order a.0 b.0) [
+      | inl same ↦ let e = sym a.2 ∙ ap (λ i. get_or places i 0) same ∙ b.2 in absurd (omega (arith, e, less))
+      | inr apart ↦ elim apart [
+        | inl before ↦ subst (λ x. (get_or rows x d).route ≡ (get_or rows r d).route) a.2 (subst (λ y. (get_or rows (get_or places a.0 0) d).route ≡ (get_or rows y d).route) b.2 (one a.0 b.0 0 before b.1 d))
+        | inr after ↦ sym (subst (λ x. (get_or rows x d).route ≡ (get_or rows s d).route) b.2 (subst (λ y. (get_or rows (get_or places b.0 0) d).route ≡ (get_or rows y d).route) a.2 (one b.0 a.0 0 after a.1 d)))
+      ]
+    ]
+
+-- ---- rows that are not original
+
+-- a row that is original meets no alias of an earlier one
+pub original_misses : (rows : List Row) → IsSound rows → (s r : ℕ) (d : Row) → s < r → r < length rows → IsOriginal (get_or rows r d) → Misses (get_or rows r d).block (get_or rows s d)
+original_misses rows sound s r d less inside own k e within meets =
+    let first = get_or rows s d in
+    let later = get_or rows r d in
+    let alias = (get_or first.aliases k e).block in
+    let lies : LiesIn alias first.block = sound.inside s d (omega (arith, less, inside)) k e within in
+    let apart : Intersects first.block own.alias.block → ⊥ = subst (λ (a : Alias). Intersects first.block a.block → ⊥) (get_or_from_slice_get later.aliases own.at own.alias own.alias own.found)
+    (sound.unmet s r d less inside own.at own.alias (slice_get_within later.aliases own.at own.alias own.found)) in
+    apart (Intersects-sym own.alias.block first.block (Intersects-wider own.alias.block alias first.block lies (record { key = meets.key; small = meets.small; first = ap (bit_and meets.key) own.mask ∙ meets.first ∙ sym own.key; second = meets.second })))
+
+-- ---- the place behind the rows of a generality
+
+pub place_found : (rows : List Row) (g p : ℕ) → IsOrdered rows → p ≤ length rows → ((k : ℕ) (d : Row) → k < p → generality (get_or rows k d).block ≤ g) → ((k : ℕ) (d : Row) → p ≤ k → k < length rows → g < generality (get_or rows k d).block) → p ≡ place_for rows g
+place_found rows g p ordered within low high =
+    let d : Row = merge_rows [] in
+    elim (cases_order p (place_for rows g)) [
+      | inl same ↦ same
+      | inr apart ↦ elim apart [
+        | inl before ↦ let le = place_for-le rows g in absurd (omega (arith, high p d (omega arith) (omega arith), place_for-below rows g ordered p d before))
+        | inr after ↦ let q = place_for rows g in absurd (omega (arith, place_for-above rows g ordered q d (omega (arith, within, after)) (low q d after)))
+      ]
+    ]
+
+-- ---- what the code reads
+
+pub missed_read : (rows : List Row) (s r : ℕ) (first e : Row) (t : Bool) → s < length rows → r < length rows → first ≡ get_or rows s first → (IsTrue t) ↔ (Misses (get_or rows r e).block first) → t ≡ true → (d : Row) → Misses (get_or rows r d).block (get_or rows s d)
+missed_read rows s r first e t in_s in_r is_first tells came d =
+    pair_read rows (λ (x y : Row). Misses x.block y) r s (get_or rows r e) first in_r in_s (get_or_default rows r e (get_or rows r e) in_r) is_first (tells.0 came) d
+
+-- no row behind one that was read is of lesser generality
+pub general_behind : (rows : List Row) (place : ℕ) (a : Row) (g : ℕ) → IsOrdered rows → place < length rows → g ≡ generality (get_or rows place a).block → (k : ℕ) (d : Row) → place ≤ k → k < length rows → g ≤ generality (get_or rows k d).block
+general_behind rows place a g ordered inside level k d from within =
+    let here : generality (get_or rows place d).block ≡ g = ap (λ (x : Row). generality x.block) (get_or_default rows place d a inside) ∙ sym level in
+    elim (cases_lt place k) [
+      | inl less ↦ omega (arith, here, ordered place k d less within)
+      | inr last ↦ let same : place ≡ k = omega arith in let e = ap (λ i. generality (get_or rows i d).block) same in omega (arith, here, e)
+    ]
+
+-- ---- a pair
+
+module _ (list rows : List Row) (same : list ≡ rows) (i j : ℕ) (set : IsMergeSet rows (i ∷ j ∷ [])) (sound : IsSound rows) (b : Block) (is : b ≡ merged_block list (i ∷ j ∷ [])) (g : ℕ) (general : g ≡ generality b) where
+  block_is : b ≡ merged_block rows (i ∷ j ∷ [])
+  block_is = is ∙ ap (λ l. merged_block l (i ∷ j ∷ [])) same
+
+  place_is : place_for list g ≡ insert_place rows (i ∷ j ∷ [])
+  place_is = ap (λ l. place_for l g) same ∙ ap (place_for rows) (general ∙ ap generality block_is)
+
+  up_here : (s : ℕ) → PassesUp list (i ∷ j ∷ []) s (place_for list g) → PassesUp rows (i ∷ j ∷ []) s (insert_place rows (i ∷ j ∷ []))
+  up_here s up = subst (λ l. PassesUp l (i ∷ j ∷ []) s (insert_place rows (i ∷ j ∷ []))) same (subst (λ n. PassesUp list (i ∷ j ∷ []) s n) place_is up)
+
+  up_there : (s : ℕ) → PassesUp rows (i ∷ j ∷ []) s (insert_place rows (i ∷ j ∷ [])) → PassesUp list (i ∷ j ∷ []) s (place_for list g)
+  up_there s up = subst (λ n. PassesUp list (i ∷ j ∷ []) s n) (sym place_is) (subst (λ l. PassesUp l (i ∷ j ∷ []) s (insert_place rows (i ∷ j ∷ []))) (sym same) up)
+
+  -- where the up-check of one of them fails, the pair is not legal
+  pub pair_refused : (s : ℕ) (t : Bool) → has_row (i ∷ j ∷ []) s ≡ true → (IsTrue t) ↔ (PassesUp list (i ∷ j ∷ []) s (place_for list g)) → t ≡ false → (IsTrue false) ↔ (IsLegal rows (i ∷ j ∷ []))
+  pair_refused s t member tells came =
+      answers_no (IsLegal rows (i ∷ j ∷ [])) (λ legal. fails (PassesUp list (i ∷ j ∷ []) s (place_for list g)) t tells came (up_there s (up_from_legal rows (i ∷ j ∷ []) sound set.set.in_range legal s member)))
+
+  -- where both pass it, the down-check decides
+  pub pair_told : (t : Bool) (p : ℕ) → PassesUp list (i ∷ j ∷ []) i (place_for list g) → PassesUp list (i ∷ j ∷ []) j (place_for list g) → p ≡ place_for list g → (IsTrue t) ↔ (PassesDown list b p) → (IsTrue t) ↔ (IsLegal rows (i ∷ j ∷ []))
+  pair_told t p first second place tells = (λ yes. legal_from_checks rows (i ∷ j ∷ []) sound set.set.in_range up (down_here (tells.0 yes)), λ legal. tells.1 (down_there (down_from_legal rows (i ∷ j ∷ []) sound set.set.in_range legal)))
+    where
+      up : (s : ℕ) → has_row (i ∷ j ∷ []) s ≡ true → PassesUp rows (i ∷ j ∷ []) s (insert_place rows (i ∷ j ∷ []))
+      up s found = by_place (has-place (i ∷ j ∷ []) s found)
+        where
+          by_place : (k : ℕ) × (k < length (i ∷ j ∷ [])) × (get_or (i ∷ j ∷ []) k 0 ≡ s) → PassesUp rows (i ∷ j ∷ []) s (insert_place rows (i ∷ j ∷ []))
+          by_place (zero, inside, at) = subst (λ n. PassesUp rows (i ∷ j ∷ []) n (insert_place rows (i ∷ j ∷ []))) at (up_here i first)
+          by_place (suc zero, inside, at) = subst (λ n. PassesUp rows (i ∷ j ∷ []) n (insert_place rows (i ∷ j ∷ []))) at (up_here j second)
+          by_place (suc (suc k), inside, at) = absurd (omega arith)
+
+      down_here : PassesDown list b p → PassesDown rows (merged_block rows (i ∷ j ∷ [])) (insert_place rows (i ∷ j ∷ []))
+      down_here down = subst (λ x. PassesDown rows x (insert_place rows (i ∷ j ∷ []))) block_is (subst (λ l. PassesDown l b (insert_place rows (i ∷ j ∷ []))) same (subst (PassesDown list b) (place ∙ place_is) down))
+
+      down_there : PassesDown rows (merged_block rows (i ∷ j ∷ [])) (insert_place rows (i ∷ j ∷ [])) → PassesDown list b p
+      down_there down = subst (PassesDown list b) (sym (place ∙ place_is)) (subst (λ l. PassesDown l b (insert_place rows (i ∷ j ∷ []))) (sym same) (subst (λ x. PassesDown rows x (insert_place rows (i ∷ j ∷ []))) (sym block_is) down))
+
+-- no row up to one of at most a generality is above it
+pub general_before : (rows : List Row) (place : ℕ) (a : Row) (g : ℕ) → IsOrdered rows → place < length rows → generality (get_or rows place a).block ≤ g → (k : ℕ) (d : Row) → k < place + 1 → generality (get_or rows k d).block ≤ g
+general_before rows place a g ordered inside low k d from = elim (cases_lt k place) [
+  | inl less ↦
+      let e = ap (λ (x : Row). generality x.block) (get_or_default rows place d a inside) in
+      omega (arith, e, ordered k place d less inside)
+  | inr last ↦ let same : place ≡ k = omega arith in subst (λ i. generality (get_or rows i d).block ≤ g) same (subst (λ (x : Row). generality x.block ≤ g) (get_or_default rows place a d inside) low)
+]
+
+-- ---- the up-check by rivals
+
+module _ (rows : List Row) (rivals : Rivals) (rivaled : IsRivaled rows rivals) where
+  abbrev numbers : List ℕ
+  numbers = rivals.serials.items
+
+  -- the list that was read is that of the row's number
+  pub rivals_read : (s n : ℕ) (at list : List Rival) → s < length rows → n ≡ get_or rivals.serials.items s n → at ≡ get_or rivals.of.items n at → list ≡ at → AreRivalsAt rows rivals.serials.items s list
+  rivals_read s n at list inside n_is at_is list_is =
+      let of = rivals.of.items in
+      let counted : s < length numbers = omega (arith, rivaled.one_each, inside) in
+      let is : get_or numbers s 0 ≡ n = get_or_default numbers s 0 n counted ∙ sym n_is in
+      let low : n < length of = subst (λ k. k < length of) is (rivaled.below s 0 counted) in
+      subst (AreRivalsAt rows numbers s) (ap (λ i. get_or of i []) is ∙ get_or_default of n [] at low ∙ sym at_is ∙ sym list_is) (rivaled.each s inside)
+
+  module _ (places : List ℕ) (in_range : All (λ r. r < length rows) places) where
+    -- as numbers are apart, no other row has the number of one at a place of the set
+    at_place : (r : ℕ) → r < length rows → is_at_one numbers places (get_or numbers r 0) ≡ true → has_row places r ≡ true
+    at_place r inside found =
+        let at = Any-from_list_any (λ x. get_or numbers x 0 == get_or numbers r 0) places found in
+        let low : at.1 < length rows = subst (λ x. x < length rows) at.3 (in_range at.0 at.1 at.2) in
+        let same : at.1 ≡ r = rivaled.apart at.1 r low inside (eqb-true (get_or numbers at.1 0) (get_or numbers r 0) at.4) in
+        subst (λ x. has_row places x ≡ true) (get_or_default places at.0 0 at.1 at.2 ∙ at.3 ∙ same) (has-at places at.0 at.2)
+
+    module _ (s : ℕ) (list : List Rival) (are : AreRivalsAt rows rivals.serials.items s list) (g : ℕ) where
+      -- where each rival that is at most so general is at one of the places, the row passes
+      passes_by : (n : ℕ) → ((k : ℕ) → k < n → (e : Rival) → is_at_one numbers places (get_or list k e).serial ≡ true) → ((k : ℕ) (e : Rival) → n ≤ k → k < length list → g < (get_or list k e).general)
+          → PassesUp rows places s (place_for rows g)
+      passes_by n passed left r after before d outside = elim (are.all r after inside) [
+        | inl misses ↦ misses d
+        | inr listed ↦ absurd (elim (cases_lt listed.at n) [
+          | inl earlier ↦
+              let found = subst (λ k. is_at_one numbers places k ≡ true) (listed.found e) (passed listed.at earlier e) in
+              true≢false (sym (at_place r inside found) ∙ outside)
+          | inr later ↦
+              let it = are.each listed.at e listed.within in
+              let same : it.place ≡ r = rivaled.apart it.place r it.is.inside inside (sym it.is.serial ∙ listed.found e) in
+              let low = place_for-below rows g rivaled.sound.ordered r d before in
+              let level = it.is.general d ∙ ap (λ i. generality (get_or rows i d).block) same in
+              omega (arith, level, low, left listed.at e later listed.within)
+        ])
+      ]
+        where
+          e : Rival
+          e = record { serial = 0; general = 0; bits = 0 }
+
+          inside : r < length rows
+          inside = omega (arith, before, place_for-le rows g)
+
+      module _ (n : ℕ) (passed : (k : ℕ) → k < n → (e : Rival) → is_at_one rivals.serials.items places (get_or list k e).serial ≡ true) where
+        -- at the end of the list
+        pub all_passed : length list ≤ n → PassesUp rows places s (place_for rows g)
+        all_passed end = passes_by n passed (λ k e from within. absurd (omega (arith, from, within, end)))
+
+        -- and where the next is more general, since then so are all behind it
+        pub rest_pass : (v : Rival) → n < length list → g < (get_or list n v).general → PassesUp rows places s (place_for rows g)
+        rest_pass v inside high = passes_by n passed above
+          where
+            above : (k : ℕ) (e : Rival) → n ≤ k → k < length list → g < (get_or list k e).general
+            above k e from within =
+                let here : g < (get_or list n e).general = subst (λ (w : Rival). g < w.general) (get_or_default list n v e inside) high in
+                elim (cases_lt n k) [
+                  | inl before ↦ omega (arith, here, are.ordered n k e before within)
+                  | inr last ↦ let same : n ≡ k = omega (arith, from, last) in subst (λ i. g < (get_or list i e).general) same here
+                ]
+
+        -- one rival more
+        pub passed_more : (v : Rival) → n < length list → is_at_one rivals.serials.items places (get_or list n v).serial ≡ true → (k : ℕ) → k < n + 1 → (e : Rival) → is_at_one rivals.serials.items places (get_or list k e).serial ≡ true
+        passed_more v inside here = below_more (λ k. (e : Rival) → is_at_one numbers places (get_or list k e).serial ≡ true) n passed (λ e. subst (λ (w : Rival). is_at_one numbers places w.serial ≡ true) (get_or_default list n v e inside) here)
+
+      -- a rival that is at most so general, and of another route or at none of the places, comes before the row
+      module _ (alike : (r : ℕ) → s < r → has_row places r ≡ true → SameRoute rows s r) (n : ℕ) (v : Rival) (within : n < length list) (low : (get_or list n v).general ≤ g) where
+        comes_before : ((r : ℕ) → s < r → (get_or list n v).serial ≡ get_or numbers r 0 → ((d : Row) → (get_or list n v).bits ≡ (get_or rows r d).route.bits) → has_row places r ≡ true → ⊥) → PassesUp rows places s (place_for rows g) → ⊥
+        comes_before none up =
+            let it = are.each n v within in
+            let d : Row = merge_rows [] in
+            let level = it.is.general d in
+            let before = place_for-above rows g rivaled.sound.ordered it.place d it.is.inside (omega (arith, level, low)) in
+            it.meets d (up it.place it.behind before d (false_from_ne_true (has_row places it.place) (none it.place it.behind it.is.serial it.is.bits)))
+
+        pub other_refuses : (a : Row) → ((get_or list n v).bits ≡ (get_or rows s a).route.bits → ⊥) → PassesUp rows places s (place_for rows g) → ⊥
+        other_refuses a other = comes_before (λ r after serial bits found. other (bits a ∙ ap (λ x. x.bits) (sym (alike r after found a))))
+
+        pub away_refuses : is_at_one rivals.serials.items places (get_or list n v).serial ≡ false → PassesUp rows places s (place_for rows g) → ⊥
+        away_refuses away = comes_before (λ r after serial bits found. true≢false (sym (ap (is_at_one numbers places) serial ∙ at_one_of numbers places r found) ∙ away))
+
+-- ---- which rows are joined
+
+-- of the rows before place n, just those at these places are not known to be original
+pub record AreJoinedTo (rows : List Row) (n : ℕ) (joined : List ℕ) : Type 0 where
+  pub ascending : AllPairs (λ s t. s < t) joined
+  pub before : All (λ s. s < n) joined
+  pub original : (s : ℕ) (d : Row) → s < n → has_row joined s ≡ false → IsOriginal (get_or rows s d)
+
+pub joined_none : (rows : List Row) (joined : List ℕ) → joined ≡ [] → AreJoinedTo rows 0 joined
+joined_none rows joined is = subst (AreJoinedTo rows 0) (sym is) (record { ascending = AllPairs-nil (λ s t. s < t); before = All-nil (λ s. s < 0); original = λ s d less outside. absurd (omega (arith, less)) })
+
+module _ (rows : List Row) (n : ℕ) (joined : List ℕ) (are : AreJoinedTo rows n joined) where
+  -- an original row more
+  pub joined_stay : (a : Row) → n < length rows → a ≡ get_or rows n a → IsOriginal a → AreJoinedTo rows (n + 1) joined
+  joined_stay a inside read own = record {
+    ascending = are.ascending;
+    before = All-weaker (λ s. s < n) (λ s. s < n + 1) (λ s less. omega (arith, less)) joined are.before;
+    original = λ s d less outside. elim (cases_lt s n) [
+      | inl earlier ↦ are.original s d earlier outside
+      | inr last ↦ let same : n ≡ s = omega (arith, less, last) in subst (λ i. IsOriginal (get_or rows i d)) same (subst IsOriginal (read ∙ get_or_default rows n a d inside) own)
+    ];
+  }
+
+  -- any other
+  pub joined_more : (new : List ℕ) → new ≡ joined ++ n ∷ [] → AreJoinedTo rows (n + 1) new
+  joined_more new is = subst (AreJoinedTo rows (n + 1)) (sym is) (record {
+    ascending = all_pairs_push (λ s t. s < t) joined n are.ascending are.before;
+    before = All-push (λ s. s < n + 1) joined n (All-weaker (λ s. s < n) (λ s. s < n + 1) (λ s less. omega (arith, less)) joined are.before) (omega arith);
+    original = λ s d less outside.
+        let none = or_parts (has_row joined s) (has_row (n ∷ []) s) (sym (list_any-append (λ k. k == s) joined (n ∷ [])) ∙ outside) in
+        let apart = eqb-false n s (or_parts (n == s) false none.1).0 in
+        are.original s d (omega (arith, less, apart)) none.0;
+  })
+
+  pub joined_all : n ≡ length rows → AreJoined rows joined
+  joined_all all = record {
+    ascending = are.ascending;
+    inside = All-weaker (λ s. s < n) (λ s. s < length rows) (λ s less. omega (arith, less, all)) joined are.before;
+    original = λ s d inside outside. are.original s d (omega (arith, inside, all)) outside;
+  }
+
+-- ---- rivals, found from the front
+
+-- one that was read meets an alias of the other
+pub met_read : (rows : List Row) (s r : ℕ) (first e : Row) (t : Bool) → s < length rows → r < length rows → first ≡ get_or rows s first → (IsTrue t) ↔ (Misses (get_or rows r e).block first) → t ≡ false → MeetsAliasOf rows r s
+met_read rows s r first e t in_s in_r is_first tells came d misses =
+    fails (Misses (get_or rows r e).block first) t tells came
+    (subst (λ (x : Row). Misses x.block first) (get_or_default rows r d e in_r) (subst (Misses (get_or rows r d).block) (get_or_default rows s d first in_s ∙ sym is_first) misses))
+
+-- a row that was read, as a rival
+pub rival_read : (rows : List Row) (serials : List ℕ) (r : ℕ) (a : Row) (v : Rival) → r < length rows → a ≡ get_or rows r a → v.serial ≡ get_or serials r 0 → v.general ≡ generality a.block → v.bits ≡ a.route.bits → IsRivalOf rows serials r v
+rival_read rows serials r a v inside read serial general bits = record {
+  inside = inside;
+  serial = serial;
+  general = λ d. general ∙ ap (λ (x : Row). generality x.block) (read ∙ get_or_default rows r a d inside);
+  bits = λ d. bits ∙ ap (λ (x : Row). x.route.bits) (read ∙ get_or_default rows r a d inside);
+}
+
+-- the list has just the rivals of row s that stand before place n
+pub record AreRivalsTo (rows : List Row) (serials : List ℕ) (s n : ℕ) (list : List Rival) : Type 0 where
+  pub ordered : AllPairs (λ (v w : Rival). v.general ≤ w.general) list
+  pub each : All (λ v. (it : IsRivalBehind rows serials s v) × (it.place < n)) list
+  pub all : (r : ℕ) → s < r → r < n → (MeetsNone rows r s) ⊎ (HasSerial list (get_or serials r 0))
+
+pub rivals_none : (rows : List Row) (serials : List ℕ) (s n : ℕ) (list : List Rival) → list ≡ [] → ((r : ℕ) → s < r → r < n → MeetsNone rows r s) → AreRivalsTo rows serials s n list
+rivals_none rows serials s n list is misses = subst (AreRivalsTo rows serials s n) (sym is) (record {
+  ordered = AllPairs-nil (λ (v w : Rival). v.general ≤ w.general);
+  each = All-nil (λ v. (it : IsRivalBehind rows serials s v) × (it.place < n));
+  all = λ r after before. inl (misses r after before);
+})
+
+module _ (rows : List Row) (serials : List ℕ) (s n : ℕ) (list : List Rival) (are : AreRivalsTo rows serials s n list) where
+  -- rows that meet no alias of row s change nothing
+  pub rivals_stay : (m : ℕ) → n ≤ m → ((r : ℕ) → s < r → n ≤ r → r < m → MeetsNone rows r s) → AreRivalsTo rows serials s m list
+  rivals_stay m le misses = record {
+    ordered = are.ordered;
+    each = All-weaker (λ v. (it : IsRivalBehind rows serials s v) × (it.place < n)) (λ v. (it : IsRivalBehind rows serials s v) × (it.place < m)) (λ v at. (at.0, omega (arith, at.1, le))) list are.each;
+    all = λ r after before. elim (cases_lt r n) [
+      | inl earlier ↦ are.all r after earlier
+      | inr from ↦ inl (misses r after from before)
+    ];
+  }
+
+  -- one that does comes last
+  pub rivals_more : IsOrdered rows → (v : Rival) (new : List Rival) → s < n → IsRivalOf rows serials n v → MeetsAliasOf rows n s → new ≡ list ++ v ∷ [] → AreRivalsTo rows serials s (n + 1) new
+  rivals_more ordered v new behind is meets made = subst (AreRivalsTo rows serials s (n + 1)) (sym made) (record {
+    ordered = all_pairs_push (λ (a b : Rival). a.general ≤ b.general) list v are.ordered last;
+    each = All-push (λ w. (it : IsRivalBehind rows serials s w) × (it.place < n + 1)) list v
+        (All-weaker (λ w. (it : IsRivalBehind rows serials s w) × (it.place < n)) (λ w. (it : IsRivalBehind rows serials s w) × (it.place < n + 1)) (λ w at. (at.0, omega (arith, at.1))) list are.each)
+        (record { place = n; behind = behind; is = is; meets = meets }, omega arith);
+    all = λ r after before. elim (cases_lt r n) [
+      | inl earlier ↦ elim (are.all r after earlier) [
+        | inl misses ↦ inl misses
+        | inr listed ↦ inr (record {
+          at = listed.at;
+          within = omega (arith, listed.within, length-append list (v ∷ []));
+          found = λ e. ap (λ (w : Rival). w.serial) (get_or_append_left list (v ∷ []) e listed.at listed.within) ∙ listed.found e;
+        })
+      ]
+      | inr here ↦
+          let same : n ≡ r = omega (arith, here, before) in
+          inr (record {
+            at = length list;
+            within = omega (arith, length-append list (v ∷ []));
+            found = λ e. ap (λ (w : Rival). w.serial) (get_or_push list v e (length list) refl) ∙ is.serial ∙ ap (λ i. get_or serials i 0) same;
+          })
+    ];
+  })
+    where
+      last : (k : ℕ) (d : Rival) → k < length list → (get_or list k d).general ≤ v.general
+      last k d within =
+          let a : Row = merge_rows [] in
+          let at = are.each k d within in
+          omega (arith, at.0.is.general a, is.general a, ordered at.0.place n a at.1 is.inside)
+
+  pub rivals_all : n ≡ length rows → AreRivalsAt rows serials s list
+  rivals_all all = record {
+    ordered = are.ordered;
+    each = All-weaker (λ v. (it : IsRivalBehind rows serials s v) × (it.place < n)) (IsRivalBehind rows serials s) (λ v at. at.0) list are.each;
+    all = λ r after inside. are.all r after (omega (arith, inside, all));
+  }
+
+-- ---- rivals among the joined rows
+
+module _ (rows : List Row) (sound : IsSound rows) (joined : List ℕ) (are_joined : AreJoined rows joined) (s : ℕ) where
+  next_in : (k : ℕ) → k < length joined → get_or joined k (length rows) ≡ get_or joined k 0
+  next_in k within = get_or_default joined k (length rows) 0 within
+
+  next_end : (k : ℕ) → length joined ≤ k → get_or joined k (length rows) ≡ length rows
+  next_end k end = get_or_past joined k (length rows) end
+
+  -- the rows between a place and the next are original
+  between : (k from : ℕ) → ((i : ℕ) → i < k → i < length joined → get_or joined i 0 < from) → (r : ℕ) → s < r → from ≤ r → r < get_or joined k (length rows) → MeetsNone rows r s
+  between k from low r after since before d = original_misses rows sound s r d after inside (are_joined.original r d inside (false_from_ne_true (has_row joined r) none))
+    where
+      inside : r < length rows
+      inside = elim (cases_lt k (length joined)) [
+        | inl within ↦ omega (arith, before, next_in k within, are_joined.inside k 0 within)
+        | inr end ↦ omega (arith, before, next_end k end)
+      ]
+
+      none : has_row joined r ≡ true → ⊥
+      none found =
+          let at = has-place joined r found in
+          elim (cases_order at.0 k) [
+            | inl here ↦ let e = ap (λ i. get_or joined i (length rows)) here in omega (arith, e, before, at.2, next_in at.0 at.1)
+            | inr apart ↦ elim apart [
+              | inl earlier ↦ omega (arith, low at.0 earlier at.1, at.2, since)
+              | inr later ↦ omega (arith, before, at.2, next_in k (omega (arith, later, at.1)), are_joined.ascending k at.0 0 later at.1)
+            ]
+          ]
+
+  module _ (serials : List ℕ) where
+    pub among_none : (list : List Rival) → list ≡ [] → AreRivalsTo rows serials s (get_or joined 0 (length rows)) list
+    among_none list is = rivals_none rows serials s (get_or joined 0 (length rows)) list is (λ r after before. between 0 0 (λ i less within. absurd (omega (arith, less))) r after (omega arith) before)
+
+    module _ (k : ℕ) (within : k < length joined) (list : List Rival) (are : AreRivalsTo rows serials s (get_or joined k (length rows)) list) where
+      here : AreRivalsTo rows serials s (get_or joined k 0) list
+      here = subst (λ n. AreRivalsTo rows serials s n list) (next_in k within) are
+
+      to_next : (new : List Rival) → AreRivalsTo rows serials s (get_or joined k 0 + 1) new → AreRivalsTo rows serials s (get_or joined (k + 1) (length rows)) new
+      to_next new so_far = rivals_stay rows serials s (get_or joined k 0 + 1) new so_far (get_or joined (k + 1) (length rows)) onward (between (k + 1) (get_or joined k 0 + 1) passed)
+        where
+          onward : get_or joined k 0 + 1 ≤ get_or joined (k + 1) (length rows)
+          onward = elim (cases_lt (k + 1) (length joined)) [
+            | inl more ↦ omega (arith, next_in (k + 1) more, are_joined.ascending k (k + 1) 0 (omega arith) more)
+            | inr end ↦ omega (arith, next_end (k + 1) end, are_joined.inside k 0 within)
+          ]
+
+          passed : (i : ℕ) → i < k + 1 → i < length joined → get_or joined i 0 < get_or joined k 0 + 1
+          passed i less inside = elim (cases_lt i k) [
+            | inl earlier ↦ omega (arith, are_joined.ascending i k 0 earlier within)
+            | inr last ↦ let same : i ≡ k = omega (arith, less, last) in omega (arith, ap (λ j. get_or joined j 0) same)
+          ]
+
+      -- the row at the place is no rival
+      pub among_stay : (s < get_or joined k 0 → MeetsNone rows (get_or joined k 0) s) → AreRivalsTo rows serials s (get_or joined (k + 1) (length rows)) list
+      among_stay misses = to_next list (rivals_stay rows serials s (get_or joined k 0) list here (get_or joined k 0 + 1) (omega arith) (λ r after from before.
+          let same : get_or joined k 0 ≡ r = omega (arith, from, before) in
+          subst (λ i. s < i → MeetsNone rows i s) same misses after))
+
+      -- the row at the place is one
+      pub among_more : (v : Rival) (new : List Rival) → s < get_or joined k 0 → IsRivalOf rows serials (get_or joined k 0) v → MeetsAliasOf rows (get_or joined k 0) s → new ≡ list ++ v ∷ [] → AreRivalsTo rows serials s (get_or joined (k + 1) (length rows)) new
+      among_more v new behind is meets made = to_next new (rivals_more rows serials s (get_or joined k 0) list here sound.ordered v new behind is meets made)
+
+    pub among_all : (k : ℕ) (list : List Rival) → length joined ≤ k → AreRivalsTo rows serials s (get_or joined k (length rows)) list → AreRivalsAt rows serials s list
+    among_all k list end are = rivals_all rows serials s (get_or joined k (length rows)) list are (next_end k end)
+
+-- ---- all rows, numbered in their order
+
+-- The list has the rivals of row s where each row has its place as its number.
+abbrev pub AreRivalsByPlace : List Row → ℕ → List Rival → Type 0
+AreRivalsByPlace rows s list = (serials : List ℕ) → length serials ≡ length rows → ((k : ℕ) → k < length rows → get_or serials k 0 ≡ k) → AreRivalsAt rows serials s list
+
+-- the numbers and rivals of the first n rows
+pub record AreNumberedTo (rows : List Row) (n : ℕ) (serials : List ℕ) (of : List (List Rival)) : Type 0 where
+  pub as_many : length serials ≡ n
+  pub lists : length of ≡ n
+  pub is_place : (k : ℕ) → k < n → get_or serials k 0 ≡ k
+  pub each : (k : ℕ) (d : List Rival) → k < n → AreRivalsByPlace rows k (get_or of k d)
+
+pub numbered_none : (rows : List Row) (serials : List ℕ) (of : List (List Rival)) → serials ≡ [] → of ≡ [] → AreNumberedTo rows 0 serials of
+numbered_none rows serials of no_serials no_lists = record {
+  as_many = ap length no_serials;
+  lists = ap length no_lists;
+  is_place = λ k less. absurd (omega (arith, less));
+  each = λ k d less. absurd (omega (arith, less));
+}
+
+module _ (rows : List Row) (n : ℕ) (serials : List ℕ) (of : List (List Rival)) (are : AreNumberedTo rows n serials of) where
+  pub numbered_more : (more : List ℕ) (lists : List (List Rival)) (list : List Rival) → more ≡ serials ++ n ∷ [] → lists ≡ of ++ list ∷ [] → AreRivalsByPlace rows n list → AreNumberedTo rows (n + 1) more lists
+  numbered_more more lists list is are_lists found = record {
+    as_many = omega (arith, ap length is, length-append serials (n ∷ []), are.as_many);
+    lists = omega (arith, ap length are_lists, length-append of (list ∷ []), are.lists);
+    is_place = below_more (λ k. get_or more k 0 ≡ k) n
+        (λ k less. ap (λ l. get_or l k 0) is ∙ get_or_append_left serials (n ∷ []) 0 k (omega (arith, less, are.as_many)) ∙ are.is_place k less)
+        (ap (λ l. get_or l n 0) is ∙ get_or_push serials n 0 n are.as_many);
+    each = λ k d less. below_more (λ i. AreRivalsByPlace rows i (get_or lists i d)) n
+        (λ i before. subst (AreRivalsByPlace rows i) (sym (ap (λ l. get_or l i d) are_lists ∙ get_or_append_left of (list ∷ []) d i (omega (arith, before, are.lists)))) (are.each i d before))
+        (subst (AreRivalsByPlace rows n) (sym (ap (λ l. get_or l n d) are_lists ∙ get_or_push of list d n are.lists)) found)
+        k less;
+  }
+
+pub numbered_all : (rows : List Row) (n : ℕ) (rivals : Rivals) → AreNumberedTo rows n rivals.serials.items rivals.of.items → n ≡ length rows → length rows < 2 ^ 32 → IsSound rows → IsRivaled rows rivals
+numbered_all rows n rivals are all few sound = record {
+  few = few;
+  sound = sound;
+  one_each = are.as_many ∙ all;
+  below = λ i d within.
+      let less : i < n = omega (arith, within, are.as_many) in
+      omega (arith, get_or_default rivals.serials.items i d 0 within, are.is_place i less, less, are.lists);
+  apart = λ i j in_i in_j same. sym (place i in_i) ∙ same ∙ place j in_j;
+  each = λ s inside. subst (λ i. AreRivalsAt rows rivals.serials.items s (get_or rivals.of.items i [])) (sym (place s inside)) (are.each s [] (omega (arith, inside, all)) rivals.serials.items (are.as_many ∙ all) place);
+}
+  where
+    place : (k : ℕ) → k < length rows → get_or rivals.serials.items k 0 ≡ k
+    place k inside = are.is_place k (omega (arith, inside, all))

@@ -1,0 +1,96 @@
+-- The rivals of all rows that stay are those after the merge, and those of the merged row are found.
+use Rattle.std.proofs.Common.{◌≡◌, ◌∙◌, ◌+◌, ◌-◌, ◌<◌, [], ℕ, List, sym, ap, subst, length, get_or, arith}
+use Rattle.std.specs.Prelude.{All, insert}
+use Rattle.tern_word.specs.declared.tables.Row.{Row}
+use Rattle.tern_word.specs.SoundTable.{IsOrdered}
+use Rattle.tern_word.specs.Ternary.{generality}
+use Rattle.cover_merge.specs.Merge.{after, merged_block, insert_place}
+use Rattle.cover_merge.specs.Rivals.{AreRivalsAfter, AreRivalsAt, IsRivaled}
+use Rattle.cover_merge.specs.declared.rivals.Rivals.{Rivals}
+use Rattle.cover_merge.proofs.ApplyLemmas.{left, members_before}
+use Rattle.cover_merge.proofs.KeptLemmasMoved.{merged_at}
+use Rattle.cover_merge.proofs.RivalAfter.{place_is, stands_at, carried_is, carried_length, at_inside, rivaled_after}
+use Rattle.cover_merge.proofs.carrying.merge_rows.Goals as goal
+use Rattle.cover_merge.proofs.carrying.merge_rows.Goals.{After-place_in-place, After-replace_all}
+
+-- the place is the insertion place
+place_here : (c : After-place_in-place) → c.place_in-place.result ≡ insert_place c.args.table.now.rows c.args.places.now
+place_here c =
+    place_is c.args.table.now.rows c.as_slice.result.now c.as_slice-3.result.now c.args.places.now c.as_slice-members.result.now c.merged_rival-merged.result.general c.place_in-place.result
+    c.as_slice.ensures c.as_slice-3.ensures c.as_slice-members.ensures c.merged_rival-merged.ensures.general c.place_in-place.ensures.value
+
+-- and the merged row stands before it by as many as are merged
+stands_here : (c : After-place_in-place) → merged_at c.args.table.now.rows c.args.places.now + length c.as_slice-members.result.now ≡ c.place_in-place.result
+stands_here c =
+    ap (λ (l : List ℕ). merged_at c.args.table.now.rows c.args.places.now + length l) c.as_slice-members.ensures
+    ∙ stands_at c.args.table.now.rows c.args.places.now c.requires.rivaled.sound c.requires.merge.set ∙ sym (place_here c)
+
+-- the numbers are carried over
+serials_here : (c : After-replace_all) → c.replace_all.new.items.items ≡ left c.args.places.now 0 (insert c.args.rivals.now.serials.items (insert_place c.args.table.now.rows c.args.places.now) (length c.args.rivals.now.of.items))
+serials_here c =
+    carried_is c.args.table.now.rows c.args.places.now c.requires.rivaled.sound c.requires.merge.set c.args.rivals.now.serials.items c.requires.rivaled.one_each (length c.args.rivals.now.of.items)
+    c.as_slice-members.result.now c.renew_all.new.rivals.serials.items c.replace_all.new.items.items c.place_in-place.result c.merged_rival-merged.result.serial
+    c.as_slice-members.ensures c.in_ok-renew_all.ensures.serials (place_here (goal.at.overflow_sub-at c).After-place_in-place) c.merged_rival-merged.ensures.serial c.replace_all.ensures
+
+pub replace_all-requires-clause-before : goal.replace_all-requires-clause-before
+replace_all-requires-clause-before c =
+    let rows = c.args.table.now.rows in
+    let places = c.args.places.now in
+    subst (λ l. All (λ t. t < c.place_in-place.result) l) (sym c.as_slice-members.ensures)
+    (subst (λ n. All (λ t. t < n) places) (sym (place_here (goal.at.replace_all-requires-clause-before c).After-place_in-place)) (members_before rows places c.requires.rivaled.sound.ordered c.requires.merge.set))
+
+pub overflow_sub-at : goal.overflow_sub-at
+overflow_sub-at c = omega (arith, stands_here (goal.at.overflow_sub-at c).After-place_in-place)
+
+pub rivals_behind-requires-clause-ordered : goal.rivals_behind-requires-clause-ordered
+rivals_behind-requires-clause-ordered c = subst IsOrdered (sym (c.as_slice-4.ensures ∙ c.in_ok-apply.ensures.ok)) c.requires.merge.legal.ordered
+
+pub rivals_behind-requires-clause-one_each : goal.rivals_behind-requires-clause-one_each
+rivals_behind-requires-clause-one_each c =
+    ap length (c.deref.ensures.value ∙ serials_here (goal.at.rivals_behind-requires-clause-one_each c).After-replace_all)
+    ∙ carried_length c.args.table.now.rows c.args.places.now c.requires.rivaled.sound c.requires.merge.set c.args.rivals.now.serials.items c.requires.rivaled.one_each (length c.args.rivals.now.of.items)
+    ∙ sym (ap length (c.as_slice-4.ensures ∙ c.in_ok-apply.ensures.ok))
+
+pub rivals_behind-requires-clause-inside : goal.rivals_behind-requires-clause-inside
+rivals_behind-requires-clause-inside c =
+    omega (
+      arith,
+      stands_here (goal.at.rivals_behind-requires-clause-inside c).After-place_in-place,
+      ap length (c.as_slice-4.ensures ∙ c.in_ok-apply.ensures.ok),
+      at_inside c.args.table.now.rows c.args.places.now c.requires.rivaled.sound c.requires.merge.set c.args.rivals.now.serials.items c.requires.rivaled.one_each (length c.args.rivals.now.of.items),
+    )
+
+pub returns-clause-rivaled : goal.returns-clause-rivaled
+returns-clause-rivaled c =
+    let rows = c.args.table.now.rows in
+    let places = c.args.places.now in
+    let old = c.requires.rivaled in
+    let serials = c.args.rivals.now.serials.items in
+    let n = length c.args.rivals.now.of.items in
+    let merged = c.merged_rival-merged.result in
+    let told = c.merged_rival-merged.ensures in
+    let of = c.renew_all.new.rivals.of.items in
+    let list = c.in_ok-list.list in
+    let rivals : Rivals = record { serials = c.replace_all.new.items; of = c.push.new.self } in
+    let numbers = serials_here (goal.at.returns-clause-rivaled c).After-replace_all in
+    let stands = stands_here (goal.at.returns-clause-rivaled c).After-place_in-place in
+    let after_is = c.in_ok-apply.ensures.ok in
+    let new = after rows places in
+    let carried = left places 0 (insert serials (insert_place rows places) n) in
+    let read = c.as_slice-4.ensures ∙ after_is in
+    let at_is : c.place_in-place.result - length c.as_slice-members.result.now ≡ merged_at rows places = omega (arith, stands) in
+    let general : merged.general ≡ generality (merged_block rows places) =
+    told.general ∙ ap (λ l. generality (merged_block l c.as_slice-members.result.now)) c.as_slice.ensures ∙ ap (λ l. generality (merged_block rows l)) c.as_slice-members.ensures in
+    let bits : (d : Row) → merged.bits ≡ (get_or rows (get_or places 0 0) d).route.bits =
+    λ d. told.bits d ∙ ap (λ (l : List Row). (get_or l (get_or c.as_slice-members.result.now 0 0) d).route.bits) c.as_slice.ensures ∙ ap (λ (l : List ℕ). (get_or rows (get_or l 0 0) d).route.bits) c.as_slice-members.ensures in
+    let renewed : (s : ℕ) → s < length rows → AreRivalsAfter rows serials places (merged_block rows places) merged s (get_or of (get_or serials s 0) []) =
+    subst (λ (l : List Row). (s : ℕ) → s < length l → AreRivalsAfter l serials places (merged_block l places) merged s (get_or of (get_or serials s 0) [])) c.as_slice-2.ensures
+    (subst (λ (l : List ℕ). (s : ℕ) → s < length c.as_slice-2.result.now → AreRivalsAfter c.as_slice-2.result.now serials l (merged_block c.as_slice-2.result.now l) merged s (get_or of (get_or serials s 0) [])) c.as_slice-members.ensures
+    c.in_ok-renew_all.ensures.after) in
+    let own : AreRivalsAt new carried (merged_at rows places) list =
+    subst (λ (m : ℕ). AreRivalsAt new carried m list) at_is
+    (subst (λ (l : List ℕ). AreRivalsAt new l (c.place_in-place.result - length c.as_slice-members.result.now) list) (c.deref.ensures.value ∙ numbers)
+    (subst (λ (l : List Row). AreRivalsAt l c.deref.result.now (c.place_in-place.result - length c.as_slice-members.result.now) list) read c.in_ok-list.ensures)) in
+    subst (λ (l : List Row). IsRivaled l rivals) (sym after_is)
+    (rivaled_after rows places old.sound c.requires.merge.set serials old.one_each n c.requires.merge.legal old.below old.apart merged told.serial general bits old.few of list rivals
+    c.in_ok-renew_all.ensures.one_each renewed own numbers c.in_ok-push.ensures.items)

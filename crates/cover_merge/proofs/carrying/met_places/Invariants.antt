@@ -1,0 +1,7 @@
+-- So far the places passed of rows of which the block meets an alias.
+use Rattle.std.proofs.Common.{take}
+use Rattle.cover_merge.specs.Rivals.{AreMet}
+use Rattle.cover_merge.proofs.carrying.met_places.Given as goal
+
+abbrev pub invariant-loop-s : goal.invariant-loop-s
+invariant-loop-s l = AreMet l.block (take l.s l.rows) l.met.items

@@ -1,0 +1,79 @@
+-- One row more has its next in the list.
+use Rattle.std.proofs.Common.{◌≡◌, ◌-◌, ◌<◌, ◌∙◌, ℕ, suc, refl, sym, set, subst, length, get_or, arith}
+use Rattle.std.proofs.lemmas.List.{length-set}
+use Rattle.cover_merge.specs.Links.{IsFirstOfRoute}
+use Rattle.cover_merge.specs.Tried.{AreNewerOf, AreTrailsFrom}
+use Rattle.cover_merge.proofs.ChooseLemmas.{ArePlaces, places_gathered}
+use Rattle.cover_merge.proofs.TriedLemmas.{AreNewerAt, newer_all, newer_behind, newer_more, newer_others}
+use Rattle.cover_merge.proofs.choosing.find_newer.Goals.{After-as_slice-places}
+use Rattle.cover_merge.proofs.choosing.find_newer.Goals as goal
+
+-- the places are those of the route
+are : (c : After-as_slice-places) (bits : ℕ) → IsFirstOfRoute c.args.table.now.rows bits c.args.first → ArePlaces bits c.args.table.now.rows c.as_slice-places.result.now
+are c = places_gathered c.args.table.now.rows c.as_slice.result.now c.args.first c.in_ok-list.list c.as_slice-places.result.now c.as_slice.ensures c.in_ok-list.ensures c.as_slice-places.ensures
+
+pub changed_at-requires : goal.changed_at-requires
+changed_at-requires c =
+    let first = c.requires.first in
+    let places = are (goal.at.changed_at-requires c).After-as_slice-places first.0 first.1 in
+    omega (arith, places.inside (c.loop-k.k - 1) (omega (arith, c.loop-k.invariant.within, c.loop-k-test.true)), c.requires.one_each.0)
+
+pub changed_after-requires-clause-inside : goal.changed_after-requires-clause-inside
+changed_after-requires-clause-inside c =
+    let first = c.requires.first in
+    let places = are (goal.at.changed_after-requires-clause-inside c).After-as_slice-places first.0 first.1 in
+    places.inside (c.loop-k.k - 1) (omega (arith, c.loop-k.invariant.within, c.loop-k-test.true))
+
+pub changed_after-requires-clause-trails : goal.changed_after-requires-clause-trails
+changed_after-requires-clause-trails c d =
+    let rows = c.args.table.now.rows in
+    let list = c.as_slice-places.result.now in
+    let first = c.requires.first in
+    let places = are (goal.at.changed_after-requires-clause-trails c).After-as_slice-places first.0 first.1 in
+    let n = c.loop-k.k - 1 in
+    let inside : n < length list = omega (arith, c.loop-k.invariant.within, c.loop-k-test.true) in
+    let step : c.loop-k.k ≡ suc n = omega (arith, c.loop-k-test.true) in
+    let done : AreNewerAt (suc n) list rows c.args.times.now c.loop-k.newer.items = subst (λ i. AreNewerAt i list rows c.args.times.now c.loop-k.newer.items) step c.loop-k.invariant.done in
+    subst (AreTrailsFrom (get_or rows (get_or list n 0) d).route.bits (suc (get_or list n 0)) rows c.args.times.now c.args.links.now.next.items) (sym c.deref.ensures.value)
+    (record {
+      one_each = c.requires.one_each.0;
+      nexts = c.requires.nexts;
+      newer = subst (λ b. AreNewerOf b (suc (get_or list n 0)) rows c.args.times.now c.loop-k.newer.items) (sym (places.route n d inside))
+          (newer_behind first.0 rows list places c.args.times.now n (get_or list n 0) c.loop-k.newer.items inside refl done);
+      places = c.loop-k.invariant.all;
+    })
+
+pub index_mut-requires : goal.index_mut-requires
+index_mut-requires c =
+    let first = c.requires.first in
+    let places = are (goal.at.index_mut-requires c).After-as_slice-places first.0 first.1 in
+    omega (arith, places.inside (c.loop-k.k - 1) (omega (arith, c.loop-k.invariant.within, c.loop-k-test.true)), c.loop-k.invariant.all)
+
+pub loop-k-preserved : goal.loop-k-preserved
+loop-k-preserved c =
+    let rows = c.args.table.now.rows in
+    let times = c.args.times.now in
+    let list = c.as_slice-places.result.now in
+    let newer = c.loop-k.newer.items in
+    let old = c.loop-k.invariant in
+    let first = c.requires.first in
+    let places = are (goal.at.loop-k-preserved c).After-as_slice-places in
+    let n = c.loop-k.k - 1 in
+    let k = get_or list n 0 in
+    let v = c.changed_after.result in
+    let inside : n < length list = omega (arith, old.within, c.loop-k-test.true) in
+    let step : c.loop-k.k ≡ suc n = omega (arith, c.loop-k-test.true) in
+    let done : AreNewerAt (suc n) list rows times newer = subst (λ i. AreNewerAt i list rows times newer) step old.done in record {
+      within = omega (arith, old.within);
+      all = length-set newer k v ∙ old.all;
+      done = newer_more first.0 rows list (places first.0 first.1) times newer (set newer k v) n k v c.changed_at.result old.all inside refl c.changed_at.ensures c.changed_after.ensures refl done;
+      others = λ bits j d is other. newer_others bits rows newer (set newer k v) k v (λ e. (places bits is).route n e inside) refl j d other ∙ old.others bits j d is other;
+    }
+
+pub returns-clause-own : goal.returns-clause-own
+returns-clause-own c bits is =
+    let rows = c.args.table.now.rows in
+    let list = c.as_slice-places.result.now in
+    let places = are (goal.at.returns-clause-own c).After-as_slice-places bits is in
+    let all : c.loop-k.k ≡ 0 = omega (arith, c.loop-k-test.false) in
+    newer_all bits rows list places c.args.times.now c.loop-k.newer.items (subst (λ n. AreNewerAt n list rows c.args.times.now c.loop-k.newer.items) all c.loop-k.invariant.done)

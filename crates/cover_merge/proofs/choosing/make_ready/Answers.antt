@@ -1,0 +1,71 @@
+-- The trails of one route more are ready, and those of the others stay.
+use Rattle.std.proofs.Common.{◌≡◌, ◌<◌, ◌∙◌, true, sym, ap, subst, length, length-set, get_or, arith}
+use Rattle.std.proofs.lemmas.List.{get_or_default}
+use Rattle.tern_word.specs.declared.tables.Row.{Row}
+use Rattle.cover_merge.specs.Links.{IsFirstOfRoute}
+use Rattle.cover_merge.specs.Tried.{AreNewerOf}
+use Rattle.cover_merge.proofs.LinkLemmas.{as_many, route_of}
+use Rattle.cover_merge.proofs.TriedLemmas.{newer_ready}
+use Rattle.cover_merge.proofs.choosing.make_ready.Goals.{After-index, After-index-then-not-index}
+use Rattle.cover_merge.proofs.choosing.make_ready.Goals as goal
+
+-- the number of the row's route
+number : (c : After-index) → get_or c.args.known.now.numbers.items c.args.i 0 ≡ c.index.result.now
+number c =
+    let known = c.requires.known in
+    let many = as_many c.args.known.now.routes.items c.args.table.now.rows c.args.known.now.numbers.items known.numbers in
+    get_or_default c.args.known.now.numbers.items c.args.i 0 c.index.result.now (omega (arith, many, c.requires.inside)) ∙ sym c.index.ensures
+
+low : (c : After-index) → c.index.result.now < length c.args.known.now.routes.items
+low c =
+    let known = c.requires.known in
+    let many = as_many c.args.known.now.routes.items c.args.table.now.rows c.args.known.now.numbers.items known.numbers in
+    omega (arith, number c, known.numbers.below c.args.i 0 (omega (arith, many, c.requires.inside)))
+
+-- and its bits
+bits : (c : After-index) (d : Row) → get_or c.args.known.now.routes.items c.index.result.now 0 ≡ (get_or c.args.table.now.rows c.args.i d).route.bits
+bits c d =
+    let routes = c.args.known.now.routes.items in
+    ap (λ n. get_or routes n 0) (sym (number c)) ∙ route_of routes c.args.table.now.rows c.args.known.now.numbers.items c.requires.known.numbers c.args.i d c.requires.inside
+
+-- the place is that of its first row
+first : (c : After-index-then-not-index) → c.index.result.now < length c.args.known.now.routes.items → IsFirstOfRoute c.args.table.now.rows (get_or c.args.known.now.routes.items c.index.result.now 0) c.index-then-not-index.result.now
+first c inside =
+    let heads = c.args.links.now.heads.items in
+    let links = c.requires.links in
+    subst (IsFirstOfRoute c.args.table.now.rows (get_or c.args.known.now.routes.items c.index.result.now 0))
+    (get_or_default heads c.index.result.now 0 c.index-then-not-index.result.now (omega (arith, links.one_each, inside)) ∙ sym c.index-then-not-index.ensures) (links.head c.index.result.now inside)
+
+pub returns-in_ok-find_newer-clause-trails : goal.returns-in_ok-find_newer-clause-trails
+returns-in_ok-find_newer-clause-trails c =
+    let rows = c.args.table.now.rows in
+    let gs = c.args.known.now.times.items in
+    let routes = c.args.known.now.routes.items in
+    let number = c.index.result.now in
+    let old = c.requires.trails in
+    let within : number < length routes = low (goal.at.returns-in_ok-find_newer-clause-trails c).After-index in
+    let begins = first (goal.at.returns-in_ok-find_newer-clause-trails c).After-index-then-not-index within in
+    let found = c.in_ok-find_newer.ensures in
+    let own : AreNewerOf (get_or routes number 0) 0 rows gs c.find_newer.new.newer.items = subst (λ l. AreNewerOf (get_or routes number 0) 0 rows l c.find_newer.new.newer.items) c.deref.ensures.value (found.own (get_or routes number 0) begins) in record {
+      places = found.one_each;
+      one_each = length-set c.args.trails.now.ready.items number true ∙ old.one_each;
+      newer = newer_ready routes rows gs c.args.trails.now.ready.items c.args.trails.now.newer.items c.find_newer.new.newer.items number c.requires.known.once old.one_each within own
+          (λ j d in_rows other. found.others (get_or routes number 0) j d begins in_rows other) old.newer;
+    }
+
+pub returns-in_ok-find_newer-clause-own : goal.returns-in_ok-find_newer-clause-own
+returns-in_ok-find_newer-clause-own c d =
+    let rows = c.args.table.now.rows in
+    let gs = c.args.known.now.times.items in
+    let routes = c.args.known.now.routes.items in
+    let number = c.index.result.now in
+    let before = (goal.at.returns-in_ok-find_newer-clause-own c).After-index in
+    let begins = first (goal.at.returns-in_ok-find_newer-clause-own c).After-index-then-not-index (low before) in
+    subst (λ b. AreNewerOf b 0 rows gs c.find_newer.new.newer.items) (bits before d)
+    (subst (λ l. AreNewerOf (get_or routes number 0) 0 rows l c.find_newer.new.newer.items) c.deref.ensures.value (c.in_ok-find_newer.ensures.own (get_or routes number 0) begins))
+
+pub returns-else-not-index-clause-own : goal.returns-else-not-index-clause-own
+returns-else-not-index-clause-own c d =
+    let before = (goal.at.returns-else-not-index-clause-own c).After-index in
+    subst (λ b. AreNewerOf b 0 c.args.table.now.rows c.args.known.now.times.items c.args.trails.now.newer.items) (bits before d)
+    (c.requires.trails.newer c.index.result.now c.index-2.result.now (low before) (sym c.index-2.ensures ∙ c.if-not-index.false))

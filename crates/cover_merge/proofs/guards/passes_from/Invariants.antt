@@ -1,7 +1,0 @@
--- No row passed that is outside the set meets an alias of row s.
-use Rattle.std.proofs.Common.{ℕ, ◌<◌}
-use Rattle.cover_merge.specs.Merge.{IsClearOf}
-use Rattle.cover_merge.proofs.guards.passes_from.Given as goal
-
-abbrev pub invariant-loop-r : goal.invariant-loop-r
-invariant-loop-r l = (k : ℕ) → l.s < k → k < l.r → IsClearOf l.rows l.places l.s k

@@ -1,0 +1,100 @@
+-- The rivals of a row: the rows behind it that meet an alias of it. They save looking at all rows in each up-check.
+use Rattle.std.specs.Prelude.{◌≡◌, ◌==◌, ℕ, ◌<◌, ◌≤◌, ◌^◌, ◌⊎◌, Bool, true, false, not, List, [], All, AllPairs, filter, insert, length, slice_get, slice_index, slice_index_or, Some}
+use Rattle.std.specs.List.{list_any}
+use Rattle.spin_base.specs.declared.blocks.Block.{Block}
+use Rattle.tern_word.specs.declared.tables.Alias.{Alias}
+use Rattle.tern_word.specs.declared.tables.Row.{Row}
+use Rattle.tern_word.specs.Ternary.{generality}
+use Rattle.tern_word.specs.SoundTable.{IsSound, Misses}
+use Rattle.cover_merge.specs.Merge.{has_row}
+use Rattle.cover_merge.specs.declared.rivals.Rival.{Rival}
+use Rattle.cover_merge.specs.declared.rivals.Rivals.{Rivals}
+
+-- this is row r, as a rival: its number, generality and route
+pub record IsRivalOf (rows : List Row) (serials : List ℕ) (r : ℕ) (v : Rival) : Type 0 where
+  pub inside : r < length rows
+  pub serial : v.serial ≡ slice_index serials r
+  pub general : (d : Row) → v.general ≡ generality (slice_index_or rows r d).block
+  pub bits : (d : Row) → v.bits ≡ (slice_index_or rows r d).route.bits
+
+-- the block of row r meets an alias of row s
+abbrev pub MeetsAliasOf : List Row → ℕ → ℕ → Type 0
+MeetsAliasOf rows r s = (d : Row) → Misses (slice_index_or rows r d).block (slice_index_or rows s d) → ⊥
+
+-- it meets none
+abbrev pub MeetsNone : List Row → ℕ → ℕ → Type 0
+MeetsNone rows r s = (d : Row) → Misses (slice_index_or rows r d).block (slice_index_or rows s d)
+
+-- one of the list has this number
+pub record HasSerial (list : List Rival) (serial : ℕ) : Type 0 where
+  pub at : ℕ
+  pub within : at < length list
+  pub found : (e : Rival) → (slice_index_or list at e).serial ≡ serial
+
+-- a rival of row s: a row behind it that meets an alias of it
+pub record IsRivalBehind (rows : List Row) (serials : List ℕ) (s : ℕ) (v : Rival) : Type 0 where
+  pub place : ℕ
+  pub behind : s < place
+  pub is : IsRivalOf rows serials place v
+  pub meets : MeetsAliasOf rows place s
+
+-- The list has just the rivals of row s, in order of generality.
+pub record AreRivalsAt (rows : List Row) (serials : List ℕ) (s : ℕ) (list : List Rival) : Type 0 where
+  pub ordered : AllPairs (λ (v w : Rival). v.general ≤ w.general) list
+  pub each : All (IsRivalBehind rows serials s) list
+  pub all : (r : ℕ) → s < r → r < length rows → (MeetsNone rows r s) ⊎ (HasSerial list (slice_index serials r))
+
+-- A sound table of fewer than 2^32 rows: each has a number of its own, by which its rivals are found.
+pub record IsRivaled (rows : List Row) (rivals : Rivals) : Type 0 where
+  pub few : length rows < 2 ^ 32
+  pub sound : IsSound rows
+  pub one_each : length rivals.serials.items ≡ length rows
+  pub below : All (λ k. k < length rivals.of.items) rivals.serials.items
+  pub apart : (i j : ℕ) → i < length rows → j < length rows → slice_index rivals.serials.items i ≡ slice_index rivals.serials.items j → i ≡ j
+  pub each : (s : ℕ) → s < length rows → AreRivalsAt rows rivals.serials.items s (slice_index_or rivals.of.items (slice_index rivals.serials.items s) [])
+
+-- whether the row of this number stands at one of the places
+abbrev pub is_at_one : List ℕ → List ℕ → ℕ → Bool
+is_at_one serials places serial = list_any (λ s. slice_index serials s == serial) places
+
+-- the list without those at the places
+abbrev pub rivals_left : List ℕ → List ℕ → List Rival → List Rival
+rivals_left serials places list = filter (λ (v : Rival). not (is_at_one serials places v.serial)) list
+
+-- one more is put in, behind those that are at most as general and before those that are more so
+pub record IsPutIn (v : Rival) (old new : List Rival) : Type 0 where
+  pub at : ℕ
+  pub within : at ≤ length old
+  pub before : (k : ℕ) (e : Rival) → k < at → (slice_index_or old k e).general ≤ v.general
+  pub behind : (k : ℕ) (e : Rival) → at ≤ k → k < length old → v.general ≤ (slice_index_or old k e).general
+  pub result : new ≡ insert old at v
+
+-- The list has just the rivals of row s in the table after the merge of the rows at the places, by places of the table
+-- before it. The merged row, which has this block, is the one given, where it is a rival.
+pub record AreRivalsAfter (rows : List Row) (serials places : List ℕ) (block : Block) (merged : Rival) (s : ℕ) (list : List Rival) : Type 0 where
+  pub ordered : AllPairs (λ (v w : Rival). v.general ≤ w.general) list
+  pub each : All (λ v. ((v ≡ merged) × ((d : Row) → Misses block (slice_index_or rows s d) → ⊥)) ⊎ ((it : IsRivalBehind rows serials s v) × (has_row places it.place ≡ false))) list
+  pub all : (r : ℕ) → s < r → r < length rows → has_row places r ≡ false → (MeetsNone rows r s) ⊎ (HasSerial list (slice_index serials r))
+  pub own : ((d : Row) → Misses block (slice_index_or rows s d)) ⊎ (HasSerial list merged.serial)
+
+-- the places, ascending, of all rows of which the block meets an alias
+pub record AreMet (block : Block) (rows : List Row) (met : List ℕ) : Type 0 where
+  pub ascending : AllPairs (λ s t. s < t) met
+  pub inside : All (λ s. s < length rows) met
+  pub meets : All (λ s. (d : Row) → Misses block (slice_index_or rows s d) → ⊥) met
+  pub all : (s : ℕ) → s < length rows → ((d : Row) → Misses block (slice_index_or rows s d)) ⊎ (has_row met s ≡ true)
+
+-- A row is original where its block is that of an alias, as before any merge. In a sound table it meets no alias of an
+-- earlier row: that row's block would meet this alias.
+pub record IsOriginal (row : Row) : Type 0 where
+  pub at : ℕ
+  pub alias : Alias
+  pub found : slice_get row.aliases at ≡ Some alias
+  pub key : alias.block.key ≡ row.block.key
+  pub mask : alias.block.mask ≡ row.block.mask
+
+-- the places, ascending, of rows; all others are original
+pub record AreJoined (rows : List Row) (joined : List ℕ) : Type 0 where
+  pub ascending : AllPairs (λ s t. s < t) joined
+  pub inside : All (λ s. s < length rows) joined
+  pub original : (s : ℕ) (d : Row) → s < length rows → has_row joined s ≡ false → IsOriginal (slice_index_or rows s d)

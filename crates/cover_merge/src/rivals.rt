@@ -1,0 +1,225 @@
+// Rivals of rows: whether a row can be merged, without a look at the rows behind it.
+ghost use Rattle.std.specs.Prelude.{◌≡◌, ◌<◌, ◌≤◌, ◌^◌, ◌↔◌, ◌∷◌, [], ℕ, true, All, IfOk, IsTrue, List, length, slice_index};
+ghost use Rattle.tern_word.specs.SoundTable.{HoldsItsAliases, IsOrdered, IsSound, Misses};
+ghost use Rattle.tern_word.specs.Ternary.{generality};
+ghost use Rattle.cover_merge.specs.Merge.{has_row, place_for, SameRoute, IsMergeSet, IsLegal, PassesUp, PassesDown};
+ghost use Rattle.cover_merge.specs.Rivals.{AreJoined, AreRivalsAt, IsOriginal, IsRivalOf, IsRivaled, is_at_one};
+
+use crate::merged_block;
+use spin_base::{Block, Memory, Seq};
+use std::alloc::Global;
+use tern_word::{Row, Table, generality, intersects, misses};
+
+/// A rival of a row, which is a row behind it that meets an alias of it: its number, its generality, and the bits of its
+/// route.
+#[derive(Clone, Copy)]
+pub(crate) struct Rival {
+    pub(crate) serial: usize,
+    pub(crate) general: u32,
+    pub(crate) bits: u32,
+}
+
+/// The number of each row of a table, which stays with it, and of each number the row's rivals, in order of generality.
+/// Those of rows that were merged away say nothing.
+#[derive(Drop)]
+pub(crate) struct Rivals {
+    pub(crate) serials: Vec<usize>,
+    pub(crate) of: Vec<Seq<Rival>>,
+}
+
+/// The rivals of all rows, which are numbered in their order.
+pub(crate) fn rivals_of(alloc: Global, rows: &[Row]) -> Result<Rivals, Memory>
+    requires few { length rows.now < 2 ^ 32 }
+    requires sound { IsSound rows.now }
+    ensures { IfOk result (IsRivaled rows.now) }
+{
+    let joined = joined_of(alloc, rows)?;
+    let mut serials = Vec::with_capacity(alloc, rows.len())?;
+    let mut of = Vec::with_capacity(alloc, rows.len())?;
+    for s in 0..rows.len() {
+        serials.push(s)?;
+        of.push(rivals_among(alloc, rows, &joined, s)?)?;
+    }
+    Ok(Rivals { serials, of })
+}
+
+// The places of rows that are not original, ascending.
+fn joined_of(alloc: Global, rows: &[Row]) -> Result<Vec<usize>, Memory>
+    ensures { IfOk result (λ v. AreJoined rows.now v.items) }
+{
+    let mut joined = Vec::new(alloc);
+    for s in 0..rows.len() {
+        if !is_original(&rows[s]) {
+            joined.push(s)?;
+        }
+    }
+    Ok(joined)
+}
+
+// Whether the row's first alias is its block: then the row is original.
+fn is_original(row: &Row) -> bool
+    ensures { IsTrue result → IsOriginal row.now }
+{
+    match row.aliases.as_slice().first() {
+        Some(alias) => alias.block == row.block,
+        None => false,
+    }
+}
+
+// The rivals of row `s` where each row has its place as its number: only joined rows can be such.
+fn rivals_among(
+    alloc: Global,
+    rows: &[Row],
+    joined: &[usize],
+    s: usize,
+) -> Result<Seq<Rival>, Memory>
+    requires sound { IsSound rows.now }
+    requires joined { AreJoined rows.now joined.now }
+    requires inside { s < length rows.now }
+    ensures { IfOk result (λ list. (serials : List ℕ) → length serials ≡ length rows.now
+        → ((k : ℕ) → k < length rows.now → slice_index serials k ≡ k)
+        → AreRivalsAt rows.now serials s list) }
+{
+    let mut list = Seq::new(alloc);
+    for k in 0..joined.len() {
+        let r = joined[k];
+        if s < r && !is_missed(rows[r].block, &rows[s]) {
+            list.push(rival_of(&rows[r], r))?;
+        }
+    }
+    Ok(list)
+}
+
+// A row as a rival of another.
+fn rival_of(row: &Row, serial: usize) -> Rival
+    ensures serial { result.serial ≡ serial }
+    ensures general { result.general ≡ generality row.now.block }
+    ensures bits { result.bits ≡ row.now.route.bits }
+{
+    Rival {
+        serial,
+        general: generality(row.block),
+        bits: row.route.bits,
+    }
+}
+
+/// The rivals of row `s`, found among all rows behind it.
+pub(crate) fn rivals_behind(
+    alloc: Global,
+    rows: &[Row],
+    serials: &[usize],
+    s: usize,
+) -> Result<Seq<Rival>, Memory>
+    requires ordered { IsOrdered rows.now }
+    requires holds { All HoldsItsAliases rows.now }
+    requires one_each { length serials.now ≡ length rows.now }
+    requires inside { s < length rows.now }
+    ensures { IfOk result (AreRivalsAt rows.now serials.now s) }
+{
+    let mut list = Seq::new(alloc);
+    for r in s + 1..rows.len() {
+        if !is_missed(rows[r].block, &rows[s]) {
+            list.push(rival_of(&rows[r], serials[r]))?;
+        }
+    }
+    Ok(list)
+}
+
+/// Whether the block meets no alias of the row: none lies outside the row's block.
+pub(crate) fn is_missed(block: Block, row: &Row) -> bool
+    requires { HoldsItsAliases row.now }
+    ensures { IsTrue result ↔ Misses block row.now }
+{
+    if !intersects(block, row.block) {
+        return true;
+    }
+    misses(block, row)
+}
+
+/// Whether no row behind row `s`, of generality at most `general` and not at one of the places, meets an alias of it. The
+/// places behind it are of rows of its route.
+pub(crate) fn passes(rows: &[Row], rivals: &Rivals, places: &[u32], s: u32, general: u32) -> bool
+    requires rivaled { IsRivaled rows.now rivals.now }
+    requires inside { s < length rows.now }
+    requires one_route { (r : ℕ) → s < r → has_row places.now r ≡ true → SameRoute rows.now s r }
+    requires in_range { All (λ r. r < length rows.now) places.now }
+    ensures { IsTrue result ↔ PassesUp rows.now places.now s (place_for rows.now general) }
+{
+    let bits = rows[s as usize].route.bits;
+    let serial = rivals.serials[s as usize];
+    let list = rivals.of[serial].as_slice();
+    for k in 0..list.len() {
+        let rival = list[k];
+        if rival.general > general {
+            return true;
+        }
+        if rival.bits != bits || !is_at_one(&rivals.serials, places, rival.serial) {
+            return false;
+        }
+    }
+    true
+}
+
+/// Whether the row of this number stands at one of the places.
+pub(crate) fn is_at_one(serials: &[usize], places: &[u32], serial: usize) -> bool
+    requires { All (λ s. s < length serials.now) places.now }
+    ensures { result ≡ is_at_one serials.now places.now serial }
+{
+    for s in places {
+        if serials[*s as usize] == serial {
+            return true;
+        }
+    }
+    false
+}
+
+/// The number of rows whose generality is at most `general`: the place behind them.
+pub(crate) fn place_in(rows: &[Row], general: u32) -> u32
+    requires few { length rows.now < 2 ^ 32 }
+    requires ordered { IsOrdered rows.now }
+    ensures value { result ≡ place_for rows.now general }
+    ensures bound { result ≤ length rows.now }
+{
+    let mut low = 0;
+    let mut high = rows.len();
+    while low < high {
+        let middle = low + (high - low) / 2;
+        if generality(rows[middle].block) <= general {
+            low = middle + 1;
+        } else {
+            high = middle;
+        }
+    }
+    low as u32
+}
+
+/// Whether the merge of two rows of one route is legal.
+pub(crate) fn is_legal_pair(table: &Table, rivals: &Rivals, i: u32, j: u32) -> bool
+    requires rivaled { IsRivaled table.now.rows rivals.now }
+    requires set { IsMergeSet table.now.rows (i ∷ j ∷ []) }
+    ensures { IsTrue result ↔ IsLegal table.now.rows (i ∷ j ∷ []) }
+{
+    let rows = table.rows.as_slice();
+    let merged = merged_block(rows, &[i, j]);
+    let general = generality(merged);
+    if !passes(rows, rivals, &[i, j], i, general) {
+        return false;
+    }
+    if !passes(rows, rivals, &[i, j], j, general) {
+        return false;
+    }
+    passes_behind(rows, merged, place_in(rows, general))
+}
+
+// Whether the block meets no alias of a row at or after place `p`.
+fn passes_behind(rows: &[Row], block: Block, p: u32) -> bool
+    requires { All HoldsItsAliases rows.now }
+    ensures { IsTrue result ↔ PassesDown rows.now block p }
+{
+    for r in p as usize..rows.len() {
+        if !is_missed(block, &rows[r]) {
+            return false;
+        }
+    }
+    true
+}
