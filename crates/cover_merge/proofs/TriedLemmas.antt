@@ -155,7 +155,7 @@ since_more rows gs k x y time t inside old low le next = record {
   ];
 }
 
--- the next of a row's trail, which is of the row's route
+-- the next of a row's changes, which is of the row's route
 pub newer_next : (rows : List Row) (gs : List Times) (newer : List ℕ) (k x time : ℕ) (d : Row) (z : Times) → AreNewerOf (get_or rows k d).route.bits (suc k) rows gs newer → x < length rows → IsNextSince rows gs k time x
     → IsNextSince rows gs x (suc (get_or gs x z).changed) (get_or newer x 0)
 newer_next rows gs newer k x time d z newer_are inside old = newer_are x d z old.behind inside (old.same d inside)
@@ -214,7 +214,7 @@ module _ (bits : ℕ) (rows : List Row) (places : List ℕ) (are : ArePlaces bit
 pub newer_others : (bits : ℕ) (rows : List Row) (now new : List ℕ) (k v : ℕ) → ((d : Row) → (get_or rows k d).route.bits ≡ bits) → new ≡ set now k v → (j : ℕ) (d : Row) → (get_or rows j d).route.bits ≢ bits → get_or new j 0 ≡ get_or now j 0
 newer_others bits rows now new k v of is j d other = ap (λ l. get_or l j 0) is ∙ get_or-set_other now k j v 0 (λ at. other (ap (λ i. (get_or rows i d).route.bits) at ∙ of d))
 
--- the trails of a route, where what stands at its rows stays
+-- the changes of a route, where what stands at its rows stays
 pub newer_same : (bits : ℕ) (rows : List Row) (gs : List Times) (now new : List ℕ) → ((j : ℕ) (d : Row) → j < length rows → (get_or rows j d).route.bits ≡ bits → get_or new j 0 ≡ get_or now j 0) → AreNewerOf bits 0 rows gs now → AreNewerOf bits 0 rows gs new
 newer_same bits rows gs now new stays each k d e from within same = subst (IsNextSince rows gs k (suc (get_or gs k e).changed)) (sym (stays k d within same)) (each k d e from within same)
 

@@ -2,6 +2,7 @@ pub use Rattle.tern_word.specs.SoundTable
 pub use Rattle.tern_word.specs.Ternary
 pub mod Merge
 pub mod Aliases
+pub mod Changes
 pub mod Covering
 pub mod Kept
 pub mod Known
@@ -9,5 +10,4 @@ pub mod Links
 pub mod Merges
 pub mod Refinement
 pub mod Rivals
-pub mod Trails
 pub mod Tried

@@ -58,7 +58,7 @@ AreNewerOf bits place rows times newer =
 
 -- Each row has its times and its next row of its route; and each one of this route, from the place on, its next one that
 -- changed later.
-pub record AreTrailsFrom (bits place : ℕ) (rows : List Row) (times : List Times) (next later : List ℕ) : Type 0 where
+pub record AreChangesFrom (bits place : ℕ) (rows : List Row) (times : List Times) (next later : List ℕ) : Type 0 where
   pub one_each : length times ≡ length rows
   pub nexts : AreNexts rows next
   pub newer : AreNewerOf bits place rows times later

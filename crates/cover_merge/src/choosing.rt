@@ -1,13 +1,13 @@
 // Which rows are merged next.
 ghost use Rattle.std.specs.Prelude.{◌≡◌, ◌<◌, ◌^◌, ℕ, suc, [], ◌∷◌, All, IfOk, OnOk, IsTrue, MatchOption, length, slice_index, slice_index_or};
 ghost use Rattle.cover_merge.specs.Rivals.{IsRivaled};
-ghost use Rattle.cover_merge.specs.Tried.{AreNewerOf, AreTrailsFrom, AreTried, AreTriedUpTo, IsNextSince};
+ghost use Rattle.cover_merge.specs.Tried.{AreNewerOf, AreChangesFrom, AreTried, AreTriedUpTo, IsNextSince};
 ghost use Rattle.cover_merge.specs.declared.times.Times.{Times as ATimes};
 ghost use Rattle.tern_word.specs.declared.tables.Row.{Row as ARow};
 ghost use Rattle.cover_merge.specs.Links.{AreLinks, AreNexts, IsFirstOfRoute};
 ghost use Rattle.cover_merge.specs.Kept.{IsKept};
 ghost use Rattle.cover_merge.specs.Known.{AreAllKept, IsKnown};
-ghost use Rattle.cover_merge.specs.Trails.{AreTrails};
+ghost use Rattle.cover_merge.specs.Changes.{AreChanges};
 ghost use Rattle.cover_merge.specs.Covering.{places_of, IsFirstPartner, IsLargest, HasNoLargest, IsLegalPair, HasNoLegalPair, IsFirstLegalPair, IsChosen, HasNoChosen};
 
 use crate::keeping::{Kept, most_of};
@@ -126,7 +126,7 @@ fn places_from(alloc: Global, rows: &[Row], links: &Links, first: u32) -> Result
 
 // For each row the next one of its route that changed later, for the routes that are ready.
 #[derive(Drop)]
-struct Trails {
+struct Changes {
     newer: Vec<u32>,
     ready: Vec<bool>,
 }
@@ -149,7 +149,7 @@ fn first_pair(
     ensures known { OnOk result (IsKnown table.now.rows known.new) }
     ensures marks { OnOk result (AreTriedUpTo now table.now.rows known.new.times.items) }
 {
-    let mut trails = Trails {
+    let mut changes = Changes {
         newer: vec![in alloc; 0u32; table.rows.len()]?,
         ready: vec![in alloc; false; known.routes.len()]?,
     };
@@ -157,8 +157,8 @@ fn first_pair(
         if is_settled(known, i) {
             continue;
         }
-        make_ready(alloc, table, known, links, &mut trails, i)?;
-        if let Some(j) = partner(table, known, links, &trails.newer, i as u32) {
+        make_ready(alloc, table, known, links, &mut changes, i)?;
+        if let Some(j) = partner(table, known, links, &changes.newer, i as u32) {
             return Ok(Some(two_places(alloc, i as u32, j)?));
         }
         known.times[i] = marked(known.times[i], now);
@@ -177,35 +177,35 @@ fn is_settled(known: &Known, i: usize) -> bool
     known.latest[known.numbers[i] as usize] < known.times[i].tried
 }
 
-// Makes the trails of the route of row `i` ready, where they are not.
+// Makes the changes of the route of row `i` ready, where they are not yet.
 fn make_ready(
     alloc: Global,
     table: &Table,
     known: &Known,
     links: &Links,
-    trails: &mut Trails,
+    changes: &mut Changes,
     i: usize,
 ) -> Result<(), Memory>
     requires known { IsKnown table.now.rows known.now }
     requires links { AreLinks known.now.routes.items table.now.rows links.now.next.items
         links.now.heads.items }
-    requires trails { AreTrails table.now.rows known.now.times.items known.now.routes.items trails.old }
+    requires changes { AreChanges table.now.rows known.now.times.items known.now.routes.items changes.old }
     requires inside { i < length table.now.rows }
-    ensures trails { OnOk result (AreTrails table.now.rows known.now.times.items known.now.routes.items trails.new) }
+    ensures changes { OnOk result (AreChanges table.now.rows known.now.times.items known.now.routes.items changes.new) }
     ensures own { OnOk result ((d : ARow) → AreNewerOf (slice_index_or table.now.rows i d).route.bits 0
-        table.now.rows known.now.times.items trails.new.newer.items) }
+        table.now.rows known.now.times.items changes.new.newer.items) }
 {
     let c = known.numbers[i] as usize;
-    if !trails.ready[c] {
+    if !changes.ready[c] {
         find_newer(
             alloc,
             table,
             &known.times,
             links,
-            &mut trails.newer,
+            &mut changes.newer,
             links.heads[c],
         )?;
-        trails.ready[c] = true;
+        changes.ready[c] = true;
     }
     Ok(())
 }
@@ -273,7 +273,7 @@ fn changed_after(
     k: u32,
     time: usize,
 ) -> u32
-    requires trails { (d : ARow) → AreTrailsFrom (slice_index_or table.now.rows k d).route.bits (suc k)
+    requires changes { (d : ARow) → AreChangesFrom (slice_index_or table.now.rows k d).route.bits (suc k)
         table.now.rows times.now links.now.next.items newer.now }
     requires inside { k < length table.now.rows }
     ensures { IsNextSince table.now.rows times.now k (suc time) result }
@@ -299,7 +299,7 @@ fn next_to_try(
     k: u32,
     time: usize,
 ) -> u32
-    requires trails { (d : ARow) → AreTrailsFrom (slice_index_or table.now.rows k d).route.bits 0 table.now.rows
+    requires changes { (d : ARow) → AreChangesFrom (slice_index_or table.now.rows k d).route.bits 0 table.now.rows
         times.now links.now.next.items newer.now }
     requires inside { k < length table.now.rows }
     ensures { IsNextSince table.now.rows times.now k time result }
@@ -325,7 +325,7 @@ fn two_places(alloc: Global, i: u32, j: u32) -> Result<Seq<u32>, Memory>
 fn partner(table: &Table, known: &Known, links: &Links, newer: &[u32], i: u32) -> Option<u32>
     requires rivaled { IsRivaled table.now.rows known.now.rivals }
     requires tried { AreTried table.now.rows known.now.times.items }
-    requires trails { (d : ARow) → AreTrailsFrom (slice_index_or table.now.rows i d).route.bits 0 table.now.rows
+    requires changes { (d : ARow) → AreChangesFrom (slice_index_or table.now.rows i d).route.bits 0 table.now.rows
         known.now.times.items links.now.next.items newer.now }
     requires inside { i < length table.now.rows }
     ensures { MatchOption result ((b : ℕ) → IsLegalPair table.now.rows i b

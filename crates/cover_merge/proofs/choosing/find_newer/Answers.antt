@@ -2,7 +2,7 @@
 use Rattle.std.proofs.Common.{◌≡◌, ◌-◌, ◌<◌, ◌∙◌, ℕ, suc, refl, sym, set, subst, length, get_or, arith}
 use Rattle.std.proofs.lemmas.List.{length-set}
 use Rattle.cover_merge.specs.Links.{IsFirstOfRoute}
-use Rattle.cover_merge.specs.Tried.{AreNewerOf, AreTrailsFrom}
+use Rattle.cover_merge.specs.Tried.{AreNewerOf, AreChangesFrom}
 use Rattle.cover_merge.proofs.ChooseLemmas.{ArePlaces, places_gathered}
 use Rattle.cover_merge.proofs.TriedLemmas.{AreNewerAt, newer_all, newer_behind, newer_more, newer_others}
 use Rattle.cover_merge.proofs.choosing.find_newer.Goals.{After-as_slice-places}
@@ -24,17 +24,17 @@ changed_after-requires-clause-inside c =
     let places = are (goal.at.changed_after-requires-clause-inside c).After-as_slice-places first.0 first.1 in
     places.inside (c.loop-k.k - 1) (omega (arith, c.loop-k.invariant.within, c.loop-k-test.true))
 
-pub changed_after-requires-clause-trails : goal.changed_after-requires-clause-trails
-changed_after-requires-clause-trails c d =
+pub changed_after-requires-clause-changes : goal.changed_after-requires-clause-changes
+changed_after-requires-clause-changes c d =
     let rows = c.args.table.now.rows in
     let list = c.as_slice-places.result.now in
     let first = c.requires.first in
-    let places = are (goal.at.changed_after-requires-clause-trails c).After-as_slice-places first.0 first.1 in
+    let places = are (goal.at.changed_after-requires-clause-changes c).After-as_slice-places first.0 first.1 in
     let n = c.loop-k.k - 1 in
     let inside : n < length list = omega (arith, c.loop-k.invariant.within, c.loop-k-test.true) in
     let step : c.loop-k.k ≡ suc n = omega (arith, c.loop-k-test.true) in
     let done : AreNewerAt (suc n) list rows c.args.times.now c.loop-k.newer.items = subst (λ i. AreNewerAt i list rows c.args.times.now c.loop-k.newer.items) step c.loop-k.invariant.done in
-    subst (AreTrailsFrom (get_or rows (get_or list n 0) d).route.bits (suc (get_or list n 0)) rows c.args.times.now c.args.links.now.next.items) (sym c.deref.ensures.value)
+    subst (AreChangesFrom (get_or rows (get_or list n 0) d).route.bits (suc (get_or list n 0)) rows c.args.times.now c.args.links.now.next.items) (sym c.deref.ensures.value)
     (record {
       one_each = c.requires.one_each.0;
       nexts = c.requires.nexts;

@@ -2,7 +2,7 @@
 use Rattle.std.proofs.Common.{◌∙◌, ℕ, ◌<◌, refl, sym, ap, set, subst, length, length-set, get_or, arith}
 use Rattle.std.specs.Prelude.{MatchOption}
 use borrow.Author.Count.{below_more}
-use Rattle.cover_merge.specs.Tried.{AreTrailsFrom}
+use Rattle.cover_merge.specs.Tried.{AreChangesFrom}
 use Rattle.cover_merge.specs.Covering.{IsLegalPair, IsFirstPartner}
 use Rattle.cover_merge.proofs.ChooseLemmas.{first_found, no_pair}
 use Rattle.cover_merge.proofs.LinkLemmas.{as_many, number_at}
@@ -32,15 +32,15 @@ loop-i-preserved-then-is_settled c =
       known = old.known;
       routes = old.routes;
       marks = old.marks;
-      trails = old.trails;
+      changes = old.changes;
     }
 
-pub partner-requires-clause-trails : goal.partner-requires-clause-trails
-partner-requires-clause-trails c d =
+pub partner-requires-clause-changes : goal.partner-requires-clause-changes
+partner-requires-clause-changes c d =
     let rows = c.args.table.now.rows in
     let ready = c.in_ok-make_ready.ensures in
-    subst (AreTrailsFrom (get_or rows c.loop-i.i d).route.bits 0 rows c.loop-i.known.times.items c.args.links.now.next.items) (sym c.deref.ensures.value)
-    (record { one_each = c.loop-i.invariant.known.one_each; nexts = c.requires.links.next; newer = ready.own d; places = ready.trails.places })
+    subst (AreChangesFrom (get_or rows c.loop-i.i d).route.bits 0 rows c.loop-i.known.times.items c.args.links.now.next.items) (sym c.deref.ensures.value)
+    (record { one_each = c.loop-i.invariant.known.one_each; nexts = c.requires.links.next; newer = ready.own d; places = ready.changes.places })
 
 pub returns-in-Some-clause-found : goal.returns-in-Some-clause-found
 returns-in-Some-clause-found c =
@@ -58,7 +58,7 @@ loop-i-preserved c =
     let was = c.index.result.now in
     let mark = c.marked.ensures in
     let old = c.loop-i.invariant in
-    let ready = c.in_ok-make_ready.ensures.trails in
+    let ready = c.in_ok-make_ready.ensures.changes in
     let inside : i < length gs = omega (arith, old.known.one_each, c.len-i-end.ensures, c.loop-i-test.true) in
     let none : (b : ℕ) → IsLegalPair rows i b → ⊥ = subst (λ o. MatchOption o ((b : ℕ) → IsLegalPair rows i b → ⊥) (λ j. IsFirstPartner rows i j)) c.in_default.is c.partner.ensures in record {
       none = below_more (λ a. (b : ℕ) → IsLegalPair rows a b → ⊥) i old.none none;
@@ -75,10 +75,10 @@ loop-i-preserved c =
       };
       routes = old.routes;
       marks = marked_put c.args.now rows gs i g inside old.marks was c.index.ensures mark none;
-      trails = record {
+      changes = record {
         places = ready.places;
         one_each = ready.one_each;
-        newer = λ k e low is. newer_kept c.args.now (get_or known.routes.items k 0) rows gs (set gs i g) c.make_ready.new.trails.newer.items i g was inside c.index.ensures refl mark (ready.newer k e low is);
+        newer = λ k e low is. newer_kept c.args.now (get_or known.routes.items k 0) rows gs (set gs i g) c.make_ready.new.changes.newer.items i g was inside c.index.ensures refl mark (ready.newer k e low is);
       };
     }
 

@@ -3,7 +3,7 @@ use Rattle.std.proofs.Common.{◌≡◌, ℕ, ◌<◌}
 use Rattle.cover_merge.specs.Covering.{IsLegalPair}
 use Rattle.cover_merge.specs.Known.{IsKnown}
 use Rattle.cover_merge.specs.Tried.{AreTriedUpTo}
-use Rattle.cover_merge.specs.Trails.{AreTrails}
+use Rattle.cover_merge.specs.Changes.{AreChanges}
 use Rattle.cover_merge.proofs.choosing.first_pair.Given as goal
 
 abbrev pub invariant-loop-i : goal.invariant-loop-i
@@ -12,5 +12,5 @@ invariant-loop-i l = record {
   known : IsKnown l.table.rows l.known;
   routes : l.known.routes.items ≡ l.fn.known.routes.items;
   marks : AreTriedUpTo l.now l.table.rows l.known.times.items;
-  trails : AreTrails l.table.rows l.known.times.items l.known.routes.items l.trails;
+  changes : AreChanges l.table.rows l.known.times.items l.known.routes.items l.changes;
 }

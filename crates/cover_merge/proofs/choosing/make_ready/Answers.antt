@@ -1,4 +1,4 @@
--- The trails of one route more are ready, and those of the others stay.
+-- The changes of one route more are ready, and those of the others stay.
 use Rattle.std.proofs.Common.{◌≡◌, ◌<◌, ◌∙◌, true, sym, ap, subst, length, length-set, get_or, arith}
 use Rattle.std.proofs.lemmas.List.{get_or_default}
 use Rattle.tern_word.specs.declared.tables.Row.{Row}
@@ -36,20 +36,20 @@ first c inside =
     subst (IsFirstOfRoute c.args.table.now.rows (get_or c.args.known.now.routes.items c.index.result.now 0))
     (get_or_default heads c.index.result.now 0 c.index-then-not-index.result.now (omega (arith, links.one_each, inside)) ∙ sym c.index-then-not-index.ensures) (links.head c.index.result.now inside)
 
-pub returns-in_ok-find_newer-clause-trails : goal.returns-in_ok-find_newer-clause-trails
-returns-in_ok-find_newer-clause-trails c =
+pub returns-in_ok-find_newer-clause-changes : goal.returns-in_ok-find_newer-clause-changes
+returns-in_ok-find_newer-clause-changes c =
     let rows = c.args.table.now.rows in
     let gs = c.args.known.now.times.items in
     let routes = c.args.known.now.routes.items in
     let number = c.index.result.now in
-    let old = c.requires.trails in
-    let within : number < length routes = low (goal.at.returns-in_ok-find_newer-clause-trails c).After-index in
-    let begins = first (goal.at.returns-in_ok-find_newer-clause-trails c).After-index-then-not-index within in
+    let old = c.requires.changes in
+    let within : number < length routes = low (goal.at.returns-in_ok-find_newer-clause-changes c).After-index in
+    let begins = first (goal.at.returns-in_ok-find_newer-clause-changes c).After-index-then-not-index within in
     let found = c.in_ok-find_newer.ensures in
     let own : AreNewerOf (get_or routes number 0) 0 rows gs c.find_newer.new.newer.items = subst (λ l. AreNewerOf (get_or routes number 0) 0 rows l c.find_newer.new.newer.items) c.deref.ensures.value (found.own (get_or routes number 0) begins) in record {
       places = found.one_each;
-      one_each = length-set c.args.trails.now.ready.items number true ∙ old.one_each;
-      newer = newer_ready routes rows gs c.args.trails.now.ready.items c.args.trails.now.newer.items c.find_newer.new.newer.items number c.requires.known.once old.one_each within own
+      one_each = length-set c.args.changes.now.ready.items number true ∙ old.one_each;
+      newer = newer_ready routes rows gs c.args.changes.now.ready.items c.args.changes.now.newer.items c.find_newer.new.newer.items number c.requires.known.once old.one_each within own
           (λ j d in_rows other. found.others (get_or routes number 0) j d begins in_rows other) old.newer;
     }
 
@@ -67,5 +67,5 @@ returns-in_ok-find_newer-clause-own c d =
 pub returns-else-not-index-clause-own : goal.returns-else-not-index-clause-own
 returns-else-not-index-clause-own c d =
     let before = (goal.at.returns-else-not-index-clause-own c).After-index in
-    subst (λ b. AreNewerOf b 0 c.args.table.now.rows c.args.known.now.times.items c.args.trails.now.newer.items) (bits before d)
-    (c.requires.trails.newer c.index.result.now c.index-2.result.now (low before) (sym c.index-2.ensures ∙ c.if-not-index.false))
+    subst (λ b. AreNewerOf b 0 c.args.table.now.rows c.args.known.now.times.items c.args.changes.now.newer.items) (bits before d)
+    (c.requires.changes.newer c.index.result.now c.index-2.result.now (low before) (sym c.index-2.ensures ∙ c.if-not-index.false))

@@ -7,21 +7,21 @@ use Rattle.cover_merge.proofs.TriedLemmas.{since_first}
 use Rattle.cover_merge.proofs.choosing.next_to_try.Goals as goal
 
 pub index-next-requires : goal.index-next-requires
-index-next-requires c = omega (arith, c.requires.inside, (c.requires.trails (merge_rows [])).nexts.one_each)
+index-next-requires c = omega (arith, c.requires.inside, (c.requires.changes (merge_rows [])).nexts.one_each)
 
 pub returns-then-time-eq0 : goal.returns-then-time-eq0
 returns-then-time-eq0 c =
     let rows = c.args.table.now.rows in
     since_first rows c.args.times.now c.args.k c.index-next.result.now c.args.time
-    (link_next rows c.args.links.now.next.items (c.requires.trails (merge_rows [])).nexts c.args.k c.index-next.result.now c.requires.inside c.index-next.ensures)
+    (link_next rows c.args.links.now.next.items (c.requires.changes (merge_rows [])).nexts c.args.k c.index-next.result.now c.requires.inside c.index-next.ensures)
 
-pub changed_after-requires-clause-trails : goal.changed_after-requires-clause-trails
-changed_after-requires-clause-trails c d =
-    let trails = c.requires.trails d in record {
-      one_each = trails.one_each;
-      nexts = trails.nexts;
-      newer = λ j e f from within same. trails.newer j e f (omega arith) within same;
-      places = trails.places;
+pub changed_after-requires-clause-changes : goal.changed_after-requires-clause-changes
+changed_after-requires-clause-changes c d =
+    let changes = c.requires.changes d in record {
+      one_each = changes.one_each;
+      nexts = changes.nexts;
+      newer = λ j e f from within same. changes.newer j e f (omega arith) within same;
+      places = changes.places;
     }
 
 pub returns : goal.returns
