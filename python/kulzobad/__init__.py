@@ -22,6 +22,7 @@ from .reports import Delivery, Dump, Keys, Place, Plan, Report, Row, Summary, Ta
 from .trees import trees
 from .verdicts import Dies, Loops, Misses, OffTree, Strays, TooLong, Twice
 from .verifying import KeyedNet, notes, verify
+from .versions import VERSION as __version__
 
 __all__ = [
     "AlreadyLoaded", "Answer", "BadImage", "BadTree", "BrokenAnswer", "CutOff", "Delivery", "Dump", "Image", "Job", "Keys", "KeysOut",
@@ -29,5 +30,5 @@ __all__ = [
     "Ran", "Refused", "Report", "Right", "Row", "RowsOut", "Slip", "Split", "Summary", "Table", "UnknownMembers", "Unloaded", "Verdict",
     "Vertex", "Wait", "Waiting", "Wrong", "apps", "check", "collect", "compile", "cores_of", "decode", "dump", "encode", "explain",
     "gen", "inject", "links_of", "load", "reinject", "run", "send", "tables", "take", "trace", "trees", "unload",
-    "Dies", "KeyedNet", "Loops", "Misses", "OffTree", "Strays", "TooLong", "Twice", "notes", "verify",
+    "__version__", "Dies", "KeyedNet", "Loops", "Misses", "OffTree", "Strays", "TooLong", "Twice", "notes", "verify",
 ]

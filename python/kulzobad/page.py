@@ -75,7 +75,6 @@ def add_command(commands: Any) -> None:
     example = "kulzobad page job.json -o job.html\nkulzobad page network.json --tables rows.csv -o network.html"
     parser = command(commands, "page", "a page to look at a job, as one HTML file", example, run, MORE)
     add_job(parser, "the job, or of a network as verify takes it")
-    parser.add_argument("-o", dest="out", metavar="FILE", help="the same as --out")
     parser.add_argument("--reinject", action="store_true", help="put back the copies that are dropped, in place of a plain run")
     parser.add_argument("--tables", metavar="TABLES", help="show these tables, as verify takes them, and what verify says of them")
     parser.add_argument("--title", help="what stands at the head of the page, in place of the file's name")

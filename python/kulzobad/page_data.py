@@ -14,6 +14,7 @@ import re
 import struct
 from collections import Counter
 from dataclasses import dataclass
+from itertools import combinations
 from typing import Any, Dict, Iterable, List, Mapping, Optional, Sequence, Tuple
 
 from .checks import Right
@@ -184,11 +185,13 @@ def packed_rows(rows: Iterable[Any]) -> str:
 
 def packed_tree(grid: Grid, visits: Iterable[Visit]) -> str:
     """A net's tree."""
-    parts = []
-    for visit in visits:
-        links = sum(1 << link for link in visit.links)
-        parts.append(struct.pack("<HHBB", number_in(grid, visit.chip), NONE if visit.row is None else visit.row, visit.port, links))
-    return based(b"".join(parts))
+    pack = PACKED_VISIT.pack
+    return based(b"".join([pack(number_in(grid, chip), NONE if row is None else row, port, BITS[links]) for chip, port, row, links, _ in visits]))
+
+
+PACKED_VISIT = struct.Struct("<HHBB")
+# The bits of links, by their numbers in order.
+BITS = {links: sum(1 << link for link in links) for count in range(7) for links in combinations(range(6), count)}
 
 
 # ---- what came of packets and events
@@ -198,8 +201,9 @@ def passed_links(job: Job, report: Report, trees: Mapping[str, List[Visit]]) -> 
     """How many packets passed each link: those of all trees, without those behind which a copy was dropped."""
     grid, passed = Grid(job.machine), Counter[Link]()
     for net, count in Counter(it.net for it in job.packets).items():
-        for visit in trees[net]:
-            passed.update({(*visit.chip, link): count for link in visit.links})
+        for (x, y), _, _, links, _ in trees[net]:
+            for link in links:
+                passed[x, y, link] += count
     for dump in report.dumps:
         if dump.out in LINKS:
             passed.subtract(links_behind(grid, trees[job.packets[dump.packet].net], (dump.x, dump.y), LINKS.index(dump.out)))

@@ -1,8 +1,8 @@
 """The way of one key over tables, visit by visit, with the row that takes it at each."""
 from __future__ import annotations
 
-from dataclasses import dataclass
-from typing import Iterable, List, Mapping, Optional, Set, Tuple
+from functools import lru_cache
+from typing import Iterable, List, Mapping, NamedTuple, Optional, Set, Tuple
 
 from .grid import Grid, opposite
 from .jobs import Chip
@@ -13,8 +13,7 @@ from .trees import Link, Lookup
 LOCAL = 6
 
 
-@dataclass(frozen=True)
-class Visit:
+class Visit(NamedTuple):
     """A packet at a chip: the port at which it came in, the place of the row that takes it (None: default routing), the links by
     which it leaves, by number, and the cores that get it."""
 
@@ -27,8 +26,12 @@ class Visit:
 
 def row_of(lookup: Lookup, key: int) -> Optional[Tuple[int, Row]]:
     """The first row that matches a key, with its place: None where none does."""
-    matches = [rows[key & mask] for mask, rows in lookup.items() if key & mask in rows]
-    return min(matches, key=lambda match: match[0]) if matches else None
+    found = None
+    for mask, rows in lookup.items():
+        match = rows.get(key & mask)
+        if match is not None and (found is None or match[0] < found[0]):
+            found = match
+    return found
 
 
 def visit(looks: Mapping[Chip, Lookup], chip: Chip, port: int, key: int) -> Visit:
@@ -37,8 +40,13 @@ def visit(looks: Mapping[Chip, Lookup], chip: Chip, port: int, key: int) -> Visi
     if found is None:
         return Visit(chip, port, None, () if port == LOCAL else (opposite(port),), ())
     place, row = found
-    links = tuple(link for link in range(6) if row.route >> link & 1)
-    return Visit(chip, port, place, links, tuple(core for core in range(18) if row.route >> (6 + core) & 1))
+    return Visit(chip, port, place, *outputs_of(row.route))
+
+
+@lru_cache(maxsize=4096)
+def outputs_of(route: int) -> Tuple[Tuple[int, ...], Tuple[int, ...]]:
+    """The links and the cores of a route, by number."""
+    return tuple(link for link in range(6) if route >> link & 1), tuple(core for core in range(18) if route >> (6 + core) & 1)
 
 
 def walk(grid: Grid, looks: Mapping[Chip, Lookup], key: int, chip: Chip, port: int = LOCAL) -> List[Visit]:

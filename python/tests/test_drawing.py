@@ -105,7 +105,7 @@ class Commands(unittest.TestCase):
             try:
                 os.environ["PATH"] = folder
                 status, written, told = called("draw", "mesh", EXAMPLES / "fan_out.json", EXAMPLES / "fan_out.report", "--png")
-                self.assertEqual((status, written), (1, b""))
+                self.assertEqual((status, written), (127, b""))
                 self.assertIn("rsvg-convert", told)
                 tool = Path(folder, "rsvg-convert")
                 tool.write_text("#!/bin/sh\nread -r line; echo \"$*: $line\"\n")

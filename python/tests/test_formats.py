@@ -248,7 +248,7 @@ class Command(unittest.TestCase):
 
     def test_the_way_of_a_key(self):
         status, out = self.called(Networks.text, self.rows + "1,1,9,0xffffffff,1\n")
-        self.assertEqual((status, out.splitlines()), (1, [
+        self.assertEqual((status, out.splitlines()), (20, [
             "dies spikes 00001000", "at 0 0 from L row 0 to E", "at 1 0 from W default to E", "at 2 0 from W row 0 to NE",
             "note at 1 1 row 0: no net has a key of it", "note at 1 1 1 rows: no packets come there",
         ]))
@@ -256,7 +256,7 @@ class Command(unittest.TestCase):
     def test_tables_of_a_job(self):
         job = Job(Machine(2, 1), [Vertex("a"), Vertex("b", at=(1, 0))], [Net("n", "a", ["b"], 3)])
         self.assertEqual(self.called(job.text(), compile(job).data), (0, "right\n"))
-        self.assertEqual(self.called(job.text(), "0 0 0 0 000001\n"), (1, "dies n 00000000\nat 0 0 from L row 0 to E\nat 1 0 from W default to E\n"))
+        self.assertEqual(self.called(job.text(), "0 0 0 0 000001\n"), (20, "dies n 00000000\nat 0 0 from L row 0 to E\nat 1 0 from W default to E\n"))
 
     def test_files_that_are_none(self):
         for network, rows, told in (

@@ -4,6 +4,7 @@ import contextlib
 import email
 import hashlib
 import io
+import json
 import os
 import pty
 import re
@@ -75,9 +76,9 @@ class Found(unittest.TestCase):
             job = b'{"version":1,"machine":{"width":1,"height":1},"graph":{"vertices":[],"nets":[]}}'
             for words in (("tables", "--json"), ("compile", "--json"), ("check", "--json", "--lenient"), ("apps", "--json"), ("trees",), ("draw", "mesh")):
                 status, written, told = called(*words, "-", "--program", program, given=job)
-                self.assertEqual((status, written, told.count("\n")), (1, b"", 1), words)
-            status, written, told = called("gen", "1", "--json", "--program", program)
-            self.assertEqual((status, written, told.count("\n")), (1, b"", 1))
+                self.assertEqual((status, written, told.count("\n")) if "--json" not in words else (status, json.loads(written)["refused"]["kind"], told),
+                                 (70, b"", 1) if "--json" not in words else (70, "not whole", ""), words)
+            self.assertEqual(called("gen", "1", "--json", "--program", program)[::2], (70, ""))
 
     def test_a_program_of_another_kind(self):
         with tempfile.TemporaryDirectory() as folder:

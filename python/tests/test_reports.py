@@ -110,7 +110,7 @@ class Whole(unittest.TestCase):
                         draw_command.run(options)
                         out.unlink()
                     except Stopped as stopped:
-                        self.assertEqual((stopped.status, out.exists()), (1, False))
+                        self.assertEqual((stopped.status, out.exists()), (4, False))
 
     def test_the_picture_of_a_broken_report_by_the_script(self):
         script = EXAMPLES.parent / "tools" / "picture.py"
