@@ -16,7 +16,7 @@ import json
 import os
 import re
 from pathlib import Path
-from typing import Any, Dict, Mapping, Optional, Union
+from typing import Any, Dict, List, Mapping, Optional, Sequence, Union
 
 from .command import Stopped, add_job, command, read_bytes, write
 from .formats import Network, rows_by_chip
@@ -35,11 +35,14 @@ FILES = Path(__file__).resolve().parent
 SCRIPTS = ("page_job.js", "page_mesh.js", "page_answers.js", "page_trace.js", "page_all.js")
 
 
-def page(job: Union[Job, bytes], title: str = "job", word: str = "run", program: Optional[str] = None) -> str:
+def page(
+    job: Union[Job, bytes], title: str = "job", word: str = "run", program: Optional[str] = None, queues: Optional[Sequence[int]] = None
+) -> str:
     """The page of a job, or of a job's text, as HTML. The packets are run by `word`, `run` or `reinject`, where there are some, and the
-    events traced where there are some. A job that is refused has a page too, which tells why."""
+    events traced where there are some. A run stands beside those with queues of the lengths `queues`; where none are named, 4 and 1,
+    where these are shorter than the job's own. A job that is refused has a page too, which tells why."""
     text = job if isinstance(job, bytes) else job.text().encode()
-    return page_of(page_data(text, word, program), title)
+    return page_of(page_data(text, word, program, queues), title)
 
 
 def verified_page(network: Network, title: str = "network", program: Optional[str] = None) -> str:
@@ -76,8 +79,19 @@ def add_command(commands: Any) -> None:
     parser = command(commands, "page", "a page to look at a job, as one HTML file", example, run, MORE)
     add_job(parser, "the job, or of a network as verify takes it")
     parser.add_argument("--reinject", action="store_true", help="put back the copies that are dropped, in place of a plain run")
+    what = "run the packets with queues of these lengths, too, as in 8,2,1; 4 and 1, if none are named; - is no other run"
+    parser.add_argument("--queues", metavar="N,N", type=lengths, help=what)
     parser.add_argument("--tables", metavar="TABLES", help="show these tables, as verify takes them, and what verify says of them")
     parser.add_argument("--title", help="what stands at the head of the page, in place of the file's name")
+
+
+def lengths(text: str) -> List[int]:
+    """The lengths of queues that a word names."""
+    if text == "-":
+        return []
+    if not re.fullmatch(r"[1-9]\d{0,4}(,[1-9]\d{0,4}){0,3}", text) or any(int(it) > 65536 for it in text.split(",")):
+        raise argparse.ArgumentTypeError(f"{text!r} is no list of one to four numbers from 1 to 65536")
+    return [int(it) for it in text.split(",")]
 
 
 def run(options: argparse.Namespace) -> int:
@@ -93,7 +107,7 @@ def page_of_job(options: argparse.Namespace, title: str) -> str:
     text = read_bytes(options.job)
     if not options.lenient:
         refuse(slips_of(value_of(text)))
-    return page(text, title, "reinject" if options.reinject else "run", options.program)
+    return page(text, title, "reinject" if options.reinject else "run", options.program, options.queues)
 
 
 def page_of_tables(options: argparse.Namespace, title: str) -> str:

@@ -4,7 +4,7 @@ tables of another tool, with what `verify` says of them.
 Chips are numbered by x, then y, vertices and nets by their lists. Tables, trees and live links are bytes in base64, so that a page
 opens quickly and reads of them what is asked for: of each row of a table three words of 32 bits (key, mask, route); of each visit of
 a tree the chip and the row (16 bits each, 65535: default routing), the port at which packets come in (6: from a core) and the links
-by which they leave (a byte each); of each chip, for its six links, the chip to which each leads (16 bits, 65535: none).
+by which they leave (a byte each); of each chip how many nets come by it (32 bits); of each chip, for its six links, the chip to which each leads (16 bits, 65535: none).
 """
 from __future__ import annotations
 
@@ -13,6 +13,7 @@ import json
 import re
 import struct
 from collections import Counter
+from concurrent.futures import ThreadPoolExecutor
 from dataclasses import dataclass
 from itertools import combinations
 from typing import Any, Dict, Iterable, List, Mapping, Optional, Sequence, Tuple
@@ -22,7 +23,9 @@ from .explaining import lines_of as lines_on
 from .formats import Network
 from .grid import Grid
 from .jobs import Chip, Job, Machine
+from .kinds import BrokenAnswer
 from .program import Refused, answer_to_text
+from .progress import showing
 from .reports import LINKS, Plan, Report, read
 from .stepping import UNSENT, bit_of, steps_of
 from .trees import Link, Lookup, lookups
@@ -33,6 +36,10 @@ from .walking import LOCAL, Visit, links_behind, walk
 NONE = 0xFFFF
 SDRAM = 134217728
 MOST_SHOWN = 400
+# How many copies a queue holds where the job does not say.
+QUEUE = 16
+# With which queues a job is run too, where these are shorter than its own.
+SHORTER = (4, 1)
 # Statuses of jobs that the program has read, and that can't be compiled.
 NO_ROOM, KEYS_OUT, CUT_OFF, TABLE_LONG = 5, 6, 7, 8
 
@@ -53,8 +60,9 @@ def value_of(text: bytes) -> Any:
 # ---- a job
 
 
-def page_data(text: bytes, word: str = "run", program: Optional[str] = None) -> Dict[str, Any]:
-    """All that the page of a job's text shows. `word` is what is done with its packets: `run` or `reinject`."""
+def page_data(text: bytes, word: str = "run", program: Optional[str] = None, queues: Optional[Sequence[int]] = None) -> Dict[str, Any]:
+    """All that the page of a job's text shows. `word` is what is done with its packets: `run` or `reinject`. A run is shown beside those
+    with queues of these lengths; where none are named, beside those of 4 and 1, where these are shorter than its own."""
     value = value_of(text)
     run = value.get("run") if isinstance(value, dict) else None
     has_packets, has_events = (isinstance(run, dict) and bool(run.get(name)) for name in ("packets", "events"))
@@ -67,9 +75,10 @@ def page_data(text: bytes, word: str = "run", program: Optional[str] = None) -> 
     shown = shown_job(job, report.plan)
     found = shown.data()
     trees = shown.trees()
-    found["trees"] = [packed_tree(shown.grid, visits) for visits in trees]
+    found.update(trees_data(shown.grid, trees))
     if has_packets:
         found["outcome"] = outcome_data(job, report, trees, word)
+        found["outcome"]["runs"] = runs_data(job, value, report, queues, program) if word == "run" else []
     if traced:
         found["trace"] = trace_data(job, traced)
     return found
@@ -131,10 +140,11 @@ class Shown:
     def trees(self) -> List[List[Visit]]:
         """The way of each net's first key from the net's source. What a device sends comes in by its link."""
         found = []
-        for net in self.nets:
-            x, y, core = self.spots[net.source]
-            port = core - 18 if core >= 18 else LOCAL
-            found.append(walk(self.grid, self.looks, net.blocks[0][0], (x, y), port) if net.blocks else [])
+        with showing("page: ways of nets"):
+            for net in self.nets:
+                x, y, core = self.spots[net.source]
+                port = core - 18 if core >= 18 else LOCAL
+                found.append(walk(self.grid, self.looks, net.blocks[0][0], (x, y), port) if net.blocks else [])
         return found
 
 
@@ -189,6 +199,14 @@ def packed_tree(grid: Grid, visits: Iterable[Visit]) -> str:
     return based(b"".join([pack(number_in(grid, chip), NONE if row is None else row, port, BITS[links]) for chip, port, row, links, _ in visits]))
 
 
+def trees_data(grid: Grid, trees: Sequence[List[Visit]]) -> Dict[str, Any]:
+    """The trees, and how many nets come by each chip."""
+    with showing("page: trees of nets"):
+        passes = Counter(chip for visits in trees for chip in {it[0] for it in visits})
+        counts = [passes[chip] for chip in grid.chips()]
+        return {"trees": [packed_tree(grid, visits) for visits in trees], "passes": based(struct.pack(f"<{len(counts)}I", *counts))}
+
+
 PACKED_VISIT = struct.Struct("<HHBB")
 # The bits of links, by their numbers in order.
 BITS = {links: sum(1 << link for link in links) for count in range(7) for links in combinations(range(6), count)}
@@ -231,6 +249,34 @@ def outcome_data(job: Job, report: Report, trees: Sequence[List[Visit]], word: s
     }
 
 
+def runs_data(job: Job, value: Any, report: Report, queues: Optional[Sequence[int]], program: Optional[str]) -> List[Dict[str, Any]]:
+    """The run, and those of the same job with queues of other lengths: how many copies each delivered and dropped, and on which chips."""
+    own = value_or(job.queue, QUEUE)
+    others = sorted({it for it in (SHORTER if queues is None else queues) if it < own or (queues is not None and it != own)}, reverse=True)
+    texts = [json.dumps({**value, "run": {**value["run"], "queue": queue}}).encode() for queue in others]
+
+    def run(text: bytes) -> Tuple[int, List[Chip]]:
+        return copies_in(answer_to_text(["run"], text, program).decode())
+
+    with showing("page: run, with other queues"), ThreadPoolExecutor(max(1, len(others))) as pool:
+        done = list(pool.map(run, texts))
+    found = [(own, (len(report.deliveries), [(it.x, it.y) for it in report.dumps])), *zip(others, done)]
+    height = job.machine.height
+    return [
+        {"queue": queue, "delivered": delivered, "dumped": len(chips), "chips": sorted(Counter(x * height + y for x, y in chips).items())}
+        for queue, (delivered, chips) in sorted(found, key=lambda it: -it[0])
+    ]
+
+
+def copies_in(text: str) -> Tuple[int, List[Chip]]:
+    """How many copies the report of a run has that arrived, and the chip of each that was dropped. BrokenAnswer where it is none."""
+    end = re.fullmatch(r"end delivered (\d+) dumped (\d+) waiting 0 unsent 0", text[text.rfind("\n", 0, -1) + 1:-1])
+    chips = [(int(x), int(y)) for x, y in re.findall(r"^dump (\d+) (\d+) \S+ \d+$", text, re.M)]
+    if end is None or int(end[2]) != len(chips):
+        raise BrokenAnswer("the report of a run has not as many copies as its last line says")
+    return int(end[1]), chips
+
+
 def trace_data(job: Job, report: Report) -> Dict[str, Any]:
     """The events of a trace, which of them moved something, and what each changed: a copy's number, its packet, the kind of its
     place, and two numbers that belong to it (a chip and a port, a route, a core or an output's bit; or a vertex)."""
@@ -244,7 +290,7 @@ def trace_data(job: Job, report: Report) -> Dict[str, Any]:
             yield [number, copy.packet, copy.kind, *where]
 
     return {
-        "queue": value_or(job.queue, 16),
+        "queue": value_or(job.queue, QUEUE),
         "packets": [[nets[it.net], it.index] for it in job.packets],
         "copies": [[i, i, UNSENT, at[job.nets[nets[it.net]].source], 0] for i, it in enumerate(job.packets)],
         "events": job.events,
@@ -328,7 +374,7 @@ def verified_data(network: Network, program: Optional[str] = None) -> Dict[str, 
     looks = {chip: lookup_of(rows) for chip, rows in network.tables.items()}
     shown = Shown(network.machine, spots, {}, nets, network.tables, looks)
     found = shown.data()
-    found["trees"] = [packed_tree(shown.grid, visits) for visits in shown.trees()]
+    found.update(trees_data(shown.grid, shown.trees()))
     way: Sequence[Any] = getattr(verdict, "way", ())
     found["verdict"] = {
         "line": lines_of(verdict)[0],

@@ -44,10 +44,10 @@ class _Shown:
                 self._stop = threading.Event()
                 threading.Thread(target=self._go, args=(self._stop,), daemon=True).start()
 
-    def end(self) -> None:
-        """The innermost has ended."""
+    def end(self, tick: Callable[[], None]) -> None:
+        """What `tick` shows has ended; mostly that is the innermost, and with threads another may be."""
         with self.lock:
-            self.ticks.pop()
+            self.ticks.remove(tick)
             self.clear()
             if not self.ticks and self._stop is not None:
                 self._stop.set()
@@ -88,13 +88,16 @@ def still() -> Iterator[None]:
     with _shown.lock:
         _shown.clear()
     goes_on = bool(_shown.ticks)
+    def tick() -> None:
+        """Shows nothing."""
+
     if goes_on:
-        _shown.begin(lambda: None)
+        _shown.begin(tick)
     try:
         yield
     finally:
         if goes_on:
-            _shown.end()
+            _shown.end(tick)
 
 
 def is_shown() -> bool:
@@ -141,4 +144,4 @@ def showing(what: str) -> Iterator[Callable[[], None]]:
         _counts.pop()
         counts[0] += 1
         if is_told:
-            _shown.end()
+            _shown.end(tick)
