@@ -135,7 +135,8 @@ def try_tests(room):
     if not installed(pip, f"{ROOT}/python"):
         return ["the package can't be installed"]
     os.makedirs(f"{room}/copy/python")
-    shutil.copytree(f"{ROOT}/python/tests", f"{room}/copy/python/tests", ignore=shutil.ignore_patterns("__pycache__"))
+    for name in ("tests", "examples"):
+        shutil.copytree(f"{ROOT}/python/{name}", f"{room}/copy/python/{name}", ignore=shutil.ignore_patterns("__pycache__"))
     for name in ("examples", "docs", "tools"):
         os.symlink(f"{ROOT}/{name}", f"{room}/copy/{name}")
     folder, ask = f"{room}/copy/python", "import kulzobad; print(kulzobad.__file__)"
