@@ -3,12 +3,14 @@
     python3 tools/release.py            dist/ of this clone
     python3 tools/release.py --try      the same in a folder of its own, installed and run where there is no toolchain
     python3 tools/release.py --tests    the package as `pip install ./python` installs it, with its tests
+    python3 tools/release.py --tag      a local tag, as v0.2.0, on the commit from which dist/ was made
 
 The program is that of the launcher, which compiles it where that is due. The wheel says which sources, commit and toolchain it was
 compiled from (`kulzobad --version`). --try installs the wheel into an empty virtual environment, with a path on which nothing of the
 toolchain lies and no network, and runs examples, whose bytes have to be those that stand beside them. --tests runs python/tests from a
 folder without the package. Where pip or venv is missing both say so: --try is skipped, and --tests runs the tests of the package as it
-stands. Each ends with status 1 where something fails, and names the tests that failed.
+stands. --tag wants a wheel of this version in dist/, made from this commit without changes, and a part of CHANGELOG.md on it; it pushes
+nothing. Each ends with status 1 where something fails, and names the tests that failed.
 """
 import glob
 import hashlib
@@ -19,6 +21,7 @@ import shutil
 import subprocess
 import sys
 import tempfile
+import zipfile
 
 ROOT = os.path.dirname(os.path.dirname(os.path.realpath(__file__)))
 sys.path.insert(0, f"{ROOT}/python")
@@ -146,6 +149,25 @@ def try_tests(room):
     return tests_that_fail(python, folder, environment)
 
 
+def tag():
+    """Tags the commit from which the wheel in dist/ was made. It gives what stands against it."""
+    version, commit = building.project()["project"]["version"], output_of(["git", "rev-parse", "HEAD"])
+    name, wheel = f"v{version}", f"{ROOT}/dist/{building.base_name()}-{TAG}.whl"
+    with open(f"{ROOT}/CHANGELOG.md", encoding="utf-8") as text:
+        if f"## {version}" not in (line.partition(",")[0].strip() for line in text):
+            return [f"CHANGELOG.md has no part on {version}"]
+    if not os.path.isfile(wheel):
+        return [f"dist/ has no wheel of {version}: make it by tools/release.py"]
+    with zipfile.ZipFile(wheel) as files:
+        made_from = json.loads(files.read("kulzobad/compiled/built.json")).get("commit", "no commit")
+    if made_from != commit or output_of(["git", "status", "--porcelain"]):
+        return [f"the wheel is of {made_from}, and here is {commit}, or something that is not committed"]
+    if subprocess.run(["git", "tag", "-a", name, "-m", f"kulzobad {version}", commit], cwd=ROOT, check=False).returncode:
+        return [f"there is a tag {name} already, or git makes none"]
+    print(f"{name} {commit}")
+    return []
+
+
 def tests_that_fail(python, folder, environment):
     """Runs the tests of a folder, and gives the names of those that fail."""
     done = subprocess.run([python, "-m", "unittest", "-q"], cwd=folder, env=environment, stderr=subprocess.PIPE, text=True, check=False)
@@ -164,6 +186,9 @@ def main(words):
         return 0
     failures = []
     for word in words:
+        if word == "--tag":
+            failures += tag()
+            continue
         with tempfile.TemporaryDirectory(prefix="release-") as room:
             failures += {"--try": try_release, "--tests": try_tests}[word](os.path.realpath(room))
     for failure in failures:
@@ -172,6 +197,6 @@ def main(words):
 
 
 if __name__ == "__main__":
-    if not set(sys.argv[1:]) <= {"--try", "--tests"}:
+    if not set(sys.argv[1:]) <= {"--try", "--tests", "--tag"}:
         sys.exit(__doc__)
     sys.exit(main(sys.argv[1:]))

@@ -322,7 +322,7 @@ def tree(job: Job, report: Report, net: str) -> Picture:
     picture.dead_links()
     for (x, y), way in found.items():
         for link in way.links:
-            start, end = (0.2, 0.42) if (x, y, link) in on_links else (0.29, 0.72 if is_on_paper(grid, (x, y), link) else 0.62)
+            start, end = (0.08, 0.42) if (x, y, link) in on_links else (0.29, 0.72 if is_on_paper(grid, (x, y), link) else 0.62)
             picture.arrow(picture.toward(x, y, link, start), picture.toward(x, y, link, end), BLUE, max(1.6, picture.unit / 22))
     for (x, y, link), name in on_links.items():
         picture.device(x, y, link, f"device {name} on link {LINKS[link]} of ({x}, {y})")

@@ -9,7 +9,7 @@ from typing import Dict, Optional
 
 from .program import NoProgram, program_of
 
-VERSION = "0.1.0"
+VERSION = "0.2.0"
 
 PROVED = (
     "The program was compiled from these sources, and is not proved on this machine:"

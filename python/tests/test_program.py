@@ -67,6 +67,7 @@ class Found(unittest.TestCase):
         lines = version_text(program_of()).splitlines()
         self.assertEqual(lines[:2], [f"kulzobad {VERSION}", f"program {program_of()}"])
         self.assertEqual(called("--version")[0], 0)
+        self.assertEqual(kulzobad.__version__, VERSION)
 
     def test_an_answer_that_is_not_whole(self):
         with tempfile.TemporaryDirectory() as folder:
@@ -166,6 +167,42 @@ class Built(unittest.TestCase):
         self.assertIn("Typing :: Typed", told.get_all("Classifier"))
         self.assertTrue(told.get_payload().startswith("# kulzobad\n"))
         self.assertIn("Apache License", building.text_of("LICENSE"))
+
+    def test_a_release_is_tagged(self):
+        root = PACKAGE.parents[1]
+        with tempfile.TemporaryDirectory() as folder:
+            for name in ("tools/release.py", "python/building.py", "python/pyproject.toml", "CHANGELOG.md"):
+                Path(folder, name).parent.mkdir(exist_ok=True)
+                shutil.copy(root / name, Path(folder, name))
+            Path(folder, ".gitignore").write_text("dist/\n__pycache__/\n")
+
+            def git(*words):
+                known = ["-c", "user.name=a", "-c", "user.email=a@b", "-c", "commit.gpgsign=false", "-c", "tag.gpgsign=false"]
+                return subprocess.run(["git", *known, *words], cwd=folder, capture_output=True, text=True, check=True).stdout.strip()
+
+            def tagged():
+                known = {**os.environ, "GIT_AUTHOR_NAME": "a", "GIT_AUTHOR_EMAIL": "a@b", "GIT_COMMITTER_NAME": "a", "GIT_COMMITTER_EMAIL": "a@b"}
+                words = [sys.executable, "tools/release.py", "--tag"]
+                done = subprocess.run(words, cwd=folder, env=known, capture_output=True, text=True, check=False)
+                return done.returncode, done.stdout
+
+            git("init", "-q")
+            git("add", "-A")
+            git("commit", "-qm", "first")
+            commit = git("rev-parse", "HEAD")
+            self.assertEqual(tagged(), (1, f"FAILED: dist/ has no wheel of {VERSION}: make it by tools/release.py\n"))
+            Path(folder, "dist").mkdir()
+            for made_from, status in (("another", 1), (f"{commit} with changes", 1), (commit, 0), (commit, 1)):
+                with zipfile.ZipFile(f"{folder}/dist/kulzobad-{VERSION}-py3-none-linux_x86_64.whl", "w") as wheel:
+                    wheel.writestr("kulzobad/compiled/built.json", json.dumps({"commit": made_from}))
+                self.assertEqual(tagged()[0], status, made_from)
+            self.assertEqual((git("tag"), git("rev-parse", f"v{VERSION}^{{commit}}")), (f"v{VERSION}", commit))
+            git("tag", "-d", f"v{VERSION}")
+            Path(folder, "more").write_text("")
+            self.assertEqual(tagged()[0], 1)
+            Path(folder, "more").unlink()
+            Path(folder, "CHANGELOG.md").write_text("# Changes\n\n## 0.1.0\n")
+            self.assertEqual(tagged(), (1, f"FAILED: CHANGELOG.md has no part on {VERSION}\n"))
 
     def test_an_archive_of_sources_builds_the_same_wheel(self):
         with tempfile.TemporaryDirectory() as folder:
