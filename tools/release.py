@@ -110,6 +110,13 @@ def failures_of_release(room, wheel, python):
         given = done.stderr.split(b"\n", 1)[0] + b"\n" if status else done.stdout
         if (done.returncode, given) != (status, wanted):
             yield f"kulzobad {word} of examples/{name}.json: status {done.returncode}, {given[:200]}, {done.stderr[:200]}"
+    for words, status, part in (
+        (("run", "/nowhere", "--json"), 2, b'"kind": "read fault"'), (("jump", "--json"), 64, b'"kind": "usage"'), (("help", "verify"), 0, b"example:"),
+        (("completion", "bash"), 0, b"complete -o default -F _kulzobad kulzobad"), (("page", f"{ROOT}/examples/one_chip.json"), 0, b"</html>"),
+    ):
+        done = call(*words)
+        if done.returncode != status or part not in done.stdout:
+            yield f"kulzobad {' '.join(words)}: status {done.returncode}, {done.stdout[:200]}, {done.stderr[:200]}"
     told, known = call("--version").stdout.decode(), built_from()
     for line in (f"sources {known['sources']}", f"toolchain {known['toolchain']}", "not proved on this machine"):
         if line not in told:

@@ -118,9 +118,10 @@ def told(stopped: Stopped, options: argparse.Namespace, **named: Any) -> int:
     """Tells why a command ends, on standard error, or as the answer where that is JSON. It gives the status."""
     lines = stopped.lines()
     if options.json:
-        answered(stopped_in_json(stopped.status, KINDS[stopped.status], str(stopped), stopped.more, **named), options)
+        answered(stopped_in_json(stopped.status, KINDS.get(stopped.status, "stopped"), str(stopped), stopped.more, **named), options)
     else:
-        print(*(lines[:1] if getattr(options, "quiet", False) and not isinstance(stopped, WrongWords) else lines), sep="\n", file=sys.stderr)
+        is_short = getattr(options, "quiet", False) and not isinstance(stopped, WrongWords)
+        print(*(lines[:1] if is_short else lines), sep="\n", file=sys.stderr)
     return stopped.status
 
 

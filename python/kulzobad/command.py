@@ -17,6 +17,7 @@ import argparse
 import json
 import os
 import sys
+from contextlib import nullcontext
 from typing import Any, Callable, List, Optional, Sequence
 
 from .jobs import Job
@@ -138,7 +139,10 @@ def is_terminal() -> bool:
         return False
 
 
-def add_json(parser: argparse.ArgumentParser, what: str = "write the answer, or the refusal, as one line of JSON (docs/formats.md)") -> None:
+AS_JSON = "write the answer, or the refusal, as one line of JSON (docs/formats.md)"
+
+
+def add_json(parser: argparse.ArgumentParser, what: str = AS_JSON) -> None:
     """Adds whether the answer is written as JSON. Every refusal is, then."""
     parser.add_argument("--json", action="store_true", help=what)
 
@@ -152,7 +156,9 @@ def read_bytes(name: str) -> bytes:
     """The bytes of a file, or of standard input for `-`."""
     try:
         if name == "-":
-            return sys.stdin.buffer.read()
+            # (what is typed on a terminal is not written over)
+            with still() if sys.stdin.isatty() else nullcontext():
+                return sys.stdin.buffer.read()
         with open(name, "rb") as file:
             return file.read()
     except OSError as error:

@@ -4,7 +4,8 @@ from __future__ import annotations
 import argparse
 from typing import Any
 
-from .command import BAD_JOB, NO_PROGRAM, NOT_WHOLE, USAGE, Stopped, add_force, add_job, command, keep_off_terminal, read_job, read_text, write
+from .command import BAD_JOB, NO_PROGRAM, NOT_WHOLE, USAGE, Stopped
+from .command import add_force, add_job, command, keep_off_terminal, read_job, read_text, write
 from .drawing import WORDS, draw, png_of
 from .program import answer_to
 from .reports import read

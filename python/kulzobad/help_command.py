@@ -162,6 +162,7 @@ def add_command(commands: Any) -> None:
     """Adds the commands `help` and `completion`."""
     parser = command(commands, "help", "what a command does, with an example; or what all of them do", "kulzobad help verify", run_help)
     parser.add_argument("word", nargs="?", metavar="COMMAND", help="the command; all of them, if none is named")
+    add_out(parser)
     example = "\n".join(line for _, line in WHERE)
     parser = command(commands, "completion", "what a shell completes behind kulzobad, as a script of that shell", example, run_completion)
     parser.add_argument("shell", choices=tuple(SHELLS), metavar="SHELL", help="bash, zsh or fish")
@@ -174,7 +175,7 @@ def run_help(options: argparse.Namespace) -> int:
     parsers = commands_of(parser)
     if options.word is not None and options.word not in parsers:
         raise Stopped(f"there is no command {options.word}; there are {', '.join(parsers)}", USAGE)
-    write((parsers[options.word] if options.word else parser).format_help().encode(), None)
+    write((parsers[options.word] if options.word else parser).format_help().encode(), options.out)
     return 0
 
 

@@ -4,7 +4,8 @@ tables of another tool, with what `verify` says of them.
 Chips are numbered by x, then y, vertices and nets by their lists. Tables, trees and live links are bytes in base64, so that a page
 opens quickly and reads of them what is asked for: of each row of a table three words of 32 bits (key, mask, route); of each visit of
 a tree the chip and the row (16 bits each, 65535: default routing), the port at which packets come in (6: from a core) and the links
-by which they leave (a byte each); of each chip how many nets come by it (32 bits); of each chip, for its six links, the chip to which each leads (16 bits, 65535: none).
+by which they leave (a byte each); of each chip how many nets come by it (32 bits), and for its six links the chip to which each leads
+(16 bits, 65535: none).
 """
 from __future__ import annotations
 

@@ -204,6 +204,7 @@ function showLegend() {
     }
   }
   if (shown.name === "dumps" && shown.mostOfFlows) listed.push(stroke("flow h4 lost", "on the way to a link, thicker for more"));
+  if (by("astray").childElementCount) listed.push(stroke("astray-line", "goes astray"));
   if (dead.size) listed.push(swatch("dead", "dead"));
   if (machine.deadLinks.length) listed.push(stroke("broken", "dead link"));
   if (deadCores.size) listed.push(sign("0 0 30 30", draw("circle", { cx: 15, cy: 15, r: 8, class: "dead-core" }), "has dead cores"));

@@ -5,7 +5,8 @@ import argparse
 import json
 from typing import Any, Iterator
 
-from .command import add_force, add_job, add_json, add_out, add_program, command, keep_off_terminal, read_bytes, write
+from .command import add_force, add_job, add_json, add_out, add_program, command, keep_off_terminal
+from .command import read_bytes, write
 from .json_forms import answer_in_json
 from .members import Slip, refuse, slips_of, slips_of_request, slips_of_steps
 from .program import answer_to_text

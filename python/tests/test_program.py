@@ -8,11 +8,13 @@ import json
 import os
 import pty
 import re
+import select
 import shutil
 import subprocess
 import sys
 import tarfile
 import tempfile
+import time
 import unittest
 import zipfile
 from pathlib import Path
@@ -20,7 +22,7 @@ from pathlib import Path
 import kulzobad
 from kulzobad import Job, Machine, Refused, gen, run
 from kulzobad.program import NoProgram, program_of
-from kulzobad.progress import is_shown, several, showing
+from kulzobad.progress import is_shown, several, showing, speak
 from kulzobad.versions import VERSION, version_text
 from tests.test_cli import called
 
@@ -112,6 +114,31 @@ class Shown(unittest.TestCase):
         # (whatever the seconds are: a busy machine may take its time)
         shown = re.sub(r": \d+ s", ": 0 s", told.getvalue().replace("\r\x1b[K", "|"))
         self.assertEqual(shown, "|kulzobad: tables, 1 of 2: 0 s||kulzobad: run, 2 of 2: 0 s|")
+
+    def test_work_of_python_is_shown_too_and_nothing_where_somebody_asked_for_quiet(self):
+        for is_quiet, wanted in ((False, r"\A(\|kulzobad: page: ways of nets: \d+ s)+\|\Z"), (True, r"\A\Z")):
+            with contextlib.redirect_stderr(Terminal()) as told:
+                speak(is_quiet=is_quiet)
+                try:
+                    with showing("page"), showing("page: ways of nets"):
+                        time.sleep(1.2)
+                finally:
+                    speak()
+            self.assertRegex(told.getvalue().replace("\r\x1b[K", "|"), wanted)
+
+    def test_each_command_is_shown_while_it_works(self):
+        # (also while it waits for what it reads; a busy machine may take its time)
+        kept, terminal = pty.openpty()
+        try:
+            words = [sys.executable, "-m", "kulzobad", "trees", "-"]
+            with subprocess.Popen(words, cwd=PACKAGE.parent, stdin=subprocess.PIPE, stdout=subprocess.DEVNULL, stderr=terminal) as process:
+                is_there = select.select([kept], [], [], 60)[0]
+                process.communicate(b"[]")
+            self.assertTrue(is_there)
+            self.assertRegex(os.read(kept, 10000), rb"\A(\r\x1b\[Kkulzobad: trees: [1-9]\d* s)+\r\x1b\[K")
+        finally:
+            os.close(kept)
+            os.close(terminal)
 
     def test_a_program_that_is_ended_by_a_signal(self):
         with tempfile.TemporaryDirectory() as folder:
