@@ -29,7 +29,7 @@ class Grid:
         self.dead_cores = {(x, y, core) for x, y, core in machine.dead_cores}
         self.dead_links = {(x, y, link) for x, y, link in machine.dead_links}
         # Where links lead, as far as somebody asked.
-        self._ends: Dict[Tuple[Chip, int], Optional[Chip]] = {}
+        self._ends: Dict[Chip, Tuple[Optional[Chip], ...]] = {}
 
     def chips(self) -> Iterator[Chip]:
         """All chips, dead or live, by x, then y."""
@@ -52,10 +52,14 @@ class Grid:
 
     def next_chip(self, chip: Chip, link: int) -> Optional[Chip]:
         """The chip to which packets go by a link; None where it is not live: one of its ends is dead, or it is listed dead at one."""
-        asked = chip, link
-        if asked not in self._ends:
-            self._ends[asked] = self._live_end(chip, link)
-        return self._ends[asked]
+        return self.ends_of(chip)[link]
+
+    def ends_of(self, chip: Chip) -> Tuple[Optional[Chip], ...]:
+        """The chips to which packets go by the six links of a chip; None where one is not live."""
+        found = self._ends.get(chip)
+        if found is None:
+            found = self._ends[chip] = tuple(self._live_end(chip, link) for link in range(6))
+        return found
 
     def _live_end(self, chip: Chip, link: int) -> Optional[Chip]:
         end = self.far(chip, link)

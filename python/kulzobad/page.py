@@ -10,13 +10,15 @@ from __future__ import annotations
 
 import argparse
 import base64
+import gc
 import hashlib
 import html
 import json
 import os
 import re
+from contextlib import contextmanager
 from pathlib import Path
-from typing import Any, Dict, List, Mapping, Optional, Sequence, Union
+from typing import Any, Dict, Iterator, List, Mapping, Optional, Sequence, Union
 
 from .command import Stopped, add_job, command, read_bytes, write
 from .formats import Network, rows_by_chip
@@ -85,6 +87,18 @@ def add_command(commands: Any) -> None:
     parser.add_argument("--title", help="what stands at the head of the page, in place of the file's name")
 
 
+@contextmanager
+def without_collecting() -> Iterator[None]:
+    """Nothing looks for cycles meanwhile: ways over a large machine are many small objects, and all of them stay."""
+    was_on = gc.isenabled()
+    gc.disable()
+    try:
+        yield
+    finally:
+        if was_on:
+            gc.enable()
+
+
 def lengths(text: str) -> List[int]:
     """The lengths of queues that a word names."""
     if text == "-":
@@ -97,7 +111,8 @@ def lengths(text: str) -> List[int]:
 def run(options: argparse.Namespace) -> int:
     """Writes the page of the command's job, or of its network and tables."""
     title = options.title or ("job" if options.job == "-" else os.path.basename(options.job))
-    made = page_of_tables(options, title) if options.tables else page_of_job(options, title)
+    with without_collecting():
+        made = page_of_tables(options, title) if options.tables else page_of_job(options, title)
     write(made.encode(), options.out)
     return 0
 

@@ -13,10 +13,12 @@ import base64
 import json
 import re
 import struct
+import sys
+from array import array
 from collections import Counter
-from concurrent.futures import ThreadPoolExecutor
+from concurrent.futures import Future, ThreadPoolExecutor
 from dataclasses import dataclass
-from itertools import combinations
+from itertools import chain, combinations
 from typing import Any, Dict, Iterable, List, Mapping, Optional, Sequence, Tuple
 
 from .checks import Right
@@ -41,6 +43,8 @@ MOST_SHOWN = 400
 QUEUE = 16
 # With which queues a job is run too, where these are shorter than its own.
 SHORTER = (4, 1)
+# How many of these runs there may be at once.
+MOST_RUNS = 4
 # Statuses of jobs that the program has read, and that can't be compiled.
 NO_ROOM, KEYS_OUT, CUT_OFF, TABLE_LONG = 5, 6, 7, 8
 
@@ -67,19 +71,21 @@ def page_data(text: bytes, word: str = "run", program: Optional[str] = None, que
     value = value_of(text)
     run = value.get("run") if isinstance(value, dict) else None
     has_packets, has_events = (isinstance(run, dict) and bool(run.get(name)) for name in ("packets", "events"))
-    try:
-        report = asked(word if has_packets else "tables", text, program)
-        traced = asked("trace", text, program) if has_events else None
-    except Refused as refused:
-        return refused_data(refused, value, program)
-    job = Job.from_json(value, lenient=True)
-    shown = shown_job(job, report.plan)
-    found = shown.data()
-    trees = shown.trees()
-    found.update(trees_data(shown.grid, trees))
-    if has_packets:
-        found["outcome"] = outcome_data(job, report, trees, word)
-        found["outcome"]["runs"] = runs_data(job, value, report, queues, program) if word == "run" else []
+    with ThreadPoolExecutor(MOST_RUNS) as pool:
+        others = runs_begun(value, queues, program, pool) if has_packets and word == "run" else {}
+        try:
+            report = asked(word if has_packets else "tables", text, program)
+            traced = asked("trace", text, program) if has_events else None
+        except Refused as refused:
+            return refused_data(refused, value, program)
+        job = Job.from_json(value, lenient=True)
+        shown = shown_job(job, report.plan)
+        found = shown.data()
+        trees = shown.trees()
+        found.update(trees_data(shown.grid, trees))
+        if has_packets:
+            found["outcome"] = outcome_data(job, report, trees, word)
+            found["outcome"]["runs"] = runs_data(job, report, others) if word == "run" else []
     if traced:
         found["trace"] = trace_data(job, traced)
     return found
@@ -196,21 +202,24 @@ def packed_rows(rows: Iterable[Any]) -> str:
 
 def packed_tree(grid: Grid, visits: Iterable[Visit]) -> str:
     """A net's tree."""
-    pack = PACKED_VISIT.pack
-    return based(b"".join([pack(number_in(grid, chip), NONE if row is None else row, port, BITS[links]) for chip, port, row, links, _ in visits]))
+    words = array("H")
+    for (x, y), port, row, links, _ in visits:
+        words.extend((x * grid.height + y, NONE if row is None else row, port | HIGH_BITS[links]))
+    if sys.byteorder == "big":
+        words.byteswap()
+    return based(words.tobytes())
+
+
+# The bits of links, by their numbers in order, as the higher byte of a word.
+HIGH_BITS = {links: sum(1 << (8 + link) for link in links) for count in range(7) for links in combinations(range(6), count)}
 
 
 def trees_data(grid: Grid, trees: Sequence[List[Visit]]) -> Dict[str, Any]:
     """The trees, and how many nets come by each chip."""
     with showing("page: trees of nets"):
-        passes = Counter(chip for visits in trees for chip in {it[0] for it in visits})
+        passes = Counter(chain.from_iterable({it[0] for it in visits} for visits in trees))
         counts = [passes[chip] for chip in grid.chips()]
         return {"trees": [packed_tree(grid, visits) for visits in trees], "passes": based(struct.pack(f"<{len(counts)}I", *counts))}
-
-
-PACKED_VISIT = struct.Struct("<HHBB")
-# The bits of links, by their numbers in order.
-BITS = {links: sum(1 << link for link in links) for count in range(7) for links in combinations(range(6), count)}
 
 
 # ---- what came of packets and events
@@ -218,11 +227,13 @@ BITS = {links: sum(1 << link for link in links) for count in range(7) for links 
 
 def passed_links(job: Job, report: Report, trees: Mapping[str, List[Visit]]) -> Dict[Link, int]:
     """How many packets passed each link: those of all trees, without those behind which a copy was dropped."""
-    grid, passed = Grid(job.machine), Counter[Link]()
+    grid, passed, sent = Grid(job.machine), Counter[Link](), Counter[Tuple[Chip, Tuple[int, ...]]]()
     for net, count in Counter(it.net for it in job.packets).items():
-        for (x, y), _, _, links, _ in trees[net]:
-            for link in links:
-                passed[x, y, link] += count
+        for visit in trees[net]:
+            sent[visit[0], visit[3]] += count
+    for ((x, y), links), count in sent.items():
+        for link in links:
+            passed[x, y, link] += count
     for dump in report.dumps:
         if dump.out in LINKS:
             passed.subtract(links_behind(grid, trees[job.packets[dump.packet].net], (dump.x, dump.y), LINKS.index(dump.out)))
@@ -250,26 +261,37 @@ def outcome_data(job: Job, report: Report, trees: Sequence[List[Visit]], word: s
     }
 
 
-def runs_data(job: Job, value: Any, report: Report, queues: Optional[Sequence[int]], program: Optional[str]) -> List[Dict[str, Any]]:
-    """The run, and those of the same job with queues of other lengths: how many copies each delivered and dropped, and on which chips."""
-    own = value_or(job.queue, QUEUE)
-    others = sorted({it for it in (SHORTER if queues is None else queues) if it < own or (queues is not None and it != own)}, reverse=True)
-    texts = [json.dumps({**value, "run": {**value["run"], "queue": queue}}).encode() for queue in others]
+def runs_begun(value: Any, queues: Optional[Sequence[int]], program: Optional[str], pool: ThreadPoolExecutor) -> Dict[int, "Future[Copies]"]:
+    """Runs of the same job with queues of other lengths, by these. They go on while the rest of the page is made."""
+    own = value_or(value["run"].get("queue"), QUEUE)
+    if type(own) is not int:
+        return {}
+    others = {it for it in SHORTER if it < own} if queues is None else {it for it in queues if it != own}
 
-    def run(text: bytes) -> Tuple[int, List[Chip]]:
+    def run(queue: int) -> Copies:
+        text = json.dumps({**value, "run": {**value["run"], "queue": queue}}).encode()
         return copies_in(answer_to_text(["run"], text, program).decode())
 
-    with showing("page: run, with other queues"), ThreadPoolExecutor(max(1, len(others))) as pool:
-        done = list(pool.map(run, texts))
-    found = [(own, (len(report.deliveries), [(it.x, it.y) for it in report.dumps])), *zip(others, done)]
+    return {queue: pool.submit(run, queue) for queue in sorted(others)}
+
+
+def runs_data(job: Job, report: Report, others: Mapping[int, "Future[Copies]"]) -> List[Dict[str, Any]]:
+    """The run, and the others of the same job: how many copies each delivered and dropped, and on which chips."""
+    with showing("page: run, with other queues"):
+        done = {queue: run.result() for queue, run in others.items()}
+    done[value_or(job.queue, QUEUE)] = len(report.deliveries), [(it.x, it.y) for it in report.dumps]
     height = job.machine.height
     return [
         {"queue": queue, "delivered": delivered, "dumped": len(chips), "chips": sorted(Counter(x * height + y for x, y in chips).items())}
-        for queue, (delivered, chips) in sorted(found, key=lambda it: -it[0])
+        for queue, (delivered, chips) in sorted(done.items(), reverse=True)
     ]
 
 
-def copies_in(text: str) -> Tuple[int, List[Chip]]:
+# How many copies of a run arrived, and the chip of each that was dropped.
+Copies = Tuple[int, List[Chip]]
+
+
+def copies_in(text: str) -> Copies:
     """How many copies the report of a run has that arrived, and the chip of each that was dropped. BrokenAnswer where it is none."""
     end = re.fullmatch(r"end delivered (\d+) dumped (\d+) waiting 0 unsent 0", text[text.rfind("\n", 0, -1) + 1:-1])
     chips = [(int(x), int(y)) for x, y in re.findall(r"^dump (\d+) (\d+) \S+ \d+$", text, re.M)]

@@ -2,7 +2,7 @@
 from __future__ import annotations
 
 from functools import lru_cache
-from typing import Iterable, List, Mapping, NamedTuple, Optional, Set, Tuple
+from typing import Iterable, List, Mapping, NamedTuple, Optional, Sequence, Set, Tuple
 
 from .grid import Grid, opposite
 from .jobs import Chip
@@ -11,6 +11,9 @@ from .trees import Link, Lookup
 
 # A router's ports are numbered as its links, and this is the one of its own cores.
 LOCAL = 6
+# By port the links by which packets go straight on: those of a chip's own cores do not.
+STRAIGHT_ON: Sequence[Tuple[int, ...]] = [*((opposite(link),) for link in range(6)), ()]
+NO_ROWS: Lookup = {}
 
 
 class Visit(NamedTuple):
@@ -36,11 +39,8 @@ def row_of(lookup: Lookup, key: int) -> Optional[Tuple[int, Row]]:
 
 def visit(looks: Mapping[Chip, Lookup], chip: Chip, port: int, key: int) -> Visit:
     """What the router of a chip does with a packet that comes in at a port."""
-    found = row_of(looks.get(chip, {}), key)
-    if found is None:
-        return Visit(chip, port, None, () if port == LOCAL else (opposite(port),), ())
-    place, row = found
-    return Visit(chip, port, place, *outputs_of(row.route))
+    found = row_of(looks.get(chip, NO_ROWS), key)
+    return Visit(chip, port, None, STRAIGHT_ON[port], ()) if found is None else Visit(chip, port, found[0], *outputs_of(found[1].route))
 
 
 @lru_cache(maxsize=4096)
@@ -56,13 +56,15 @@ def walk(grid: Grid, looks: Mapping[Chip, Lookup], key: int, chip: Chip, port: i
     seen: Set[Tuple[Chip, int]] = set()
     ahead = [(chip, port)]
     while ahead:
-        at, came = ahead.pop()
-        if (at, came) in seen:
+        asked = ahead.pop()
+        if asked in seen:
             continue
-        seen.add((at, came))
-        visits.append(visit(looks, at, came, key))
-        for link in reversed(visits[-1].links):
-            end = grid.next_chip(at, link)
+        seen.add(asked)
+        here = visit(looks, *asked, key)
+        visits.append(here)
+        ends = grid.ends_of(here[0])
+        for link in reversed(here[3]):
+            end = ends[link]
             if end is not None:
                 ahead.append((end, opposite(link)))
     return visits
