@@ -55,18 +55,26 @@ def walk(grid: Grid, looks: Mapping[Chip, Lookup], key: int, chip: Chip, port: i
     visits: List[Visit] = []
     seen: Set[Tuple[Chip, int]] = set()
     ahead = [(chip, port)]
+    # (a large page has hundreds of thousands of visits, so the way straight on is gone in a loop of its own)
+    lookup_at, ends_at, note, made = looks.get, grid.ends_of, visits.append, tuple.__new__
     while ahead:
-        asked = ahead.pop()
-        if asked in seen:
-            continue
-        seen.add(asked)
-        here = visit(looks, *asked, key)
-        visits.append(here)
-        ends = grid.ends_of(here[0])
-        for link in reversed(here[3]):
-            end = ends[link]
-            if end is not None:
-                ahead.append((end, opposite(link)))
+        asked: Optional[Tuple[Chip, int]] = ahead.pop()
+        while asked is not None and asked not in seen:
+            seen.add(asked)
+            at, came = asked
+            lookup = lookup_at(at)
+            found = row_of(lookup, key) if lookup else None
+            asked = None
+            if found is not None:
+                links, cores = outputs_of(found[1].route)
+                note(Visit(at, came, found[0], links, cores))
+                ends = ends_at(at)
+                ahead += [(end, opposite(link)) for link in reversed(links) for end in (ends[link],) if end is not None]
+            else:
+                links = STRAIGHT_ON[came]
+                note(made(Visit, (at, came, None, links, ())))
+                end = ends_at(at)[links[0]] if links else None
+                asked = None if end is None else (end, came)
     return visits
 
 
