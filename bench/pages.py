@@ -8,12 +8,13 @@
     large    64 by 64 chips with two vertices each, and 4,096 nets to three vertices anywhere
     packets  64 by 64 chips with four vertices each, as many such nets, and a packet of each, which are run with three lengths of queues
 
-Told are the seconds of `kulzobad page`, the bytes, and the medians of five openings: seconds until the page has answered, and the
+Told are the seconds of `kulzobad page`, those of processors with the program's runs, the bytes, and the medians of five openings: seconds until the page has answered, and the
 processor time of the page's own thread in that time; then the same for the answer to a net and to a chip.
 """
 import json
 import os
 import random
+import resource
 import statistics
 import subprocess
 import sys
@@ -39,6 +40,12 @@ def large(on_each=2, has_packets=False):
     return json.dumps({"version": 1, "machine": {"width": SIDE, "height": SIDE}, "graph": graph, "run": run}).encode()
 
 
+def used():
+    """The processor time of all that was called and has ended."""
+    found = resource.getrusage(resource.RUSAGE_CHILDREN)
+    return found.ru_utime + found.ru_stime
+
+
 def opened(browser, path, part):
     """Medians of the seconds of an opening, and of the thread's processor time."""
     found = []
@@ -57,9 +64,9 @@ def main():
     with tempfile.TemporaryDirectory() as folder, Browser(1440, 900) as browser:
         browser.call("Performance.enable", {"timeDomain": "threadTicks"})
         for name, text in (("board", board), ("large", large()), ("packets", large(4, True))):
-            path, begun = f"{folder}/{name}.html", time.monotonic()
+            path, begun, before = f"{folder}/{name}.html", time.monotonic(), used()
             subprocess.run([sys.executable, "-m", "kulzobad", "page", "-", "-o", path], input=text, env=environment, check=True)
-            print(f"{name}: made in {time.monotonic() - begun:.2f} s, {os.path.getsize(path):,} bytes")
+            print(f"{name}: made in {time.monotonic() - begun:.2f} s, of processors {used() - before:.2f} s, {os.path.getsize(path):,} bytes")
             for what, part in (("opened", ""), ("a net", "#net=n53"), ("a chip", "#chip=2,3&show=rows")):
                 seconds, thread = opened(browser, path, part)
                 print(f"  {what}: {seconds:.2f} s, of the thread {thread:.2f} s")
