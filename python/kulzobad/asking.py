@@ -10,13 +10,13 @@ from .checks import Verdict, read_verdict
 from .images import MAGIC
 from .jobs import Chip, Machine
 from .program import answer_to_text
+from .reports import ENTRIES
 from .trees import Link
 from .walks import DEVICES, Row, Spot
 
 # A key, a mask and a route.
 Words = Tuple[int, int, int]
 
-ENTRIES = 1024
 MOST_NETS, MOST_VERTICES = 4096, 16384
 # The bytes as they stand in a list, with a comma before each.
 DIGITS = [f",{byte}" for byte in range(256)]

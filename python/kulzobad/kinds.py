@@ -6,7 +6,7 @@ import json
 import operator
 from collections.abc import Iterable, Mapping, Set
 from dataclasses import fields
-from typing import Any, List, Optional, Sequence, Tuple
+from typing import Any, List, Optional, Sequence, Tuple, cast
 
 MOST_SHOWN = 60
 
@@ -23,7 +23,7 @@ class InHexadecimal:
     """A dataclass (with `repr=False`) that shows keys, masks, payloads and routes as the program's lines do."""
 
     def __repr__(self) -> str:
-        parts = ((it.name, getattr(self, it.name)) for it in fields(self))  # type: ignore[arg-type]
+        parts = ((it.name, getattr(self, it.name)) for it in fields(cast(Any, self)))
         return f"{type(self).__name__}({', '.join(f'{name}={in_digits(name, value)}' for name, value in parts)})"
 
 
@@ -122,6 +122,19 @@ def lists_of_numbers(what: str, value: Any, names: str) -> List[Tuple[int, ...]]
     """A list of such entries."""
     wanted = f"a list of ({', '.join(names.split())})"
     return [numbers(f"{what}[{i}]", item, names) for i, item in enumerate(items(what, value, wanted))]
+
+
+def mapping(what: str, value: Any, wanted: str) -> Mapping[Any, Any]:
+    """A mapping, as one of chips to rows."""
+    if not isinstance(value, Mapping):
+        raise wrong(what, value, f"a mapping of {wanted}")
+    return value
+
+
+def chip_of(what: str, value: Any) -> Tuple[int, int]:
+    """A chip among the keys of a mapping: its x and y."""
+    x, y = numbers(f"{what}: the chip {shown(value)}", value, "x y")
+    return x, y
 
 
 def all_of(what: str, value: Any, kind: type) -> List[Any]:

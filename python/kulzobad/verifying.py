@@ -38,14 +38,14 @@ from operator import index
 from typing import Any, Dict, Hashable, Iterable, Iterator, List, Mapping, Optional, Sequence, Set, Tuple, Union
 
 from . import asking
-from .asking import ENTRIES, Batch, KnownNet, Part, Wire, Words, answer_to, bytes_of_rows, compact, layers, met
+from .asking import Batch, KnownNet, Part, Wire, Words, answer_to, bytes_of_rows, compact, layers, met
 from .blocks import USUAL, WORD, Block, Meeting, Order, block_of, blocks_of_range, cut, halves, order_of
 from .checks import BadImage, BadTree, Right, Split, Verdict, Wrong
 from .grid import Grid
 from .images import Image
 from .jobs import Chip, Machine, Net
 from .kinds import lists_of_numbers, numbers
-from .reports import LINKS, Table
+from .reports import ENTRIES, LINKS, Table
 from .trees import Link
 from .verdicts import KINDS, Foreign, Full, Misses, Note, OffTree, OffTrees, TooLong, Unmet
 from .walks import DEVICES, MISSES, Hops, Row, Spot, Walk, Walker, straight_on

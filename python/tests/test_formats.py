@@ -261,7 +261,7 @@ class Command(unittest.TestCase):
     def test_files_that_are_none(self):
         for network, rows, told in (
             ("{", self.rows, "/network: Expecting"), (Networks.text, "0 0 1", "/rows: line 1"), ('{"graph": 1}', self.rows, "/network: "),
-            (Networks.text.replace("[2, 1,", "[2, 2,"), self.rows, "outside the grid"), (Networks.text, b"SPNT", "/rows: no image"),
+            (Networks.text.replace("[2, 1,", "[2, 2,"), self.rows, "outside the grid"), (Networks.text, b"SPNT", "/rows: bad image 4: the bytes end"),
         ):
             status, out = self.called(network, rows)
             self.assertEqual(status, 4)
