@@ -3,7 +3,7 @@
 - the 16 bytes for each entry that SpiNNaker's system software takes to load a router, and keeps of one: `write_router_entries`,
   `read_router_entries`;
 - the objects of Rig, by their attributes alone: `from_rig`, `to_rig`;
-- rows as text, as comma-separated values or as a plain dump: `read_rows`, `write_csv`, `write_dump`;
+- rows as text, as comma-separated values, as a plain dump, or as the program writes them: `read_rows`, `write_csv`, `write_dump`;
 - a network, that is a machine with places and nets, as JSON: `read_network`, `write_network`.
 """
 from __future__ import annotations
@@ -21,7 +21,7 @@ from .grid import STEPS, Grid, opposite
 from .images import Image
 from .jobs import Chip, Job, Machine, Net, Vertex
 from .program import tables as compiled_tables
-from .reports import LINKS, Row, Table
+from .reports import LINKS, SECTIONS, Row, Table, read
 from .verifying import KeyedNet, Place, Rows, number_of, words_of
 from .walks import DEVICES
 
@@ -316,18 +316,31 @@ def number_in(text: str, least_base: int = 10) -> int:
 
 
 def read_rows(text: str) -> RowsByChip:
-    """Rows of text, in the order of its lines: comma-separated values where the first line has a comma, else a dump."""
-    return read_csv(text) if "," in text.lstrip().partition("\n")[0] else read_dump(text)
+    """Rows of text, in the order of its lines: what the program's `tables` writes, or a report, where it begins with one of their words;
+    comma-separated values where the first line has a comma; else a dump. ValueError, with the line, where it is none of that kind."""
+    start = text.lstrip().splitlines()[:1] or [""]
+    if start[0].partition(" ")[0] in SECTIONS:
+        return {chip: table.rows for chip, table in read(text).plan.tables.items()}
+    return read_csv(text) if "," in start[0] else read_dump(text)
 
 
 def read_csv(text: str) -> RowsByChip:
     """Rows of comma-separated values, below a line with the names x, y, key, mask and route in any order. Numbers are decimal, or
     hexadecimal behind 0x. ValueError where the names are others or a line has no such numbers."""
-    lines = [line for line in csv.reader(io.StringIO(text), skipinitialspace=True)]
+    lines = lines_of_csv(text)
     names = [it.strip() for it in lines[0]] if lines else []
     if sorted(names) != sorted(COLUMNS):
         raise ValueError(f"the first line names {', '.join(names) or 'nothing'}, and not {', '.join(COLUMNS)}")
     return rows_of(((i, dict(zip(names, map(str.strip, line))), len(line)) for i, line in enumerate(lines) if i and line), 10)
+
+
+def lines_of_csv(text: str) -> List[List[str]]:
+    """The items of each line, which may end with a carriage return, a line feed, or both."""
+    reader = csv.reader(io.StringIO(text, newline=None), skipinitialspace=True, strict=True)
+    try:
+        return list(reader)
+    except csv.Error as error:
+        raise ValueError(f"line {reader.line_num}: {error}") from None
 
 
 def read_dump(text: str) -> RowsByChip:

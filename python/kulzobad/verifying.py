@@ -18,8 +18,9 @@ What the program's `check` asks of a job, and so what is done here before it is 
 - `split` is its answer where the first row that meets a net's block takes some of its keys and not all: this it does not decide. Here
   each block is cut first by the rows that it meets on its way, always at the highest bit that the row cares for and the block does not.
   Where the answer still comes, the block is cut by the row that it names, and the rest is asked again. There are as many parts as rows
-  cut out of the net: few where nets have keys by population and neuron. A net of 2^32 keys, and rows that care for bits here and there,
-  may be millions.
+  cut out of the net: few where nets have keys by population and neuron. Where rows care for bits here and there, it may double with each
+  bit that rows care for and the net leaves open: 2 to the power of the number of these bits is the most. So cuts are counted, and so are
+  requests with bits in another order; beyond a bound of each the question is refused (`TooManyParts`).
 - A request has at most 4,096 nets, 16,384 vertices and 16 MiB. More goes into several requests, each with all rows; where all rows
   together are too many for a request, with those of the chips that the request's trees have; and of a block that is too much for one
   even then, with the rows that its keys meet, up to the first that takes all of them. The whole is right if all answers are.
@@ -34,8 +35,9 @@ source over the rows, and has its way.
 from __future__ import annotations
 
 from dataclasses import dataclass
-from operator import index
-from typing import Any, Dict, Hashable, Iterable, Iterator, List, Mapping, Optional, Sequence, Set, Tuple, Union
+from functools import reduce
+from operator import index, or_
+from typing import Any, Dict, Hashable, Iterable, Iterator, List, Mapping, NamedTuple, Optional, Sequence, Set, Tuple, Union
 
 from . import asking
 from .asking import Batch, KnownNet, Part, Wire, Words, answer_to, bytes_of_rows, compact, layers, met
@@ -47,7 +49,7 @@ from .jobs import Chip, Machine, Net
 from .kinds import lists_of_numbers, numbers
 from .reports import ENTRIES, LINKS, Table
 from .trees import Link
-from .verdicts import KINDS, Foreign, Full, Misses, Note, OffTree, OffTrees, TooLong, Unmet
+from .verdicts import KINDS, Foreign, Full, Misses, Note, OffTree, OffTrees, TooLong, Unfollowed, Unmet
 from .walks import DEVICES, MISSES, Hops, Row, Spot, Walk, Walker, straight_on
 
 Name = Hashable
@@ -65,6 +67,35 @@ SPARE = 65536
 MOST_FOR_ROWS = 11 * 2**20
 # A block is cut into as many parts as this for its mask; where it would be more, bits change places.
 MOST_PARTS = 64
+# How often blocks are cut in two, all nets together: so often in any case, and so often for each row where that is more. A row under ones
+# followed by zeros cuts a block of that kind at most once for each of its bits.
+MOST_CUTS, CUTS_OF_A_ROW = 2**16, 32
+# How many requests there are at most whose bits have changed places.
+MOST_ORDERS = 512
+
+
+class TooManyParts(ValueError):
+    """Rows cut the keys of the net into too many parts to be asked for. `bits` is how many bits the net leaves open and rows that have
+    keys of it care for: with each of them the parts may double."""
+
+    def __init__(self, net: Any, bits: int) -> None:
+        super().__init__(
+            f"net {net!r} is not decided: rows cut its keys into too many parts. They care for {bits} bits that it leaves open, and with each"
+            " of these the parts may double"
+        )
+        self.net, self.bits = net, bits
+
+
+class Amiss(NamedTuple):
+    """What is amiss with a net, and the net's place in the list."""
+
+    place: int
+    what: Union[Verdict, TooManyParts]
+
+
+def first_of(one: Optional[Amiss], other: Optional[Amiss]) -> Optional[Amiss]:
+    """What is amiss with the earlier net of two; of one net the first."""
+    return min((it for it in (one, other) if it is not None), key=lambda it: it.place, default=None)
 
 
 @dataclass
@@ -167,9 +198,17 @@ def words_of(row: Any) -> Words:
     return key, mask, route
 
 
+def size_of(image: Image) -> str:
+    """An image's machine in words."""
+    return f"{image.width} by {image.height} chips {'with' if image.wrap else 'without'} wrap"
+
+
 def known_rows(tables: Tables, grid: Grid) -> Dict[Chip, List[Row]]:
     """The rows that can match, by chip. ValueError where a chip lies outside the grid, or a row has words of more than 32 bits."""
     found: Dict[Chip, List[Row]] = {}
+    if isinstance(tables, Image) and (tables.width, tables.height, tables.wrap) != (grid.width, grid.height, grid.wrap):
+        made = Image(grid.width, grid.height, grid.wrap, b"")
+        raise ValueError(f"other machine: the image is of {size_of(tables)}, and the machine has {size_of(made)}")
     given = tables.tables if isinstance(tables, Image) else tables
     for chip in sorted(given):
         if not grid.has(chip):
@@ -228,6 +267,9 @@ class Verifier:
         # routing. It is whole once all nets were walked.
         self._takers: Dict[Chip, Dict[Optional[int], Set[int]]] = {}
         self._has_all_takers = self._are_rows_judged = False
+        # How often blocks were cut, how often that may be, and how many requests have their bits in another order.
+        self._cuts = self._orders = 0
+        self._most_cuts = max(MOST_CUTS, CUTS_OF_A_ROW * sum(map(len, self.rows.values())))
         # What is to be asked for in the usual order of bits, and what has other masks.
         self._usual = self._batch()
         self._others: List[Batch] = []
@@ -251,114 +293,142 @@ class Verifier:
 
     def parts_of(self, net: KnownNet, block: Block) -> Iterator[Union[Part, Verdict]]:
         """The parts of a block, each of which every row on its way takes or leaves as a whole, with their trees; and what is amiss in place
-        of the first part with which something is."""
-        ahead = [block]
-        while ahead:
-            block = ahead.pop()
-            walk = self.walk(net, block)
-            if walk.cut is not None:
-                ahead += reversed(halves(block, walk.cut.mask))
-            elif walk.fault:
-                found = self.told(net, block.key)
+        of the first part with which something is. TooManyParts where it is cut too often."""
+        for part, walk in self._walks_of(net, block):
+            if walk.fault:
+                found = self.told(net, part.key)
                 assert found is not None
                 yield found
                 return
-            else:
-                self._note_takers(net, walk)
-                came = straight_on(net.source)
-                yield Part(net, block, self.trees.get(net.name, walk.links), 1 << came if came >= 0 and walk.rows[0] is None else None)
+            self._note_takers(net, walk)
+            came = straight_on(net.source)
+            yield Part(net, part, self.trees.get(net.name, walk.links), 1 << came if came >= 0 and walk.rows[0] is None else None)
+
+    def _walks_of(self, net: KnownNet, block: Block) -> Iterator[Tuple[Block, Walk]]:
+        """The walks of a block's parts, each of which every row on its way takes or leaves as a whole."""
+        ahead = [block]
+        while ahead:
+            part = ahead.pop()
+            walk = self.walk(net, part)
+            if walk.cut is None:
+                yield part, walk
+                continue
+            self._cuts += 1
+            if self._cuts > self._most_cuts:
+                raise self._too_many(net)
+            ahead += reversed(halves(part, walk.cut.mask))
+
+    def _too_many(self, net: KnownNet) -> TooManyParts:
+        """The refusal of a net that has too many parts, with the number of bits by which these are cut."""
+        bits = 0
+        for block in net.blocks:
+            meeting = (row.mask for rows in self.rows.values() for row in rows if not (row.key ^ block.key) & row.mask & block.mask)
+            bits |= reduce(or_, meeting, 0) & ~block.mask
+        return TooManyParts(net.name, bin(bits).count("1"))
 
     # -- the verdict
 
     def verdict(self) -> Verdict:
-        """`Right`, or what is amiss with the first net that something is amiss with."""
+        """`Right`, or what is amiss with the first net that something is amiss with. TooManyParts where rows cut a net into too many parts,
+        and nothing is amiss with a net before it."""
         for chip, rows in self.rows.items():
             if len(rows) > ENTRIES:
                 return TooLong(*chip, len(rows))
         self._judge_rows()
+        self._cuts = self._orders = 0
+        found = self._walk_all()
+        while self._usual.parts or self._others:
+            found = self._ask_usual(found) if self._usual.parts else self._ask_other(self._others[0], found)
+        if found is None:
+            return Right()
+        if isinstance(found.what, TooManyParts):
+            raise found.what
+        return found.what
+
+    def _walk_all(self) -> Optional[Amiss]:
+        """Walks the nets, and asks for their parts where there are many. What is amiss with one, if anything: the walks end with it."""
         for net in self.nets:
             for block in net.blocks:
                 found = self._take(net, block)
                 if found is not None:
                     return found
         self._has_all_takers = True
-        while self._usual.parts or self._others:
-            found = self._ask_usual() if self._usual.parts else self._ask_other(self._others[0])
-            if found is not None:
-                return found
-        return Right()
-
-    def _take(self, net: KnownNet, block: Block) -> Optional[Verdict]:
-        """Walks a block, and asks for its parts where there are many. What is amiss, if anything."""
-        for part in self.parts_of(net, block):
-            found = part if isinstance(part, Verdict) else self._add(part)
-            if found is not None:
-                return found
         return None
 
-    def _add(self, part: Part) -> Optional[Verdict]:
+    def _take(self, net: KnownNet, block: Block) -> Optional[Amiss]:
+        """Walks a block, and asks for its parts where there are many. What is amiss, if anything."""
+        try:
+            for part in self.parts_of(net, block):
+                found = Amiss(net.place, part) if isinstance(part, Verdict) else self._add(part)
+                if found is not None:
+                    return found
+        except TooManyParts as error:
+            return Amiss(net.place, error)
+        return None
+
+    def _add(self, part: Part) -> Optional[Amiss]:
         """Puts a part among those that are to be asked for, and asks for them where they are many."""
         opened = USUAL.opened(part.block.mask)
         if 1 << bin(opened).count("1") <= MOST_PARTS:
             self._usual.add(part, list(cut(part.block, opened)))
-            return self._ask_usual() if self._is_full(self._usual) else None
+            return self._ask_usual(None) if self._is_full(self._usual) else None
         batch = next((it for it in self._others if it.fits(part.block.mask)), None)
         if batch is None:
+            self._orders += 1
+            if self._orders > MOST_ORDERS:
+                return Amiss(part.net.place, self._too_many(part.net))
             batch = self._batch()
             self._others.append(batch)
         batch.add(part, [part.block])
-        return self._ask_other(batch) if self._is_full(batch) else None
+        return self._ask_other(batch, None) if self._is_full(batch) else None
 
     def _is_full(self, batch: Batch) -> bool:
         return len(batch.parts) >= asking.MOST_NETS - MOST_PARTS or batch.is_over(self._room * 3 // 4)
 
-    def _ask_usual(self) -> Optional[Verdict]:
+    def _ask_usual(self, found: Optional[Amiss]) -> Optional[Amiss]:
         batch, self._usual = self._usual, self._batch()
-        return self._ask(batch.parts, USUAL)
+        return self._ask(batch.parts, USUAL, found)
 
-    def _ask_other(self, batch: Batch) -> Optional[Verdict]:
+    def _ask_other(self, batch: Batch, found: Optional[Amiss]) -> Optional[Amiss]:
         self._others.remove(batch)
-        return self._ask(batch.parts, order_of(list(batch.masks)))
+        return self._ask(batch.parts, order_of(list(batch.masks)), found)
 
-    def _ask(self, parts: Sequence[Part], order: Order) -> Optional[Verdict]:
-        """Asks for parts, in as many requests as they need. What is amiss, if anything."""
-        for layer in layers(parts, order):
+    def _ask(self, parts: Sequence[Part], order: Order, found: Optional[Amiss]) -> Optional[Amiss]:
+        """Asks for parts, in as many requests as they need, but for those that do not come before a net with which something was found
+        amiss. What is amiss with the first net."""
+        for layer in layers([it for it in parts if found is None or it.net.place < found.place], order):
             batch = self._batch()
             for part in layer:
                 batch.add(part, [part.block])
                 if batch.is_over(self._room) and len(batch.parts) > 1:
-                    found = self._decide(batch.parts[:-1], order)
-                    if found is not None:
-                        return found
+                    found = self._decide(batch.parts[:-1], order, found)
                     batch = self._batch()
                     batch.add(part, [part.block])
-            found = self._decide(batch.parts, order)
-            if found is not None:
-                return found
-        return None
+            found = self._decide(batch.parts, order, found)
+        return found
 
-    def _decide(self, parts: List[Part], order: Order) -> Optional[Verdict]:
-        """Asks for parts that one request has room for, again and again as long as one of them is split, which then is cut. What is amiss,
-        if anything."""
-        while parts:
+    def _decide(self, parts: List[Part], order: Order, found: Optional[Amiss]) -> Optional[Amiss]:
+        """Asks for parts that one request has room for, again and again: as long as one of them is split, which then is cut; and for those
+        of earlier nets, where one is amiss. What is amiss with the first net."""
+        while True:
+            parts = [it for it in parts if found is None or it.net.place < found.place]
+            if not parts:
+                return found
             rows = self._rows_for(parts)
             verdict = self._answer(parts, rows, order)
             if isinstance(verdict, Right):
-                return None
+                return found
             if not isinstance(verdict, (Split, Wrong, BadTree)):
                 raise RuntimeError(f"the program answers {verdict} to rows that it has taken")
             place = int(verdict.net[1:])
             part = parts[place]
-            if isinstance(verdict, Split):
-                row = rows[verdict.x, verdict.y][verdict.row]
-                parts = parts[:place] + parts[place + 1:]
-                for half in halves(part.block, row[1]):
-                    found = self._take(part.net, half)
-                    if found is not None:
-                        return found
+            if not isinstance(verdict, Split):
+                found = Amiss(part.net.place, self._amiss(part, verdict, order))
                 continue
-            return self._amiss(part, verdict, order)
-        return None
+            row = rows[verdict.x, verdict.y][verdict.row]
+            parts = parts[:place] + parts[place + 1:]
+            for half in halves(part.block, row[1]):
+                found = first_of(found, self._take(part.net, half))
 
     def _amiss(self, part: Part, verdict: Union[Wrong, BadTree], order: Order) -> Verdict:
         """What the program's answer says in terms of a way."""
@@ -388,20 +458,24 @@ class Verifier:
 
     def notes(self) -> List[Note]:
         """What `notes` says."""
-        self._walk_for_takers()
-        takers, meeting = self._takers, Meeting((block, net.place) for net in self.nets for block in net.blocks)
         found: List[Note] = []
+        try:
+            self._walk_for_takers()
+        except TooManyParts as error:
+            found.append(Unfollowed(error.net, error.bits))
+        is_followed = not found
+        takers, meeting = self._takers, Meeting((block, net.place) for net in self.nets for block in net.blocks)
         for chip, rows in self.rows.items():
             if len(rows) > ENTRIES - 1:
                 found.append(Full(*chip, len(rows)))
-            if chip not in takers:
+            if chip not in takers and is_followed:
                 found.append(OffTrees(*chip, len(rows)))
             here = takers.get(chip, {})
             come: Set[int] = set().union(*here.values())
             for row in rows:
                 nets = meeting.of(Block(row.key, row.mask))
                 if row.place in here:
-                    stranger = next((it for it in nets if it not in come), None)
+                    stranger = next((it for it in nets if it not in come), None) if is_followed else None
                     if stranger is not None:
                         found.append(Foreign(self.nets[stranger].name, *chip, row.place, self.nets[min(here[row.place])].name))
                 elif next(nets, None) is None:
@@ -409,17 +483,14 @@ class Verifier:
         return found
 
     def _walk_for_takers(self) -> None:
-        """Walks all nets, if that was not done."""
-        if not self._has_all_takers:
-            self._judge_rows()
-        for net in self.nets if not self._has_all_takers else ():
-            ahead = list(net.blocks)
-            while ahead:
-                block = ahead.pop()
-                walk = self.walk(net, block)
-                if walk.cut is not None:
-                    ahead += halves(block, walk.cut.mask)
-                else:
+        """Walks all nets, if that was not done. TooManyParts where one is cut too often."""
+        if self._has_all_takers:
+            return
+        self._judge_rows()
+        self._cuts = 0
+        for net in self.nets:
+            for block in net.blocks:
+                for _, walk in self._walks_of(net, block):
                     self._note_takers(net, walk)
         self._has_all_takers = True
 
