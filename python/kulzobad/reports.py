@@ -6,9 +6,10 @@ from bisect import bisect
 from dataclasses import dataclass, field
 from typing import Dict, List, Mapping, Optional, Set, Tuple
 
-from .kinds import BrokenAnswer, InHexadecimal, shown
+from .kinds import BrokenAnswer, InHexadecimal, shown, whole
+from .kinds import text as text_of
+from .links import LINKS as LINKS
 
-LINKS = ("E", "NE", "N", "W", "SW", "S")
 # Chips in a row or a column at most, the entries of a router, and the greatest route.
 SIDE, ENTRIES, MOST_ROUTE = 64, 1024, 0xFFFFFF
 # Vertices stand on cores 1 to 17. The numbers behind are devices: 18 and the number of their link.
@@ -42,11 +43,13 @@ ROW = re.compile(rf"{HEX} {HEX} ([0-9a-f]{{6}})")
 
 def links_of(route: int) -> List[str]:
     """The links that a route names: bits 0 to 5."""
+    route = whole("links_of: route", route)
     return [name for bit, name in enumerate(LINKS) if route >> bit & 1]
 
 
 def cores_of(route: int) -> List[int]:
     """The cores that a route names: bits 6 to 23."""
+    route = whole("cores_of: route", route)
     return [core for core in range(18) if route >> (6 + core) & 1]
 
 
@@ -357,4 +360,4 @@ class Reading:
 def read(text: str) -> Report:
     """Reads a report, or the text of `tables`, which has a plan alone. ValueError, with the line, where it is not whole: it was cut
     off, its last line has other numbers than there are lines, or a line has not the form or the place that it has in a report."""
-    return Reading(text).whole()
+    return Reading(text_of("read: text", text)).whole()

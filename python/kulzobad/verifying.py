@@ -36,7 +36,7 @@ from __future__ import annotations
 
 from dataclasses import dataclass
 from functools import reduce
-from operator import index, or_
+from operator import or_
 from typing import Any, Dict, Hashable, Iterable, Iterator, List, Mapping, NamedTuple, Optional, Sequence, Set, Tuple, Union
 
 from . import asking
@@ -46,7 +46,8 @@ from .checks import BadImage, BadTree, Right, Split, Verdict, Wrong
 from .grid import Grid
 from .images import Image
 from .jobs import Chip, Machine, Net
-from .kinds import lists_of_numbers, numbers
+from .kinds import chip_of, hashable, items, lists_of_numbers, mapping, numbers, one, shown, whole, wrong
+from .kinds import links as links_in
 from .reports import ENTRIES, LINKS, Table
 from .trees import Link
 from .verdicts import KINDS, Foreign, Full, Misses, Note, OffTree, OffTrees, TooLong, Unfollowed, Unmet
@@ -110,7 +111,7 @@ class KeyedNet:
     @classmethod
     def counted(cls, name: Name, source: Name, targets: Sequence[Name], first: int, count: int) -> "KeyedNet":
         """A net with `count` keys from `first` on. ValueError where there are none, or some beyond 32 bits."""
-        return cls(name, source, targets, list(blocks_of_range(first, count)))
+        return cls(name, source, targets, blocks_of_range(whole("KeyedNet.counted: first", first), whole("KeyedNet.counted: count", count)))
 
 
 # ---- what is handed in
@@ -118,13 +119,23 @@ class KeyedNet:
 
 def number_of(name: Name, place: Place) -> Spot:
     """A place as numbers: a device's link is 18 and the link's number. ValueError where its letters are no link's."""
-    *chip, last = place
+    what = f"the place of {name!r}"
+    x, y, last = parts_of_place(what, place)
     if isinstance(last, str):
         if last not in LINKS:
             raise ValueError(f"{name!r} hangs on {last!r}, which is none of the links {', '.join(LINKS)}")
         last = DEVICES + LINKS.index(last)
-    x, y, number = numbers(f"the place of {name!r}", (*chip, last), "x y number")
+    x, y, number = numbers(what, (x, y, last), "x y number")
     return x, y, number
+
+
+def parts_of_place(what: str, place: Place) -> Sequence[Any]:
+    """The three parts of a place."""
+    wanted = "(x, y, core), or (x, y, link) with the letters of a device's link"
+    found = items(what, place, wanted)
+    if len(found) != 3:
+        raise wrong(what, place, wanted)
+    return found
 
 
 def spot_of(name: Name, place: Place, machine: Machine, grid: Grid) -> Spot:
@@ -146,8 +157,10 @@ def spot_of(name: Name, place: Place, machine: Machine, grid: Grid) -> Spot:
 
 def spots_of(machine: Machine, grid: Grid, places: Places) -> Dict[Any, Spot]:
     """The spots of all vertices. ValueError where one can't stand where it does, or two stand at one place."""
-    dead, taken, found = {tuple(it) for it in machine.dead_cores}, {}, {}
-    for name, place in places.items():
+    dead = {tuple(it) for it in machine.dead_cores}
+    taken: Dict[Spot, Any] = {}
+    found: Dict[Any, Spot] = {}
+    for name, place in mapping("places", places, "names of vertices to places").items():
         spot = spot_of(name, place, machine, grid)
         if spot in dead:
             raise ValueError(f"{name!r} stands on the dead core {spot[2]} of ({spot[0]}, {spot[1]})")
@@ -163,39 +176,75 @@ def known_nets(nets: Iterable[Union[KeyedNet, Net]], spots: Mapping[Any, Spot]) 
     one name."""
     found: List[KnownNet] = []
     names: Set[Any] = set()
-    for net in nets:
-        if net.name in names:
+    for i, net in enumerate(items("nets", nets, "a list of KeyedNet")):
+        if not isinstance(net, (KeyedNet, Net)):
+            raise wrong(f"nets[{i}]", net, "a KeyedNet, or a Net with `fixed`")
+        if hashable(f"nets[{i}].name", net.name) in names:
             raise ValueError(f"two nets are called {net.name!r}")
         names.add(net.name)
-        if isinstance(net, Net) and net.fixed is None:
-            raise ValueError(f"net {net.name!r} has no keys: `fixed` says which")
-        blocks = [net.fixed] if isinstance(net, Net) else list(net.blocks)
-        if isinstance(net.targets, str) or not net.targets or not blocks:
-            raise ValueError(f"net {net.name!r} needs a list of targets and a list of blocks of keys, with one of each at least")
-        for name in (net.source, *net.targets):
-            if name not in spots:
-                raise ValueError(f"{name!r}, of net {net.name!r}, has no place")
-        if len(set(net.targets)) >= asking.MOST_VERTICES:
-            raise ValueError(f"net {net.name!r} has more targets than a request can name: {len(net.targets)}")
-        targets = {spots[name]: name for name in net.targets}
-        found.append(KnownNet(len(found), net.name, spots[net.source], targets, [block_of(*it) for it in blocks]))
+        found.append(known_net(f"nets[{i}]", i, net, spots))
     return found
 
 
-def known_links(name: Any, links: Iterable[Link], grid: Grid) -> List[Link]:
+def known_net(what: str, place: int, net: Union[KeyedNet, Net], spots: Mapping[Any, Spot]) -> KnownNet:
+    """A net by the spots of its vertices."""
+    if isinstance(net, Net) and net.fixed is None:
+        raise ValueError(f"net {net.name!r} has no keys: `fixed` says which")
+    given = [net.fixed] if isinstance(net, Net) else net.blocks
+    blocks = [block_of(*it) for it in lists_of_numbers(f"{what}.blocks", given, "key mask")]
+    listed = () if isinstance(net.targets, str) else items(f"{what}.targets", net.targets, "a list of names")
+    if not listed or not blocks:
+        raise ValueError(f"net {net.name!r} needs a list of targets and a list of blocks of keys, with one of each at least")
+    for vertex in (net.source, *listed):
+        if hashable(f"{what}: a vertex", vertex) not in spots:
+            raise ValueError(f"{vertex!r}, of net {net.name!r}, has no place")
+    if len(set(listed)) >= asking.MOST_VERTICES:
+        raise ValueError(f"net {net.name!r} has more targets than a request can name: {len(set(listed))}")
+    return KnownNet(place, net.name, spots[net.source], {spots[it]: it for it in listed}, blocks)
+
+
+def known_trees(trees: Optional[Trees], nets: Sequence[KnownNet], grid: Grid) -> Dict[Any, List[Link]]:
+    """The links of trees by the names of nets. ValueError where a name is no net's, or a link none of the grid's."""
+    given = mapping("trees", {} if trees is None else trees, "names of nets to lists of links")
+    unknown = set(given) - {net.name for net in nets}
+    if unknown:
+        raise ValueError(f"trees of nets that are none: {', '.join(sorted(map(repr, unknown)))}")
+    return {net: known_links(net, it, grid) for net, it in given.items()}
+
+
+def known_links(net: Any, links: Iterable[Link], grid: Grid) -> List[Link]:
     """The links of a net's tree. ValueError where one is none of the grid's."""
-    found = []
-    for x, y, link in lists_of_numbers(f"the tree of {name!r}", links, "x y link"):
+    found = links_in(f"the tree of {net!r}", links)
+    for x, y, link in found:
         if not grid.has((x, y)) or not 0 <= link <= 5:
-            raise ValueError(f"the tree of {name!r} has ({x}, {y}, {link}), which is no link of the grid")
-        found.append((x, y, link))
+            raise ValueError(f"the tree of {net!r} has ({x}, {y}, {link}), which is no link of the grid")
     return found
 
 
-def words_of(row: Any) -> Words:
+def words_of(chip: Chip, place: int, row: Any) -> Words:
     """Key, mask and route of a row, which has them as items or under these names."""
-    key, mask, route = (row.key, row.mask, row.route) if hasattr(row, "route") else row
+    parts = (row.key, row.mask, row.route) if all(hasattr(row, it) for it in ("key", "mask", "route")) else row
+    if type(parts) is tuple and len(parts) == 3 and all(type(it) is int and 0 <= it <= WORD for it in parts):
+        return parts
+    what = f"row {place} of chip {chip}"
+    try:
+        key, mask, route = numbers(what, parts, "key mask route")
+    except TypeError:
+        raise TypeError(f"{what} is {shown(row)}, and should be a key, a mask and a route") from None
+    if min(key, mask, route) < 0 or max(key, mask, route) > WORD:
+        raise ValueError(f"{what} has no words of 32 bits: {shown(row)}")
     return key, mask, route
+
+
+def words_by_chip(tables: Tables) -> Dict[Chip, List[Words]]:
+    """Of each chip, by x and y, its rows as words."""
+    given = tables.tables if isinstance(tables, Image) else mapping("tables", tables, "chips to rows")
+    chips = {chip_of("tables", chip): rows for chip, rows in given.items()}
+    found: Dict[Chip, List[Words]] = {}
+    for chip, rows in chips.items():
+        listed = rows.rows if isinstance(rows, Table) else items(f"tables[{chip}]", rows, "a list of rows")
+        found[chip] = [words_of(chip, place, row) for place, row in enumerate(listed)]
+    return found
 
 
 def size_of(image: Image) -> str:
@@ -204,26 +253,16 @@ def size_of(image: Image) -> str:
 
 
 def known_rows(tables: Tables, grid: Grid) -> Dict[Chip, List[Row]]:
-    """The rows that can match, by chip. ValueError where a chip lies outside the grid, or a row has words of more than 32 bits."""
-    found: Dict[Chip, List[Row]] = {}
+    """The rows that can match, by chip. ValueError where an image is of another machine, a chip lies outside the grid, or a row has words
+    of more than 32 bits."""
     if isinstance(tables, Image) and (tables.width, tables.height, tables.wrap) != (grid.width, grid.height, grid.wrap):
         made = Image(grid.width, grid.height, grid.wrap, b"")
         raise ValueError(f"other machine: the image is of {size_of(tables)}, and the machine has {size_of(made)}")
-    given = tables.tables if isinstance(tables, Image) else tables
-    for chip in sorted(given):
+    found: Dict[Chip, List[Row]] = {}
+    for chip, words in sorted(words_by_chip(tables).items()):
         if not grid.has(chip):
             raise ValueError(f"chip {chip} has rows, and lies outside the grid")
-        listed = given[chip]
-        rows = []
-        for place, row in enumerate(listed.rows if isinstance(listed, Table) else listed):
-            try:
-                key, mask, route = map(index, words_of(row))
-            except (TypeError, ValueError):
-                raise TypeError(f"row {place} of chip {chip} is {row!r}, and should be a key, a mask and a route") from None
-            if min(key, mask, route) < 0 or max(key, mask, route) > WORD:
-                raise ValueError(f"row {place} of chip {chip} has no words of 32 bits: {row!r}")
-            if not key & ~mask:
-                rows.append(Row(key, mask, route, place))
+        rows = [Row(key, mask, route, place) for place, (key, mask, route) in enumerate(words) if not key & ~mask]
         if rows:
             found[chip] = rows
     return found
@@ -245,15 +284,12 @@ class Verifier:
         trees: Optional[Trees] = None,
         program: Optional[str] = None,
     ) -> None:
-        self.machine, self.program = machine, program
+        self.machine, self.program = one("machine", machine, Machine), program
         self.grid = Grid(machine)
         self.spots = spots_of(machine, self.grid, places)
         self.nets = known_nets(nets, self.spots)
         self.rows = known_rows(tables, self.grid)
-        unknown = set(trees or ()) - {net.name for net in self.nets}
-        if unknown:
-            raise ValueError(f"trees of nets that are none: {', '.join(sorted(map(repr, unknown)))}")
-        self.trees = {name: known_links(name, links, self.grid) for name, links in (trees or {}).items()}
+        self.trees = known_trees(trees, self.nets, self.grid)
         self.walker = Walker(self.grid, self.rows, set(self.spots.values()))
         # How many requests were made, and how many parts they asked for.
         self.requests = self.asked = 0

@@ -215,7 +215,7 @@ class Networks(unittest.TestCase):
             ({**whole, "nets": [{"name": "n", "source": "eye", "targets": "left", "first": 1, "count": 1}]}, "targets"),
             ({**whole, "nets": [{"name": "n", "source": "eye", "targets": ["left"], "blocks": [["x", 1]]}]}, "no number: 'x'"),
             ({**whole, "nets": [{"name": "n", "source": "eye", "targets": ["left"], "blocks": [[1]]}]}, "list of 2"),
-            ({**whole, "trees": {"gain": [[0, 0]]}}, "list of 3"), ([], "no object"),
+            ({**whole, "trees": {"gain": [[0, 0]]}}, "trees.gain.*and should be .x, y, link."), ([], "no object"),
         ]
         for value, told in spoiled:
             with self.assertRaisesRegex(ValueError, told):
