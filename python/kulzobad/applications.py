@@ -151,11 +151,12 @@ def read_answer(line: str, at: int = 1) -> Answer:
         if found:
             # (a name may have digits alone)
             items = zip((it.name for it in fields(made)), found.groups())
-            return made(**{name: item if name in NAMES else int(item) for name, item in items})
+            answer: Answer = made(**{name: item if name in NAMES else int(item) for name, item in items})
+            return answer
     raise BrokenAnswer(f"line {at} is {shown(line)}: no line of apps")
 
 
-def read_answers(text: str, steps: Optional[Sequence[Step]] = None) -> List[Answer]:
+def read_answers(text: str, steps: Optional[Sequence[Sequence[Any]]] = None) -> List[Answer]:
     """Reads what `apps` writes: a line for each step. Where steps are given, there have to be as many lines, each of its step.
     ValueError, with the line, where that is not so."""
     *lines, rest = text.split("\n")

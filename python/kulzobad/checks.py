@@ -3,6 +3,7 @@ from __future__ import annotations
 
 import re
 from dataclasses import dataclass
+from typing import Callable, List, Tuple
 
 from .kinds import BrokenAnswer, InHexadecimal, shown
 
@@ -61,14 +62,15 @@ class OtherMachine(Verdict):
 
 def read_verdict(text: str) -> Verdict:
     """Reads the line of `check`."""
-    for pattern, made in (
+    kinds: List[Tuple[str, Callable[..., Verdict]]] = [
         (r"right\n", Right),
         (r"wrong (\S+) (\d+) (\d+) ([0-9a-f]{8})\n", lambda net, x, y, key: Wrong(net, int(x), int(y), int(key, 16))),
         (r"split (\S+) (\d+) (\d+) (\d+)\n", lambda net, x, y, row: Split(net, int(x), int(y), int(row))),
         (r"bad tree (\S+)\n", BadTree),
         (r"bad image (\d+)\n", lambda at: BadImage(int(at))),
         (r"other machine\n", OtherMachine),
-    ):
+    ]
+    for pattern, made in kinds:
         found = re.fullmatch(pattern, text)
         if found:
             return made(*found.groups())

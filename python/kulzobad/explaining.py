@@ -179,12 +179,13 @@ def more_of_value(job: Any, path: str, there: Any) -> Iterator[str]:
         yield f"the grid is {width} by {height}: x is 0 to {width - 1}, and y 0 to {height - 1}"
     index = re.fullmatch(r"(job\.run\.packets\[\d+\])\.index", path)
     if index and isinstance(there, int):
-        net = next((it for it in job["graph"]["nets"] if it["name"] == part_at({"job": job}, index[1] + ".net")), {})
+        net: Mapping[str, Any] = next((it for it in job["graph"]["nets"] if it["name"] == part_at({"job": job}, index[1] + ".net")), {})
         keys = net.get("keys") or 1
         yield f"net {net.get('name')} has {counted(keys, 'key')}, so index is 0{f' to {keys - 1}' if keys > 1 else ''}"
     fixed = re.fullmatch(r"(job\.graph\.nets\[\d+\])\.fixed", path)
     if fixed and isinstance(there, list) and len(there) == 2 and all(type(it) is int for it in there):
-        yield from more_of_block(*there, part_at({"job": job}, fixed[1] + ".keys") or 1)
+        key, mask = there
+        yield from more_of_block(key, mask, part_at({"job": job}, fixed[1] + ".keys") or 1)
     if path == "job.version" and there is not None:
         yield "steps with applications have jobs of version 1 or 2" if there == 3 else "the versions are 1, 2 and 3"
 
@@ -412,10 +413,11 @@ def cut_off(refused: Refused, job: Job, program: Optional[str]) -> Iterator[str]
     root, target = (places[net.source].x, places[net.source].y), refused.chip
     if target is None:
         return
+    end: Chip = target
     reached = reached_from(grid, root)
     names = [name for name in net.targets if (places[name].x, places[name].y) == target]
     who = f"{names[0]} stands" if len(names) == 1 else f"{', '.join(names[:4])} stand"
-    last = min(reached, key=lambda chip: (steps_between(grid, chip, target), steps_between(grid, root, chip), chip))
+    last = min(reached, key=lambda chip: (steps_between(grid, chip, end), steps_between(grid, root, chip), chip))
     others = counted(len(reached) - 1, "other chip")
     yield f"from chip {root}, where {net.source} stands, live links lead to {others}, and not to {target}, where {who}"
     away = counted(steps_between(grid, last, target), "link")

@@ -75,7 +75,7 @@ class Network:
         ones followed by zeros."""
         numbers = {name: spot[2] for name, spot in self.spots().items()}
         names = names_for(self.places, "v")
-        dead = {tuple(it) for it in self.machine.dead_cores}
+        dead = {(x, y, core) for x, y, core in self.machine.dead_cores}
         taken = {(self.places[name][0], self.places[name][1], number) for name, number in numbers.items() if number < DEVICES}
         dead |= {(x, y, core) for x, y in {it[:2] for it in taken} for core in range(1, 18) if (x, y, core) not in taken}
         vertices = []
@@ -98,7 +98,7 @@ class Network:
 def names_for(things: Iterable[Hashable], letter: str) -> Dict[Any, str]:
     """A name of a job for each thing: its own where that is text that a job can have, else the letter and a number."""
     listed = list(things)
-    found = {it: it for it in listed if isinstance(it, str) and re.fullmatch(r"[!-~]{1,56}", it)}
+    found: Dict[Any, str] = {it: it for it in listed if isinstance(it, str) and re.fullmatch(r"[!-~]{1,56}", it)}
     free = (f"{letter}{i}" for i in range(2 * len(listed) + 1) if f"{letter}{i}" not in found)
     return {it: found[it] if it in found else next(free) for it in listed}
 
@@ -251,7 +251,8 @@ def from_rig(
 
 def tables_of_rig(routing_tables: Mapping[Chip, Iterable[Any]]) -> Dict[Chip, Sequence[Row]]:
     """The rows of Rig's tables, by chip."""
-    what, found = "from_rig: routing_tables", {}
+    what = "from_rig: routing_tables"
+    found: Dict[Chip, Sequence[Row]] = {}
     for given, listed in mapping(what, routing_tables, "chips to rows").items():
         chip = chip_of(what, given)
         found[chip] = tuple(row_of_rig(f"{what}[{chip}][{i}]", row) for i, row in enumerate(items(f"{what}[{chip}]", listed, "a list of rows")))
@@ -365,20 +366,25 @@ def to_rig(
             raise ValueError(f"core {core} of chip ({x}, {y}) is dead, and one behind it is not: of Rig's chips the last cores are missing")
     exceptions = {chip: {cores: core} for chip, core in least.items()}
     made = machine(part.width, part.height, {cores: 18}, exceptions, {tuple(it) for it in part.dead_chips}, dead_links)
-    placements, allocations, constraints = {}, {}, []
+    placements: Dict[Any, Chip] = {}
+    allocations: Dict[Any, Dict[Any, slice]] = {}
+    constraints = []
     for name, place in network.places.items():
-        placements[name], number = place[:2], number_of(name, place)[2]
+        x, y, number = number_of(name, place)
+        placements[name] = x, y
         if number >= DEVICES:
             constraints.append(endpoint(name, number - DEVICES))
             allocations[name] = {}
         else:
             allocations[name] = {cores: slice(number, number + 1)}
-    nets, net_keys = [], {}
+    nets: List[Any] = []
+    net_keys: Dict[Any, Tuple[int, int]] = {}
     for it in network.nets:
         if len(it.blocks) != 1:
             raise ValueError(f"net {it.name!r} has {len(it.blocks)} blocks of keys, and Rig's nets have one")
         nets.append(net(it.source, list(it.targets), 1.0))
-        net_keys[nets[-1]] = tuple(it.blocks[0])
+        key, mask = it.blocks[0]
+        net_keys[nets[-1]] = key, mask
     tables = {
         chip: [entry({out for out in range(24) if row.route >> out & 1}, row.key, row.mask) for row in rows]
         for chip, rows in rows_by_chip(network.tables).items()
@@ -479,10 +485,10 @@ def read_network(text: str) -> Network:
     part = whole["machine"]
     names = ("width", "height", "wrap", "sdram", "dead_chips", "dead_cores", "dead_links")
     members(part, "machine", names[:2], names[2:])
-    chips, dead_cores, links = ([tuple(it) for it in listed(part.get(name), f"machine.{name}", (list,))] for name in names[4:])
+    lists: List[List[Any]] = [[tuple(it) for it in listed(part.get(name), f"machine.{name}", (list,))] for name in names[4:]]
     wrap = part.get("wrap")
     try:
-        machine = Machine(part["width"], part["height"], False if wrap is None else wrap, part.get("sdram"), chips, dead_cores, links)
+        machine = Machine(part["width"], part["height"], False if wrap is None else wrap, part.get("sdram"), lists[0], lists[1], lists[2])
     except TypeError as error:
         raise ValueError(str(error)) from None
     members(whole["places"], "places", (), None)
@@ -523,8 +529,8 @@ def word_in(value: Any, path: str) -> int:
     if isinstance(value, int) and not isinstance(value, bool):
         return value
     try:
-        return number_in(value)
-    except (TypeError, ValueError):
+        return number_in(str(value))
+    except ValueError:
         raise ValueError(f"{path}: no number: {value!r}") from None
 
 

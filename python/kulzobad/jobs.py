@@ -22,7 +22,7 @@ class Machine:
     sdram: Optional[int] = None
     dead_chips: Sequence[Chip] = ()
     dead_cores: Sequence[Tuple[int, int, int]] = ()
-    dead_links: Sequence[Tuple[int, int, int]] = ()
+    dead_links: Sequence[Tuple[int, int, Any]] = ()
 
     def __post_init__(self) -> None:
         self.width, self.height = whole("Machine.width", self.width), whole("Machine.height", self.height)
@@ -49,7 +49,7 @@ class Vertex:
     name: str
     sdram: int = 0
     at: Optional[Chip] = None
-    device: Optional[Tuple[int, int, int]] = None
+    device: Optional[Tuple[int, int, Any]] = None
 
     def __post_init__(self) -> None:
         self.name, self.sdram = text("Vertex.name", self.name), whole("Vertex.sdram", self.sdram)
@@ -256,7 +256,8 @@ class Parts:
 
     def whole(self, name: str) -> int:
         """A member that is a whole number."""
-        return self.kept(whole, name, self.value[name])
+        found: int = self.kept(whole, name, self.value[name])
+        return found
 
     def kept(self, of_kind: Callable[..., Any], name: str, *value: Any) -> Any:
         """A value that a function of `kinds` lets through."""

@@ -102,7 +102,7 @@ def page_of_tables(options: argparse.Namespace, title: str) -> str:
     options.network = options.job
     network = network_in(options)
     try:
-        network.tables = rows_by_chip(tables_in(options.tables))
+        network.tables = {**rows_by_chip(tables_in(options.tables))}
         return verified_page(network, title, options.program)
     except (TypeError, ValueError) as error:
         raise Stopped(str(error)) from None

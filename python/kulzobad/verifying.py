@@ -37,7 +37,7 @@ from __future__ import annotations
 from dataclasses import dataclass
 from functools import reduce
 from operator import or_
-from typing import Any, Dict, Hashable, Iterable, Iterator, List, Mapping, NamedTuple, Optional, Sequence, Set, Tuple, Union
+from typing import Any, Dict, Hashable, Iterable, Iterator, List, Mapping, NamedTuple, Optional, Sequence, Set, Tuple, Union, cast
 
 from . import asking
 from .asking import Batch, KnownNet, Part, Wire, Words, answer_to, bytes_of_rows, compact, layers, met
@@ -96,7 +96,9 @@ class Amiss(NamedTuple):
 
 def first_of(one: Optional[Amiss], other: Optional[Amiss]) -> Optional[Amiss]:
     """What is amiss with the earlier net of two; of one net the first."""
-    return min((it for it in (one, other) if it is not None), key=lambda it: it.place, default=None)
+    if one is None or other is None:
+        return one or other
+    return other if other.place < one.place else one
 
 
 @dataclass
@@ -225,7 +227,7 @@ def words_of(chip: Chip, place: int, row: Any) -> Words:
     """Key, mask and route of a row, which has them as items or under these names."""
     parts = (row.key, row.mask, row.route) if all(hasattr(row, it) for it in ("key", "mask", "route")) else row
     if type(parts) is tuple and len(parts) == 3 and all(type(it) is int and 0 <= it <= WORD for it in parts):
-        return parts
+        return cast(Words, parts)
     what = f"row {place} of chip {chip}"
     try:
         key, mask, route = numbers(what, parts, "key mask route")
@@ -574,7 +576,7 @@ class Verifier:
         if not self._has_all_rows:
             ends = {self.grid.far((x, y), d) for part in parts for x, y, d in part.links} | {part.net.source[:2] for part in parts}
             chips = [chip for chip in self.rows if chip in ends]
-        found = {chip: [row[:3] for row in self.rows[chip]] for chip in chips}
+        found: Dict[Chip, List[Words]] = {chip: [row[:3] for row in self.rows[chip]] for chip in chips}
         if len(parts) == 1 and self._is_too_large(parts[0]):
             found = {chip: list(met(rows, parts[0].block)) for chip, rows in found.items()}
         for part in parts:
