@@ -322,6 +322,11 @@ def machine_of_rig(machine: Any, cores: Any = None) -> Machine:
             dead_cores += [(x, y, core) for core in range(count, 18)]
     chips = sorted((x, y) for x, y in lists_of_numbers(f"{what}.dead_chips", in_order(attribute_of(what, machine, "dead_chips")), "x y"))
     links = sorted(links_in(f"{what}.dead_links", in_order(attribute_of(what, machine, "dead_links"))))
+    return machine_round(width, height, chips, dead_cores, links)
+
+
+def machine_round(width: int, height: int, chips: Sequence[Chip], dead_cores: Sequence[Spot], links: Sequence[Tuple[int, int, int]]) -> Machine:
+    """A torus with these dead chips, cores and links; without wrap where no live link goes round the edge."""
     torus = Machine(width, height, True, None, chips, dead_cores, links)
     grid, round_the_edge = Grid(torus), set(links_round_the_edge(width, height))
     if any(grid.next_chip((x, y), link) is not None for x, y, link in round_the_edge):
@@ -408,10 +413,14 @@ def number_in(text: str, least_base: int = 10) -> int:
 
 def read_rows(text: str) -> RowsByChip:
     """Rows of text, in the order of its lines: what the program's `tables` writes, or a report, where it begins with one of their words;
-    comma-separated values where the first line has a comma; else a dump. ValueError, with the line, where it is none of that kind."""
+    the JSON of SpiNNTools where it begins with `[` (`spinntools.read_tables`); comma-separated values where the first line has a comma; else a dump. ValueError, with the line, where it is none of that kind."""
     start = text_of("read_rows: text", text).lstrip().splitlines()[:1] or [""]
     if start[0].partition(" ")[0] in SECTIONS:
         return {chip: table.rows for chip, table in read(text).plan.tables.items()}
+    if start[0].startswith("["):
+        from .spinntools import read_tables
+
+        return read_tables(text)
     return read_csv(text) if "," in start[0] else read_dump(text)
 
 

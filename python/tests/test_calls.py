@@ -3,7 +3,7 @@ import itertools
 import traceback
 import unittest
 
-from kulzobad import Job, KeyedNet, Machine, Net, Packet, Refused, Vertex, check, formats, notes, trees, verify
+from kulzobad import Job, KeyedNet, Machine, Net, Packet, Refused, Vertex, check, formats, frames, graphs, notes, spinntools, trees, verify
 from kulzobad.explaining import explain
 from kulzobad.images import Image, decode, encode
 from kulzobad.links import word_of
@@ -52,6 +52,9 @@ CALLS = [
     (formats.from_rig, *RIG), (lambda *them: formats.Network(MACHINE, *them).job(), PLACES, NETS), (Machine, 1, 1, False, None, [], [], []),
     (lambda *them: formats.write_network(formats.Network(MACHINE, *them)), PLACES, NETS, ROWS, {"n": []}), (word_of, [1]),
     (lambda *them: formats.to_rig(formats.Network(MACHINE, *them)), PLACES, NETS, ROWS), (Job, MACHINE, [], [], [], []), (Vertex, "a", 0, (0, 0), (0, 0, 0)),
+    (spinntools.from_spinntools, Thing(width=1, height=1, chips=[]), [], [], [], []), (spinntools.to_routing_tables, ROWS), (spinntools.read_tables, "[]"),
+    (spinntools.write_tables, ROWS), (spinntools.read_machine, "{}"), (spinntools.write_machine, MACHINE), (spinntools.read_placements, "[]"),
+    (spinntools.write_placements, PLACES), (graphs.from_networkx, None, MACHINE), (frames.table_of, None, "keys"), (frames.write_csv_of, None, "keys"),
     (Net, "n", "a", ["a"], 1, (0, ALL)), (Packet, "n", 0, 0), (load, 1, JOB), (unload, 1), (Job.from_json, {}), (Job.from_text, "{}"),
 ]
 
