@@ -4,7 +4,11 @@ from __future__ import annotations
 from dataclasses import asdict, dataclass
 from typing import Any, Dict, List, Sequence, Union, cast
 
+from .checks import BadImage as BadImage
 from .checks import BadTree, Right, Verdict
+from .checks import OtherMachine as OtherMachine
+from .checks import Split as Split
+from .checks import Wrong as Wrong
 from .kinds import InHexadecimal
 from .walks import DIES, LOOPS, STOPS, STRAYS, TWICE, Hops
 

@@ -1,8 +1,13 @@
 """Jobs as they are written and read: arguments of a wrong kind, members that are none, and trees."""
+import builtins
+import importlib
 import json
+import types
 import unittest
 from pathlib import Path
 
+import kulzobad
+from kulzobad import calls, events, steps
 from kulzobad import Job, Machine, Net, Packet, Refused, Right, UnknownMembers, Vertex
 from kulzobad.links import Links, Routes, routes_of, word_of
 from kulzobad.reports import cores_of, links_of
@@ -159,6 +164,23 @@ class Texts(unittest.TestCase):
         for kind, part in parts.items():
             self.assertEqual(set(part["properties"]), set(MEMBERS[kind]), kind)
             self.assertIs(part["additionalProperties"], False)
+
+
+class Names(unittest.TestCase):
+    def test_a_dozen_stand_at_the_top(self):
+        self.assertEqual((len(kulzobad.__all__), dir(kulzobad)), (12, sorted(kulzobad.__all__)))
+        self.assertEqual([it for it in kulzobad.__all__ if hasattr(builtins, it)], [])
+
+    def test_each_name_is_that_of_its_module(self):
+        for module, names in kulzobad._MOVED.items():
+            home = importlib.import_module(f"kulzobad.{module}")
+            for name in names.split():
+                self.assertIs(getattr(kulzobad, name), getattr(home, name))
+                self.assertNotIsInstance(getattr(home, name), types.ModuleType)
+        for module in (calls, events, steps):
+            self.assertEqual([it for it in module.__all__ if not hasattr(module, it)], [])
+        with self.assertRaises(AttributeError):
+            kulzobad.nothing
 
 
 class Trees(unittest.TestCase):
