@@ -19,7 +19,7 @@ from typing import Any, Dict, Iterator, List, Mapping, Optional, Sequence, Set, 
 from .grid import Grid
 from .json_faults import json_fault
 from .jobs import Chip, Job, Machine, Net, Vertex, part_at
-from .kinds import counted, shown_as_json
+from .kinds import counted, one, shown_as_json, wrong
 from .program import Refused, tables
 from .reports import LINKS, Keys, Place
 from .schema import allowed_at, parts_at
@@ -52,7 +52,7 @@ OF_THE_SYSTEM = {
 def explain(refused: Refused, job: Union[Job, str, bytes, Mapping[str, Any], List[Any], None] = None, program: Optional[str] = None) -> str:
     """What stands behind a refusal, in lines: what the program read is known to the refusal, and needs no `job`; where one is given,
     as an object, a JSON value or its text, it is taken in place of that."""
-    return "\n".join(lines_of(with_job(refused, job), program))
+    return "\n".join(lines_of(with_job(one("explain: refused", refused, Refused), job), program))
 
 
 def with_job(refused: Refused, job: Union[Job, str, bytes, Mapping[str, Any], List[Any], None]) -> Refused:
@@ -69,7 +69,11 @@ def with_job(refused: Refused, job: Union[Job, str, bytes, Mapping[str, Any], Li
             return Refused(refused.status, refused.line, {}, text)
         return with_job(Refused(refused.status, refused.line, {}, text), value)
     parts = {"job": job.get("job"), "in": job} if isinstance(job, dict) and "trees" in job else {"job": job}
-    return Refused(refused.status, refused.line, parts, refused.text or json.dumps(job).encode())
+    try:
+        text = json.dumps(job).encode()
+    except (TypeError, ValueError, RecursionError):
+        raise wrong("explain: job", job, "a Job, its JSON value or its text") from None
+    return Refused(refused.status, refused.line, parts, refused.text or text)
 
 
 def lines_of(refused: Refused, program: Optional[str] = None) -> List[str]:

@@ -489,7 +489,7 @@ def read_network(text: str) -> Network:
     - `trees`, which may be absent: an object that has, by the names of nets, lists of links [x, y, link].
 
     Keys and masks are numbers, or text as "0x1000". ValueError says of other text where it is none."""
-    whole = json_in("read_network: text", text)
+    whole = json_in("read_network: text", text, once)
     members(whole, "", ("machine", "places", "nets"), ("trees",))
     part = whole["machine"]
     names = ("width", "height", "wrap", "sdram", "dead_chips", "dead_cores", "dead_links")
@@ -509,6 +509,16 @@ def read_network(text: str) -> Network:
     trees = whole.get("trees") or {}
     members(trees, "trees", (), None)
     return Network(machine, places, nets, {}, {name: links_of_text(links, f"trees.{name}") for name, links in trees.items()})
+
+
+def once(pairs: List[Tuple[str, Any]]) -> Dict[str, Any]:
+    """The members of an object. ValueError where one stands twice."""
+    found: Dict[str, Any] = {}
+    for name, value in pairs:
+        if name in found:
+            raise ValueError(f"the member {name} stands twice in one object")
+        found[name] = value
+    return found
 
 
 def links_of_text(value: Any, path: str) -> List[Tuple[int, int, int]]:

@@ -6,7 +6,7 @@ import json
 import operator
 from collections.abc import Iterable, Mapping, Set
 from dataclasses import fields
-from typing import Any, Hashable, List, Optional, Sequence, Tuple, cast
+from typing import Any, Callable, Hashable, List, Optional, Sequence, Tuple, cast
 
 from .links import LINKS
 
@@ -72,12 +72,13 @@ def text(what: str, value: Any) -> str:
     return value
 
 
-def json_in(what: str, value: Any) -> Any:
-    """The value of JSON text, or of its bytes. ValueError where it is none."""
+def json_in(what: str, value: Any, made: Optional[Callable[[List[Tuple[str, Any]]], Any]] = None) -> Any:
+    """The value of JSON text, or of its bytes, with objects made of the list of their members, if that is given. ValueError where it is
+    none."""
     if not isinstance(value, (str, bytes, bytearray)):
         raise wrong(what, value, "a text")
     try:
-        return json.loads(value)
+        return json.loads(value, object_pairs_hook=made)
     except ValueError as error:
         raise ValueError(str(error)) from None
     except RecursionError:

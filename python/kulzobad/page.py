@@ -15,12 +15,15 @@ import html
 import json
 import os
 import re
+from dataclasses import replace
 from pathlib import Path
 from typing import Any, Dict, Mapping, Optional, Union
 
 from .command import Stopped, add_job, command, read_bytes, write
 from .formats import Network, rows_by_chip
 from .jobs import Job
+from .kinds import one
+from .kinds import text as text_of
 from .members import refuse, slips_of
 from .page_data import page_data, value_of, verified_data
 from .verify_command import network_in, tables_in
@@ -38,14 +41,15 @@ SCRIPTS = ("page_job.js", "page_mesh.js", "page_answers.js", "page_trace.js", "p
 def page(job: Union[Job, bytes], title: str = "job", word: str = "run", program: Optional[str] = None) -> str:
     """The page of a job, or of a job's text, as HTML. The packets are run by `word`, `run` or `reinject`, where there are some, and the
     events traced where there are some. A job that is refused has a page too, which tells why."""
-    text = job if isinstance(job, bytes) else job.text().encode()
+    text = job if isinstance(job, bytes) else one("page: job", job, Job).text().encode()
     return page_of(page_data(text, word, program), title)
 
 
 def verified_page(network: Network, title: str = "network", program: Optional[str] = None) -> str:
     """The page of a network and its tables, whoever made them, with what `verify` says of them, as HTML. ValueError where places, nets
     or rows are none on the machine."""
-    return page_of(verified_data(network, program), title)
+    known = replace(one("verified_page: network", network, Network), tables={**rows_by_chip(network.tables)})
+    return page_of(verified_data(known, program), title)
 
 
 def page_of(data: Mapping[str, Any], title: str) -> str:
@@ -54,7 +58,7 @@ def page_of(data: Mapping[str, Any], title: str) -> str:
     script = "(() => {\n" + "\n".join((FILES / name).read_text(encoding="utf-8") for name in SCRIPTS) + "})();\n"
     policy = f"default-src 'none'; script-src '{hash_of(script)}'; style-src '{hash_of(style)}'; base-uri 'none'; form-action 'none'"
     # (a file's name may have bytes that are no text)
-    shown = title.encode("utf-8", "backslashreplace").decode()
+    shown = text_of("page: title", title).encode("utf-8", "backslashreplace").decode()
     parts: Dict[str, str] = {"policy": policy, "title": html.escape(shown), "style": style, "script": script, "data": in_page(data)}
     return re.sub(r"\{\{(\w+)\}\}", lambda found: parts[found[1]], (FILES / "page.html").read_text(encoding="utf-8"))
 

@@ -15,12 +15,9 @@ SIDE, ENTRIES, MOST_ROUTE = 64, 1024, 0xFFFFFF
 # Vertices stand on cores 1 to 17. The numbers behind are devices: 18 and the number of their link.
 PLACES = range(1, 24)
 
-FOUR_LINES = re.compile(
-    r"gen (\d+)\nchips (\d+) vertices (\d+) nets (\d+) packets (\d+)\nrows (\d+)\ndelivered (\d+) dumped (\d+)\n"
-)
-
 # What items of lines look like: numbers, names, 8 hexadecimal digits, outputs and ports.
 N, NAME, HEX, OUT = r"(0|[1-9][0-9]{0,19})", r"([!-~]{1,64})", r"([0-9a-f]{8})", r"(?:E|NE|N|W|SW|S|c[0-9]|c1[0-7])"
+FOUR_LINES = re.compile(rf"gen {N}\nchips {N} vertices {N} nets {N} packets {N}\nrows {N}\ndelivered {N} dumped {N}\n")
 PLACE_OF_COPY = rf"(in (?:E|NE|N|W|SW|S|L)|hand {OUT}|core (?:[0-9]|1[0-9]|2[0-3]))"
 
 # The lines of a report by their first word, in the order in which they come.

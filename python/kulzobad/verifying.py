@@ -37,7 +37,7 @@ from __future__ import annotations
 from dataclasses import dataclass
 from functools import reduce
 from operator import or_
-from typing import Any, Dict, Hashable, Iterable, Iterator, List, Mapping, NamedTuple, Optional, Sequence, Set, Tuple, Union, cast
+from typing import Any, Dict, Hashable, Iterable, Iterator, List, Mapping, NamedTuple, Optional, Sequence, Set, Tuple, Union
 
 from . import asking
 from .asking import Batch, KnownNet, Part, Wire, Words, answer_to, bytes_of_rows, compact, layers, met
@@ -48,6 +48,7 @@ from .images import Image
 from .jobs import Chip, Machine, Net
 from .kinds import chip_of, hashable, items, lists_of_numbers, mapping, numbers, one, shown, whole, wrong
 from .kinds import links as links_in
+from .links import Links, Routes
 from .reports import ENTRIES, LINKS, Table
 from .trees import Link
 from .verdicts import KINDS, Foreign, Full, Misses, Note, OffTree, OffTrees, TooLong, Unfollowed, Unmet
@@ -123,6 +124,10 @@ def number_of(name: Name, place: Place) -> Spot:
     """A place as numbers: a device's link is 18 and the link's number. ValueError where its letters are no link's."""
     what = f"the place of {name!r}"
     x, y, last = parts_of_place(what, place)
+    if isinstance(last, Links) or (isinstance(last, Routes) and last.is_link):
+        last = last.name
+    elif isinstance(last, Routes):
+        last = last.core
     if isinstance(last, str):
         if last not in LINKS:
             raise ValueError(f"{name!r} hangs on {last!r}, which is none of the links {', '.join(LINKS)}")
@@ -225,9 +230,16 @@ def known_links(net: Any, links: Iterable[Link], grid: Grid) -> List[Link]:
 
 def words_of(chip: Chip, place: int, row: Any) -> Words:
     """Key, mask and route of a row, which has them as items or under these names."""
-    parts = (row.key, row.mask, row.route) if all(hasattr(row, it) for it in ("key", "mask", "route")) else row
-    if type(parts) is tuple and len(parts) == 3 and all(type(it) is int and 0 <= it <= WORD for it in parts):
-        return cast(Words, parts)
+    parts = row
+    if type(row) is not tuple:
+        try:
+            parts = row.key, row.mask, row.route
+        except AttributeError:
+            pass
+    if type(parts) is tuple and len(parts) == 3:
+        key, mask, route = parts
+        if type(key) is type(mask) is type(route) is int and 0 <= key <= WORD and 0 <= mask <= WORD and 0 <= route <= WORD:
+            return key, mask, route
     what = f"row {place} of chip {chip}"
     try:
         key, mask, route = numbers(what, parts, "key mask route")

@@ -4,11 +4,14 @@ import traceback
 import unittest
 
 from kulzobad import Job, KeyedNet, Machine, Net, Packet, Refused, Vertex, check, formats, frames, graphs, notes, spinntools, trees, verify
+from kulzobad.drawing import draw
 from kulzobad.explaining import explain
 from kulzobad.images import Image, decode, encode
 from kulzobad.links import word_of
-from kulzobad.program import compile, gen, run, tables
-from kulzobad.reports import Row, cores_of, links_of, read
+from kulzobad.program import gen
+from kulzobad.linting import remarks_on
+from kulzobad.page import page, verified_page
+from kulzobad.reports import Keys, Place, Plan, Report, Row, Table, cores_of, links_of, read
 from kulzobad.applications import load, unload
 
 
@@ -25,6 +28,7 @@ PLACES, NETS = {"a": (0, 0, 1)}, [KeyedNet("n", "a", ["a"], [(0, ALL)])]
 ROWS = {(0, 0): [(0, ALL, 0x80)]}
 NETWORK = formats.Network(MACHINE, PLACES, NETS, ROWS)
 RIG = formats.to_rig(NETWORK)
+REPORT = Report(Plan({"a": Place("a", 0, 0, 1)}, {"n": Keys("n", 0, ALL)}, {(0, 0): Table(0, 0, (Row(0, ALL, 0x80),))}))
 
 # What stands in the place of arguments and of their parts.
 JUNK = [
@@ -52,6 +56,8 @@ CALLS = [
     (formats.from_rig, *RIG), (lambda *them: formats.Network(MACHINE, *them).job(), PLACES, NETS), (Machine, 1, 1, False, None, [], [], []),
     (lambda *them: formats.write_network(formats.Network(MACHINE, *them)), PLACES, NETS, ROWS, {"n": []}), (word_of, [1]),
     (lambda *them: formats.to_rig(formats.Network(MACHINE, *them)), PLACES, NETS, ROWS), (Job, MACHINE, [], [], [], []), (Vertex, "a", 0, (0, 0), (0, 0, 0)),
+    (draw, "mesh", JOB, REPORT, None), (draw, "tree", JOB, REPORT, "n"), (explain, Refused(4, "bad job: not json"), JOB), (remarks_on, b"{}"),
+    (page, JOB, "title", "run"), (verified_page, NETWORK, "title"),
     (spinntools.from_spinntools, Thing(width=1, height=1, chips=[]), [], [], [], []), (spinntools.to_routing_tables, ROWS), (spinntools.read_tables, "[]"),
     (spinntools.write_tables, ROWS), (spinntools.read_machine, "{}"), (spinntools.write_machine, MACHINE), (spinntools.read_placements, "[]"),
     (spinntools.write_placements, PLACES), (graphs.from_networkx, None, MACHINE), (frames.table_of, None, "keys"), (frames.write_csv_of, None, "keys"),

@@ -6,8 +6,10 @@ import json
 import tempfile
 import unittest
 from pathlib import Path
+from unittest import mock
 
 from kulzobad import Job, KeyedNet, Machine, Net, Packet, Right, Row, Vertex, compile, tables, verify
+from kulzobad import verifying
 from kulzobad.cli import main
 from kulzobad.formats import Network, Rig, RigEndpoint, RigEntry, RigMachine, RigNet, from_rig, network_of_job, read_csv, read_dump, read_network
 from kulzobad.formats import read_router_entries, read_rows, to_rig, write_csv, write_dump, write_network, write_router_entries
@@ -215,13 +217,14 @@ class Networks(unittest.TestCase):
             ({**whole, "nets": [{"name": "n", "source": "eye", "targets": "left", "first": 1, "count": 1}]}, "targets"),
             ({**whole, "nets": [{"name": "n", "source": "eye", "targets": ["left"], "blocks": [["x", 1]]}]}, "no number: 'x'"),
             ({**whole, "nets": [{"name": "n", "source": "eye", "targets": ["left"], "blocks": [[1]]}]}, "list of 2"),
-            ({**whole, "trees": {"gain": [[0, 0]]}}, "trees.gain.*and should be .x, y, link."), ([], "no object"),
+            ({**whole, "trees": {"gain": [[0, 0, "X"]]}}, "trees.gain.*'X'"), ({**whole, "trees": {"gain": [[0, 0]]}}, "trees.gain.*and should be .x, y, link."), ([], "no object"),
         ]
         for value, told in spoiled:
             with self.assertRaisesRegex(ValueError, told):
                 read_network(json.dumps(value))
-        with self.assertRaises(ValueError):
-            read_network("{")
+        for text, told in (("{", "Expecting"), (self.text.replace('"left": [', '"eye": ['), "the member eye stands twice")):
+            with self.assertRaisesRegex(ValueError, told):
+                read_network(text)
 
     def test_the_network_of_a_job(self):
         job = Job(Machine(2, 1), [Vertex("a"), Vertex("b"), Vertex("led", device=(1, 0, 0))], [Net("n", "a", ["b", "led"], 3)])
@@ -268,6 +271,15 @@ class Command(unittest.TestCase):
             "dies spikes 00001000", "at 0 0 from L row 0 to E", "at 1 0 from W default to E", "at 2 0 from W row 0 to NE",
             "note at 1 1 row 0: no net has a key of it", "note at 1 1 1 rows: no packets come there",
         ]))
+
+    def test_a_question_that_is_not_decided(self):
+        bits = [(i, j) for i in range(4, 12) for j in range(16, 24)]
+        rows = "".join(f"0 0 0 {1 << i | 1 << j:x} 1\n" for i, j in bits) + "0 0 0 0 1\n2 0 0 0 a0\n"
+        text = Networks.text.replace('"0x1000", 4294967280', "0, 0").replace('[2, 1, "N"]', '[2, 0, "S"]')
+        with mock.patch.multiple(verifying, MOST_CUTS=30, CUTS_OF_A_ROW=0):
+            status, out = self.called(text, rows)
+        self.assertEqual((status, out.count("\n")), (4, 1))
+        self.assertIn("net 'spikes' is not decided: rows cut its keys into too many parts. They care for 16 bits", out)
 
     def test_tables_of_a_job(self):
         job = Job(Machine(2, 1), [Vertex("a"), Vertex("b", at=(1, 0))], [Net("n", "a", ["b"], 3)])

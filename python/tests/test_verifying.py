@@ -6,6 +6,7 @@ from unittest import mock
 
 from kulzobad import BadTree, Job, Machine, Net, Refused, Right, Vertex, asking, check, compile, encode, tables, verifying
 from kulzobad.blocks import USUAL, WORD, Block, Meeting, Order, block_of, blocks_of_range, cut, halves, order_of
+from kulzobad.links import Links, Routes
 from kulzobad.verdicts import Dies, Foreign, Full, Loops, Misses, OffTree, OffTrees, Stops, Strays, TooLong, Twice, Unfollowed, Unmet, lines_of, note_lines, value_of
 from kulzobad.verifying import KeyedNet, TooManyParts, Verifier, notes, verify
 from kulzobad.walks import Hop
@@ -294,6 +295,8 @@ class Verdicts(unittest.TestCase):
         for place in ((0, 0, 1.0), (0, 0), "N"):
             with self.assertRaises(TypeError):
                 verify(machine, {"a": place}, [], {})
+        for named, spot in ((Links.N, (0, 0, 20)), (Routes.N, (0, 0, 20)), ("N", (0, 0, 20)), (20, (0, 0, 20)), (Routes.C5, (0, 0, 5)), (5, (0, 0, 5))):
+            self.assertEqual(Verifier(machine, {"a": (0, 0, named)}, [], {}).spots, {"a": spot})
         with self.assertRaisesRegex(ValueError, "live link"):
             verify(Machine(2, 1), {"led": (0, 0, "E")}, [], {})
         with self.assertRaisesRegex(ValueError, "one place"):
