@@ -13,12 +13,12 @@ from __future__ import annotations
 
 import json
 from dataclasses import dataclass, field
-from typing import Any, Callable, Dict, Iterable, Iterator, List, Mapping, Optional, Sequence, Set, Tuple
+from typing import Any, Callable, Dict, Iterable, Iterator, List, Mapping, NamedTuple, Optional, Sequence, Set, Tuple
 
 from .formats import MOST_CORES, AnyTables, Network, RowsByChip, listed, machine_round, members, rows_by_chip
 from .grid import STEPS, Grid
 from .jobs import Chip, Machine
-from .kinds import attribute_of, hashable, items, json_in, mapping, numbers, shown, whole, wrong
+from .kinds import attribute_of, hashable, items, json_in, mapping, numbers, one, shown, whole, wrong
 from .links import routes_of, word_of
 from .reports import SIDE, Row
 from .trees import Link
@@ -253,6 +253,111 @@ def to_routing_tables(
     `table(x, y, entries)` and `made(tables)`."""
     rows = sorted(rows_by_chip(tables).items())
     return made([table(x, y, [entry(row.key, row.mask, row.route) for row in listed]) for (x, y), listed in rows])
+
+
+class LinkOfRouter(NamedTuple):
+    """A live link, as SpiNNMachine has it."""
+
+    source_x: int
+    source_y: int
+    source_link_id: int
+    destination_x: int
+    destination_y: int
+
+
+class Router(NamedTuple):
+    """The router of a chip."""
+
+    links: List[LinkOfRouter]
+
+
+class ChipOfMachine(NamedTuple):
+    """A chip that is there, with the numbers of its cores."""
+
+    x: int
+    y: int
+    all_processor_ids: Tuple[int, ...]
+    router: Router
+
+
+class MachineOfChips(NamedTuple):
+    """A machine, by the chips that are there."""
+
+    width: int
+    height: int
+    chips: List[ChipOfMachine]
+
+
+class Placement(NamedTuple):
+    """Where a vertex stands: chip and core."""
+
+    vertex: Any
+    x: int
+    y: int
+    p: int
+
+
+class RoutingInfo(NamedTuple):
+    """The keys of a vertex's partition."""
+
+    vertex: Any
+    partition_id: Any
+    key: int
+    mask: int
+
+
+class Edge(NamedTuple):
+    """From a vertex to another."""
+
+    pre_vertex: Any
+    post_vertex: Any
+
+
+class Partition(NamedTuple):
+    """The edges out of a vertex that have the same keys."""
+
+    pre_vertex: Any
+    identifier: Any
+    edges: List[Edge]
+
+
+class SpiNNTools(NamedTuple):
+    """A network as `from_spinntools` takes it: `from_spinntools(*found)`."""
+
+    machine: Any
+    placements: List[Any]
+    routing_infos: List[Any]
+    partitions: List[Any]
+    routing_tables: Any
+
+
+def to_spinntools(network: Network) -> SpiNNTools:
+    """A network as SpiNNTools have it, in objects with the attributes that theirs have. ValueError where a net has several blocks of keys,
+    or a vertex is a device."""
+    spots = one("to_spinntools: network", network, Network).spots()
+    device = next((name for name, spot in spots.items() if spot[2] >= DEVICES), None)
+    if device is not None:
+        raise ValueError(f"{device!r} is a device, and placements have cores alone")
+    infos, partitions = [], []
+    for net in network.nets:
+        if len(net.blocks) != 1:
+            raise ValueError(f"net {net.name!r} has {len(net.blocks)} blocks of keys, and SpiNNTools' partitions have one")
+        infos.append(RoutingInfo(net.source, net.name, *net.blocks[0]))
+        partitions.append(Partition(net.source, net.name, [Edge(net.source, it) for it in net.targets]))
+    placements = [Placement(name, *spot) for name, spot in spots.items()]
+    return SpiNNTools(chips_of(network.machine), placements, infos, partitions, to_routing_tables(network.tables))
+
+
+def chips_of(machine: Machine) -> MachineOfChips:
+    """A machine by the chips that are there."""
+    grid = Grid(machine)
+    chips = []
+    for x, y in grid.chips():
+        if grid.is_live((x, y)):
+            ends = ((d, grid.next_chip((x, y), d)) for d in range(6))
+            links = [LinkOfRouter(x, y, d, *end) for d, end in ends if end is not None]
+            chips.append(ChipOfMachine(x, y, tuple(core for core in CORES if (x, y, core) not in grid.dead_cores), Router(links)))
+    return MachineOfChips(machine.width, machine.height, chips)
 
 
 # ---- JSON

@@ -77,8 +77,8 @@ MOST_ORDERS = 512
 
 
 class TooManyParts(ValueError):
-    """Rows cut the keys of the net into too many parts to be asked for. `bits` is how many bits the net leaves open and rows that have
-    keys of it care for: with each of them the parts may double."""
+    """Rows cut a block of the net's keys into too many parts to be asked for. `bits` is how many bits the block leaves open and rows that
+    have keys of it care for: with each of them the parts may double."""
 
     def __init__(self, net: Any, bits: int) -> None:
         super().__init__(
@@ -365,16 +365,13 @@ class Verifier:
                 continue
             self._cuts += 1
             if self._cuts > self._most_cuts:
-                raise self._too_many(net)
+                raise self._too_many(net, block)
             ahead += reversed(halves(part, walk.cut.mask))
 
-    def _too_many(self, net: KnownNet) -> TooManyParts:
-        """The refusal of a net that has too many parts, with the number of bits by which these are cut."""
-        bits = 0
-        for block in net.blocks:
-            meeting = (row.mask for rows in self.rows.values() for row in rows if not (row.key ^ block.key) & row.mask & block.mask)
-            bits |= reduce(or_, meeting, 0) & ~block.mask
-        return TooManyParts(net.name, bin(bits).count("1"))
+    def _too_many(self, net: KnownNet, block: Block) -> TooManyParts:
+        """The refusal of a net of which this block has too many parts, with the number of bits by which these are cut."""
+        meeting = (row.mask for rows in self.rows.values() for row in rows if not (row.key ^ block.key) & row.mask & block.mask)
+        return TooManyParts(net.name, bin(reduce(or_, meeting, 0) & ~block.mask).count("1"))
 
     # -- the verdict
 
@@ -426,7 +423,8 @@ class Verifier:
         if batch is None:
             self._orders += 1
             if self._orders > MOST_ORDERS:
-                return Amiss(part.net.place, self._too_many(part.net))
+                uncut = next(it for it in part.net.blocks if part.block.key & it.mask == it.key and not it.mask & ~part.block.mask)
+                return Amiss(part.net.place, self._too_many(part.net, uncut))
             batch = self._batch()
             self._others.append(batch)
         batch.add(part, [part.block])

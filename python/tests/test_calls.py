@@ -58,7 +58,7 @@ CALLS = [
     (lambda *them: formats.to_rig(formats.Network(MACHINE, *them)), PLACES, NETS, ROWS), (Job, MACHINE, [], [], [], []), (Vertex, "a", 0, (0, 0), (0, 0, 0)),
     (draw, "mesh", JOB, REPORT, None), (draw, "tree", JOB, REPORT, "n"), (explain, Refused(4, "bad job: not json"), JOB), (remarks_on, b"{}"),
     (page, JOB, "title", "run"), (verified_page, NETWORK, "title"),
-    (spinntools.from_spinntools, Thing(width=1, height=1, chips=[]), [], [], [], []), (spinntools.to_routing_tables, ROWS), (spinntools.read_tables, "[]"),
+    (spinntools.from_spinntools, Thing(width=1, height=1, chips=[]), [], [], [], []), (spinntools.to_routing_tables, ROWS), (spinntools.to_spinntools, NETWORK), (spinntools.read_tables, "[]"),
     (spinntools.write_tables, ROWS), (spinntools.read_machine, "{}"), (spinntools.write_machine, MACHINE), (spinntools.read_placements, "[]"),
     (spinntools.write_placements, PLACES), (graphs.from_networkx, None, MACHINE), (frames.table_of, None, "keys"), (frames.write_csv_of, None, "keys"),
     (Net, "n", "a", ["a"], 1, (0, ALL)), (Packet, "n", 0, 0), (load, 1, JOB), (unload, 1), (Job.from_json, {}), (Job.from_text, "{}"),

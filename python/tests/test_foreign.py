@@ -81,6 +81,17 @@ class SpiNNTools(unittest.TestCase):
         self.infos = [Thing(partition=self.partitions[0], first_key=0x10, first_mask=0xFFFFFFF0)]
         self.assertEqual(self.network().nets[0].blocks, [(0x10, 0xFFFFFFF0)])
 
+    def test_there_and_back(self):
+        for wrap in (False, True):
+            machine = Machine(3, 3, wrap, None, [(1, 1)], [(0, 0, 17), (2, 2, 3)], [(0, 0, 0), (1, 0, 3)])
+            network = formats.Network(machine, {"a": (0, 0, 1), "b": (2, 2, 5)}, [KeyedNet("n", "a", ["b", "a"], [(0x10, 0xFFFFFFF0)])], {(0, 0): (Row(0x10, 0xFFFFFFF0, 1),)})
+            made = from_spinntools(*spinntools.to_spinntools(network))
+            self.assertEqual((made.machine, made.places, made.tables), (machine, network.places, network.tables))
+            self.assertEqual(made.nets, [KeyedNet(("a", "n"), "a", ["b", "a"], [(0x10, 0xFFFFFFF0)])])
+        for places, blocks, told in (({"a": (0, 0, "W")}, [(0, 1)], "is a device"), ({"a": (0, 0, 1)}, [(0, 1), (1, 1)], "has 2 blocks")):
+            with self.assertRaisesRegex(ValueError, told):
+                spinntools.to_spinntools(formats.Network(Machine(1, 1), places, [KeyedNet("n", "a", ["a"], blocks)]))
+
     def test_machines(self):
         for width, height, wrap in ((3, 2, False), (3, 3, True), (1, 1, False), (8, 8, True)):
             self.assertEqual(spinntools.machine_of(grid(width, height, wrap)), Machine(width, height, wrap))
