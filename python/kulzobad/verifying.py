@@ -71,7 +71,7 @@ MOST_FOR_ROWS = 11 * 2**20
 MOST_PARTS = 64
 # How often blocks are cut in two, all nets together: so often in any case, and so often for each row where that is more. A row under ones
 # followed by zeros cuts a block of that kind at most once for each of its bits.
-MOST_CUTS, CUTS_OF_A_ROW = 2**16, 32
+MOST_CUTS, CUTS_OF_A_ROW = 2**14, 32
 # How many requests there are at most whose bits have changed places.
 MOST_ORDERS = 512
 
