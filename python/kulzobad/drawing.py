@@ -21,6 +21,8 @@ from xml.sax.saxutils import escape
 
 from .grid import STEPS, Grid
 from .jobs import Chip, Job
+from .kinds import one
+from .kinds import text as text_of
 from .reports import LINKS, Plan, Report, cores_of, links_of
 from .trees import Way, lookups, root_of, ways, ways_of_nets
 
@@ -454,8 +456,10 @@ def fits(job: Job, plan: Plan, report: Report) -> None:
 def draw(kind: str, job: Job, report: Report, net: Optional[str] = None) -> str:
     """The picture of a kind (`mesh`, `tree`, `rows` or `copies`) of a job and what the program wrote of it; a tree is of a net.
     ValueError where the report is not of the job, or the job has not the net."""
+    one("draw: job", job, Job)
+    one("draw: report", report, Report)
     fits(job, report.plan, report)
-    if kind == "tree":
+    if text_of("draw: kind", kind) == "tree":
         if net is None:
             raise ValueError("a tree is of a net: none is named")
         picture = tree(job, report, net)

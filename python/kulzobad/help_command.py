@@ -59,7 +59,7 @@ def listed(parser: argparse.ArgumentParser) -> Dict[str, Words]:
     told = {it.dest: plain(it.help or "") for it in group._choices_actions}  # noqa: SLF001
     found = {}
     for name, part in commands_of(parser).items():
-        words = [tuple(it.choices or ()) for it in actions_of(part) if not it.option_strings]
+        words: List[Sequence[str]] = [tuple(it.choices or ()) for it in actions_of(part) if not it.option_strings]
         found[name] = Words(told[name], flags_of(part), words)
     found["help"].words = [tuple(found)]
     return found

@@ -16,7 +16,7 @@ from .explaining import MEMORY, lines_of
 from .grid import Grid
 from .json_faults import json_fault
 from .jobs import Chip, Job
-from .kinds import counted
+from .kinds import counted, wrong
 from .members import slips_of
 from .program import Refused, answer_to_text
 from .schema import problems, schema
@@ -56,6 +56,8 @@ def members_twice(text: str) -> List[str]:
 
 def remarks_on(data: bytes, lenient: bool = False, program: Optional[str] = None) -> List[Remark]:
     """All that is told of the text of a job."""
+    if not isinstance(data, bytes):
+        raise wrong("remarks_on: data", data, "bytes")
     fault = json_fault(data)
     if fault:
         return [Remark("fault", f"not JSON: {fault}")]

@@ -17,12 +17,15 @@ import json
 import os
 import re
 from contextlib import contextmanager
+from dataclasses import replace
 from pathlib import Path
 from typing import Any, Dict, Iterator, List, Mapping, Optional, Sequence, Union
 
 from .command import Stopped, add_job, command, read_bytes, write
 from .formats import Network, rows_by_chip
 from .jobs import Job
+from .kinds import one
+from .kinds import text as text_of
 from .members import refuse, slips_of
 from .page_data import page_data, value_of, verified_data
 from .verify_command import network_in, tables_in
@@ -43,14 +46,15 @@ def page(
     """The page of a job, or of a job's text, as HTML. The packets are run by `word`, `run` or `reinject`, where there are some, and the
     events traced where there are some. A run stands beside those with queues of the lengths `queues`; where none are named, 4 and 1,
     where these are shorter than the job's own. A job that is refused has a page too, which tells why."""
-    text = job if isinstance(job, bytes) else job.text().encode()
+    text = job if isinstance(job, bytes) else one("page: job", job, Job).text().encode()
     return page_of(page_data(text, word, program, queues), title)
 
 
 def verified_page(network: Network, title: str = "network", program: Optional[str] = None) -> str:
     """The page of a network and its tables, whoever made them, with what `verify` says of them, as HTML. ValueError where places, nets
     or rows are none on the machine."""
-    return page_of(verified_data(network, program), title)
+    known = replace(one("verified_page: network", network, Network), tables={**rows_by_chip(network.tables)})
+    return page_of(verified_data(known, program), title)
 
 
 def page_of(data: Mapping[str, Any], title: str) -> str:
@@ -59,7 +63,7 @@ def page_of(data: Mapping[str, Any], title: str) -> str:
     script = "(() => {\n" + "\n".join((FILES / name).read_text(encoding="utf-8") for name in SCRIPTS) + "})();\n"
     policy = f"default-src 'none'; script-src '{hash_of(script)}'; style-src '{hash_of(style)}'; base-uri 'none'; form-action 'none'"
     # (a file's name may have bytes that are no text)
-    shown = title.encode("utf-8", "backslashreplace").decode()
+    shown = text_of("page: title", title).encode("utf-8", "backslashreplace").decode()
     parts: Dict[str, str] = {"policy": policy, "title": html.escape(shown), "style": style, "script": script, "data": in_page(data)}
     return re.sub(r"\{\{(\w+)\}\}", lambda found: parts[found[1]], (FILES / "page.html").read_text(encoding="utf-8"))
 
@@ -130,7 +134,7 @@ def page_of_tables(options: argparse.Namespace, title: str) -> str:
     options.network = options.job
     network = network_in(options)
     try:
-        network.tables = rows_by_chip(tables_in(options.tables))
+        network.tables = {**rows_by_chip(tables_in(options.tables))}
         return verified_page(network, title, options.program)
     except (TypeError, ValueError) as error:
         raise Stopped(str(error)) from None

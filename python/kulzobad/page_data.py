@@ -347,7 +347,7 @@ def plan_before(refused: Refused, value: Any, program: Optional[str]) -> Optiona
     if not isinstance(value, dict):
         return None
     is_read = refused.status in (NO_ROOM, KEYS_OUT, CUT_OFF, TABLE_LONG)
-    graph = {**value["graph"], "nets": []} if is_read else {"vertices": [], "nets": []}
+    graph: Dict[str, Any] = {**value["graph"], "nets": []} if is_read else {"vertices": [], "nets": []}
     if refused.status == NO_ROOM:
         names = [it["name"] for it in graph["vertices"]]
         graph["vertices"] = graph["vertices"][: names.index(refused.name)]

@@ -13,7 +13,7 @@ from .applications import Answer, Step, read_answers
 from .checks import Verdict, read_verdict
 from .images import Image, decode
 from .jobs import Chip, Job, part_at
-from .kinds import items, lists_of_numbers, one, shown, whole, wrong
+from .kinds import items, links, mapping, one, shown, whole, wrong
 from .progress import showing, tell
 from .reports import Plan, Report, Summary, read, read_summary
 
@@ -190,15 +190,13 @@ def check(
     of nets, the links of each tree in any order, as (x, y, link); a net that it has not is one without links. Vertices and keys are
     placed as for `tables`; of `run` of the job nothing counts."""
     one("check: job", job, Job)
-    if not isinstance(trees, Mapping):
-        raise wrong("check: trees", trees, "a mapping of nets' names to lists of links")
-    unknown = set(trees) - {net.name for net in job.nets}
+    unknown = set(mapping("check: trees", trees, "nets' names to lists of links")) - {net.name for net in job.nets}
     if unknown:
-        raise ValueError(f"trees of nets that the job has not: {', '.join(sorted(unknown))}")
+        raise ValueError(f"trees of nets that the job has not: {', '.join(sorted(map(str, unknown)))}")
     data = image.data if isinstance(image, Image) else image
     if not isinstance(data, (bytes, bytearray, memoryview)):
         raise wrong("check: image", image, "an Image or its bytes")
     request: Dict[str, Any] = {"job": job.as_json(), "image": list(data)}
-    listed = (lists_of_numbers(f"check: trees[{net.name!r}]", trees.get(net.name, ()), "x y link") for net in job.nets)
+    listed = (links(f"check: trees[{net.name!r}]", trees.get(net.name, ())) for net in job.nets)
     request["trees"] = [[list(link) for link in links] for links in listed]
     return read_verdict(answer(["check"], {"job": request["job"], "in": request}, program).decode())

@@ -16,12 +16,12 @@ from .verifying import Tables, Verifier
 MORE = (
     "NETWORK is JSON text: a machine, the places of vertices, and nets with their keys; or a job,\n"
     "whose places and keys are those that `tables` gives. TABLES has the rows: comma-separated\n"
-    "values below x,y,key,mask,route, or a dump of such lines with hexadecimal words, or the bytes\n"
-    "of an image.\n\n"
+    "values below x,y,key,mask,route, or a dump of such lines with hexadecimal words, or what\n"
+    "`tables` or `run` writes, or the bytes of an image.\n\n"
     "The first line is `right`, with status 0, or what is amiss, with status 20: `strays`, `dies`,\n"
-    "`loops`, `twice` or `misses`, the net and the key. Then each hop of the key's way has a line:\n"
-    "the chip, the port by which the key came in, the row that takes it, counted from 0, and the\n"
-    "output by which the way goes on.\n"
+    "`loops`, `twice`, `misses` or `stops`, the net and the key. Then each hop of the key's way has\n"
+    "a line: the chip, the port by which the key came in, the row that takes it, counted from 0, and\n"
+    "the output by which the way goes on.\n"
 )
 
 
