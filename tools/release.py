@@ -4,8 +4,9 @@
     python3 tools/release.py --try      the same in a folder of its own, installed and run where there is no toolchain
     python3 tools/release.py --tests    the package as `pip install ./python` installs it, with its tests
 
-The program is that of the launcher, which compiles it where that is due. The wheel says which sources, commit and toolchain it was
-compiled from (`kulzobad --version`). --try installs the wheel into an empty virtual environment, with a path on which nothing of the
+The program is the one that `rt ci` compiled of what it proved, where .ci/run has just left that here and the sources are the same.
+Else it is that of the launcher, which compiles it where that is due, and keeps its checks where the gate has not proved the sources.
+The wheel says which, and which sources, commit and toolchain it was compiled from (`kulzobad --version`). --try installs the wheel into an empty virtual environment, with a path on which nothing of the
 toolchain lies and no network, and runs examples, whose bytes have to be those that stand beside them. --tests runs python/tests from a
 folder without the package. Where pip or venv is missing both say so: --try is skipped, and --tests runs the tests of the package as it
 stands. Each ends with status 1 where something fails, and names the tests that failed.
@@ -23,7 +24,10 @@ import tempfile
 ROOT = os.path.dirname(os.path.dirname(os.path.realpath(__file__)))
 sys.path.insert(0, f"{ROOT}/python")
 
+sys.path.insert(0, f"{ROOT}/tools")
+
 import building  # noqa: E402
+import proved  # noqa: E402
 
 # The program needs a C library as new as that for which the toolchain links.
 TAG = "py3-none-linux_x86_64"
@@ -44,12 +48,27 @@ def read(file):
         return data.read()
 
 
-def built_from():
-    """What is known of the launcher's build."""
+def program_here():
+    """The program that is packed, with what is said of its checks."""
+    made = proved.proved_program()
+    if made:
+        return made, "left out: rt ci compiled what it proved"
+    if subprocess.run([f"{ROOT}/spin", "gen", "0"], env=plain(), stdout=subprocess.DEVNULL, check=False).returncode:
+        sys.exit("release: the launcher gives no program")
+    with open(f"{ROOT}/out/spin.sum", encoding="utf-8") as kept:
+        return f"{ROOT}/out/spin", kept.read().splitlines()[-1].partition(" ")[2]
+
+
+def plain():
+    """The variables without that which asks for another program."""
+    return {name: value for name, value in os.environ.items() if name != "SPIN_CHECKS"}
+
+
+def built_from(checks):
+    """What is known of the program that is packed."""
     commit = output_of(["git", "rev-parse", "HEAD"])
     changed = output_of(["git", "status", "--porcelain", "--", "crates", "crates.txt", "tools/compile.py"])
-    with open(f"{ROOT}/out/spin.sum", encoding="utf-8") as kept:
-        told = {"sources": kept.read().strip(), "toolchain": output_of(["rt", "version"]).split("\n")[0]}
+    told = {"sources": proved.sum_now(), "toolchain": output_of(["rt", "version"]).split("\n")[0], "checks": checks}
     if commit:
         told["commit"] = commit + (" with changes" if changed else "")
     return told
@@ -57,11 +76,10 @@ def built_from():
 
 def make(folder):
     """Writes the program, the wheel and the checksums into a folder, and gives the wheel's name."""
-    if subprocess.run([f"{ROOT}/spin", "gen", "0"], stdout=subprocess.DEVNULL, check=False).returncode:
-        sys.exit("release: the launcher gives no program")
+    program, checks = program_here()
     os.makedirs(folder, exist_ok=True)
-    shutil.copy(f"{ROOT}/out/spin", f"{folder}/spin")
-    told = json.dumps(built_from(), indent=1) + "\n"
+    shutil.copy(program, f"{folder}/spin")
+    told = json.dumps(built_from(checks), indent=1) + "\n"
     inside = [("kulzobad/compiled/built.json", told.encode()), ("kulzobad/compiled/spin", read(f"{folder}/spin"))]
     wheel = building.write_wheel(folder, TAG, more=inside)
     with open(f"{folder}/SHA256SUMS", "w", encoding="utf-8") as sums:
@@ -107,8 +125,8 @@ def failures_of_release(room, wheel, python):
         given = done.stderr.split(b"\n", 1)[0] + b"\n" if status else done.stdout
         if (done.returncode, given) != (status, wanted):
             yield f"kulzobad {word} of examples/{name}.json: status {done.returncode}, {given[:200]}, {done.stderr[:200]}"
-    told, known = call("--version").stdout.decode(), built_from()
-    for line in (f"sources {known['sources']}", f"toolchain {known['toolchain']}", "not proved on this machine"):
+    told, known = call("--version").stdout.decode(), built_from(program_here()[1])
+    for line in (*(f"{name} {known[name]}" for name in ("sources", "toolchain", "checks")), "not proved on this machine"):
         if line not in told:
             yield f"kulzobad --version does not say {line!r}: {told}"
     sums = "".join(f"{hashlib.sha256(read(f'{room}/dist/{name}')).hexdigest()}  {name}\n" for name in sorted(("spin", wheel)))
