@@ -4,6 +4,7 @@
     python3 tools/proved.py              says whether proved.sum is that of the sources as they stand; status 1 where it is not
     python3 tools/proved.py --write      writes it, where the gate has proved these sources here: run .ci/run before
     python3 tools/proved.py --sum        prints the checksum
+    python3 tools/proved.py --program    prints where the program is that `rt ci` compiled of these sources, if there is one
     python3 tools/proved.py --gate SUM   .ci/run says so: `rt ci` has just proved the sources that had this checksum when it began
 
 The checksum is of crates.txt, of all files below crates/*/src, and of the kit: its KIT-ID, and the sources of its libraries that the
@@ -57,6 +58,8 @@ def main(words):
     now = sum_now()
     if words == ["--sum"]:
         print(now)
+    elif words == ["--program"]:
+        print(proved_program() or "")
     elif words == ["--write"]:
         if noted()[0] != now:
             sys.exit("proved: .ci/run has not proved these sources in this clone")

@@ -9,8 +9,10 @@ Else it is that of the launcher, which compiles it where that is due, and keeps 
 The wheel says which, and which sources, commit and toolchain it was compiled from (`kulzobad --version`). --try installs the wheel into an empty virtual environment, with a path on which nothing of the
 toolchain lies and no network, and runs examples, whose bytes have to be those that stand beside them. --tests runs python/tests from a
 folder without the package. Where pip or venv is missing both say so: --try is skipped, and --tests runs the tests of the package as it
-stands. Each ends with status 1 where something fails, and names the tests that failed.
+stands. Each ends with status 1 where something fails, and names the tests that failed. What is skipped has a line SKIPPED, the tests of
+pages as `page`, and what asks for pip as `wheel`.
 """
+import collections
 import glob
 import hashlib
 import json
@@ -31,6 +33,7 @@ import proved  # noqa: E402
 
 # The program needs a C library as new as that for which the toolchain links.
 TAG = "py3-none-linux_x86_64"
+APART = "the package is an installed one"
 EXAMPLES = ("one_chip", "image", "reinject_fan_out", "trace_fan_out", "check_right", "apps_used_again", "long_table")
 
 
@@ -93,7 +96,7 @@ def environment_in(room):
     python = f"{room}/environment/bin/python"
     pip = [sys.executable, "-m", "pip", "--python", python, "--disable-pip-version-check", "install", "--quiet", "--no-index", "--no-deps"]
     if made.returncode or subprocess.run([*pip[:5], "--version"], capture_output=True, check=False).returncode:
-        print("release: nothing is installed, for pip or venv is missing, or pip is older than 22.3")
+        print("SKIPPED wheel: nothing is installed, for pip or venv is missing, or pip is older than 22.3")
         return None
     return python, pip
 
@@ -165,8 +168,13 @@ def try_tests(room):
 
 def tests_that_fail(python, folder, environment):
     """Runs the tests of a folder, and gives the names of those that fail."""
-    done = subprocess.run([python, "-m", "unittest", "-q"], cwd=folder, env=environment, stderr=subprocess.PIPE, text=True, check=False)
-    sys.stderr.write(done.stderr)
+    done = subprocess.run([python, "-m", "unittest", "-v"], cwd=folder, env=environment, stderr=subprocess.PIPE, text=True, check=False)
+    sys.stderr.write("".join(it for it in done.stderr.splitlines(True) if not re.search(r"\.\.\. (ok|skipped .*)$", it)))
+    skipped = collections.Counter(re.findall(r"\.\.\. skipped ['\"](.*)['\"]$", done.stderr, re.M))
+    for why, count in skipped.items():
+        # (what asks for the package as it stands is run apart)
+        if why != APART:
+            print(f"SKIPPED {'page' if 'Chromium' in why else 'tests'}: {count} tests: {why}")
     named = re.findall(r"^(?:FAIL|ERROR): (.*)$", done.stderr, re.M)
     return named or (["a test of the installed package fails"] if done.returncode else [])
 
