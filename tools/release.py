@@ -5,13 +5,16 @@
     python3 tools/release.py --tests    the package as `pip install ./python` installs it, with its tests
     python3 tools/release.py --tag      a local tag, as v0.2.0, on the commit from which dist/ was made
 
-The program is that of the launcher, which compiles it where that is due. The wheel says which sources, commit and toolchain it was
-compiled from (`kulzobad --version`). --try installs the wheel into an empty virtual environment, with a path on which nothing of the
-toolchain lies and no network, and runs examples, whose bytes have to be those that stand beside them. --tests runs python/tests from a
-folder without the package. Where pip or venv is missing both say so: --try is skipped, and --tests runs the tests of the package as it
-stands. --tag wants a wheel of this version in dist/, made from this commit without changes, and a part of CHANGELOG.md on it; it pushes
-nothing. Each ends with status 1 where something fails, and names the tests that failed.
+The program is the one that `rt ci` compiled of what it proved, where .ci/run has just left that here and the sources are the same.
+Else it is that of the launcher, which compiles it where that is due, and keeps its checks where the gate has not proved the sources.
+The wheel says which, and which sources, commit and toolchain it was compiled from (`kulzobad --version`). --try installs the wheel into
+an empty virtual environment, with a path on which nothing of the toolchain lies and no network, and runs examples, whose bytes have to
+be those that stand beside them. --tests runs python/tests from a folder without the package. Where pip or venv is missing both say so:
+--try is skipped, and --tests runs the tests of the package as it stands. --tag wants a wheel of this version in dist/, made from this
+commit without changes, and a part of CHANGELOG.md on it; it pushes nothing. Each ends with status 1 where something fails, and names the
+tests that failed. What is skipped has a line SKIPPED, the tests of pages as `page`, and what asks for pip as `wheel`.
 """
+import collections
 import glob
 import hashlib
 import json
@@ -25,11 +28,14 @@ import zipfile
 
 ROOT = os.path.dirname(os.path.dirname(os.path.realpath(__file__)))
 sys.path.insert(0, f"{ROOT}/python")
+sys.path.insert(0, f"{ROOT}/tools")
 
 import building  # noqa: E402
+import proved  # noqa: E402
 
 # The program needs a C library as new as that for which the toolchain links.
 TAG = "py3-none-linux_x86_64"
+APART = "the package is an installed one"
 EXAMPLES = ("one_chip", "image", "reinject_fan_out", "trace_fan_out", "check_right", "apps_used_again", "long_table")
 
 
@@ -47,12 +53,27 @@ def read(file):
         return data.read()
 
 
-def built_from():
-    """What is known of the launcher's build."""
+def program_here():
+    """The program that is packed, with what is said of its checks."""
+    made = proved.proved_program()
+    if made:
+        return made, "left out: rt ci compiled what it proved"
+    if subprocess.run([f"{ROOT}/spin", "gen", "0"], env=plain(), stdout=subprocess.DEVNULL, check=False).returncode:
+        sys.exit("release: the launcher gives no program")
+    with open(f"{ROOT}/out/spin.sum", encoding="utf-8") as kept:
+        return f"{ROOT}/out/spin", kept.read().splitlines()[-1].partition(" ")[2]
+
+
+def plain():
+    """The variables without that which asks for another program."""
+    return {name: value for name, value in os.environ.items() if name != "SPIN_CHECKS"}
+
+
+def built_from(checks):
+    """What is known of the program that is packed."""
     commit = output_of(["git", "rev-parse", "HEAD"])
     changed = output_of(["git", "status", "--porcelain", "--", "crates", "crates.txt", "tools/compile.py"])
-    with open(f"{ROOT}/out/spin.sum", encoding="utf-8") as kept:
-        told = {"sources": kept.read().strip(), "toolchain": output_of(["rt", "version"]).split("\n")[0]}
+    told = {"sources": proved.sum_now(), "toolchain": output_of(["rt", "version"]).split("\n")[0], "checks": checks}
     if commit:
         told["commit"] = commit + (" with changes" if changed else "")
     return told
@@ -60,11 +81,10 @@ def built_from():
 
 def make(folder):
     """Writes the program, the wheel and the checksums into a folder, and gives the wheel's name."""
-    if subprocess.run([f"{ROOT}/spin", "gen", "0"], stdout=subprocess.DEVNULL, check=False).returncode:
-        sys.exit("release: the launcher gives no program")
+    program, checks = program_here()
     os.makedirs(folder, exist_ok=True)
-    shutil.copy(f"{ROOT}/out/spin", f"{folder}/spin")
-    told = json.dumps(built_from(), indent=1) + "\n"
+    shutil.copy(program, f"{folder}/spin")
+    told = json.dumps(built_from(checks), indent=1) + "\n"
     inside = [("kulzobad/compiled/built.json", told.encode()), ("kulzobad/compiled/spin", read(f"{folder}/spin"))]
     wheel = building.write_wheel(folder, TAG, more=inside)
     with open(f"{folder}/SHA256SUMS", "w", encoding="utf-8") as sums:
@@ -78,7 +98,7 @@ def environment_in(room):
     python = f"{room}/environment/bin/python"
     pip = [sys.executable, "-m", "pip", "--python", python, "--disable-pip-version-check", "install", "--quiet", "--no-index", "--no-deps"]
     if made.returncode or subprocess.run([*pip[:5], "--version"], capture_output=True, check=False).returncode:
-        print("release: nothing is installed, for pip or venv is missing, or pip is older than 22.3")
+        print("SKIPPED wheel: nothing is installed, for pip or venv is missing, or pip is older than 22.3")
         return None
     return python, pip
 
@@ -117,8 +137,8 @@ def failures_of_release(room, wheel, python):
         done = call(*words)
         if done.returncode != status or part not in done.stdout:
             yield f"kulzobad {' '.join(words)}: status {done.returncode}, {done.stdout[:200]}, {done.stderr[:200]}"
-    told, known = call("--version").stdout.decode(), built_from()
-    for line in (f"sources {known['sources']}", f"toolchain {known['toolchain']}", "not proved on this machine"):
+    told, known = call("--version").stdout.decode(), built_from(program_here()[1])
+    for line in (*(f"{name} {known[name]}" for name in ("sources", "toolchain", "checks")), "not proved on this machine"):
         if line not in told:
             yield f"kulzobad --version does not say {line!r}: {told}"
     sums = "".join(f"{hashlib.sha256(read(f'{room}/dist/{name}')).hexdigest()}  {name}\n" for name in sorted(("spin", wheel)))
@@ -177,8 +197,13 @@ def tag():
 
 def tests_that_fail(python, folder, environment):
     """Runs the tests of a folder, and gives the names of those that fail."""
-    done = subprocess.run([python, "-m", "unittest", "-q"], cwd=folder, env=environment, stderr=subprocess.PIPE, text=True, check=False)
-    sys.stderr.write(done.stderr)
+    done = subprocess.run([python, "-m", "unittest", "-v"], cwd=folder, env=environment, stderr=subprocess.PIPE, text=True, check=False)
+    sys.stderr.write("".join(it for it in done.stderr.splitlines(True) if not re.search(r"\.\.\. (ok|skipped .*)$", it)))
+    skipped = collections.Counter(re.findall(r"\.\.\. skipped ['\"](.*)['\"]$", done.stderr, re.M))
+    for why, count in skipped.items():
+        # (what asks for the package as it stands is run apart)
+        if why != APART:
+            print(f"SKIPPED {'page' if 'Chromium' in why else 'tests'}: {count} tests: {why}")
     named = re.findall(r"^(?:FAIL|ERROR): (.*)$", done.stderr, re.M)
     return named or (["a test of the installed package fails"] if done.returncode else [])
 

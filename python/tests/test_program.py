@@ -198,7 +198,8 @@ class Built(unittest.TestCase):
     def test_a_release_is_tagged(self):
         root = PACKAGE.parents[1]
         with tempfile.TemporaryDirectory() as folder:
-            for name in ("tools/release.py", "python/building.py", "python/pyproject.toml", "CHANGELOG.md"):
+            scripts = ("tools/release.py", "tools/proved.py", "tools/compile.py")
+            for name in (*scripts, "python/building.py", "python/pyproject.toml", "CHANGELOG.md"):
                 Path(folder, name).parent.mkdir(exist_ok=True)
                 shutil.copy(root / name, Path(folder, name))
             Path(folder, ".gitignore").write_text("dist/\n__pycache__/\n")
