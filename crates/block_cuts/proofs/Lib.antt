@@ -1,0 +1,3 @@
+mod HalfLaws
+pub mod PieceLaws
+mod Turns
