@@ -4,7 +4,8 @@ and what it stands on; and the list at the end of docs/definitions.md, which has
     python3 tools/house.py [--check]
 
 With --check it compares these with what stands there, and docs/promises.md with the sources: what carries a promise has to be there,
-with the clauses that are named; so has what breaks it, and each edit has to break one. The status is 1 where something differs.
+with the clauses that are named; so has what breaks it, and each edit has to break one. The rooms of docs/architecture.md
+have to name each file of code. The status is 1 where something differs.
 
 A crate's layer is one more than the highest layer below it, among the crates of this repository. A chain of crates is as long
 as the number of layers. Lines: code without tests, definitions, proofs.
@@ -192,6 +193,23 @@ def renewed(file, begin, made):
     return text, before + made(text) + rest.partition(END)[2]
 
 
+def wrong_rooms():
+    """Which files of code the rooms of docs/architecture.md do not name, and which they name that are not there. A room begins with the name
+    of its crate, or with those of several, whose files it has together."""
+    with open(f"{ROOT}/docs/architecture.md", encoding="utf-8") as text:
+        parts = re.split(r"^((?:\*\*\w+\*\*(?: and )?)+)", text.read().partition("# Room by room")[2], flags=re.M)
+    names, wrong = set(), []
+    for heads, text in zip(parts[1::2], parts[2::2]):
+        rooms = re.findall(r"\w+", heads.replace(" and ", " "))
+        files = {os.path.basename(it) for name in rooms for it in glob.glob(f"{ROOT}/crates/{name}/src/**/*.rt", recursive=True)}
+        told = set(re.findall(r"`(\w+\.rt)`", text.partition("\n## ")[0]))
+        names.update(rooms)
+        wrong += [f"the room of {', '.join(rooms)} does not name {it}" for it in sorted(files - told - {"lib.rt", "main.rt"})]
+        wrong += [f"the room of {', '.join(rooms)} names {it}, which is not there" for it in sorted(told - files)]
+    wrong += [f"there is no room of {it}" for it in sorted(set(os.listdir(f"{ROOT}/crates")) - names)]
+    return [f"docs/architecture.md: {it}" for it in wrong]
+
+
 def main(words):
     documents = {"docs/architecture.md": (BEGIN, lambda text: picture()), "docs/definitions.md": (FILES, other_files)}
     wrong = []
@@ -207,7 +225,7 @@ def main(words):
     with open(f"{ROOT}/docs/definitions.md", encoding="utf-8") as text:
         named = set(re.findall(r"`(\w+/specs/[\w/]+\.antt)`", text.read()))
     wrong += [f"docs/definitions.md names {it}, which is not there" for it in sorted(named - files_of_definitions())]
-    wrong += wrong_promises()
+    wrong += wrong_rooms() + wrong_promises()
     print("\n".join(wrong), end="\n" if wrong else "")
     return 1 if wrong else 0
 
