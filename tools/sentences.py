@@ -5,8 +5,10 @@
 
 It prints words, sentences and the mean number of words of a sentence of each document. Code blocks, headings, pictures and short
 cells of tables are left out. A sentence ends at a full stop, a question or an exclamation mark, and at the end of a paragraph, of a
-point of a list and of a cell; not at a colon or a semicolon. What stands in backticks counts as one word. With --check the status is 1 where a document's mean is above MOST_MEAN, README.md has more
-than MOST_README words outside code, or a link leads to a file or a heading that is not there.
+point of a list and of a cell; not at a colon or a semicolon. What stands in backticks counts as one word. With --check the status is 1
+where a document's mean is above MOST_MEAN, README.md has more than MOST_README words outside code, a document of MOST_WORDS has more
+words than stand there, or a link leads to a file or a heading that is not there. For MOST_WORDS all words count that stand between
+blanks, those of code, headings and tables too.
 """
 import glob
 import os
@@ -15,6 +17,7 @@ import sys
 
 MOST_MEAN = 18.0
 MOST_README = 1200
+MOST_WORDS = {"docs/DECISIONS.md": 5000, "docs/performance.md": 2500, "docs/proofs.md": 5000}
 FEW = 12  # a cell of a table with fewer words is no sentence
 
 
@@ -61,6 +64,11 @@ def sentences(text):
     return found
 
 
+def all_words(text):
+    """How many words a text has: what stands between blanks and has a letter or a digit, wherever it stands."""
+    return sum(1 for word in text.split() if re.search(r"\w", word))
+
+
 def headings(text):
     """The anchors of a document's headings, as GitHub makes them."""
     text = re.sub(r"^```.*?^```", "", text, flags=re.M | re.S)
@@ -98,6 +106,8 @@ def main(words):
             wrong.append(f"{path}: {mean:.1f} words a sentence, and not at most {MOST_MEAN}")
         if path == "README.md" and count > MOST_README:
             wrong.append(f"{path}: {count} words, and not at most {MOST_README}")
+        if all_words(text) > MOST_WORDS.get(path, sys.maxsize):
+            wrong.append(f"{path}: {all_words(text)} words with code and tables, and not at most {MOST_WORDS[path]}")
         wrong += dead_links(path, text)
     if is_check:
         print(*wrong, sep="\n", end="\n" if wrong else "")
