@@ -18,6 +18,9 @@ import sys
 MOST_MEAN = 18.0
 MOST_WORDS = {
     "README.md": 1200,
+    "docs/DECISIONS.md": 5000,
+    "docs/performance.md": 2500,
+    "docs/proofs.md": 5000,
     "docs/promises.md docs/definitions.md": 12000,
     "docs/formats.md": 9750,
     "docs/guide.md": 7500,
