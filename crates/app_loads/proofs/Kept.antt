@@ -1,5 +1,5 @@
 -- A mesh whose earlier deliveries are held apart, seen as one mesh.
-use Rattle.std.proofs.Common.{◌≡◌, ◌≢◌, ℕ, ◌+◌, ◌^◌, ◌<◌, ◌≤◌, not, List, [], ◌∷◌, ◌++◌, length, refl, sym, ap, ◌∙◌, subst, inl, inr, ◌⊎◌, arith, Option, None, Some, Result, Ok, Err, OnErr, OnOk, count_by, map}
+use Rattle.std.proofs.Common.{◌≡◌, ◌≢◌, Bool, ℕ, ◌+◌, ◌^◌, ◌<◌, ◌≤◌, not, List, [], ◌∷◌, ◌++◌, length, refl, sym, ap, ◌∙◌, subst, inl, inr, ◌⊎◌, arith, Option, None, Some, Result, Ok, Err, OnErr, OnOk, count_by, map}
 use Rattle.std.specs.Prelude.{IfSome, slice_set}
 use Rattle.std.specs.List.{All, Contains, filter, slice_get}
 use Rattle.std.proofs.lemmas.List.{map-append}
@@ -115,10 +115,10 @@ module _ (ds : List Delivery) where
   pub left_with : (app : LoadedApp) (others : List Delivery) (s t : State) (left : Left) (ended : Ended) (own : List Delivery) → HasLeftMesh app s left t →
       own ≡ filter (is_delivery_of app) ds → others ≡ filter (λ d. not (is_delivery_of app d)) ds → ended.delivered ≡ own ++ left.delivered → ended.dumped ≡ left.dumped →
       HasLeft app (we s) ended (with_earlier others t)
-  left_with app others s t left ended own has own_is others_is delivered dumped = record {
-    delivered = delivered ∙ (ap (λ l. l ++ left.delivered) own_is
+  left_with app others s t left ended own has own_is others_is delivered_is dumped_is = record {
+    delivered = delivered_is ∙ (ap (λ l. l ++ left.delivered) own_is
         ∙ (ap (λ l. filter (is_delivery_of app) ds ++ l) has.delivered ∙ sym (filter-append (is_delivery_of app) ds s.delivered)));
-    dumped = dumped ∙ has.dumped;
+    dumped = dumped_is ∙ has.dumped;
     mesh = ap (λ (u : State). record u { delivered = others ++ u.delivered }) has.mesh
         ∙ ap (λ l. record (mesh_without app t.setup.tables s) { delivered = l })
         (ap (λ l. l ++ filter (λ d. not (is_delivery_of app d)) s.delivered) others_is ∙ sym (filter-append (λ d. not (is_delivery_of app d)) ds s.delivered));
@@ -127,7 +127,7 @@ module _ (ds : List Delivery) where
 
   -- ---- what is under way
 
-  mapped : Delivery → Mark
+  abbrev mapped : Delivery → Mark
   mapped d = record { copy = d.copy; station = delivered d.vertex }
 
   inside : {X : Type 0} (x : X) (xs ys zs : List X) → (Among x ys → Among x zs) → Among x (xs ++ ys) → Among x (xs ++ zs)
@@ -161,10 +161,10 @@ module _ (ds : List Delivery) where
       ]) (contains_among k (marks_of (we s)) has))
 
   waits_with : (s : State) (app : LoadedApp) (n : ℕ) → WaitsIn s app n → WaitsIn (we s) app n
-  waits_with s app n waits = (waits.0, waits.1.0, has_with s waits.1.0 waits.1.1, waits.1.2, waits.1.3)
+  waits_with s app n waits = (waits.0, (waits.1.0, has_with s waits.1.0 waits.1.1, waits.1.2, waits.1.3))
 
   waits_own : (s : State) (app : LoadedApp) (n : ℕ) → WaitsIn (we s) app n → WaitsIn s app n
-  waits_own s app n waits = (waits.0, waits.1.0, has_own s waits.1.0 waits.1.3 waits.1.1, waits.1.2, waits.1.3)
+  waits_own s app n waits = (waits.0, (waits.1.0, has_own s waits.1.0 waits.1.3 waits.1.1, waits.1.2, waits.1.3))
 
   pub none_with : (s : State) (app : LoadedApp) → NoneUnderWay s app → NoneUnderWay (we s) app
   none_with s app none n waits = none n (waits_own s app n waits)
