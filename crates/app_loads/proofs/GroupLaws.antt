@@ -1,7 +1,7 @@
 -- Deliveries held in groups.
 use Rattle.std.proofs.Common.{◌≡◌, ◌≢◌, ℕ, zero, suc, ◌+◌, ◌-◌, ◌<◌, ◌≤◌, Bool, true, false, not, ◌&&◌, ◌||◌, List, [], ◌∷◌, ◌++◌, map, length, refl, sym, ap, ◌∙◌, subst, arith, cond, inl, inr, leb, ltb, Some, Result, Ok, Err, IfOk, OnErr}
 use Rattle.std.specs.List.{All, filter, flat_map, list_any, slice_get, slice_index_or, slice_set}
-use Rattle.std.proofs.lemmas.Bool.{and_from, and_parts, cases_Bool, cases_lt, false≢true, le-leb, le-ltb, leb-true, lt-leb, lt-ltb, ltb-true, not-false, not-true}
+use Rattle.std.proofs.lemmas.Bool.{and_from, and_parts, cases_Bool, cases_lt, false≢true, le-leb, le-ltb, leb-true, lt-leb, lt-ltb, ltb-true, not-false, not-true, or_parts}
 use Rattle.std.proofs.lemmas.Grind.{flat_map-append}
 use Rattle.std.proofs.lemmas.List.{append_assoc, append-nil, length-append, map-append}
 use Rattle.std.proofs.lemmas.List.Elements.{All-append, All-cons, All-head, All-map, All-nil, All-tail, All-weaker, filter-append}
@@ -150,6 +150,19 @@ last_same_if (Err e) gs count g new long some value same = last_put false gs cou
 
 -- ---- parting
 
+-- what passes of a group is put behind what was put before
+pub put_group : (p : Delivery → Bool) (own g rest all put : List Delivery) → own ++ filter p (g ++ rest) ≡ filter p all → put ≡ own ++ filter p g → put ++ filter p rest ≡ filter p all
+put_group p own g rest all put is put_is =
+    ap (λ l. l ++ filter p rest) put_is ∙ (append_assoc own (filter p g) (filter p rest) ∙ (ap (λ l. own ++ l) (sym (filter-append p g rest)) ∙ is))
+
+-- there is still room for the rest
+pub room_still : (gs rest : List Grouped) (g : Grouped) (n put cap kept : ℕ) → gs ≡ g ∷ rest → n + length gs ≤ cap → put ≤ n + 1 → kept ≡ cap → put + length rest ≤ kept
+room_still gs rest g n put cap kept is room one same = let long = ap length is in omega (arith, long, room, one, same)
+
+-- none of the rest passes, where none passes
+pub none_of_rest : {X : Type 0} (p : X → Bool) (gs rest : List X) (g : X) → gs ≡ g ∷ rest → list_any p gs ≡ false → list_any p rest ≡ false
+none_of_rest p gs rest g is none = (or_parts (p g) (list_any p rest) (sym (ap (list_any p) is) ∙ none)).1
+
 module _ (p : Delivery → Bool) (all own others : List Delivery) (count left : ℕ) (counted : count ≡ length all) (so_far : left + length own ≡ count) where
   abbrev q : Delivery → Bool
   q d = not (p d)
@@ -166,6 +179,13 @@ module _ (p : Delivery → Bool) (all own others : List Delivery) (count left : 
       let sum = length-append (filter p g) (filter p rest) in
       let most = both in
       omega (arith, counted, so_far, whole, split, parts, sum, most, n_is)
+
+  -- and when it is put, the rest are still counted
+  pub still_counted : (g rest put : List Delivery) (n : ℕ) → own ++ filter p (g ++ rest) ≡ filter p all → put ≡ own ++ filter p g → n ≡ length (filter p g) → (left - n) + length put ≡ count
+  still_counted g rest put n own_is put_is n_is =
+      let few = few_more g rest n own_is n_is in
+      let sum = ap length put_is ∙ length-append own (filter p g) in
+      omega (arith, so_far, few, sum, n_is)
 
   -- at the end those that are left are the others
   pub left_others : own ++ [] ≡ filter p all → others ++ [] ≡ filter q all → left ≡ length others
