@@ -1,8 +1,8 @@
 -- Deliveries that came earlier change nothing of what events do, and where no copy waits, all that is unsent keeps its ledger without
 -- them.
-use Rattle.std.proofs.Common.{◌≡◌, ◌≢◌, ℕ, ◌+◌, ◌/◌, ◌%◌, ◌<◌, ◌≤◌, ◌==◌, ◌&&◌, Bool, true, false, List, [], ◌∷◌, ◌++◌, map, count_by, refl, sym, ap, ◌∙◌, subst, arith, inl, inr, Option, None, Some, if◌then◌else◌, not, IsTrue}
+use Rattle.std.proofs.Common.{◌≡◌, ℕ, ◌/◌, ◌%◌, ◌≤◌, ◌&&◌, Bool, true, false, List, [], ◌∷◌, ◌++◌, count_by, refl, sym, ap, ◌∙◌, subst, arith, inl, inr, Option, None, Some, if◌then◌else◌, not}
 use Rattle.std.specs.Prelude.{unwrap_or, slice_set, is_some}
-use Rattle.std.specs.List.{slice_get, All, Contains}
+use Rattle.std.specs.List.{slice_get, Contains}
 use Rattle.std.proofs.lemmas.Bool.{eq-eqb}
 use Rattle.std.proofs.lemmas.List.{append_assoc, append-nil}
 use Rattle.std.proofs.lemmas.List.Elements.{Contains-append_left}

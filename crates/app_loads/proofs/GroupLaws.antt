@@ -1,7 +1,7 @@
 -- Deliveries held in groups.
-use Rattle.std.proofs.Common.{◌≡◌, ◌≢◌, ℕ, zero, suc, ◌+◌, ◌-◌, ◌<◌, ◌≤◌, Bool, true, false, not, ◌&&◌, ◌||◌, List, [], ◌∷◌, ◌++◌, map, length, refl, sym, ap, ◌∙◌, subst, arith, cond, inl, inr, leb, ltb, Some, Result, Ok, Err, IfOk, OnErr}
-use Rattle.std.specs.List.{All, filter, flat_map, list_any, slice_get, slice_index_or, slice_set}
-use Rattle.std.proofs.lemmas.Bool.{and_from, and_parts, cases_Bool, cases_lt, false≢true, le-leb, le-ltb, leb-true, lt-leb, lt-ltb, ltb-true, not-false, not-true, or_parts}
+use Rattle.std.proofs.Common.{◌≡◌, ◌≢◌, ℕ, zero, suc, ◌+◌, ◌-◌, ◌<◌, ◌≤◌, Bool, true, false, not, ◌&&◌, ◌||◌, List, [], ◌∷◌, ◌++◌, length, refl, sym, ap, ◌∙◌, subst, arith, cond, inl, inr, leb, ltb, Some, Result, Ok, Err, IfOk, OnErr}
+use Rattle.std.specs.List.{All, filter, list_any, slice_get, slice_index_or, slice_set}
+use Rattle.std.proofs.lemmas.Bool.{and_from, and_parts, cases_Bool, cases_lt, false≢true, le-leb, leb-true, lt-ltb, ltb-true, not-false, not-true, or_parts}
 use Rattle.std.proofs.lemmas.Grind.{flat_map-append}
 use Rattle.std.proofs.lemmas.List.{append_assoc, append-nil, length-append, map-append}
 use Rattle.std.proofs.lemmas.List.Elements.{All-append, All-cons, All-head, All-map, All-nil, All-tail, All-weaker, filter-append}

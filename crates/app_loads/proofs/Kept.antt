@@ -1,21 +1,19 @@
 -- A mesh whose earlier deliveries are held apart, seen as one mesh.
-use Rattle.std.proofs.Common.{◌≡◌, ◌≢◌, Bool, ℕ, ◌+◌, ◌^◌, ◌<◌, ◌≤◌, not, List, [], ◌∷◌, ◌++◌, length, refl, sym, ap, ◌∙◌, subst, inl, inr, ◌⊎◌, arith, Option, None, Some, Result, Ok, Err, OnErr, OnOk, count_by, map}
-use Rattle.std.specs.Prelude.{IfSome, slice_set}
-use Rattle.std.specs.List.{All, Contains, filter, slice_get}
+use Rattle.std.proofs.Common.{◌≡◌, Bool, ℕ, ◌+◌, ◌^◌, ◌<◌, not, List, [], ◌++◌, length, refl, sym, ap, ◌∙◌, subst, inl, inr, arith, Option, None, Some, Result, Ok, Err, OnErr, OnOk, map}
+use Rattle.std.specs.Prelude.{IfSome}
+use Rattle.std.specs.List.{Contains, filter}
 use Rattle.std.proofs.lemmas.List.{map-append}
 use Rattle.std.proofs.lemmas.List.Sums.{count_by-le-length, length-filter}
 use Rattle.std.proofs.lemmas.List.Elements.{All-nil, filter-append}
 use Rattle.spin_base.proofs.Members.{Among, among_contains, among_either, among_left, among_map, among_right, contains_among}
-use Rattle.spin_base.specs.declared.blocks.Entry.{Entry}
 use Rattle.spin_base.specs.declared.copies.Delivery.{Delivery}
-use Rattle.spin_base.specs.declared.copies.McCopy.{McCopy}
 use Rattle.range_store.specs.Views.{Region}
 use Rattle.mesh_core.specs.Expected.{IsAtRest, NothingWaits}
 use Rattle.mesh_core.specs.HasRun.{DropsNone}
 use Rattle.mesh_core.specs.Ledger.{all_hand_marks, core_marks, delivered_marks, dumped_marks, input_marks, marks_of, unsent_marks}
 use Rattle.mesh_core.specs.State.{State, IsMesh}
 use Rattle.mesh_core.specs.Trail.{Mark, IsUnderWayAt, delivered}
-use Rattle.mesh_drain.specs.Draining.{CanSendFirst, IsMoved, IsReachedDropless, MaySend, MeetsSomeLedger, SendAlone}
+use Rattle.mesh_drain.specs.Draining.{IsMoved, IsReachedDropless, MaySend, MeetsSomeLedger, SendAlone}
 use Rattle.mesh_drain.proofs.Frame.{dumped_reached, kept_reached}
 use Rattle.app_loads.specs.declared.answers.Ended.{Ended}
 use Rattle.app_loads.specs.declared.answers.UnloadErr.{UnloadErr}
@@ -24,7 +22,7 @@ use Rattle.app_loads.specs.declared.leaving.Left.{Left}
 use Rattle.app_loads.specs.declared.loaded.LoadedApp.{LoadedApp}
 use Rattle.app_loads.specs.Earlier.{with_earlier}
 use Rattle.app_loads.specs.Joining.{CanSettle, IsSettled}
-use Rattle.app_loads.specs.Leaving.{IsLeastUnderWay, NoneUnderWay, WaitsIn, is_delivery_of, mesh_without}
+use Rattle.app_loads.specs.Leaving.{NoneUnderWay, WaitsIn, is_delivery_of, mesh_without}
 use Rattle.app_loads.specs.Removing.{CanLeaveFrom, HasLeft, HasLeftMesh, IsWhyHere}
 use Rattle.app_loads.specs.Running.{IsClean}
 use Rattle.app_loads.proofs.Earlier.{kept_without, reached_with}

@@ -11,5 +11,5 @@ returns-in_ok-keep-clause-moved c =
     let before = with_earlier (all_grouped c.keep.new.earlier) c.keep.new.mesh in
     let after = with_earlier (all_grouped c.send_each.new.earlier) c.send_each.new.mesh in
     moved_as c.args.mesh.now before after after
-        (same_mesh (all_grouped c.mesh.inside.earlier) (all_grouped c.keep.new.earlier) c.mesh.inside.mesh c.keep.new.mesh c.keep.ensures.mesh c.keep.ensures.all ∙ c.mesh.view_is)
-        refl (moved_of_reached before after c.send_each.ensures.reached)
+    (same_mesh (all_grouped c.mesh.inside.earlier) (all_grouped c.keep.new.earlier) c.mesh.inside.mesh c.keep.new.mesh c.keep.ensures.mesh c.keep.ensures.all ∙ c.mesh.view_is)
+    refl (moved_of_reached before after c.send_each.ensures.reached)

@@ -1,9 +1,8 @@
-use Rattle.std.proofs.Common.{◌∙◌, ap, subst, sym}
+use Rattle.std.proofs.Common.{subst, sym}
 use Rattle.mesh_core.specs.State.{State}
-use Rattle.app_loads.specs.Earlier.{with_earlier}
 use Rattle.app_loads.specs.Grouping.{all_grouped}
-use Rattle.app_loads.specs.Joining.{CanSettle, IsSettled}
-use Rattle.app_loads.proofs.Kept.{can_settle_own, err_then, ok_then, settled_with}
+use Rattle.app_loads.specs.Joining.{CanSettle}
+use Rattle.app_loads.proofs.Kept.{can_settle_own}
 use Rattle.app_loads.proofs.loads.settle.Goals as goal
 
 pub settle_mesh-mesh-requires : goal.settle_mesh-mesh-requires
