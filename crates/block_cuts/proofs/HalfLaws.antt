@@ -1,0 +1,135 @@
+-- Which keys the halves of a block have.
+use Rattle.std.proofs.Common.{◌≡◌, ℕ, ◌+◌, ◌-◌, ◌*◌, ◌%◌, ◌^◌, ◌<◌, ◌≤◌, ◌⊎◌, ◌==◌, Bool, true, false, min, max, inl, inr, refl, sym, ap, ◌∙◌, arith}
+use Rattle.std.specs.Prelude.{◌&&◌, not, bit_and, bit_or, bit_xor}
+use Rattle.std.specs.Int.{bit_at}
+use Rattle.std.proofs.lemmas.Bool.{eq-eqb}
+use Rattle.std.proofs.lemmas.Bool.Decides.{eqb_tells}
+use Rattle.std.proofs.lemmas.Nat.{pow_pos}
+use Rattle.std.proofs.lemmas.Nat.Bits.{and_pow, bit_at_and, bit_at_or, bit_at_xor, bit_at-lt, bit_at-pow_same, bit_at-pow_other}
+use Rattle.spin_base.specs.declared.blocks.Block.{Block}
+use Rattle.tern_word.specs.Ternary.{Matches, Intersects, Wants}
+use Rattle.tern_word.proofs.BlockLaws.{Matches-wants, Matches-from_wants, meet_where_agree, agree_where_meet}
+use Rattle.block_cuts.specs.Cuts.{meets, narrow, own_half, other_half, is_cut_at}
+use Rattle.block_cuts.specs.NarrowFits.{narrow_mask, narrow_key}
+
+-- a number has a bit, or has it not
+bit_is : (n i : ℕ) → (bit_at n i ≡ 0) ⊎ (bit_at n i ≡ 1)
+bit_is n i = grind (arith, bit_at-lt n i)
+
+-- the key of a block has no bit outside the mask
+key_bit : (b : Block) (i : ℕ) → min (bit_at b.key i) (bit_at b.mask i) ≡ bit_at b.key i
+key_bit b i = sym (bit_at_and b.key b.mask i) ∙ ap (λ x. bit_at x i) b.within
+
+-- ---- a half under a value that has no bit but this one
+
+module _ (p e : Block) (i v w : ℕ) (free : bit_at p.mask i ≡ 0) (cares : bit_at e.mask i ≡ 1) (here : bit_at v i ≡ w) (small : w < 2) (elsewhere : (j : ℕ) → (j ≡ i → ⊥) → bit_at v j ≡ 0) where
+  mask_bits : (j : ℕ) → bit_at (narrow_mask p e (2 ^ i)) j ≡ max (bit_at p.mask j) (min (bit_at e.mask j) (bit_at (2 ^ i) j))
+  mask_bits j = bit_at_or p.mask (bit_and e.mask (2 ^ i)) j ∙ ap (max (bit_at p.mask j)) (bit_at_and e.mask (2 ^ i) j)
+
+  key_bits : (j : ℕ) → bit_at (narrow_key p e (2 ^ i) v) j ≡ min (max (bit_at p.key j) (bit_at v j)) (bit_at (narrow_mask p e (2 ^ i)) j)
+  key_bits j = bit_at_and (bit_or p.key v) (narrow_mask p e (2 ^ i)) j ∙ ap (λ x. min x (bit_at (narrow_mask p e (2 ^ i)) j)) (bit_at_or p.key v j)
+
+  half_here : Wants (narrow p e (2 ^ i) v) i w
+  unfolding narrow
+  half_here =
+      let on : bit_at (narrow_mask p e (2 ^ i)) i ≡ 1 = omega (arith, mask_bits i, free, cares, bit_at-pow_same i) in
+      record { cares = on; value = omega (arith, key_bits i, on, key_bit p i, free, here, small) }
+
+  half_wants : (j x : ℕ) → Wants p j x → Wants (narrow p e (2 ^ i) v) j x
+  unfolding narrow
+  half_wants j x want =
+      let other : j ≡ i → ⊥ = λ same. omega (arith, ap (bit_at p.mask) same, want.cares, free) in
+      let on : bit_at (narrow_mask p e (2 ^ i)) j ≡ 1 = omega (arith, mask_bits j, want.cares, bit_at-pow_other i j other, bit_at-lt e.mask j) in
+      record { cares = on; value = omega (arith, key_bits j, on, want.value, elsewhere j other, bit_at-lt p.key j) }
+
+  wants_half : (j x : ℕ) → Wants (narrow p e (2 ^ i) v) j x → ((j ≡ i) × (x ≡ w)) ⊎ Wants p j x
+  unfolding narrow
+  wants_half j x want = elim (eqb_tells j i) [
+    | inl same ↦ inl (same.1, sym want.value ∙ (ap (bit_at (narrow_key p e (2 ^ i) v)) same.1 ∙ half_here.value))
+    | inr other ↦
+        let on : bit_at p.mask j ≡ 1 = omega (arith, mask_bits j, want.cares, bit_at-pow_other i j other.1, bit_at-lt p.mask j, bit_at-lt e.mask j) in
+        inr (record { cares = on; value = omega (arith, key_bits j, want.cares, want.value, elsewhere j other.1, bit_at-lt p.key j) })
+  ]
+
+  half_in : (k : ℕ) → Matches (narrow p e (2 ^ i) v) k → Matches p k
+  half_in k m = Matches-from_wants p k (λ j x want. Matches-wants (narrow p e (2 ^ i) v) k j x m (half_wants j x want))
+
+  half_bit : (k : ℕ) → Matches (narrow p e (2 ^ i) v) k → bit_at k i ≡ w
+  half_bit k m = Matches-wants (narrow p e (2 ^ i) v) k i w m half_here
+
+  half_has : (k : ℕ) → Matches p k → bit_at k i ≡ w → Matches (narrow p e (2 ^ i) v) k
+  half_has k m bit = Matches-from_wants (narrow p e (2 ^ i) v) k (λ j x want. elim (wants_half j x want) [
+    | inl this ↦ ap (bit_at k) this.0 ∙ (bit ∙ sym this.1)
+    | inr of_p ↦ Matches-wants p k j x m of_p
+  ])
+
+-- ---- the two halves
+
+module _ (p e : Block) (i : ℕ) (free : bit_at p.mask i ≡ 0) (cares : bit_at e.mask i ≡ 1) where
+  own_value : bit_at (bit_and e.key (2 ^ i)) i ≡ bit_at e.key i
+  own_value = omega (arith, bit_at_and e.key (2 ^ i) i, bit_at-pow_same i, bit_at-lt e.key i)
+
+  own_else : (j : ℕ) → (j ≡ i → ⊥) → bit_at (bit_and e.key (2 ^ i)) j ≡ 0
+  own_else j other = omega (arith, bit_at_and e.key (2 ^ i) j, bit_at-pow_other i j other)
+
+  other_value : bit_at (bit_and (bit_xor e.mask e.key) (2 ^ i)) i ≡ 1 - bit_at e.key i
+  other_value = omega (arith, bit_at_and (bit_xor e.mask e.key) (2 ^ i) i, bit_at_xor e.mask e.key i, cares, bit_at-pow_same i, bit_at-lt e.key i)
+
+  other_else : (j : ℕ) → (j ≡ i → ⊥) → bit_at (bit_and (bit_xor e.mask e.key) (2 ^ i)) j ≡ 0
+  other_else j other = omega (arith, bit_at_and (bit_xor e.mask e.key) (2 ^ i) j, bit_at-pow_other i j other)
+
+  pub own_in : (k : ℕ) → Matches (own_half p e (2 ^ i)) k → Matches p k
+  own_in k m = half_in p e i _ (bit_at e.key i) free cares own_value (bit_at-lt e.key i) own_else k m
+
+  pub own_bit : (k : ℕ) → Matches (own_half p e (2 ^ i)) k → bit_at k i ≡ bit_at e.key i
+  own_bit k m = half_bit p e i _ (bit_at e.key i) free cares own_value (bit_at-lt e.key i) own_else k m
+
+  pub own_has : (k : ℕ) → Matches p k → bit_at k i ≡ bit_at e.key i → Matches (own_half p e (2 ^ i)) k
+  own_has k m bit = half_has p e i _ (bit_at e.key i) free cares own_value (bit_at-lt e.key i) own_else k m bit
+
+  pub own_wants_here : Wants (own_half p e (2 ^ i)) i (bit_at e.key i)
+  own_wants_here = half_here p e i _ (bit_at e.key i) free cares own_value (bit_at-lt e.key i) own_else
+
+  pub own_wants : (j x : ℕ) → Wants p j x → Wants (own_half p e (2 ^ i)) j x
+  own_wants j x want = half_wants p e i _ (bit_at e.key i) free cares own_value (bit_at-lt e.key i) own_else j x want
+
+  pub wants_own : (j x : ℕ) → Wants (own_half p e (2 ^ i)) j x → ((j ≡ i) × (x ≡ bit_at e.key i)) ⊎ Wants p j x
+  wants_own j x want = wants_half p e i _ (bit_at e.key i) free cares own_value (bit_at-lt e.key i) own_else j x want
+
+  pub other_in : (k : ℕ) → Matches (other_half p e (2 ^ i)) k → Matches p k
+  other_in k m = half_in p e i _ (1 - bit_at e.key i) free cares other_value (omega arith) other_else k m
+
+  pub other_bit : (k : ℕ) → Matches (other_half p e (2 ^ i)) k → bit_at k i ≡ 1 - bit_at e.key i
+  other_bit k m = half_bit p e i _ (1 - bit_at e.key i) free cares other_value (omega arith) other_else k m
+
+  pub other_has : (k : ℕ) → Matches p k → bit_at k i ≡ 1 - bit_at e.key i → Matches (other_half p e (2 ^ i)) k
+  other_has k m bit = half_has p e i _ (1 - bit_at e.key i) free cares other_value (omega arith) other_else k m bit
+
+-- ---- tests
+
+bit_test : (n i : ℕ) → (((bit_and n (2 ^ i) == 0) ≡ true) × (bit_at n i ≡ 0)) ⊎ (((bit_and n (2 ^ i) == 0) ≡ false) × (bit_at n i ≡ 1))
+bit_test n i = elim (bit_is n i) [
+  | inl off ↦ inl (eq-eqb _ 0 (omega (arith, and_pow n i, ap (λ x. x * 2 ^ i) off)), off)
+  | inr on ↦ inr (
+    elim (eqb_tells (bit_and n (2 ^ i)) 0) [
+      | inl none ↦ absurd (omega (arith, and_pow n i, ap (λ x. x * 2 ^ i) on, pow_pos i, none.1))
+      | inr some ↦ some.0
+    ],
+    on,
+  )
+]
+
+pub cut_cases : (p e : Block) (i : ℕ) → ((is_cut_at p e (2 ^ i) ≡ true) × (bit_at p.mask i ≡ 0) × (bit_at e.mask i ≡ 1)) ⊎ ((is_cut_at p e (2 ^ i) ≡ false) × ((bit_at p.mask i ≡ 1) ⊎ (bit_at e.mask i ≡ 0)))
+cut_cases p e i = elim (bit_test p.mask i) [
+  | inl free ↦ elim (bit_test e.mask i) [
+    | inl off ↦ inr (ap (λ b. b && not (bit_and e.mask (2 ^ i) == 0)) free.0 ∙ ap (λ b. true && not b) off.0, inr off.1)
+    | inr on ↦ inl (ap (λ b. b && not (bit_and e.mask (2 ^ i) == 0)) free.0 ∙ ap (λ b. true && not b) on.0, free.1, on.1)
+  ]
+  | inr taken ↦ inr (ap (λ b. b && not (bit_and e.mask (2 ^ i) == 0)) taken.0, inl taken.1)
+]
+
+pub meets_tells : (a b : Block) → ((meets a b ≡ true) × Intersects a b) ⊎ ((meets a b ≡ false) × (Intersects a b → ⊥))
+meets_tells a b = elim (eqb_tells (bit_and (bit_and (bit_xor a.key b.key) a.mask) b.mask) 0) [
+  | inl agree ↦ inl (agree.0, meet_where_agree a b agree.1)
+  | inr other ↦ inr (other.0, λ meet. other.1 (agree_where_meet a b meet))
+]

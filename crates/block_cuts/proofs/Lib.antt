@@ -1,0 +1,3 @@
+mod HalfLaws
+mod PieceLaws
+mod Turns
