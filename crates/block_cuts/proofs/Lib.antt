@@ -1,3 +1,3 @@
 mod HalfLaws
-mod PieceLaws
+pub mod PieceLaws
 mod Turns

@@ -4,7 +4,7 @@ use Rattle.std.specs.Prelude.{All, AllPairs, Option, IfSome, if◌then◌else◌
 use Rattle.std.specs.List.{Contains, flat_map}
 use Rattle.std.specs.Int.{bit_at}
 use Rattle.std.proofs.lemmas.Bool.{cases_lt}
-use Rattle.std.proofs.lemmas.Bool.Decides.{eqb_tells}
+use Rattle.std.proofs.lemmas.Bool.Decides.{eqb_tells, leb_tells}
 use Rattle.std.proofs.lemmas.List.Elements.{All-nil, All-cons, All-head, All-tail}
 use Rattle.std.proofs.lemmas.List.Kept.{AllPairs-cons}
 use Rattle.std.proofs.lemmas.Nat.Bits.{bit_at-lt, bit_at_above}
@@ -313,3 +313,18 @@ pieces_of room block others final same = record {
 pub are_pieces : (room : ℕ) (block : Block) (others : List Block) (given : Option (List Block)) → given ≡ cut room block others → IfSome given (ArePieces block others)
 are_pieces room block others None same = tt
 are_pieces room block others (Some final) same = pieces_of room block others final (sym same)
+
+-- ---- how many they are
+
+few_or_none : (room : ℕ) (ps final : List Block) → ((nat_le (length ps) room ≡ true) × (length ps ≤ room)) ⊎ ((nat_le (length ps) room ≡ false) × (room < length ps))
+    → (if nat_le (length ps) room then Some ps else None) ≡ Some final → length final ≤ room
+few_or_none room ps final (inl few) same = subst (λ xs. length xs ≤ room) (same_Some ps final (where_few (nat_le (length ps) room) (Some ps) final same)) few.1
+few_or_none room ps final (inr many) same = absurd (none-some final (sym (ap (λ b. if b then Some ps else None) many.0) ∙ same))
+
+few_from : (room : ℕ) (block : Block) (es ps final : List Block) → cut_from room block ps es ≡ Some final → length final ≤ room
+few_from room block [] ps final same = few_or_none room ps final (leb_tells (length ps) room) same
+few_from room block (e ∷ es) ps final same = few_from room block es (cut_by block e ps) final (where_few (nat_le (length ps) room) (cut_from room block (cut_by block e ps) es) final same)
+
+pub few_pieces : (room : ℕ) (block : Block) (others : List Block) (given : Option (List Block)) → given ≡ cut room block others → IfSome given (λ ps. length ps ≤ room)
+few_pieces room block others None same = tt
+few_pieces room block others (Some final) same = few_from room block others (block ∷ []) final (sym same)

@@ -1,5 +1,5 @@
 // A block less other blocks.
-ghost use Rattle.std.specs.Prelude.{◌≡◌, IfOk, IfSome, flat_map};
+ghost use Rattle.std.specs.Prelude.{◌≡◌, ◌≤◌, IfOk, IfSome, flat_map, length};
 ghost use Rattle.block_cuts.specs.Cuts.{apart_of, cut, cut_by};
 ghost use Rattle.block_cuts.specs.Pieces.{ArePieces};
 
@@ -17,6 +17,7 @@ pub fn cut(
 ) -> Result<Option<Seq<Block>>, Memory>
     ensures cut { IfOk result (λ pieces. pieces ≡ cut room block others.now) }
     ensures pieces { IfOk result (λ pieces. IfSome pieces (ArePieces block others.now)) }
+    ensures few { IfOk result (λ pieces. IfSome pieces (λ ps. length ps ≤ room)) }
 {
     let cut = cut_list(alloc, block, others, room)?;
     Ok(cut)

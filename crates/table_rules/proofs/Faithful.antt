@@ -1,0 +1,145 @@
+-- The table that is made of rows says what they say.
+use Rattle.std.proofs.Common.{◌≡◌, ℕ, ◌+◌, ◌-◌, ◌^◌, ◌<◌, ◌≤◌, ◌⊎◌, inl, inr, List, [], ◌∷◌, ◌++◌, length, get_or, map, Some, None, refl, sym, ap, ◌∙◌, subst, append_assoc, arith}
+use Rattle.std.specs.Prelude.{All, AllPairs}
+use Rattle.std.specs.List.{Contains}
+use Rattle.std.specs.List.Sorted.{IsPermutation}
+use Rattle.std.proofs.lemmas.List.{append-nil, get_or-map, length-map}
+use Rattle.std.proofs.lemmas.List.Elements.{All-nil, All-map}
+use Rattle.std.proofs.lemmas.Option.{none-some}
+use Rattle.spin_base.proofs.Members.{Contains-map}
+use Rattle.spin_base.proofs.Pairs.{AllPairs-nil}
+use Rattle.spin_base.specs.declared.blocks.Block.{Block}
+use Rattle.spin_base.specs.declared.routes.Route.{Route}
+use Rattle.spin_base.specs.declared.chips.Port.TheVariants.{Local}
+use Rattle.tern_word.specs.declared.tables.Alias.{Alias}
+use Rattle.tern_word.specs.declared.tables.Row.{Row}
+use Rattle.tern_word.specs.Ternary.{Matches, Intersects, LiesIn, generality}
+use Rattle.tern_word.specs.SoundTable.{HoldsItsAliases, IsSound, Misses, Original, served, served_by}
+use Rattle.cover_merge.specs.Merge.{place_for}
+use Rattle.block_cuts.specs.Cuts.{cut}
+use Rattle.block_cuts.specs.Pieces.{ArePieces, HasPiece, NoneHas}
+use Rattle.block_cuts.proofs.PieceLaws.{are_pieces}
+use Rattle.table_rules.specs.declared.rows.RoutedBlock.{RoutedBlock}
+use Rattle.table_rules.specs.Made.{IsMadeFrom, IsMadeOf, IsPut, StandsBefore, alias_of, blocks_of, done, in_pieces, left_out, more, piece_row, whole, whole_row, with_row, with_rows}
+use Rattle.table_rules.specs.Rows.{GoesBy, KeepsRoutes, first_with, routed}
+use Rattle.table_rules.proofs.FirstRows.{first_next, first_none, first_of_more, first_stays, none_before, none_first, not_none}
+use Rattle.table_rules.proofs.Sounds.{GoesWhere, all_go, all_insert, all_with_rows, served_keeps, served_keeps_all, served_new, served_news, sound_with, sound_with_pieces}
+
+-- an original block of the table has the key, and the route
+record IsServed (rows : List Row) (k : ℕ) (route : Route) : Type 0 where
+  pub original : Original
+  pub among : Contains (served rows) original
+  pub has : Matches original.block k
+  pub by : original.route ≡ route
+
+-- each key of the block is one that some of the rows before has
+abbrev IsOf : List RoutedBlock → Row → Type 0
+IsOf before r = (k : ℕ) → k < 2 ^ 32 → Matches r.block k → first_with before k ≡ None → ⊥
+
+-- the table says what the rows say
+record IsFaithful (before : List RoutedBlock) (rows : List Row) : Type 0 where
+  pub sound : IsSound rows
+  pub within : All (IsOf before) rows
+  pub complete : (k : ℕ) (row : RoutedBlock) → k < 2 ^ 32 → first_with before k ≡ Some row → IsServed rows k row.route
+
+module _ (before : List RoutedBlock) (rows : List Row) (given : RoutedBlock) (pieces : List Block) (so_far : IsFaithful before rows) (are : ArePieces given.block (blocks_of before) pieces) where
+  -- no row of the table meets a piece
+  clear_of : All (λ (r : Row). All (λ (p : Block). Intersects r.block p → ⊥) pieces) rows
+  clear_of i d inside j e within met = so_far.within i d inside met.key met.small met.first (none_first before met.key (are.clear j e within met.key met.small met.second))
+
+  still_of : (r : Row) → IsOf before r → IsOf (before ++ given ∷ []) r
+  still_of r of k small hit none = of k small hit (none_before before (given ∷ []) k none)
+
+  still_within : All (IsOf (before ++ given ∷ [])) rows
+  still_within i d inside = still_of (get_or rows i d) (so_far.within i d inside)
+
+  -- each key is served by the table as before, or by a piece
+  module _ (next : List Row) (keeps : (o : Original) → Contains (served rows) o → Contains (served next) o) (news : (k : ℕ) → HasPiece pieces k → IsServed next k given.route) where
+    complete : (k : ℕ) (row : RoutedBlock) → k < 2 ^ 32 → first_with (before ++ given ∷ []) k ≡ Some row → IsServed next k row.route
+    complete k row small first = elim (first_of_more before given row k first) [
+      | inl earlier ↦
+          let it = so_far.complete k row small earlier in
+          record { original = it.original; among = keeps it.original it.among; has = it.has; by = it.by }
+      | inr this ↦
+          let it = news k (are.whole k small this.2 (first_none before k this.0)) in
+          record { original = it.original; among = it.among; has = it.has; by = it.by ∙ ap (λ (r : RoutedBlock). r.route) this.1 }
+    ]
+
+  original_of : Block → Original
+  original_of p = record { block = p; port = Local; route = given.route }
+
+  with_whole : StandsBefore given.block rows → IsFaithful (before ++ given ∷ []) (with_row rows (whole_row given pieces))
+  unfolding original_of
+  with_whole stands = record {
+    sound = sound_with rows (whole_row given pieces) so_far.sound
+        (All-map (λ (a : Alias). LiesIn a.block given.block) alias_of pieces are.inside)
+        (λ i d inside. All-map (λ (a : Alias). Intersects (get_or rows i d).block a.block → ⊥) alias_of pieces (clear_of i d inside))
+        stands;
+    within = all_insert (IsOf (before ++ given ∷ [])) rows (place_for rows (generality given.block)) (whole_row given pieces) still_within (λ k small hit none. not_none before given k hit none);
+    complete = complete (with_row rows (whole_row given pieces)) (served_keeps rows (whole_row given pieces)) (λ k piece. record {
+      original = original_of piece.piece;
+      among = served_new rows (whole_row given pieces) (original_of piece.piece)
+          (Contains-map (λ (a : Alias). let o : Original = record { block = a.block; port = a.port; route = given.route } in o) (map alias_of pieces) (alias_of piece.piece)
+          (Contains-map alias_of pieces piece.piece piece.among));
+      has = piece.has;
+      by = refl;
+    });
+  }
+
+  with_pieces : IsFaithful (before ++ given ∷ []) (with_rows rows (map (piece_row given.route) pieces))
+  unfolding original_of
+  with_pieces = record {
+    sound = sound_with_pieces given.route pieces rows so_far.sound clear_of are.apart;
+    within = all_with_rows (IsOf (before ++ given ∷ [])) (map (piece_row given.route) pieces) rows still_within
+        (All-map (IsOf (before ++ given ∷ [])) (piece_row given.route) pieces (λ i d inside k small hit none. not_none before given k (are.inside i d inside k small hit) none));
+    complete = complete (with_rows rows (map (piece_row given.route) pieces)) (served_keeps_all (map (piece_row given.route) pieces) rows) (λ k piece.
+        let i = piece.among.0 in
+        let inside : i < length (map (piece_row given.route) pieces) = omega (arith, piece.among.1, length-map pieces (piece_row given.route)) in
+        let is : get_or (map (piece_row given.route) pieces) i (piece_row given.route piece.piece) ≡ piece_row given.route piece.piece =
+        get_or-map (piece_row given.route) pieces i piece.piece (piece_row given.route piece.piece) piece.among.1 ∙ ap (piece_row given.route) piece.among.2 in record {
+          original = original_of piece.piece;
+          among = served_news (map (piece_row given.route) pieces) rows i (piece_row given.route piece.piece) (original_of piece.piece) inside
+              (subst (λ r. Contains (served_by r) (original_of piece.piece)) (sym is) (0, omega arith, refl));
+          has = piece.has;
+          by = refl;
+        });
+  }
+
+  with_none : pieces ≡ [] → IsFaithful (before ++ given ∷ []) rows
+  with_none none = record {
+    sound = so_far.sound;
+    within = still_within;
+    complete = complete rows (λ o among. among) (λ k piece. absurd (omega (arith, piece.among.1, ap length none)));
+  }
+
+faithful_put : (before : List RoutedBlock) (rows : List Row) (given : RoutedBlock) (pieces : List Block) (next : List Row) → IsFaithful before rows → ArePieces given.block (blocks_of before) pieces
+    → IsPut rows given pieces next → IsFaithful (before ++ given ∷ []) next
+faithful_put before rows given pieces next so_far are (left_out none) = with_none before rows given pieces so_far are none
+faithful_put before rows given pieces next so_far are (whole some stands) = with_whole before rows given pieces so_far are stands
+faithful_put before rows given pieces next so_far are (in_pieces some stands_not) = with_pieces before rows given pieces so_far are
+
+faithful_from : (room : ℕ) (before : List RoutedBlock) (rows : List Row) (given : List RoutedBlock) (table : List Row) → IsMadeFrom room before rows given table → IsFaithful before rows → IsFaithful (before ++ given) table
+faithful_from room before rows given table (done r b rs) so_far = subst (λ l. IsFaithful l rs) (sym (append-nil b)) so_far
+faithful_from room before rows given table (more r b rs g rest pieces next t cuts put from) so_far =
+    subst (λ l. IsFaithful l t) (append_assoc b (g ∷ []) rest)
+    (faithful_from (r - length pieces) (b ++ g ∷ []) next rest t from (faithful_put b rs g pieces next so_far (are_pieces r g.block (blocks_of b) (Some pieces) (sym cuts)) put))
+
+none_yet : IsFaithful [] []
+none_yet = record {
+  sound = record { ordered = AllPairs-nil (λ (r s : Row). generality r.block ≤ generality s.block); inside = All-nil HoldsItsAliases; unmet = AllPairs-nil (λ (r s : Row). Misses r.block s) };
+  within = All-nil (IsOf []);
+  complete = λ k row small first. absurd (none-some row first);
+}
+
+pub made_is_sound : (room : ℕ) (given : List RoutedBlock) (table : List Row) → IsMadeOf room given table → IsSound table
+made_is_sound room given table made = (faithful_from room [] [] given table made none_yet).sound
+
+pub keeps : (room : ℕ) (given : List RoutedBlock) (table rows : List Row) → IsMadeOf room given table → IsSound rows → IsPermutation (served table) (served rows) → KeepsRoutes given (map routed rows)
+keeps room given table rows made sound same k row small first =
+    let it = (faithful_from room [] [] given table made none_yet).complete k row small first in
+    let there = subst (GoesWhere rows) it.among.2 (all_go table rows sound same it.among.0 it.original it.among.1) in
+    let way = there k small it.has in
+    record { row = way.row; first = way.first; by = way.by ∙ it.by }
+
+pub keeps_itself : (given : List RoutedBlock) → KeepsRoutes given given
+keeps_itself given k row small first = record { row = row; first = first; by = refl }

@@ -1,0 +1,4 @@
+mod FirstRows
+mod Sounds
+mod Faithful
+mod Turns

@@ -1,0 +1,64 @@
+-- One piece more, one row more.
+use Rattle.std.proofs.Common.{◌≡◌, ℕ, ◌+◌, ◌-◌, ◌<◌, ◌≤◌, List, [], ◌∷◌, ◌++◌, length, get_or, map, take, drop, Some, None, refl, sym, ap, ◌∙◌, subst, arith}
+use Rattle.std.proofs.lemmas.List.{drop_all, drop_more, map_push, take_more}
+use Rattle.std.proofs.lemmas.List.Edits.{length-insert}
+use Rattle.spin_base.specs.declared.blocks.Block.{Block}
+use Rattle.spin_base.specs.declared.routes.Route.{Route}
+use Rattle.tern_word.specs.declared.tables.Row.{Row}
+use Rattle.tern_word.specs.Ternary.{generality}
+use Rattle.cover_merge.specs.Merge.{place_for}
+use Rattle.cover_merge.proofs.Positions.{place_for-le}
+use Rattle.block_cuts.specs.Cuts.{cut}
+use Rattle.table_rules.specs.declared.rows.RoutedBlock.{RoutedBlock}
+use Rattle.table_rules.specs.Made.{HasTooManyPieces, IsMadeFrom, IsMadeOf, IsPut, blocks_of, done, here, later, more, piece_row, with_row, with_rows}
+
+-- ---- pieces as rows
+
+module _ (route : Route) (pieces : List Block) (i : ℕ) (rows all : List Row) where
+  pub piece_turn : (piece : Block) (row : Row) (new : List Row) → i < length pieces → piece ≡ get_or pieces i piece → with_rows rows (map (piece_row route) (drop i pieces)) ≡ all
+      → row ≡ piece_row route piece → new ≡ with_row rows row → with_rows new (map (piece_row route) (drop (i + 1) pieces)) ≡ all
+  piece_turn piece row new within read so_far is put =
+      let rest = map (piece_row route) (drop (i + 1) pieces) in
+      ap (λ rs. with_rows rs rest) (put ∙ ap (with_row rows) is)
+      ∙ (ap (λ x. with_rows (with_row rows (piece_row route x)) rest) read
+      ∙ (sym (ap (λ l. with_rows rows (map (piece_row route) l)) (drop_more pieces i piece within))
+      ∙ so_far))
+
+  pub pieces_all : length pieces ≤ i → with_rows rows (map (piece_row route) (drop i pieces)) ≡ all → rows ≡ all
+  pieces_all past so_far = sym (ap (λ l. with_rows rows (map (piece_row route) l)) (drop_all i pieces past)) ∙ so_far
+
+pub length_with : (rows new : List Row) (row : Row) → new ≡ with_row rows row → length new ≡ length rows + 1
+length_with rows new row put = ap length put ∙ length-insert rows (place_for rows (generality row.block)) row (place_for-le rows (generality row.block))
+
+-- ---- rows
+
+module _ (left : ℕ) (given : List RoutedBlock) (i : ℕ) (rows : List Row) where
+  pub rows_all : length given ≤ i → IsMadeFrom left (take i given) rows (drop i given) rows
+  rows_all past = subst (λ l. IsMadeFrom left (take i given) rows l rows) (sym (drop_all i given past)) (done left (take i given) rows)
+
+  module _ (row : RoutedBlock) (blocks : List Block) (within : i < length given) (read : row ≡ get_or given i row) (are : blocks ≡ blocks_of (take i given)) where
+    before : take (i + 1) given ≡ take i given ++ row ∷ []
+    before = take_more given i row within ∙ ap (λ x. take i given ++ x ∷ []) (sym read)
+
+    behind : drop i given ≡ row ∷ drop (i + 1) given
+    behind = drop_more given i row within ∙ ap (λ x. x ∷ drop (i + 1) given) (sym read)
+
+    pub blocks_more : (new : List Block) → new ≡ blocks ++ row.block ∷ [] → new ≡ blocks_of (take (i + 1) given)
+    blocks_more new put = put ∙ (ap (λ bs. bs ++ row.block ∷ []) are ∙ (sym (map_push (λ (r : RoutedBlock). r.block) (take i given) row) ∙ ap blocks_of (sym before)))
+
+    pub no_room : None ≡ cut left row.block blocks → HasTooManyPieces left (take i given) (drop i given)
+    no_room none = subst (HasTooManyPieces left (take i given)) (sym behind) (here left (take i given) row (drop (i + 1) given) (ap (cut left row.block) (sym are) ∙ sym none))
+
+    module _ (pieces : List Block) (cuts : Some pieces ≡ cut left row.block blocks) where
+      is_cut : cut left row.block (blocks_of (take i given)) ≡ Some pieces
+      is_cut = ap (cut left row.block) (sym are) ∙ sym cuts
+
+      pub more_rows : (new table : List Row) → IsPut rows row pieces new → IsMadeFrom (left - length pieces) (take (i + 1) given) new (drop (i + 1) given) table → IsMadeFrom left (take i given) rows (drop i given) table
+      more_rows new table put from =
+          subst (λ l. IsMadeFrom left (take i given) rows l table) (sym behind)
+          (more left (take i given) rows row (drop (i + 1) given) pieces new table is_cut put (subst (λ l. IsMadeFrom (left - length pieces) l new (drop (i + 1) given) table) before from))
+
+      pub too_many_later : HasTooManyPieces (left - length pieces) (take (i + 1) given) (drop (i + 1) given) → HasTooManyPieces left (take i given) (drop i given)
+      too_many_later many =
+          subst (HasTooManyPieces left (take i given)) (sym behind)
+          (later left (take i given) row (drop (i + 1) given) pieces is_cut (subst (λ l. HasTooManyPieces (left - length pieces) l (drop (i + 1) given)) before many))

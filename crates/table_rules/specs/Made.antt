@@ -1,0 +1,64 @@
+-- The table that is made of rows, each with the blocks for whose keys it decides as aliases (this project's own).
+use Rattle.std.specs.Prelude.{◌≡◌, ℕ, ◌-◌, ◌<◌, List, [], ◌∷◌, ◌++◌, Some, None, length, map, insert}
+use Rattle.spin_base.specs.declared.blocks.Block.{Block}
+use Rattle.spin_base.specs.declared.chips.Port.TheVariants.{Local}
+use Rattle.spin_base.specs.declared.routes.Route.{Route}
+use Rattle.tern_word.specs.declared.tables.Alias.{Alias}
+use Rattle.tern_word.specs.declared.tables.Row.{Row}
+use Rattle.tern_word.specs.Ternary.{generality}
+use Rattle.cover_merge.specs.Merge.{place_for, PassesDown}
+use Rattle.block_cuts.specs.Cuts.{cut}
+use Rattle.table_rules.specs.declared.rows.RoutedBlock.{RoutedBlock}
+
+-- a piece as an alias, of which nothing is known where its packets arrive
+abbrev pub alias_of : Block → Alias
+alias_of piece = record { block = piece; port = Local }
+
+-- a row with its pieces as aliases
+abbrev pub whole_row : RoutedBlock → List Block → Row
+whole_row given pieces = record { block = given.block; route = given.route; aliases = map alias_of pieces }
+
+-- a piece as a row
+abbrev pub piece_row : Route → Block → Row
+piece_row route piece = record { block = piece; route = route; aliases = alias_of piece ∷ [] }
+
+-- the rows with one more, which stands behind all that are at most as general
+abbrev pub with_row : List Row → Row → List Row
+with_row rows row = insert rows (place_for rows (generality row.block)) row
+
+-- the rows with more, one after another
+abbrev pub with_rows : List Row → List Row → List Row
+with_rows rows [] = rows
+with_rows rows (r ∷ more) = with_rows (with_row rows r) more
+
+-- the block meets no alias of a more general row
+abbrev pub StandsBefore : Block → List Row → Type 0
+StandsBefore block rows = PassesDown rows block (place_for rows (generality block))
+
+-- The rows with one more given: it is left out where it decides for no key. It has its pieces as aliases where its block meets no
+-- alias of a more general row, and else each piece is a row of its own.
+pub data IsPut (rows : List Row) (given : RoutedBlock) (pieces : List Block) : List Row → Type 0 where
+  left_out : pieces ≡ [] → IsPut rows given pieces rows
+  whole : 0 < length pieces → StandsBefore given.block rows → IsPut rows given pieces (with_row rows (whole_row given pieces))
+  in_pieces : 0 < length pieces → (StandsBefore given.block rows → ⊥) → IsPut rows given pieces (with_rows rows (map (piece_row given.route) pieces))
+
+abbrev pub blocks_of : List RoutedBlock → List Block
+blocks_of rows = map (λ (r : RoutedBlock). r.block) rows
+
+-- The table's rows after the rows that are still to be put, with what room is left for pieces, the rows that were put, and the
+-- table's rows so far. The pieces of a row are its block less those of the rows before it.
+pub data IsMadeFrom : ℕ → List RoutedBlock → List Row → List RoutedBlock → List Row → Type 0 where
+  done : (room : ℕ) (before : List RoutedBlock) (rows : List Row) → IsMadeFrom room before rows [] rows
+  more : (room : ℕ) (before : List RoutedBlock) (rows : List Row) (given : RoutedBlock) (rest : List RoutedBlock) (pieces : List Block) (next table : List Row)
+      → cut room given.block (blocks_of before) ≡ Some pieces → IsPut rows given pieces next
+      → IsMadeFrom (room - length pieces) (before ++ given ∷ []) next rest table → IsMadeFrom room before rows (given ∷ rest) table
+
+-- the table that is made of rows
+abbrev pub IsMadeOf : ℕ → List RoutedBlock → List Row → Type 0
+IsMadeOf room given table = IsMadeFrom room [] [] given table
+
+-- a row is cut into more pieces than there is room for
+pub data HasTooManyPieces : ℕ → List RoutedBlock → List RoutedBlock → Type 0 where
+  here : (room : ℕ) (before : List RoutedBlock) (given : RoutedBlock) (rest : List RoutedBlock) → cut room given.block (blocks_of before) ≡ None → HasTooManyPieces room before (given ∷ rest)
+  later : (room : ℕ) (before : List RoutedBlock) (given : RoutedBlock) (rest : List RoutedBlock) (pieces : List Block) → cut room given.block (blocks_of before) ≡ Some pieces
+      → HasTooManyPieces (room - length pieces) (before ++ given ∷ []) rest → HasTooManyPieces room before (given ∷ rest)

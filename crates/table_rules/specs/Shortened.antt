@@ -1,0 +1,21 @@
+-- Shorter rows (this project's own).
+use Rattle.std.specs.Prelude.{◌≡◌, ℕ, ◌<◌, ◌≤◌, List, length, map}
+use Rattle.tern_word.specs.declared.tables.Row.{Row}
+use Rattle.cover_merge.specs.Covering.{Covers}
+use Rattle.table_rules.specs.declared.rows.RoutedBlock.{RoutedBlock}
+use Rattle.table_rules.specs.Made.{IsMadeOf}
+use Rattle.table_rules.specs.Rows.{routed}
+
+-- the rows of the covered table that is made of the given rows
+pub record IsCoveredFrom (target room : ℕ) (given : List RoutedBlock) (rows : List Row) : Type 0 where
+  pub long : target < length given
+  pub table : List Row
+  pub made : IsMadeOf room given table
+  pub sets : List (List ℕ)
+  pub covered : Covers target table sets rows
+
+-- A table of at most target rows is its own. Else it is covered; and where that is no shorter, it is its own.
+pub data IsShortenedTo (target room : ℕ) (given : List RoutedBlock) : List RoutedBlock → Type 0 where
+  short : length given ≤ target → IsShortenedTo target room given given
+  shorter : (rows : List Row) → IsCoveredFrom target room given rows → length rows < length given → IsShortenedTo target room given (map routed rows)
+  no_shorter : (rows : List Row) → IsCoveredFrom target room given rows → length given ≤ length rows → IsShortenedTo target room given given

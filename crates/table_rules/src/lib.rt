@@ -1,0 +1,15 @@
+//! Shorter tables: the rows of a router's table, of any tool, in any order, which may overlap.
+//!
+//! The first row that has a key decides. So each row decides for the keys of its block that no earlier row has, and these are cut
+//! into blocks, its aliases (`block_cuts`). With them the rows are a sound table, which is covered (`cover_merge`): rows of one
+//! route are joined, and each key of each alias keeps its route. How a table is made of rows, and when it is given back as it is,
+//! is this project's own; tables are those of the SpiNNaker datasheet.
+#![tactic(auto)]
+
+mod making;
+mod putting;
+mod rows;
+mod shortening;
+
+pub use rows::RoutedBlock;
+pub use shortening::shorten_rows;

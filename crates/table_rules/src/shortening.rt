@@ -1,0 +1,96 @@
+// Shorter rows.
+ghost use Rattle.std.specs.Prelude.{◌≡◌, ◌<◌, ◌≤◌, ◌×◌, ◌^◌, [], IfOk, IfSome, MatchOption, length, map};
+ghost use Rattle.table_rules.specs.Made.{HasTooManyPieces, IsMadeOf};
+ghost use Rattle.table_rules.specs.Rows.{KeepsRoutes, routed};
+ghost use Rattle.table_rules.specs.Shortened.{IsCoveredFrom, IsShortenedTo};
+
+use crate::making::made_table;
+use crate::rows::RoutedBlock;
+use cover_merge::cover;
+use spin_base::{Memory, Seq};
+use std::alloc::Global;
+use tern_word::{Row, Table};
+
+/// The rows of a table with fewer rows, if there is one, that gives each key the route that the given one gives it.
+///
+/// Of a table of more than `target` rows a sound table is made, which is covered until it has at most `target` rows, or no two
+/// can be joined; where that is no shorter, and where the table has at most `target` rows, it is given back as it is. There is
+/// nothing exactly where a longer table's rows are cut into more than `room` pieces. For each key that a row of the given table
+/// has, where the first that has it decides, the first row of the new one that has it has the same route.
+pub fn shorten_rows(
+    alloc: Global,
+    given: &[RoutedBlock],
+    target: u32,
+    room: u32,
+) -> Result<Option<Seq<RoutedBlock>>, Memory>
+    ensures rows { IfOk result
+        (λ new. MatchOption new ((target < length given.now) × (HasTooManyPieces room [] given.now))
+        (IsShortenedTo target room given.now)) }
+    ensures routes { IfOk result (λ new. IfSome new (KeepsRoutes given.now)) }
+    ensures few { IfOk result (λ new. IfSome new (λ rows. length rows ≤ length given.now)) }
+{
+    if given.len() <= target as usize {
+        let same = copy(alloc, given)?;
+        return Ok(Some(same));
+    }
+    match made_table(alloc, given, room)? {
+        Some(table) => {
+            let rows = covered_rows(alloc, given, table, target, room)?;
+            Ok(Some(rows))
+        }
+        None => Ok(None),
+    }
+}
+
+// The rows of the covered table, where they are fewer, and else those given.
+fn covered_rows(
+    alloc: Global,
+    given: &[RoutedBlock],
+    table: Table,
+    target: u32,
+    room: u32,
+) -> Result<Seq<RoutedBlock>, Memory>
+    requires long { target < length given.now }
+    requires made { IsMadeOf room given.now table.rows }
+    requires few { length table.rows < 2 ^ 32 }
+    ensures rows { IfOk result (IsShortenedTo target room given.now) }
+    ensures routes { IfOk result (KeepsRoutes given.now) }
+    ensures few { IfOk result (λ rows. length rows ≤ length given.now) }
+{
+    let covered = cover(alloc, table, target)?;
+    if covered.table.rows.len() < given.len() {
+        rows_of(alloc, covered.table.rows.as_slice())
+    } else {
+        copy(alloc, given)
+    }
+}
+
+// The rows without their aliases.
+fn rows_of(alloc: Global, rows: &[Row]) -> Result<Seq<RoutedBlock>, Memory>
+    ensures { IfOk result (λ new. new ≡ map routed rows.now) }
+{
+    let mut new = Seq::new(alloc);
+    for row in rows {
+        new.push(routed(row))?;
+    }
+    Ok(new)
+}
+
+// A row without its aliases.
+fn routed(row: &Row) -> RoutedBlock
+    ensures { result ≡ routed row.now }
+{
+    RoutedBlock {
+        block: row.block,
+        route: row.route,
+    }
+}
+
+// The same rows.
+fn copy(alloc: Global, given: &[RoutedBlock]) -> Result<Seq<RoutedBlock>, Memory>
+    ensures { IfOk result (λ same. same ≡ given.now) }
+{
+    let mut same = Vec::new(alloc);
+    same.extend_from_slice(given)?;
+    Ok(Seq::from_vec(same))
+}

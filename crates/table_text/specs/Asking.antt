@@ -1,0 +1,111 @@
+-- Tables to be shortened, as JSON: all faults in the order of reading, and what they are (this project's own).
+use Rattle.std.specs.Prelude.{◌==◌, ℕ, ◌≤◌, ◌^◌, ◌%◌, ◌<◌, List, [], ◌∷◌, Some, None, map, length, codes, bit_and}
+use Rattle.std.proofs.Common.{lit<}
+use Rattle.std.proofs.lemmas.Nat.{mod_below}
+use Rattle.serde_json.specs.Data.{Data}
+use Rattle.spin_base.specs.declared.chips.Chip.{Chip}
+use Rattle.spin_base.specs.declared.routes.Route.{Route}
+use Rattle.job_text.specs.declared.faults.JobFault.{JobFault}
+use Rattle.job_text.specs.declared.faults.JobFault.TheVariants.{Shape}
+use Rattle.job_text.specs.Reading.{◌▹◌}
+use Rattle.job_text.specs.Members.{member_of}
+use Rattle.job_text.specs.Paths.{member_at}
+use Rattle.job_text.specs.Fields.{count_faults, list_faults, list_value, number_faults, number_value, range_unless}
+use Rattle.job_readers.specs.Blocks.{block_at}
+use Rattle.job_readers.specs.Entries.{chip_of_numbers}
+use Rattle.job_readers.specs.Items.{items_faults}
+use Rattle.job_readers.specs.RunPart.{items_in}
+use Rattle.table_rules.specs.declared.rows.RoutedBlock.{RoutedBlock}
+use Rattle.table_text.specs.declared.asking.Asked.{Asked}
+use Rattle.table_text.specs.declared.asking.GivenTable.{GivenTable}
+
+-- a key, a mask or a route of a row
+abbrev pub key_faults : List ℕ → Data → List JobFault
+key_faults path d = number_faults path 0 4294967295 None (Some d)
+
+abbrev pub route_faults : List ℕ → Data → List JobFault
+route_faults path d = number_faults path 0 16777215 None (Some d)
+
+abbrev pub whole_value : Data → ℕ
+whole_value d = number_value None (Some d)
+
+-- A row is [key,mask,route]: a key and a mask of 32 bits, and a route of 24. Range of the row, too, where the key has a bit outside
+-- the mask, so that no key is in the block.
+abbrev pub three_faults : List ℕ → List Data → List JobFault
+three_faults path [] = Shape path ∷ []
+three_faults path (k ∷ []) = Shape path ∷ []
+three_faults path (k ∷ (m ∷ [])) = Shape path ∷ []
+three_faults path (k ∷ (m ∷ (r ∷ []))) =
+    key_faults path k ▹ (key_faults path m ▹ (route_faults path r ▹ range_unless (bit_and (whole_value k) (whole_value m) == whole_value k) path))
+three_faults path (k ∷ (m ∷ (r ∷ (d ∷ ds)))) = Shape path ∷ []
+
+unfoldable pub row_faults : List ℕ → Data → List JobFault
+row_faults path d = three_faults path (items_in d)
+
+-- the route of the low 24 bits
+unfoldable pub route_at : ℕ → Route
+route_at bits = record { bits = bits % 16777216; within = mod_below bits 16777216 (lit< tt) }
+
+abbrev pub row_of_numbers : ℕ → ℕ → ℕ → RoutedBlock
+row_of_numbers key mask bits = record { block = block_at key mask; route = route_at bits }
+
+abbrev pub three_value : List Data → RoutedBlock
+three_value [] = row_of_numbers 0 0 0
+three_value (k ∷ []) = row_of_numbers 0 0 0
+three_value (k ∷ (m ∷ [])) = row_of_numbers 0 0 0
+three_value (k ∷ (m ∷ (r ∷ ds))) = row_of_numbers (whole_value k) (whole_value m) (whole_value r)
+
+unfoldable pub row_value : Data → RoutedBlock
+row_value d = three_value (items_in d)
+
+-- the numbers of a chip
+unfoldable pub chip_numbers_faults : List ℕ → Data → List JobFault
+chip_numbers_faults path d = number_faults (member_at path (codes "x")) 0 255 None (member_of (codes "x") d) ▹ number_faults (member_at path (codes "y")) 0 255 None (member_of (codes "y") d)
+
+unfoldable pub chip_numbers : Data → Chip
+chip_numbers d = chip_of_numbers (number_value None (member_of (codes "x") d)) (number_value None (member_of (codes "y") d))
+
+-- A table has at most 65,536 rows.
+unfoldable pub rows_faults : List ℕ → Data → List JobFault
+rows_faults path d =
+    list_faults (member_at path (codes "rows")) true (member_of (codes "rows") d)
+    ▹ (count_faults (member_at path (codes "rows")) 65536 (length (list_value (member_of (codes "rows") d)))
+    ▹ items_faults row_faults (member_at path (codes "rows")) 0 (list_value (member_of (codes "rows") d)))
+
+unfoldable pub rows_value : Data → List RoutedBlock
+rows_value d = map row_value (list_value (member_of (codes "rows") d))
+
+-- A table is an object of the chip's numbers x and y and of rows.
+unfoldable pub table_faults : List ℕ → Data → List JobFault
+table_faults path d = chip_numbers_faults path d ▹ rows_faults path d
+
+unfoldable pub table_value : Data → GivenTable
+table_value d = record { chip = chip_numbers d; rows = rows_value d }
+
+-- a table has few rows
+abbrev pub HasFewRows : GivenTable → Type 0
+HasFewRows t = length t.rows ≤ 65536
+
+-- To how many rows tables are to be shortened: 0, where nothing is said.
+unfoldable pub target_faults : List ℕ → Data → List JobFault
+target_faults path d = number_faults (member_at path (codes "target")) 0 4294967295 (Some 0) (member_of (codes "target") d)
+
+unfoldable pub target_value : Data → ℕ
+target_value d = number_value (Some 0) (member_of (codes "target") d)
+
+-- There are at most 65,536 tables.
+unfoldable pub tables_faults : List ℕ → Data → List JobFault
+tables_faults path d =
+    list_faults (member_at path (codes "tables")) true (member_of (codes "tables") d)
+    ▹ (count_faults (member_at path (codes "tables")) 65536 (length (list_value (member_of (codes "tables") d)))
+    ▹ items_faults table_faults (member_at path (codes "tables")) 0 (list_value (member_of (codes "tables") d)))
+
+unfoldable pub tables_value : Data → List GivenTable
+tables_value d = map table_value (list_value (member_of (codes "tables") d))
+
+-- Tables stand at the path `in`. What is no object has no members.
+unfoldable pub asked_faults : Data → List JobFault
+asked_faults d = target_faults (codes "in") d ▹ tables_faults (codes "in") d
+
+unfoldable pub asked_value : Data → Asked
+asked_value d = record { target = target_value d; tables = tables_value d }

@@ -1,0 +1,212 @@
+// Tables to be shortened.
+ghost use Rattle.std.specs.Prelude.{◌≡◌, ◌≤◌, All, IfOk, length, map};
+ghost use Rattle.serde_json.specs.View.{view};
+ghost use Rattle.job_text.specs.Reading.{GivesOrFaults};
+ghost use Rattle.job_text.specs.Paths.{path_text};
+ghost use Rattle.table_text.specs.Asking.{HasFewRows, asked_faults, asked_value, chip_numbers, chip_numbers_faults, row_faults, row_value, rows_faults, rows_value, table_faults, table_value, tables_faults, tables_value, target_faults, target_value};
+
+use job_readers::{ItemReader, each_item, items_in};
+use job_text::{Path, TextErr, count_to, list, member, number_in, range, shape};
+use serde_json::Value;
+use spin_base::{Block, Chip, Route, Seq};
+use spin_input::Input;
+use std::alloc::Global;
+use table_rules::RoutedBlock;
+
+/// The greatest number of 32 bits.
+const MOST: u64 = 4294967295;
+
+/// The greatest route.
+const MOST_ROUTE: u64 = 16777215;
+
+/// The most tables, and the most rows of one.
+const MOST_ITEMS: u64 = 65536;
+
+/// Tables, and to how many rows each is to be shortened.
+#[derive(Drop)]
+pub struct Asked {
+    pub target: u32,
+    pub tables: Seq<GivenTable>,
+}
+
+/// The rows of the table of a chip, in their order.
+#[derive(Drop)]
+pub struct GivenTable {
+    pub chip: Chip,
+    pub rows: Seq<RoutedBlock>,
+}
+
+// Reads a row: a list of a key, a mask and a route.
+#[derive(Clone, Copy)]
+struct Rows;
+
+impl ItemReader for Rows {
+    ghost use Rattle.std.specs.Prelude.{⊤};
+    ghost use Rattle.table_text.specs.Asking.{row_faults, row_value};
+
+    type Item = RoutedBlock;
+
+    ghost IsReady = { λ _. ⊤ };
+
+    ghost faults = { λ _. row_faults };
+
+    ghost value = { λ _. row_value };
+
+    ghost Holds = { λ _ _. ⊤ };
+
+    fn read(&self, alloc: Global, item: &Value, path: &Path<'_>) -> Result<RoutedBlock, TextErr> {
+        row_in(alloc, item, path)
+    }
+}
+
+// The row that an item is.
+#[tactic(auto, using(job_readers::proofs::Firsts::firsts), unfolding(crate::specs::Asking::row_faults, crate::specs::Asking::row_value))]
+fn row_in(alloc: Global, item: &Value, path: &Path<'_>) -> Result<RoutedBlock, TextErr>
+    ensures { GivesOrFaults (λ r. r) result (row_faults (path_text path.now) (view item.now))
+        (row_value (view item.now)) }
+{
+    let [key, mask, route] = items_in(item) else {
+        return Err(shape(alloc, path));
+    };
+    let key = number_in(alloc, Some(key), path, 0, MOST, None)? as u32;
+    let mask = number_in(alloc, Some(mask), path, 0, MOST, None)? as u32;
+    let bits = number_in(alloc, Some(route), path, 0, MOST_ROUTE, None)? as u32;
+    if key & mask != key {
+        return Err(range(alloc, path));
+    }
+    Ok(RoutedBlock {
+        block: Block { key, mask },
+        route: Route { bits },
+    })
+}
+
+// Reads a table: an object with a chip and rows.
+#[derive(Clone, Copy)]
+struct Tables;
+
+impl ItemReader for Tables {
+    ghost use Rattle.std.specs.Prelude.{⊤};
+    ghost use Rattle.table_text.specs.Asking.{HasFewRows, table_faults, table_value};
+
+    type Item = GivenTable;
+
+    ghost IsReady = { λ _. ⊤ };
+
+    ghost faults = { λ _. table_faults };
+
+    ghost value = { λ _. table_value };
+
+    ghost Holds = { λ _. HasFewRows };
+
+    fn read(&self, alloc: Global, item: &Value, path: &Path<'_>) -> Result<GivenTable, TextErr> {
+        table_in(alloc, item, path)
+    }
+}
+
+// The table that an item is.
+#[tactic(auto, using(job_readers::proofs::Firsts::firsts), unfolding(crate::specs::Asking::table_faults, crate::specs::Asking::table_value))]
+fn table_in(alloc: Global, item: &Value, path: &Path<'_>) -> Result<GivenTable, TextErr>
+    ensures read { GivesOrFaults (λ t. t) result (table_faults (path_text path.now) (view item.now))
+        (table_value (view item.now)) }
+    ensures few { IfOk result HasFewRows }
+{
+    let chip = chip_in(alloc, item, path)?;
+    let rows = rows_in(alloc, item, path)?;
+    Ok(GivenTable { chip, rows })
+}
+
+// The chip of a table.
+#[tactic(auto, using(job_readers::proofs::Firsts::firsts), unfolding(crate::specs::Asking::chip_numbers_faults, crate::specs::Asking::chip_numbers))]
+fn chip_in(alloc: Global, item: &Value, path: &Path<'_>) -> Result<Chip, TextErr>
+    ensures { GivesOrFaults (λ c. c) result
+        (chip_numbers_faults (path_text path.now) (view item.now))
+        (chip_numbers (view item.now)) }
+{
+    let x_path = Path::Member(path, "x");
+    let x = number_in(alloc, member(item, "x"), &x_path, 0, 255, None)?;
+    let y_path = Path::Member(path, "y");
+    let y = number_in(alloc, member(item, "y"), &y_path, 0, 255, None)?;
+    Ok(Chip {
+        x: x as u8,
+        y: y as u8,
+    })
+}
+
+// The rows of a table.
+#[tactic(auto, using(job_readers::proofs::Firsts::firsts), unfolding(crate::specs::Asking::rows_faults, crate::specs::Asking::rows_value))]
+fn rows_in(alloc: Global, item: &Value, path: &Path<'_>) -> Result<Seq<RoutedBlock>, TextErr>
+    ensures read { GivesOrFaults (λ rs. rs) result
+        (rows_faults (path_text path.now) (view item.now))
+        (rows_value (view item.now)) }
+    ensures few { IfOk result (λ rs. length rs ≤ 65536) }
+{
+    let path = Path::Member(path, "rows");
+    let items = list(alloc, member(item, "rows"), &path, true)?;
+    count_to(alloc, &path, MOST_ITEMS, items.len() as u64)?;
+    each_item(alloc, items, &path, &Rows)
+}
+
+/// The tables that a value asks to be shortened.
+///
+/// # Errors
+///
+/// `Fault` with the first fault in the order of reading: that of `target`, that of the list of tables, then those of each table,
+/// its chip first; `Memory`.
+#[tactic(auto, using(job_readers::proofs::Firsts::firsts), unfolding(crate::specs::Asking::asked_faults, crate::specs::Asking::asked_value))]
+pub fn asked_of(alloc: Global, value: &Value) -> Result<Asked, TextErr>
+    ensures read { GivesOrFaults (λ a. a) result (asked_faults (view value.now)) (asked_value
+        (view value.now)) }
+    ensures few { IfOk result (λ a. All HasFewRows a.tables) }
+{
+    let path = Path::Whole("in");
+    let target = target_in(alloc, value, &path)?;
+    let tables = tables_in(alloc, value, &path)?;
+    Ok(Asked { target, tables })
+}
+
+// To how many rows tables are to be shortened.
+#[tactic(auto, unfolding(crate::specs::Asking::target_faults, crate::specs::Asking::target_value))]
+fn target_in(alloc: Global, value: &Value, path: &Path<'_>) -> Result<u32, TextErr>
+    ensures { GivesOrFaults (λ n. n) result (target_faults (path_text path.now) (view value.now))
+        (target_value (view value.now)) }
+{
+    let path = Path::Member(path, "target");
+    let target = number_in(
+        alloc,
+        member(value, "target"),
+        &path,
+        0,
+        MOST,
+        Some(0),
+    )?;
+    Ok(target as u32)
+}
+
+// The tables.
+#[tactic(auto, using(job_readers::proofs::Firsts::firsts), unfolding(crate::specs::Asking::tables_faults, crate::specs::Asking::tables_value))]
+fn tables_in(alloc: Global, value: &Value, path: &Path<'_>) -> Result<Seq<GivenTable>, TextErr>
+    ensures read { GivesOrFaults (λ ts. ts) result
+        (tables_faults (path_text path.now) (view value.now))
+        (tables_value (view value.now)) }
+    ensures few { IfOk result (All HasFewRows) }
+{
+    let path = Path::Member(path, "tables");
+    let items = list(alloc, member(value, "tables"), &path, true)?;
+    count_to(alloc, &path, MOST_ITEMS, items.len() as u64)?;
+    each_item(alloc, items, &path, &Tables)
+}
+
+impl Input for Asked {
+    ghost use Rattle.std.specs.Prelude.{All};
+    ghost use Rattle.table_text.specs.Asking.{HasFewRows, asked_faults, asked_value};
+
+    ghost faults = { asked_faults };
+
+    ghost value_of = { asked_value };
+
+    ghost IsSound = { λ a. All HasFewRows a.tables };
+
+    fn of_value(alloc: Global, value: &Value) -> Result<Asked, TextErr> {
+        asked_of(alloc, value)
+    }
+}

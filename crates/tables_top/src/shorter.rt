@@ -1,0 +1,84 @@
+// Shorter tables, one for each given.
+ghost use Rattle.std.specs.Prelude.{◌≡◌, ◌≤◌, All, IfOk, IsTrue, ◌↔◌, length, map};
+ghost use Rattle.table_text.specs.Asking.{HasFewRows};
+ghost use Rattle.tables_top.specs.Shorter.{AreShorter, IsShorter, KeepsMeaning, entries_of, entry_at, is_long, is_one_long};
+
+use run_report::Refusal;
+use spin_base::{ChipTable, Entry, Memory, ROUTER_ENTRIES, Seq};
+use std::alloc::Global;
+use table_rules::{RoutedBlock, shorten_rows};
+use table_text::{Asked, GivenTable, ShortTable};
+
+/// Into how many pieces the rows of a table may be cut.
+const ROOM: u32 = 262144;
+
+// The shorter tables, in order.
+pub(crate) fn shorter_tables(
+    alloc: Global,
+    target: u32,
+    tables: &[GivenTable],
+) -> Result<Seq<ShortTable>, Memory>
+    ensures { IfOk result (AreShorter target tables.now) }
+{
+    let mut shorter = Seq::new(alloc);
+    for table in tables {
+        let short = shorter_table(alloc, target, table)?;
+        shorter.push(short)?;
+    }
+    Ok(shorter)
+}
+
+// The shorter table of one, or that table, where its rows would be cut into too many pieces.
+fn shorter_table(alloc: Global, target: u32, given: &GivenTable) -> Result<ShortTable, Memory>
+    ensures { IfOk result (IsShorter target given.now) }
+{
+    match shorten_rows(alloc, given.rows.as_slice(), target, ROOM)? {
+        Some(rows) => {
+            let table = chip_table(alloc, given, rows.as_slice())?;
+            Ok(ShortTable { table, kept: false })
+        }
+        None => {
+            let table = chip_table(alloc, given, given.rows.as_slice())?;
+            Ok(ShortTable { table, kept: true })
+        }
+    }
+}
+
+// The table of the chip with these rows.
+fn chip_table(
+    alloc: Global,
+    given: &GivenTable,
+    rows: &[RoutedBlock],
+) -> Result<ChipTable, Memory>
+    ensures chip { IfOk result (λ t. t.chip ≡ given.now.chip) }
+    ensures entries { IfOk result (λ t. t.entries ≡ map entry_at rows.now) }
+{
+    let mut entries = Seq::new(alloc);
+    for row in rows {
+        entries.push(entry_at(*row))?;
+    }
+    Ok(ChipTable {
+        chip: given.chip,
+        entries,
+    })
+}
+
+// The entry that a row is.
+fn entry_at(row: RoutedBlock) -> Entry
+    ensures { result ≡ entry_at row }
+{
+    Entry {
+        key: row.block.key,
+        mask: row.block.mask,
+        route: row.route,
+    }
+}
+
+// Whether one of the tables has more entries than a router.
+pub(crate) fn is_one_long(tables: &[ShortTable]) -> bool
+    ensures { result ≡ is_one_long tables.now }
+{
+    tables
+        .iter()
+        .any(|short| short.table.entries.len() > ROUTER_ENTRIES)
+}
