@@ -17,6 +17,7 @@ from .images import Image, decode, encode
 from .jobs import Job, Machine, Net, Packet, Vertex, collect, dump, inject, send, take
 from .kinds import BrokenAnswer
 from .members import Slip, UnknownMembers
+from .minimising import Minimised, minimise
 from .program import NoProgram, Refused, apps, check, compile, gen, reinject, run, tables, trace
 from .reports import Delivery, Dump, Keys, Place, Plan, Report, Row, Summary, Table, Wait, links_of, cores_of
 from .trees import trees
@@ -29,5 +30,5 @@ __all__ = [
     "Ran", "Refused", "Report", "Right", "Row", "RowsOut", "Slip", "Split", "Summary", "Table", "UnknownMembers", "Unloaded", "Verdict",
     "Vertex", "Wait", "Waiting", "Wrong", "apps", "check", "collect", "compile", "cores_of", "decode", "dump", "encode", "explain",
     "gen", "inject", "links_of", "load", "reinject", "run", "send", "tables", "take", "trace", "trees", "unload",
-    "Dies", "KeyedNet", "Loops", "Misses", "OffTree", "Strays", "TooLong", "Twice", "notes", "verify",
+    "Dies", "KeyedNet", "Loops", "Minimised", "Misses", "OffTree", "Strays", "TooLong", "Twice", "minimise", "notes", "verify",
 ]

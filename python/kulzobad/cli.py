@@ -6,7 +6,7 @@ import json
 import sys
 from typing import List, NoReturn, Optional, Sequence
 
-from . import draw_command, explain_command, linting, page, tree_command, verify_command, words
+from . import draw_command, explain_command, linting, minimise_command, page, tree_command, verify_command, words
 from .command import BAD_JOB, USAGE, Stopped, write
 from .explaining import lines_of
 from .json_forms import refused_in_json
@@ -23,6 +23,7 @@ COMMANDS = [
     tree_command,
     draw_command,
     verify_command,
+    minimise_command,
     page,
 ]
 

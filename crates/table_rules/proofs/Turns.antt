@@ -1,16 +1,21 @@
 -- One piece more, one row more.
-use Rattle.std.proofs.Common.{◌≡◌, ℕ, ◌+◌, ◌-◌, ◌<◌, ◌≤◌, List, [], ◌∷◌, ◌++◌, length, get_or, map, take, drop, Some, None, refl, sym, ap, ◌∙◌, subst, arith}
+use Rattle.std.proofs.Common.{◌≡◌, ℕ, ◌+◌, ◌-◌, ◌<◌, ◌≤◌, ◌==◌, ◌⊎◌, inl, inr, true, false, List, [], ◌∷◌, ◌++◌, length, get_or, map, take, drop, Some, None, refl, sym, ap, ◌∙◌, subst, arith}
+use Rattle.std.proofs.lemmas.Bool.{eq-eqb}
+use Rattle.std.proofs.lemmas.Bool.Decides.{eqb_tells}
 use Rattle.std.proofs.lemmas.List.{drop_all, drop_more, map_push, take_more}
 use Rattle.std.proofs.lemmas.List.Edits.{length-insert}
 use Rattle.spin_base.specs.declared.blocks.Block.{Block}
 use Rattle.spin_base.specs.declared.routes.Route.{Route}
 use Rattle.tern_word.specs.declared.tables.Row.{Row}
 use Rattle.tern_word.specs.Ternary.{generality}
-use Rattle.cover_merge.specs.Merge.{place_for}
+use Rattle.cover_merge.specs.Merge.{place_for, PassesDown}
+use Rattle.cover_merge.specs.Covering.{Covers}
 use Rattle.cover_merge.proofs.Positions.{place_for-le}
 use Rattle.block_cuts.specs.Cuts.{cut}
 use Rattle.table_rules.specs.declared.rows.RoutedBlock.{RoutedBlock}
-use Rattle.table_rules.specs.Made.{HasTooManyPieces, IsMadeFrom, IsMadeOf, IsPut, blocks_of, done, here, later, more, piece_row, with_row, with_rows}
+use Rattle.table_rules.specs.Rows.{routed}
+use Rattle.table_rules.specs.Shortened.{IsCoveredFrom, IsShortenedTo, no_shorter, shorter}
+use Rattle.table_rules.specs.Made.{HasTooManyPieces, IsMadeFrom, IsMadeOf, IsPut, StandsBefore, blocks_of, done, here, later, more, piece_row, with_row, with_rows}
 
 -- ---- pieces as rows
 
@@ -62,3 +67,41 @@ module _ (left : ℕ) (given : List RoutedBlock) (i : ℕ) (rows : List Row) whe
       too_many_later many =
           subst (HasTooManyPieces left (take i given)) (sym behind)
           (later left (take i given) row (drop (i + 1) given) pieces is_cut (subst (λ l. HasTooManyPieces (left - length pieces) l (drop (i + 1) given)) before many))
+
+-- ---- what the code tests
+
+eqb_is : (n : ℕ) → true ≡ (n == 0) → n ≡ 0
+eqb_is n is = elim (eqb_tells n 0) [
+  | inl same ↦ same.1
+  | inr other ↦ let no : true ≡ false = is ∙ other.0 in absurd cc
+]
+
+pub no_pieces : (pieces : List Block) → true ≡ (length pieces == 0) → pieces ≡ []
+no_pieces [] is = refl
+no_pieces (p ∷ pieces) is = absurd (omega (arith, eqb_is (length (p ∷ pieces)) is))
+
+pub some_pieces : (pieces : List Block) → false ≡ (length pieces == 0) → 0 < length pieces
+some_pieces [] is = let no : false ≡ true = is ∙ eq-eqb 0 0 refl in absurd cc
+some_pieces (p ∷ pieces) is = omega arith
+
+module _ (rows list other : List Row) (block : Block) (place g : ℕ) (same : list ≡ rows) (also : other ≡ rows) (general : g ≡ generality block) (at : place ≡ place_for other g) where
+  place_is : place ≡ place_for rows (generality block)
+  place_is = at ∙ (ap (λ l. place_for l g) also ∙ ap (place_for rows) general)
+
+  pub stands : PassesDown list block place → StandsBefore block rows
+  stands passes = subst (λ l. PassesDown l block (place_for rows (generality block))) same (subst (PassesDown list block) place_is passes)
+
+  pub stands_not : (PassesDown list block place → ⊥) → StandsBefore block rows → ⊥
+  stands_not fails_to is = fails_to (subst (PassesDown list block) (sym place_is) (subst (λ l. PassesDown l block (place_for rows (generality block))) (sym same) is))
+
+-- ---- covered rows
+
+module _ (target room : ℕ) (given : List RoutedBlock) (table rows : List Row) (sets : List (List ℕ)) (long : target < length given) (made : IsMadeOf room given table) (covers : Covers target table sets rows) where
+  covered_from : IsCoveredFrom target room given rows
+  covered_from = record { long = long; table = table; made = made; sets = sets; covered = covers }
+
+  pub is_shorter : (list : List Row) (new : List RoutedBlock) → list ≡ rows → length rows < length given → new ≡ map routed list → IsShortenedTo target room given new
+  is_shorter list new same less is = subst (IsShortenedTo target room given) (sym (is ∙ ap (map routed) same)) (shorter rows covered_from less)
+
+  pub is_no_shorter : (new : List RoutedBlock) → length given ≤ length rows → new ≡ given → IsShortenedTo target room given new
+  is_no_shorter new most is = subst (IsShortenedTo target room given) (sym is) (no_shorter rows covered_from most)

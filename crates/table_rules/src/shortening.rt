@@ -1,5 +1,5 @@
 // Shorter rows.
-ghost use Rattle.std.specs.Prelude.{◌≡◌, ◌<◌, ◌≤◌, ◌×◌, ◌^◌, [], IfOk, IfSome, MatchOption, length, map};
+ghost use Rattle.std.specs.Prelude.{◌≡◌, ◌<◌, ◌≤◌, ◌^◌, [], IfOk, IfSome, MatchOption, length, map};
 ghost use Rattle.table_rules.specs.Made.{HasTooManyPieces, IsMadeOf};
 ghost use Rattle.table_rules.specs.Rows.{KeepsRoutes, routed};
 ghost use Rattle.table_rules.specs.Shortened.{IsCoveredFrom, IsShortenedTo};

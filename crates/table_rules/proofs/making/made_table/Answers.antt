@@ -1,0 +1,37 @@
+-- From row to row, what is made of the rest is made of all.
+use Rattle.std.proofs.Common.{◌≡◌, ◌-◌, ◌+◌, ◌≤◌, Some, None, length, take, drop, sym, ap, ◌∙◌, subst, arith}
+use Rattle.std.specs.Prelude.{IfSome}
+use Rattle.block_cuts.specs.Cuts.{cut}
+use Rattle.table_rules.specs.Made.{HasTooManyPieces, IsMadeFrom, IsMadeOf, IsPut}
+use Rattle.table_rules.proofs.Turns.{blocks_more, more_rows, no_room, rows_all, too_many_later}
+use Rattle.table_rules.proofs.making.made_table.Goals as goal
+
+pub returns-in_default-clause-made : goal.returns-in_default-clause-made
+returns-in_default-clause-made c =
+    c.loop-row.invariant.too_many
+    (no_room c.loop-row.left c.args.given.now c.loop-row.row-index c.loop-row.rows.items c.row-item.result c.loop-row.blocks.items c.loop-row-test.true c.row-item.is c.loop-row.invariant.blocks
+    (sym c.in_default.is ∙ (c.in_ok-pieces.ensures.cut ∙ ap (cut c.loop-row.left c.row-item.result.block) c.as_slice.ensures.value)))
+
+pub loop-row-preserved : goal.loop-row-preserved
+loop-row-preserved c =
+    let cuts : Some c.in-Some.pieces ≡ cut c.loop-row.left c.row-item.result.block c.loop-row.blocks.items =
+    sym c.in-Some.is ∙ (c.in_ok-pieces.ensures.cut ∙ ap (cut c.loop-row.left c.row-item.result.block) c.as_slice.ensures.value) in
+    let few : length c.in-Some.pieces ≤ c.loop-row.left = subst (λ p. IfSome p (λ ps. length ps ≤ c.loop-row.left)) c.in-Some.is c.in_ok-pieces.ensures.few in record {
+      blocks = blocks_more c.loop-row.left c.args.given.now c.loop-row.row-index c.loop-row.rows.items c.row-item.result c.loop-row.blocks.items c.loop-row-test.true c.row-item.is c.loop-row.invariant.blocks
+          c.push.new.self.items c.in_ok-push.ensures.items;
+      goes_on = λ table from. c.loop-row.invariant.goes_on table
+          (more_rows c.loop-row.left c.args.given.now c.loop-row.row-index c.loop-row.rows.items c.row-item.result c.loop-row.blocks.items c.loop-row-test.true c.row-item.is c.loop-row.invariant.blocks
+          c.in-Some.pieces cuts c.put.new.rows.items table
+          (subst (λ ps. IsPut c.loop-row.rows.items c.row-item.result ps c.put.new.rows.items) c.as_slice-in-loop-row.ensures c.in_ok-put.ensures.put)
+          (subst (λ n. IsMadeFrom (c.loop-row.left - n) (take (c.loop-row.row-index + 1) c.args.given.now) c.put.new.rows.items (drop (c.loop-row.row-index + 1) c.args.given.now) table) c.len-left.ensures from));
+      too_many = λ many. c.loop-row.invariant.too_many
+          (too_many_later c.loop-row.left c.args.given.now c.loop-row.row-index c.loop-row.rows.items c.row-item.result c.loop-row.blocks.items c.loop-row-test.true c.row-item.is c.loop-row.invariant.blocks
+          c.in-Some.pieces cuts
+          (subst (λ n. HasTooManyPieces (c.loop-row.left - n) (take (c.loop-row.row-index + 1) c.args.given.now) (drop (c.loop-row.row-index + 1) c.args.given.now)) c.len-left.ensures many));
+      few = omega (arith, c.loop-row.invariant.few, c.in_ok-put.ensures.few, ap length c.as_slice-in-loop-row.ensures, c.len-left.ensures, few);
+    }
+
+pub returns-clause-made : goal.returns-clause-made
+returns-clause-made c =
+    subst (IsMadeOf c.args.room c.args.given.now) (sym c.from_vec.ensures)
+    (c.loop-row.invariant.goes_on c.loop-row.rows.items (rows_all c.loop-row.left c.args.given.now c.loop-row.row-index c.loop-row.rows.items c.loop-row-test.false))
