@@ -105,7 +105,10 @@ def read_minimised(text: str) -> Minimised:
     kept: List[Chip] = []
     left = 0
     rows: List[Row] = []
-    for i, line in enumerate(text.split("\n")[:-1] if text.endswith("\n") else text.split("\n")):
+    *lines, end = text.split("\n")
+    if end:
+        raise BrokenAnswer("the last line has no end")
+    for i, line in enumerate(lines):
         parts = LINE.fullmatch(line)
         if parts is None or (left > 0) == (parts[1] is not None):
             raise BrokenAnswer(f"line {i + 1}: {line!r}")

@@ -1,7 +1,7 @@
 -- The pieces of a block are the block less the others.
 use Rattle.std.proofs.Common.{◌≡◌, ℕ, zero, suc, ◌+◌, ◌-◌, ◌^◌, ◌<◌, ◌≤◌, ◌⊎◌, Bool, true, false, inl, inr, List, [], ◌∷◌, ◌++◌, length, get_or, Some, None, refl, sym, ap, ◌∙◌, subst, arith}
-use Rattle.std.specs.Prelude.{All, AllPairs, Option, IfSome, if◌then◌else◌, nat_le}
-use Rattle.std.specs.List.{Contains, flat_map}
+use Rattle.std.specs.Prelude.{AllPairs, Option, IfSome, if◌then◌else◌, nat_le}
+use Rattle.std.specs.List.{flat_map}
 use Rattle.std.specs.Int.{bit_at}
 use Rattle.std.proofs.lemmas.Bool.{cases_lt}
 use Rattle.std.proofs.lemmas.Bool.Decides.{eqb_tells, leb_tells}
@@ -11,9 +11,9 @@ use Rattle.std.proofs.lemmas.Nat.Bits.{bit_at-lt, bit_at_above}
 use Rattle.std.proofs.lemmas.Option.{none-some, same_Some}
 use Rattle.spin_base.proofs.Pairs.{AllPairs-nil}
 use Rattle.spin_base.specs.declared.blocks.Block.{Block}
-use Rattle.tern_word.specs.Ternary.{Matches, Intersects, LiesIn, Wants}
+use Rattle.tern_word.specs.Ternary.{Matches, Intersects}
 use Rattle.tern_word.proofs.BlockLaws.{Matches-wants, Matches-from_wants}
-use Rattle.block_cuts.specs.Cuts.{halves, is_cut_at, less, less_of, rest_of, own_half, other_half, meets, apart_of, cut_by, cut_from, cut}
+use Rattle.block_cuts.specs.Cuts.{is_cut_at, less, less_of, own_half, other_half, meets, apart_of, cut_by, cut_from, cut}
 use Rattle.block_cuts.specs.Pieces.{ArePieces, HasPiece, NoneHas}
 use Rattle.block_cuts.proofs.HalfLaws.{cut_cases, meets_tells, own_in, own_bit, own_has, own_wants_here, own_wants, wants_own, other_in, other_bit, other_has}
 
@@ -261,9 +261,9 @@ cut_from_is room block (e ∷ es) ps final inside same =
     let rest = cut_from_is room block es (cut_by block e ps) final (λ k small has. inside k small (by_sub block e ps inside k small has).0)
     (where_few (nat_le (length ps) room) (cut_from room block (cut_by block e ps) es) final same) in record {
       sub = λ k small has.
-      let after = rest.sub k small has in
-      let before = by_sub block e ps inside k small after.0 in
-      (before.0, (before.1, after.1));
+          let after = rest.sub k small has in
+          let before = by_sub block e ps inside k small after.0 in
+          (before.0, (before.1, after.1));
       whole = λ k has free. rest.whole k (by_whole block e ps k has free.0) free.1;
       apart = λ apart. rest.apart (by_apart block e ps apart);
     }

@@ -1,5 +1,5 @@
 -- One bit more, one piece more, one block more.
-use Rattle.std.proofs.Common.{◌≡◌, ℕ, ◌+◌, ◌-◌, ◌<◌, ◌≤◌, ◌^◌, suc, List, [], ◌∷◌, ◌++◌, get_or, take, length, refl, sym, ap, ◌∙◌, append_assoc, arith}
+use Rattle.std.proofs.Common.{◌≡◌, ℕ, ◌+◌, ◌-◌, ◌<◌, ◌≤◌, ◌^◌, suc, List, [], ◌∷◌, ◌++◌, get_or, take, length, sym, ap, ◌∙◌, append_assoc, arith}
 use Rattle.std.specs.List.{flat_map}
 use Rattle.std.proofs.lemmas.List.{append-nil, take_more}
 use Rattle.std.proofs.lemmas.List.Concat.{flat_map-append}
@@ -26,10 +26,6 @@ pub put_all : (n : ℕ) (p e : Block) (old all : List Block) → 32 ≤ n → ol
 put_all n p e old all past so_far =
     let none : 0 ≡ 32 - n = omega arith in
     sym (append-nil old) ∙ (ap (λ m. old ++ less m p e) none ∙ so_far)
-
-pub put_none : (n : ℕ) (p e : Block) (old : List Block) → n ≡ 0 → old ++ less (32 - n) p e ≡ old ++ less_of p e
-unfolding less_of
-put_none n p e old start = ap (λ m. old ++ less (32 - m) p e) start
 
 pub less_is : (p e : Block) (old new : List Block) → new ≡ old ++ less 32 p e → new ≡ old ++ less_of p e
 unfolding less_of

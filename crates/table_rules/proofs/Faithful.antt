@@ -1,6 +1,6 @@
 -- The table that is made of rows says what they say.
-use Rattle.std.proofs.Common.{◌≡◌, ℕ, ◌+◌, ◌-◌, ◌^◌, ◌<◌, ◌≤◌, ◌⊎◌, inl, inr, List, [], ◌∷◌, ◌++◌, length, get_or, map, Some, None, refl, sym, ap, ◌∙◌, subst, append_assoc, arith}
-use Rattle.std.specs.Prelude.{All, AllPairs}
+use Rattle.std.proofs.Common.{◌≡◌, ℕ, ◌+◌, ◌-◌, ◌^◌, ◌<◌, ◌≤◌, inl, inr, List, [], ◌∷◌, ◌++◌, length, get_or, map, Some, None, refl, sym, ap, ◌∙◌, subst, append_assoc, arith}
+use Rattle.std.specs.Prelude.{All}
 use Rattle.std.specs.List.{Contains}
 use Rattle.std.specs.List.Sorted.{IsPermutation}
 use Rattle.std.proofs.lemmas.List.{append-nil, get_or-map, length-map}
@@ -16,13 +16,12 @@ use Rattle.tern_word.specs.declared.tables.Row.{Row}
 use Rattle.tern_word.specs.Ternary.{Matches, Intersects, LiesIn, generality}
 use Rattle.tern_word.specs.SoundTable.{HoldsItsAliases, IsSound, Misses, Original, served, served_by}
 use Rattle.cover_merge.specs.Merge.{place_for}
-use Rattle.block_cuts.specs.Cuts.{cut}
-use Rattle.block_cuts.specs.Pieces.{ArePieces, HasPiece, NoneHas}
+use Rattle.block_cuts.specs.Pieces.{ArePieces, HasPiece}
 use Rattle.block_cuts.proofs.PieceLaws.{are_pieces}
 use Rattle.table_rules.specs.declared.rows.RoutedBlock.{RoutedBlock}
 use Rattle.table_rules.specs.Made.{IsMadeFrom, IsMadeOf, IsPut, StandsBefore, alias_of, blocks_of, done, in_pieces, left_out, more, piece_row, whole, whole_row, with_row, with_rows}
-use Rattle.table_rules.specs.Rows.{GoesBy, KeepsRoutes, first_with, routed}
-use Rattle.table_rules.proofs.FirstRows.{first_next, first_none, first_of_more, first_stays, none_before, none_first, not_none}
+use Rattle.table_rules.specs.Rows.{KeepsRoutes, first_with, routed}
+use Rattle.table_rules.proofs.FirstRows.{first_none, first_of_more, none_before, none_first, not_none}
 use Rattle.table_rules.proofs.Sounds.{GoesWhere, all_go, all_insert, all_with_rows, served_keeps, served_keeps_all, served_new, served_news, sound_with, sound_with_pieces}
 
 -- an original block of the table has the key, and the route

@@ -1,6 +1,6 @@
 -- Which row has a key first.
-use Rattle.std.proofs.Common.{◌≡◌, ℕ, suc, ◌^◌, ◌<◌, ◌⊎◌, ◌==◌, Bool, true, false, cond, inl, inr, List, [], ◌∷◌, ◌++◌, Some, None, refl, sym, ap, ◌∙◌, arith}
-use Rattle.std.specs.Prelude.{All, bit_and}
+use Rattle.std.proofs.Common.{◌≡◌, ℕ, ◌⊎◌, true, false, cond, inl, inr, List, [], ◌∷◌, ◌++◌, Some, None, refl, sym, ap, ◌∙◌}
+use Rattle.std.specs.Prelude.{bit_and}
 use Rattle.std.proofs.lemmas.Bool.{eq-eqb}
 use Rattle.std.proofs.lemmas.Bool.Decides.{eqb_tells}
 use Rattle.std.proofs.lemmas.List.Elements.{All-nil, All-cons, All-head, All-tail}
@@ -39,14 +39,6 @@ first_none [] k none = All-nil (λ (e : Block). Matches e k → ⊥)
 first_none (r ∷ rows) k none = elim (has_tells k r) [
   | inl hit ↦ absurd (none-some r (sym none ∙ first_hit r rows k hit.1))
   | inr miss ↦ All-cons (λ (e : Block). Matches e k → ⊥) r.block (blocks_of rows) miss.1 (first_none rows k (sym (first_miss r rows k miss.1) ∙ none))
-]
-
--- the first row stays the first where more rows follow
-pub first_stays : (rows more : List RoutedBlock) (k : ℕ) (x : RoutedBlock) → first_with rows k ≡ Some x → first_with (rows ++ more) k ≡ Some x
-first_stays [] more k x first = absurd (none-some x first)
-first_stays (r ∷ rows) more k x first = elim (has_tells k r) [
-  | inl hit ↦ first_hit r (rows ++ more) k hit.1 ∙ (sym (first_hit r rows k hit.1) ∙ first)
-  | inr miss ↦ first_miss r (rows ++ more) k miss.1 ∙ first_stays rows more k x (sym (first_miss r rows k miss.1) ∙ first)
 ]
 
 -- where no row is, the first of those that follow is

@@ -1,5 +1,5 @@
 -- A sound table with one row more, and with the pieces of a row, is sound; and a sound table routes its aliases.
-use Rattle.std.proofs.Common.{◌≡◌, ℕ, zero, suc, ◌+◌, ◌^◌, ◌<◌, ◌≤◌, ◌⊎◌, inl, inr, List, [], ◌∷◌, ◌++◌, length, get_or, take, drop, map, Some, refl, sym, ap, ◌∙◌, subst, take-append-drop, get_or-take, get_or-drop, length-take, length-drop, arith}
+use Rattle.std.proofs.Common.{◌≡◌, ℕ, zero, suc, ◌+◌, ◌^◌, ◌<◌, ◌≤◌, inl, inr, List, [], ◌∷◌, ◌++◌, length, get_or, take, drop, map, refl, sym, ap, ◌∙◌, subst, take-append-drop, get_or-take, get_or-drop, length-take, length-drop, arith}
 use Rattle.std.specs.Prelude.{All, AllPairs, insert}
 use Rattle.std.specs.List.{Contains}
 use Rattle.std.specs.List.Sorted.{IsPermutation}
@@ -8,7 +8,7 @@ use Rattle.std.proofs.lemmas.List.Concat.{flat_map-append}
 use Rattle.std.proofs.lemmas.List.Elements.{All-nil, All-append, All-cons, All-drop, All-head, All-map, All-tail, All-take, Contains-append_left, Contains-append_right, Contains-append_cases}
 use Rattle.std.proofs.lemmas.List.Kept.{AllPairs-cons}
 use Rattle.std.proofs.lemmas.List.Sorted.{All-permutation, IsPermutation-sym}
-use Rattle.spin_base.proofs.Pairs.{All-flat_map, AllAcross, AllPairs-nil, AllPairs-head, AllPairs-tail, AllPairs-append, AllPairs-left, AllPairs-right, AllPairs-across}
+use Rattle.spin_base.proofs.Pairs.{All-flat_map, AllAcross, AllPairs-head, AllPairs-tail, AllPairs-append, AllPairs-left, AllPairs-right, AllPairs-across}
 use Rattle.spin_base.specs.declared.blocks.Block.{Block}
 use Rattle.spin_base.specs.declared.routes.Route.{Route}
 use Rattle.tern_word.specs.declared.tables.Alias.{Alias}
@@ -17,9 +17,8 @@ use Rattle.tern_word.specs.Ternary.{Matches, Intersects, LiesIn, generality}
 use Rattle.tern_word.specs.SoundTable.{HoldsItsAliases, IsSound, Misses, Original, served, served_by}
 use Rattle.cover_merge.specs.Merge.{place_for, PassesDown}
 use Rattle.cover_merge.proofs.Positions.{place_for-below, place_for-above}
-use Rattle.table_rules.specs.declared.rows.RoutedBlock.{RoutedBlock}
 use Rattle.table_rules.specs.Made.{alias_of, piece_row, with_row, with_rows}
-use Rattle.table_rules.specs.Rows.{GoesBy, first_with, routed}
+use Rattle.table_rules.specs.Rows.{GoesBy, routed}
 use Rattle.table_rules.proofs.FirstRows.{first_hit, first_miss}
 
 -- ---- lists with one item more
@@ -70,9 +69,6 @@ module _ (rows : List Row) (row : Row) (sound : IsSound rows) where
   }
 
 -- ---- with the pieces of a row
-
-Meets_not : Block → Block → Type 0
-Meets_not a b = Intersects a b → ⊥
 
 module _ (route : Route) where
   pub sound_with_pieces : (pieces : List Block) (rows : List Row) → IsSound rows → All (λ (r : Row). All (λ (p : Block). Intersects r.block p → ⊥) pieces) rows

@@ -1,5 +1,5 @@
 -- Shorter rows (this project's own).
-use Rattle.std.specs.Prelude.{◌≡◌, ℕ, ◌<◌, ◌≤◌, List, length, map}
+use Rattle.std.specs.Prelude.{ℕ, ◌<◌, ◌≤◌, List, length, map}
 use Rattle.tern_word.specs.declared.tables.Row.{Row}
 use Rattle.cover_merge.specs.Covering.{Covers}
 use Rattle.table_rules.specs.declared.rows.RoutedBlock.{RoutedBlock}

@@ -2,7 +2,7 @@
 ghost use Rattle.std.specs.Prelude.{◌≡◌, ◌<◌, ◌≤◌, ◌^◌, [], IfOk, IfSome, MatchOption, length, map};
 ghost use Rattle.table_rules.specs.Made.{HasTooManyPieces, IsMadeOf};
 ghost use Rattle.table_rules.specs.Rows.{KeepsRoutes, routed};
-ghost use Rattle.table_rules.specs.Shortened.{IsCoveredFrom, IsShortenedTo};
+ghost use Rattle.table_rules.specs.Shortened.{IsShortenedTo};
 
 use crate::making::made_table;
 use crate::rows::RoutedBlock;

@@ -1,5 +1,5 @@
 -- Tables to be shortened, as JSON: all faults in the order of reading, and what they are (this project's own).
-use Rattle.std.specs.Prelude.{◌==◌, ℕ, ◌≤◌, ◌^◌, ◌%◌, ◌<◌, List, [], ◌∷◌, Some, None, map, length, codes, bit_and}
+use Rattle.std.specs.Prelude.{◌==◌, ℕ, ◌≤◌, ◌%◌, ◌<◌, List, [], ◌∷◌, Some, None, map, length, codes, bit_and}
 use Rattle.std.proofs.Common.{lit<}
 use Rattle.std.proofs.lemmas.Nat.{mod_below}
 use Rattle.serde_json.specs.Data.{Data}

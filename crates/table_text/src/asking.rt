@@ -171,14 +171,7 @@ fn target_in(alloc: Global, value: &Value, path: &Path<'_>) -> Result<u32, TextE
         (target_value (view value.now)) }
 {
     let path = Path::Member(path, "target");
-    let target = number_in(
-        alloc,
-        member(value, "target"),
-        &path,
-        0,
-        MOST,
-        Some(0),
-    )?;
+    let target = number_in(alloc, member(value, "target"), &path, 0, MOST, Some(0))?;
     Ok(target as u32)
 }
 

@@ -1,13 +1,11 @@
 // Shorter tables, one for each given.
-ghost use Rattle.std.specs.Prelude.{◌≡◌, ◌≤◌, All, IfOk, IsTrue, ◌↔◌, length, map};
-ghost use Rattle.table_text.specs.Asking.{HasFewRows};
-ghost use Rattle.tables_top.specs.Shorter.{AreShorter, IsShorter, KeepsMeaning, entries_of, entry_at, is_long, is_one_long};
+ghost use Rattle.std.specs.Prelude.{◌≡◌, IfOk, map};
+ghost use Rattle.tables_top.specs.Shorter.{AreShorter, IsShorterTable, entry_at, is_long, is_one_long};
 
-use run_report::Refusal;
 use spin_base::{ChipTable, Entry, Memory, ROUTER_ENTRIES, Seq};
 use std::alloc::Global;
 use table_rules::{RoutedBlock, shorten_rows};
-use table_text::{Asked, GivenTable, ShortTable};
+use table_text::{GivenTable, ShortTable};
 
 /// Into how many pieces the rows of a table may be cut.
 const ROOM: u32 = 262144;
@@ -30,7 +28,7 @@ pub(crate) fn shorter_tables(
 
 // The shorter table of one, or that table, where its rows would be cut into too many pieces.
 fn shorter_table(alloc: Global, target: u32, given: &GivenTable) -> Result<ShortTable, Memory>
-    ensures { IfOk result (IsShorter target given.now) }
+    ensures { IfOk result (IsShorterTable target given.now) }
 {
     match shorten_rows(alloc, given.rows.as_slice(), target, ROOM)? {
         Some(rows) => {
@@ -45,11 +43,7 @@ fn shorter_table(alloc: Global, target: u32, given: &GivenTable) -> Result<Short
 }
 
 // The table of the chip with these rows.
-fn chip_table(
-    alloc: Global,
-    given: &GivenTable,
-    rows: &[RoutedBlock],
-) -> Result<ChipTable, Memory>
+fn chip_table(alloc: Global, given: &GivenTable, rows: &[RoutedBlock]) -> Result<ChipTable, Memory>
     ensures chip { IfOk result (λ t. t.chip ≡ given.now.chip) }
     ensures entries { IfOk result (λ t. t.entries ≡ map entry_at rows.now) }
 {
@@ -74,11 +68,16 @@ fn entry_at(row: RoutedBlock) -> Entry
     }
 }
 
-// Whether one of the tables has more entries than a router.
+// Whether the table has more entries than a router.
+fn is_long(short: &ShortTable) -> bool
+    ensures { result ≡ is_long short.now }
+{
+    short.table.entries.len() > ROUTER_ENTRIES
+}
+
+// Whether one of the tables has.
 pub(crate) fn is_one_long(tables: &[ShortTable]) -> bool
     ensures { result ≡ is_one_long tables.now }
 {
-    tables
-        .iter()
-        .any(|short| short.table.entries.len() > ROUTER_ENTRIES)
+    tables.iter().any(|short| is_long(short))
 }

@@ -1,4 +1,12 @@
 // The top call.
+ghost use Rattle.std.specs.Prelude.{◌≡◌, ◌⊎◌, Some, None, IfOk, IfErr, MatchResult, flat_map, length};
+ghost use Rattle.run_report.specs.Refusals.{line_of as line_of_refusal};
+ghost use Rattle.run_report.specs.declared.causes.Refusal.TheVariants.{Memory as NoMemory};
+ghost use Rattle.spin_input.specs.Inputs.{reading_of};
+ghost use Rattle.table_text.specs.Texts.{short_lines};
+ghost use Rattle.tables_top.specs.Ending.{AreMadeTables, EndsTables, HasNoTables, IsSent, IsTold, outcome_status, sending_of, tables_status};
+ghost use Rattle.tables_top.specs.Shorter.{AreShorter};
+
 use crate::outcomes::Outcome;
 use crate::shorter::{is_one_long, shorter_tables};
 use run_report::{OUT_OF_MEMORY, Refusal, line_of};
@@ -7,10 +15,8 @@ use spin_input::read_input;
 use std::alloc::Global;
 use table_text::{Asked, ShortTable, tables_text};
 
-// The lines for which no memory is needed.
+// The line where there are words.
 const USAGE: &str = "usage: no words, and tables as JSON on standard input\n";
-
-const READ_FAULT: &str = "read fault\n";
 
 /// The status where a table has more entries than a router.
 const TABLE_LONG: u8 = 8;
@@ -24,6 +30,10 @@ struct Made {
 
 /// Shortens the tables that the source's bytes are, and writes them, or one line, to the sink. There are no words.
 ///
+/// For each key that a row of a given table has, where the first that has it decides, the first entry of the new table that matches it
+/// has the same route. A table is shortened until it has the target's rows, or no two can be joined; none gets longer. The whole text
+/// stands before its first byte is written, and a refusal writes its line and nothing else.
+///
 /// Statuses: 0, the text was written; 1, there were words; 2, reading failed; 3, writing failed; 4, the bytes are no tables; 8, the
 /// text was written, and a table has more entries than a router; 9, memory ran out.
 pub fn minimise<S: Source, K: Sink>(
@@ -31,18 +41,29 @@ pub fn minimise<S: Source, K: Sink>(
     words: &[String],
     source: &mut S,
     sink: &mut K,
-) -> Outcome {
-    match made_of(alloc, words, source) {
+) -> Outcome
+    ensures status { result.status ≡ outcome_status result.refusal result.tables }
+    ensures ends { EndsTables (length words.now)
+        (reading_of S.left S.faults source.old source.new)
+        (sending_of K.written K.faults sink.old sink.new)
+        result }
+{
+    if !words.is_empty() {
+        return write_line(Refusal::Usage, USAGE.as_bytes(), sink);
+    }
+    match made_of(alloc, source) {
         Ok(made) => write_text(made, sink),
         Err(refusal) => write_refusal(alloc, refusal, sink),
     }
 }
 
 // The shorter tables and their text, or why there are none.
-fn made_of<S: Source>(alloc: Global, words: &[String], source: &mut S) -> Result<Made, Refusal> {
-    if !words.is_empty() {
-        return Err(Refusal::Usage);
-    }
+fn made_of<S: Source>(alloc: Global, source: &mut S) -> Result<Made, Refusal>
+    ensures made { IfOk result (λ made. AreMadeTables
+        (reading_of S.left S.faults source.old source.new)
+        made.tables made.text) }
+    ensures err { IfErr result (HasNoTables (reading_of S.left S.faults source.old source.new)) }
+{
     let asked: Asked = read_input(alloc, source)?;
     match made(alloc, &asked) {
         Ok(made) => Ok(made),
@@ -51,22 +72,27 @@ fn made_of<S: Source>(alloc: Global, words: &[String], source: &mut S) -> Result
 }
 
 // The shorter tables and their text.
-fn made(alloc: Global, asked: &Asked) -> Result<Made, Memory> {
+fn made(alloc: Global, asked: &Asked) -> Result<Made, Memory>
+    ensures tables { IfOk result (λ made. AreShorter asked.now.target asked.now.tables made.tables) }
+    ensures text { IfOk result (λ made. made.text ≡ flat_map short_lines made.tables) }
+{
     let tables = shorter_tables(alloc, asked.target, asked.tables.as_slice())?;
     let text = tables_text(alloc, tables.as_slice())?;
     Ok(Made { tables, text })
 }
 
 // Writes the whole text.
-fn write_text<K: Sink>(made: Made, sink: &mut K) -> Outcome {
+fn write_text<K: Sink>(made: Made, sink: &mut K) -> Outcome
+    ensures status { result.status ≡ outcome_status result.refusal result.tables }
+    ensures tables { result.tables ≡ Some made.tables }
+    ensures sent { IsSent (sending_of K.written K.faults sink.old sink.new)
+        made.text None result.refusal }
+{
     let Made { tables, text } = made;
+    let status = status_of(tables.as_slice());
     match write_all(sink, text.as_slice()) {
         Ok(()) => Outcome {
-            status: if is_one_long(tables.as_slice()) {
-                TABLE_LONG
-            } else {
-                0
-            },
+            status,
             refusal: None,
             tables: Some(tables),
         },
@@ -78,22 +104,49 @@ fn write_text<K: Sink>(made: Made, sink: &mut K) -> Outcome {
     }
 }
 
-// Writes the line of a refusal. Where a line is made in memory, and there is none, that of want of memory is written.
-fn write_refusal<K: Sink>(alloc: Global, refusal: Refusal, sink: &mut K) -> Outcome {
-    match refusal {
-        Refusal::Usage => write_line(refusal, USAGE.as_bytes(), sink),
-        Refusal::ReadFault => write_line(refusal, READ_FAULT.as_bytes(), sink),
-        _ => {
-            match line_of(alloc, &refusal) {
-                Ok(line) => write_line(refusal, line.as_slice(), sink),
-                Err(Memory) => write_line(Refusal::Memory, OUT_OF_MEMORY.as_bytes(), sink),
-            }
-        }
+// The status of tables that were written.
+fn status_of(tables: &[ShortTable]) -> u8
+    ensures { result ≡ tables_status (Some tables.now) }
+{
+    if is_one_long(tables) { TABLE_LONG } else { 0 }
+}
+
+// Writes the line of a refusal. Where there is no memory for it, that of want of memory is written.
+fn write_refusal<K: Sink>(alloc: Global, refusal: Refusal, sink: &mut K) -> Outcome
+    ensures status { result.status ≡ outcome_status result.refusal result.tables }
+    ensures told { (IsTold (sending_of K.written K.faults sink.old sink.new)
+        (line_of_refusal refusal) refusal result)
+        ⊎ (IsTold (sending_of K.written K.faults sink.old sink.new)
+        (line_of_refusal NoMemory) NoMemory result) }
+{
+    let line = line_of(alloc, &refusal);
+    write_where_made(refusal, line, sink)
+}
+
+// Writes the line of a refusal where it was made, and that of want of memory exactly where there was none for it.
+fn write_where_made<K: Sink>(
+    refusal: Refusal,
+    line: Result<Seq<u8>, Memory>,
+    sink: &mut K,
+) -> Outcome
+    ensures status { result.status ≡ outcome_status result.refusal result.tables }
+    ensures told { MatchResult line
+        (λ text. IsTold (sending_of K.written K.faults sink.old sink.new) text refusal result)
+        (λ _. IsTold (sending_of K.written K.faults sink.old sink.new)
+        (line_of_refusal NoMemory) NoMemory result) }
+{
+    match line {
+        Ok(line) => write_line(refusal, line.as_slice(), sink),
+        Err(Memory) => write_line(Refusal::Memory, OUT_OF_MEMORY.as_bytes(), sink),
     }
 }
 
-// Writes the line of a refusal.
-fn write_line<K: Sink>(refusal: Refusal, line: &[u8], sink: &mut K) -> Outcome {
+// Writes a line, which tells a refusal.
+fn write_line<K: Sink>(refusal: Refusal, line: &[u8], sink: &mut K) -> Outcome
+    ensures status { result.status ≡ outcome_status result.refusal result.tables }
+    ensures told { IsTold (sending_of K.written K.faults sink.old sink.new)
+        line.now refusal result }
+{
     let refusal = match write_all(sink, line) {
         Ok(()) => refusal,
         Err(_) => Refusal::WriteFault,

@@ -1,7 +1,7 @@
 -- From bit to bit, what was put and what is to be put is all.
 use Rattle.std.proofs.Common.{◌-◌, arith}
 use Rattle.std.proofs.lemmas.Nat.{pow_below}
-use Rattle.block_cuts.proofs.Turns.{put_turn, put_all, put_none, less_is}
+use Rattle.block_cuts.proofs.Turns.{put_turn, put_all, less_is}
 use Rattle.block_cuts.proofs.halves.put_less.Goals as goal
 
 pub loop-n-preserved : goal.loop-n-preserved

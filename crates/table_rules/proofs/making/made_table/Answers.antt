@@ -1,5 +1,5 @@
 -- From row to row, what is made of the rest is made of all.
-use Rattle.std.proofs.Common.{◌≡◌, ◌-◌, ◌+◌, ◌≤◌, Some, None, length, take, drop, sym, ap, ◌∙◌, subst, arith}
+use Rattle.std.proofs.Common.{◌≡◌, ◌-◌, ◌+◌, ◌≤◌, Some, length, take, drop, sym, ap, ◌∙◌, subst, arith}
 use Rattle.std.specs.Prelude.{IfSome}
 use Rattle.block_cuts.specs.Cuts.{cut}
 use Rattle.table_rules.specs.Made.{HasTooManyPieces, IsMadeFrom, IsMadeOf, IsPut}
