@@ -13,7 +13,7 @@ use Rattle.block_cuts.specs.Cuts.{meets, narrow, own_half, other_half, is_cut_at
 use Rattle.block_cuts.specs.NarrowFits.{narrow_mask, narrow_key}
 
 -- a number has a bit, or has it not
-bit_is : (n i : ℕ) → (bit_at n i ≡ 0) ⊎ (bit_at n i ≡ 1)
+bit_is : (n i : ℕ) → (bit_at n i ≡ 1) ⊎ (bit_at n i ≡ 0)
 bit_is n i = grind (arith, bit_at-lt n i)
 
 -- the key of a block has no bit outside the mask
@@ -109,14 +109,14 @@ module _ (p e : Block) (i : ℕ) (free : bit_at p.mask i ≡ 0) (cares : bit_at 
 
 bit_test : (n i : ℕ) → (((bit_and n (2 ^ i) == 0) ≡ true) × (bit_at n i ≡ 0)) ⊎ (((bit_and n (2 ^ i) == 0) ≡ false) × (bit_at n i ≡ 1))
 bit_test n i = elim (bit_is n i) [
-  | inl off ↦ inl (eq-eqb _ 0 (omega (arith, and_pow n i, ap (λ x. x * 2 ^ i) off)), off)
-  | inr on ↦ inr (
+  | inl on ↦ inr (
     elim (eqb_tells (bit_and n (2 ^ i)) 0) [
       | inl none ↦ absurd (omega (arith, and_pow n i, ap (λ x. x * 2 ^ i) on, pow_pos i, none.1))
       | inr some ↦ some.0
     ],
     on,
   )
+  | inr off ↦ inl (eq-eqb _ 0 (omega (arith, and_pow n i, ap (λ x. x * 2 ^ i) off)), off)
 ]
 
 pub cut_cases : (p e : Block) (i : ℕ) → ((is_cut_at p e (2 ^ i) ≡ true) × (bit_at p.mask i ≡ 0) × (bit_at e.mask i ≡ 1)) ⊎ ((is_cut_at p e (2 ^ i) ≡ false) × ((bit_at p.mask i ≡ 1) ⊎ (bit_at e.mask i ≡ 0)))

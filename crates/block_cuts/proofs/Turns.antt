@@ -4,21 +4,21 @@ use Rattle.std.specs.List.{flat_map}
 use Rattle.std.proofs.lemmas.List.{append-nil, take_more}
 use Rattle.std.proofs.lemmas.List.Concat.{flat_map-append}
 use Rattle.spin_base.specs.declared.blocks.Block.{Block}
-use Rattle.block_cuts.specs.Cuts.{apart_of, halves, less, less_of, rest_of}
+use Rattle.block_cuts.specs.Cuts.{apart_of, halves, less, less_of, part_to_cut}
 
-less_turn : (n : ℕ) (p e : Block) → n < 32 → less (32 - n) p e ≡ halves p e (2 ^ (31 - n)) ++ less (32 - (n + 1)) (rest_of p e (2 ^ (31 - n))) e
+less_turn : (n : ℕ) (p e : Block) → n < 32 → less (32 - n) p e ≡ halves p e (2 ^ (31 - n)) ++ less (32 - (n + 1)) (part_to_cut p e (2 ^ (31 - n))) e
 less_turn n p e small =
     let here : 32 - n ≡ suc (31 - n) = omega arith in
     let next : 31 - n ≡ 32 - (n + 1) = omega arith in
-    ap (λ m. less m p e) here ∙ ap (λ m. halves p e (2 ^ (31 - n)) ++ less m (rest_of p e (2 ^ (31 - n))) e) next
+    ap (λ m. less m p e) here ∙ ap (λ m. halves p e (2 ^ (31 - n)) ++ less m (part_to_cut p e (2 ^ (31 - n))) e) next
 
 -- what is put, with what is still to be put, is all that is to be put
-pub put_turn : (n bit : ℕ) (p e rest : Block) (old new all : List Block) → n < 32 → bit ≡ 2 ^ (31 - n) → old ++ less (32 - n) p e ≡ all → new ≡ old ++ halves p e bit → rest ≡ rest_of p e bit
+pub put_turn : (n bit : ℕ) (p e rest : Block) (old new all : List Block) → n < 32 → bit ≡ 2 ^ (31 - n) → old ++ less (32 - n) p e ≡ all → new ≡ old ++ halves p e bit → rest ≡ part_to_cut p e bit
     → new ++ less (32 - (n + 1)) rest e ≡ all
 put_turn n bit p e rest old new all small is so_far put left =
     ap (λ xs. xs ++ less (32 - (n + 1)) rest e) (put ∙ ap (λ b. old ++ halves p e b) is)
-    ∙ (ap (λ x. (old ++ halves p e (2 ^ (31 - n))) ++ less (32 - (n + 1)) x e) (left ∙ ap (rest_of p e) is)
-    ∙ (append_assoc old (halves p e (2 ^ (31 - n))) (less (32 - (n + 1)) (rest_of p e (2 ^ (31 - n))) e)
+    ∙ (ap (λ x. (old ++ halves p e (2 ^ (31 - n))) ++ less (32 - (n + 1)) x e) (left ∙ ap (part_to_cut p e) is)
+    ∙ (append_assoc old (halves p e (2 ^ (31 - n))) (less (32 - (n + 1)) (part_to_cut p e (2 ^ (31 - n))) e)
     ∙ (ap (λ xs. old ++ xs) (sym (less_turn n p e small))
     ∙ so_far)))
 

@@ -33,14 +33,14 @@ abbrev pub halves : Block → Block → ℕ → List Block
 halves p e bit = if is_cut_at p e bit then other_half p e bit ∷ [] else []
 
 -- what is still to be cut
-abbrev pub rest_of : Block → Block → ℕ → Block
-rest_of p e bit = if is_cut_at p e bit then own_half p e bit else p
+abbrev pub part_to_cut : Block → Block → ℕ → Block
+part_to_cut p e bit = if is_cut_at p e bit then own_half p e bit else p
 
 -- The keys of p that are not of e, as far as the lowest bits tell, from the highest of them to the lowest: at each bit for which e
 -- cares and p does not, the half with the other value is apart from e, and the half with its value is cut further.
 abbrev pub less : ℕ → Block → Block → List Block
 less zero p e = []
-less (suc i) p e = halves p e (2 ^ i) ++ less i (rest_of p e (2 ^ i)) e
+less (suc i) p e = halves p e (2 ^ i) ++ less i (part_to_cut p e (2 ^ i)) e
 
 -- the keys of p that are not of e, by all bits
 unfoldable pub less_of : Block → Block → List Block

@@ -1,6 +1,6 @@
 // The halves of a block at a bit, and a block less another.
 ghost use Rattle.std.specs.Prelude.{◌≡◌, ◌++◌, OnOk};
-ghost use Rattle.block_cuts.specs.Cuts.{apart_of, halves, is_cut_at, less_of, meets, narrow, other_half, own_half, rest_of};
+ghost use Rattle.block_cuts.specs.Cuts.{apart_of, halves, is_cut_at, less_of, meets, narrow, other_half, own_half, part_to_cut};
 
 use spin_base::{Block, Memory};
 
@@ -55,8 +55,8 @@ fn put_half(out: &mut Vec<Block>, p: Block, e: Block, bit: u32) -> Result<(), Me
 }
 
 // What is left to be cut of `p` after the bit.
-fn rest_of(p: Block, e: Block, bit: u32) -> Block
-    ensures { result ≡ rest_of p e bit }
+fn part_to_cut(p: Block, e: Block, bit: u32) -> Block
+    ensures { result ≡ part_to_cut p e bit }
 {
     if is_cut_at(p, e, bit) {
         own_half(p, e, bit)
@@ -73,7 +73,7 @@ fn put_less(out: &mut Vec<Block>, p: Block, e: Block) -> Result<(), Memory>
     for n in 0..32u32 {
         let bit = 1 << (31 - n);
         put_half(out, rest, e, bit)?;
-        rest = rest_of(rest, e, bit);
+        rest = part_to_cut(rest, e, bit);
     }
     Ok(())
 }

@@ -19,7 +19,7 @@ use Rattle.cover_merge.specs.Merge.{place_for}
 use Rattle.block_cuts.specs.Pieces.{ArePieces, HasPiece}
 use Rattle.block_cuts.proofs.PieceLaws.{are_pieces}
 use Rattle.table_rules.specs.declared.rows.RoutedBlock.{RoutedBlock}
-use Rattle.table_rules.specs.Made.{IsMadeFrom, IsMadeOf, IsPut, StandsBefore, alias_of, blocks_of, done, in_pieces, left_out, more, piece_row, whole, whole_row, with_row, with_rows}
+use Rattle.table_rules.specs.Made.{IsTableFrom, IsTableMadeOf, IsRowAdded, StandsBefore, alias_of, row_blocks, done, in_pieces, left_out, more, piece_row, whole, whole_row, with_row, with_rows}
 use Rattle.table_rules.specs.Rows.{KeepsRoutes, first_with, routed}
 use Rattle.table_rules.proofs.FirstRows.{first_none, first_of_more, none_before, none_first, not_none}
 use Rattle.table_rules.proofs.Sounds.{GoesWhere, all_go, all_insert, all_with_rows, served_keeps, served_keeps_all, served_new, served_news, sound_with, sound_with_pieces}
@@ -41,7 +41,7 @@ record IsFaithful (before : List RoutedBlock) (rows : List Row) : Type 0 where
   pub within : All (IsOf before) rows
   pub complete : (k : ℕ) (row : RoutedBlock) → k < 2 ^ 32 → first_with before k ≡ Some row → IsServed rows k row.route
 
-module _ (before : List RoutedBlock) (rows : List Row) (given : RoutedBlock) (pieces : List Block) (so_far : IsFaithful before rows) (are : ArePieces given.block (blocks_of before) pieces) where
+module _ (before : List RoutedBlock) (rows : List Row) (given : RoutedBlock) (pieces : List Block) (so_far : IsFaithful before rows) (are : ArePieces given.block (row_blocks before) pieces) where
   -- no row of the table meets a piece
   clear_of : All (λ (r : Row). All (λ (p : Block). Intersects r.block p → ⊥) pieces) rows
   clear_of i d inside j e within met = so_far.within i d inside met.key met.small met.first (none_first before met.key (are.clear j e within met.key met.small met.second))
@@ -111,17 +111,17 @@ module _ (before : List RoutedBlock) (rows : List Row) (given : RoutedBlock) (pi
     complete = complete rows (λ o among. among) (λ k piece. absurd (omega (arith, piece.among.1, ap length none)));
   }
 
-faithful_put : (before : List RoutedBlock) (rows : List Row) (given : RoutedBlock) (pieces : List Block) (next : List Row) → IsFaithful before rows → ArePieces given.block (blocks_of before) pieces
-    → IsPut rows given pieces next → IsFaithful (before ++ given ∷ []) next
+faithful_put : (before : List RoutedBlock) (rows : List Row) (given : RoutedBlock) (pieces : List Block) (next : List Row) → IsFaithful before rows → ArePieces given.block (row_blocks before) pieces
+    → IsRowAdded rows given pieces next → IsFaithful (before ++ given ∷ []) next
 faithful_put before rows given pieces next so_far are (left_out none) = with_none before rows given pieces so_far are none
 faithful_put before rows given pieces next so_far are (whole some stands) = with_whole before rows given pieces so_far are stands
 faithful_put before rows given pieces next so_far are (in_pieces some stands_not) = with_pieces before rows given pieces so_far are
 
-faithful_from : (room : ℕ) (before : List RoutedBlock) (rows : List Row) (given : List RoutedBlock) (table : List Row) → IsMadeFrom room before rows given table → IsFaithful before rows → IsFaithful (before ++ given) table
+faithful_from : (room : ℕ) (before : List RoutedBlock) (rows : List Row) (given : List RoutedBlock) (table : List Row) → IsTableFrom room before rows given table → IsFaithful before rows → IsFaithful (before ++ given) table
 faithful_from room before rows given table (done r b rs) so_far = subst (λ l. IsFaithful l rs) (sym (append-nil b)) so_far
 faithful_from room before rows given table (more r b rs g rest pieces next t cuts put from) so_far =
     subst (λ l. IsFaithful l t) (append_assoc b (g ∷ []) rest)
-    (faithful_from (r - length pieces) (b ++ g ∷ []) next rest t from (faithful_put b rs g pieces next so_far (are_pieces r g.block (blocks_of b) (Some pieces) (sym cuts)) put))
+    (faithful_from (r - length pieces) (b ++ g ∷ []) next rest t from (faithful_put b rs g pieces next so_far (are_pieces r g.block (row_blocks b) (Some pieces) (sym cuts)) put))
 
 none_yet : IsFaithful [] []
 none_yet = record {
@@ -130,10 +130,10 @@ none_yet = record {
   complete = λ k row small first. absurd (none-some row first);
 }
 
-pub made_is_sound : (room : ℕ) (given : List RoutedBlock) (table : List Row) → IsMadeOf room given table → IsSound table
+pub made_is_sound : (room : ℕ) (given : List RoutedBlock) (table : List Row) → IsTableMadeOf room given table → IsSound table
 made_is_sound room given table made = (faithful_from room [] [] given table made none_yet).sound
 
-pub keeps : (room : ℕ) (given : List RoutedBlock) (table rows : List Row) → IsMadeOf room given table → IsSound rows → IsPermutation (served table) (served rows) → KeepsRoutes given (map routed rows)
+pub keeps : (room : ℕ) (given : List RoutedBlock) (table rows : List Row) → IsTableMadeOf room given table → IsSound rows → IsPermutation (served table) (served rows) → KeepsRoutes given (map routed rows)
 keeps room given table rows made sound same k row small first =
     let it = (faithful_from room [] [] given table made none_yet).complete k row small first in
     let there = subst (GoesWhere rows) it.among.2 (all_go table rows sound same it.among.0 it.original it.among.1) in

@@ -9,10 +9,10 @@ use Rattle.spin_base.specs.declared.blocks.Block.{Block}
 use Rattle.tern_word.specs.Ternary.{Matches}
 use Rattle.block_cuts.specs.Pieces.{NoneHas}
 use Rattle.table_rules.specs.declared.rows.RoutedBlock.{RoutedBlock}
-use Rattle.table_rules.specs.Rows.{has_key, first_with}
-use Rattle.table_rules.specs.Made.{blocks_of}
+use Rattle.table_rules.specs.Rows.{takes_key, first_with}
+use Rattle.table_rules.specs.Made.{row_blocks}
 
-pub has_tells : (k : ℕ) (r : RoutedBlock) → ((has_key k r ≡ true) × Matches r.block k) ⊎ ((has_key k r ≡ false) × (Matches r.block k → ⊥))
+pub has_tells : (k : ℕ) (r : RoutedBlock) → ((takes_key k r ≡ true) × Matches r.block k) ⊎ ((takes_key k r ≡ false) × (Matches r.block k → ⊥))
 has_tells k r = elim (eqb_tells (bit_and k r.block.mask) r.block.key) [
   | inl hit ↦ inl (hit.0, hit.1)
   | inr miss ↦ inr (miss.0, miss.1)
@@ -28,17 +28,17 @@ first_miss r rows k miss = elim (has_tells k r) [
 ]
 
 -- where none of the blocks has the key, no row is the first
-pub none_first : (rows : List RoutedBlock) (k : ℕ) → NoneHas (blocks_of rows) k → first_with rows k ≡ None
+pub none_first : (rows : List RoutedBlock) (k : ℕ) → NoneHas (row_blocks rows) k → first_with rows k ≡ None
 none_first [] k none = refl
 none_first (r ∷ rows) k none =
-    first_miss r rows k (All-head (λ (e : Block). Matches e k → ⊥) r.block (blocks_of rows) none)
-    ∙ none_first rows k (All-tail (λ (e : Block). Matches e k → ⊥) r.block (blocks_of rows) none)
+    first_miss r rows k (All-head (λ (e : Block). Matches e k → ⊥) r.block (row_blocks rows) none)
+    ∙ none_first rows k (All-tail (λ (e : Block). Matches e k → ⊥) r.block (row_blocks rows) none)
 
-pub first_none : (rows : List RoutedBlock) (k : ℕ) → first_with rows k ≡ None → NoneHas (blocks_of rows) k
+pub first_none : (rows : List RoutedBlock) (k : ℕ) → first_with rows k ≡ None → NoneHas (row_blocks rows) k
 first_none [] k none = All-nil (λ (e : Block). Matches e k → ⊥)
 first_none (r ∷ rows) k none = elim (has_tells k r) [
   | inl hit ↦ absurd (none-some r (sym none ∙ first_hit r rows k hit.1))
-  | inr miss ↦ All-cons (λ (e : Block). Matches e k → ⊥) r.block (blocks_of rows) miss.1 (first_none rows k (sym (first_miss r rows k miss.1) ∙ none))
+  | inr miss ↦ All-cons (λ (e : Block). Matches e k → ⊥) r.block (row_blocks rows) miss.1 (first_none rows k (sym (first_miss r rows k miss.1) ∙ none))
 ]
 
 -- where no row is, the first of those that follow is

@@ -15,7 +15,7 @@ use Rattle.block_cuts.specs.Cuts.{cut}
 use Rattle.table_rules.specs.declared.rows.RoutedBlock.{RoutedBlock}
 use Rattle.table_rules.specs.Rows.{routed}
 use Rattle.table_rules.specs.Shortened.{IsCoveredFrom, IsShortenedTo, no_shorter, shorter}
-use Rattle.table_rules.specs.Made.{HasTooManyPieces, IsMadeFrom, IsMadeOf, IsPut, StandsBefore, blocks_of, done, here, later, more, piece_row, with_row, with_rows}
+use Rattle.table_rules.specs.Made.{HasTooManyPieces, IsTableFrom, IsTableMadeOf, IsRowAdded, StandsBefore, row_blocks, done, here, later, more, piece_row, with_row, with_rows}
 
 -- ---- pieces as rows
 
@@ -38,30 +38,30 @@ length_with rows new row put = ap length put ∙ length-insert rows (place_for r
 -- ---- rows
 
 module _ (left : ℕ) (given : List RoutedBlock) (i : ℕ) (rows : List Row) where
-  pub rows_all : length given ≤ i → IsMadeFrom left (take i given) rows (drop i given) rows
-  rows_all past = subst (λ l. IsMadeFrom left (take i given) rows l rows) (sym (drop_all i given past)) (done left (take i given) rows)
+  pub rows_all : length given ≤ i → IsTableFrom left (take i given) rows (drop i given) rows
+  rows_all past = subst (λ l. IsTableFrom left (take i given) rows l rows) (sym (drop_all i given past)) (done left (take i given) rows)
 
-  module _ (row : RoutedBlock) (blocks : List Block) (within : i < length given) (read : row ≡ get_or given i row) (are : blocks ≡ blocks_of (take i given)) where
+  module _ (row : RoutedBlock) (blocks : List Block) (within : i < length given) (read : row ≡ get_or given i row) (are : blocks ≡ row_blocks (take i given)) where
     before : take (i + 1) given ≡ take i given ++ row ∷ []
     before = take_more given i row within ∙ ap (λ x. take i given ++ x ∷ []) (sym read)
 
     behind : drop i given ≡ row ∷ drop (i + 1) given
     behind = drop_more given i row within ∙ ap (λ x. x ∷ drop (i + 1) given) (sym read)
 
-    pub blocks_more : (new : List Block) → new ≡ blocks ++ row.block ∷ [] → new ≡ blocks_of (take (i + 1) given)
-    blocks_more new put = put ∙ (ap (λ bs. bs ++ row.block ∷ []) are ∙ (sym (map_push (λ (r : RoutedBlock). r.block) (take i given) row) ∙ ap blocks_of (sym before)))
+    pub blocks_more : (new : List Block) → new ≡ blocks ++ row.block ∷ [] → new ≡ row_blocks (take (i + 1) given)
+    blocks_more new put = put ∙ (ap (λ bs. bs ++ row.block ∷ []) are ∙ (sym (map_push (λ (r : RoutedBlock). r.block) (take i given) row) ∙ ap row_blocks (sym before)))
 
     pub no_room : None ≡ cut left row.block blocks → HasTooManyPieces left (take i given) (drop i given)
     no_room none = subst (HasTooManyPieces left (take i given)) (sym behind) (here left (take i given) row (drop (i + 1) given) (ap (cut left row.block) (sym are) ∙ sym none))
 
     module _ (pieces : List Block) (cuts : Some pieces ≡ cut left row.block blocks) where
-      is_cut : cut left row.block (blocks_of (take i given)) ≡ Some pieces
+      is_cut : cut left row.block (row_blocks (take i given)) ≡ Some pieces
       is_cut = ap (cut left row.block) (sym are) ∙ sym cuts
 
-      pub more_rows : (new table : List Row) → IsPut rows row pieces new → IsMadeFrom (left - length pieces) (take (i + 1) given) new (drop (i + 1) given) table → IsMadeFrom left (take i given) rows (drop i given) table
+      pub more_rows : (new table : List Row) → IsRowAdded rows row pieces new → IsTableFrom (left - length pieces) (take (i + 1) given) new (drop (i + 1) given) table → IsTableFrom left (take i given) rows (drop i given) table
       more_rows new table put from =
-          subst (λ l. IsMadeFrom left (take i given) rows l table) (sym behind)
-          (more left (take i given) rows row (drop (i + 1) given) pieces new table is_cut put (subst (λ l. IsMadeFrom (left - length pieces) l new (drop (i + 1) given) table) before from))
+          subst (λ l. IsTableFrom left (take i given) rows l table) (sym behind)
+          (more left (take i given) rows row (drop (i + 1) given) pieces new table is_cut put (subst (λ l. IsTableFrom (left - length pieces) l new (drop (i + 1) given) table) before from))
 
       pub too_many_later : HasTooManyPieces (left - length pieces) (take (i + 1) given) (drop (i + 1) given) → HasTooManyPieces left (take i given) (drop i given)
       too_many_later many =
@@ -96,7 +96,7 @@ module _ (rows list other : List Row) (block : Block) (place g : ℕ) (same : li
 
 -- ---- covered rows
 
-module _ (target room : ℕ) (given : List RoutedBlock) (table rows : List Row) (sets : List (List ℕ)) (long : target < length given) (made : IsMadeOf room given table) (covers : Covers target table sets rows) where
+module _ (target room : ℕ) (given : List RoutedBlock) (table rows : List Row) (sets : List (List ℕ)) (long : target < length given) (made : IsTableMadeOf room given table) (covers : Covers target table sets rows) where
   covered_from : IsCoveredFrom target room given rows
   covered_from = record { long = long; table = table; made = made; sets = sets; covered = covers }
 

@@ -37,28 +37,28 @@ StandsBefore block rows = PassesDown rows block (place_for rows (generality bloc
 
 -- The rows with one more given: it is left out where it decides for no key. It has its pieces as aliases where its block meets no
 -- alias of a more general row, and else each piece is a row of its own.
-pub data IsPut (rows : List Row) (given : RoutedBlock) (pieces : List Block) : List Row → Type 0 where
-  left_out : pieces ≡ [] → IsPut rows given pieces rows
-  whole : 0 < length pieces → StandsBefore given.block rows → IsPut rows given pieces (with_row rows (whole_row given pieces))
-  in_pieces : 0 < length pieces → (StandsBefore given.block rows → ⊥) → IsPut rows given pieces (with_rows rows (map (piece_row given.route) pieces))
+pub data IsRowAdded (rows : List Row) (given : RoutedBlock) (pieces : List Block) : List Row → Type 0 where
+  left_out : pieces ≡ [] → IsRowAdded rows given pieces rows
+  whole : 0 < length pieces → StandsBefore given.block rows → IsRowAdded rows given pieces (with_row rows (whole_row given pieces))
+  in_pieces : 0 < length pieces → (StandsBefore given.block rows → ⊥) → IsRowAdded rows given pieces (with_rows rows (map (piece_row given.route) pieces))
 
-abbrev pub blocks_of : List RoutedBlock → List Block
-blocks_of rows = map (λ (r : RoutedBlock). r.block) rows
+abbrev pub row_blocks : List RoutedBlock → List Block
+row_blocks rows = map (λ (r : RoutedBlock). r.block) rows
 
 -- The table's rows after the rows that are still to be put, with what room is left for pieces, the rows that were put, and the
 -- table's rows so far. The pieces of a row are its block less those of the rows before it.
-pub data IsMadeFrom : ℕ → List RoutedBlock → List Row → List RoutedBlock → List Row → Type 0 where
-  done : (room : ℕ) (before : List RoutedBlock) (rows : List Row) → IsMadeFrom room before rows [] rows
+pub data IsTableFrom : ℕ → List RoutedBlock → List Row → List RoutedBlock → List Row → Type 0 where
+  done : (room : ℕ) (before : List RoutedBlock) (rows : List Row) → IsTableFrom room before rows [] rows
   more : (room : ℕ) (before : List RoutedBlock) (rows : List Row) (given : RoutedBlock) (rest : List RoutedBlock) (pieces : List Block) (next table : List Row)
-      → cut room given.block (blocks_of before) ≡ Some pieces → IsPut rows given pieces next
-      → IsMadeFrom (room - length pieces) (before ++ given ∷ []) next rest table → IsMadeFrom room before rows (given ∷ rest) table
+      → cut room given.block (row_blocks before) ≡ Some pieces → IsRowAdded rows given pieces next
+      → IsTableFrom (room - length pieces) (before ++ given ∷ []) next rest table → IsTableFrom room before rows (given ∷ rest) table
 
 -- the table that is made of rows
-abbrev pub IsMadeOf : ℕ → List RoutedBlock → List Row → Type 0
-IsMadeOf room given table = IsMadeFrom room [] [] given table
+abbrev pub IsTableMadeOf : ℕ → List RoutedBlock → List Row → Type 0
+IsTableMadeOf room given table = IsTableFrom room [] [] given table
 
 -- a row is cut into more pieces than there is room for
 pub data HasTooManyPieces : ℕ → List RoutedBlock → List RoutedBlock → Type 0 where
-  here : (room : ℕ) (before : List RoutedBlock) (given : RoutedBlock) (rest : List RoutedBlock) → cut room given.block (blocks_of before) ≡ None → HasTooManyPieces room before (given ∷ rest)
-  later : (room : ℕ) (before : List RoutedBlock) (given : RoutedBlock) (rest : List RoutedBlock) (pieces : List Block) → cut room given.block (blocks_of before) ≡ Some pieces
+  here : (room : ℕ) (before : List RoutedBlock) (given : RoutedBlock) (rest : List RoutedBlock) → cut room given.block (row_blocks before) ≡ None → HasTooManyPieces room before (given ∷ rest)
+  later : (room : ℕ) (before : List RoutedBlock) (given : RoutedBlock) (rest : List RoutedBlock) (pieces : List Block) → cut room given.block (row_blocks before) ≡ Some pieces
       → HasTooManyPieces (room - length pieces) (before ++ given ∷ []) rest → HasTooManyPieces room before (given ∷ rest)

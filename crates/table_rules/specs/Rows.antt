@@ -5,12 +5,12 @@ use Rattle.tern_word.specs.declared.tables.Row.{Row}
 use Rattle.table_rules.specs.declared.rows.RoutedBlock.{RoutedBlock}
 
 -- whether a row has the key
-abbrev pub has_key : ℕ → RoutedBlock → Bool
-has_key k r = bit_and k r.block.mask == r.block.key
+abbrev pub takes_key : ℕ → RoutedBlock → Bool
+takes_key k r = bit_and k r.block.mask == r.block.key
 
 -- the first row that has the key
 abbrev pub first_with : List RoutedBlock → ℕ → Option RoutedBlock
-first_with rows k = find (has_key k) rows
+first_with rows k = find (takes_key k) rows
 
 -- there is a first row that has the key, and it has the route
 pub record GoesBy (rows : List RoutedBlock) (k : ℕ) (route : Route) : Type 0 where

@@ -3,14 +3,14 @@ use Rattle.std.specs.Prelude.{ℕ, ◌<◌, ◌≤◌, List, length, map}
 use Rattle.tern_word.specs.declared.tables.Row.{Row}
 use Rattle.cover_merge.specs.Covering.{Covers}
 use Rattle.table_rules.specs.declared.rows.RoutedBlock.{RoutedBlock}
-use Rattle.table_rules.specs.Made.{IsMadeOf}
+use Rattle.table_rules.specs.Made.{IsTableMadeOf}
 use Rattle.table_rules.specs.Rows.{routed}
 
 -- the rows of the covered table that is made of the given rows
 pub record IsCoveredFrom (target room : ℕ) (given : List RoutedBlock) (rows : List Row) : Type 0 where
   pub long : target < length given
   pub table : List Row
-  pub made : IsMadeOf room given table
+  pub made : IsTableMadeOf room given table
   pub sets : List (List ℕ)
   pub covered : Covers target table sets rows
 

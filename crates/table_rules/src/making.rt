@@ -1,6 +1,6 @@
 // The sound table of rows.
 ghost use Rattle.std.specs.Prelude.{◌≡◌, ◌<◌, ◌≤◌, ◌^◌, [], IfOk, IfSome, MatchOption, length};
-ghost use Rattle.table_rules.specs.Made.{HasTooManyPieces, IsMadeOf};
+ghost use Rattle.table_rules.specs.Made.{HasTooManyPieces, IsTableMadeOf};
 
 use crate::putting::put;
 use crate::rows::RoutedBlock;
@@ -17,7 +17,7 @@ pub(crate) fn made_table(
     room: u32,
 ) -> Result<Option<Table>, Memory>
     ensures made { IfOk result (λ made. MatchOption made (HasTooManyPieces room [] given.now)
-        (λ table. IsMadeOf room given.now table.rows)) }
+        (λ table. IsTableMadeOf room given.now table.rows)) }
     ensures few { IfOk result (λ made. IfSome made (λ table. length table.rows ≤ room)) }
 {
     let mut rows = Vec::new(alloc);

@@ -1,6 +1,6 @@
 // Putting a row's pieces into a table.
 ghost use Rattle.std.specs.Prelude.{◌≡◌, ◌<◌, ◌≤◌, ◌+◌, ◌^◌, IfOk, OnOk, length, map};
-ghost use Rattle.table_rules.specs.Made.{IsPut, alias_of, piece_row, whole_row, with_row, with_rows};
+ghost use Rattle.table_rules.specs.Made.{IsRowAdded, alias_of, piece_row, whole_row, with_row, with_rows};
 
 use crate::rows::RoutedBlock;
 use cover_merge::{passes_down, place_for};
@@ -17,7 +17,7 @@ pub(crate) fn put(
     pieces: &[Block],
 ) -> Result<(), Memory>
     requires { length rows.old.items + length pieces.now < 2 ^ 32 }
-    ensures put { OnOk result (IsPut rows.old.items given pieces.now rows.new.items) }
+    ensures put { OnOk result (IsRowAdded rows.old.items given pieces.now rows.new.items) }
     ensures few { OnOk result (length rows.new.items ≤ length rows.old.items + length pieces.now) }
 {
     if pieces.is_empty() {

@@ -1,6 +1,6 @@
 // Shorter rows.
 ghost use Rattle.std.specs.Prelude.{◌≡◌, ◌<◌, ◌≤◌, ◌^◌, [], IfOk, IfSome, MatchOption, length, map};
-ghost use Rattle.table_rules.specs.Made.{HasTooManyPieces, IsMadeOf};
+ghost use Rattle.table_rules.specs.Made.{HasTooManyPieces, IsTableMadeOf};
 ghost use Rattle.table_rules.specs.Rows.{KeepsRoutes, routed};
 ghost use Rattle.table_rules.specs.Shortened.{IsShortenedTo};
 
@@ -51,7 +51,7 @@ fn covered_rows(
     room: u32,
 ) -> Result<Seq<RoutedBlock>, Memory>
     requires long { target < length given.now }
-    requires made { IsMadeOf room given.now table.rows }
+    requires made { IsTableMadeOf room given.now table.rows }
     requires few { length table.rows < 2 ^ 32 }
     ensures rows { IfOk result (IsShortenedTo target room given.now) }
     ensures routes { IfOk result (KeepsRoutes given.now) }

@@ -87,11 +87,11 @@ abbrev pub HasFewRows : GivenTable → Type 0
 HasFewRows t = length t.rows ≤ 65536
 
 -- To how many rows tables are to be shortened: 0, where nothing is said.
-unfoldable pub target_faults : List ℕ → Data → List JobFault
-target_faults path d = number_faults (member_at path (codes "target")) 0 4294967295 (Some 0) (member_of (codes "target") d)
+unfoldable pub tables_target_faults : List ℕ → Data → List JobFault
+tables_target_faults path d = number_faults (member_at path (codes "target")) 0 4294967295 (Some 0) (member_of (codes "target") d)
 
-unfoldable pub target_value : Data → ℕ
-target_value d = number_value (Some 0) (member_of (codes "target") d)
+unfoldable pub tables_target_value : Data → ℕ
+tables_target_value d = number_value (Some 0) (member_of (codes "target") d)
 
 -- There are at most 65,536 tables.
 unfoldable pub tables_faults : List ℕ → Data → List JobFault
@@ -105,7 +105,7 @@ tables_value d = map table_value (list_value (member_of (codes "tables") d))
 
 -- Tables stand at the path `in`. What is no object has no members.
 unfoldable pub asked_faults : Data → List JobFault
-asked_faults d = target_faults (codes "in") d ▹ tables_faults (codes "in") d
+asked_faults d = tables_target_faults (codes "in") d ▹ tables_faults (codes "in") d
 
 unfoldable pub asked_value : Data → Asked
-asked_value d = record { target = target_value d; tables = tables_value d }
+asked_value d = record { target = tables_target_value d; tables = tables_value d }

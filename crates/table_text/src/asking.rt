@@ -1,9 +1,9 @@
 // Tables to be shortened.
-ghost use Rattle.std.specs.Prelude.{◌≡◌, ◌≤◌, All, IfOk, length, map};
+ghost use Rattle.std.specs.Prelude.{◌≡◌, ◌<◌, ◌≤◌, ◌^◌, ◌==◌, All, IfOk, IfSome, bit_and, is_some, length, map};
 ghost use Rattle.serde_json.specs.View.{view};
 ghost use Rattle.job_text.specs.Reading.{GivesOrFaults};
 ghost use Rattle.job_text.specs.Paths.{path_text};
-ghost use Rattle.table_text.specs.Asking.{HasFewRows, asked_faults, asked_value, chip_numbers, chip_numbers_faults, row_faults, row_value, rows_faults, rows_value, table_faults, table_value, tables_faults, tables_value, target_faults, target_value};
+ghost use Rattle.table_text.specs.Asking.{HasFewRows, asked_faults, asked_value, chip_numbers, chip_numbers_faults, row_faults, row_of_numbers, row_value, rows_faults, rows_value, table_faults, table_value, tables_faults, tables_value, tables_target_faults, tables_target_value};
 
 use job_readers::{ItemReader, each_item, items_in};
 use job_text::{Path, TextErr, count_to, list, member, number_in, range, shape};
@@ -71,10 +71,23 @@ fn row_in(alloc: Global, item: &Value, path: &Path<'_>) -> Result<RoutedBlock, T
     let key = number_in(alloc, Some(key), path, 0, MOST, None)? as u32;
     let mask = number_in(alloc, Some(mask), path, 0, MOST, None)? as u32;
     let bits = number_in(alloc, Some(route), path, 0, MOST_ROUTE, None)? as u32;
-    if key & mask != key {
-        return Err(range(alloc, path));
+    match row_of(key, mask, bits) {
+        Some(row) => Ok(row),
+        None => Err(range(alloc, path)),
     }
-    Ok(RoutedBlock {
+}
+
+// The row of these numbers, where the key has no bit outside the mask.
+#[tactic(auto, unfolding(job_readers::specs::Blocks::block_at, crate::specs::Asking::route_at))]
+fn row_of(key: u32, mask: u32, bits: u32) -> Option<RoutedBlock>
+    requires { bits < 2 ^ 24 }
+    ensures tested { is_some result ≡ (bit_and key mask == key) }
+    ensures value { IfSome result (λ r. r ≡ row_of_numbers key mask bits) }
+{
+    if key & mask != key {
+        return None;
+    }
+    Some(RoutedBlock {
         block: Block { key, mask },
         route: Route { bits },
     })
@@ -165,10 +178,10 @@ pub fn asked_of(alloc: Global, value: &Value) -> Result<Asked, TextErr>
 }
 
 // To how many rows tables are to be shortened.
-#[tactic(auto, unfolding(crate::specs::Asking::target_faults, crate::specs::Asking::target_value))]
+#[tactic(auto, unfolding(crate::specs::Asking::tables_target_faults, crate::specs::Asking::tables_target_value))]
 fn target_in(alloc: Global, value: &Value, path: &Path<'_>) -> Result<u32, TextErr>
-    ensures { GivesOrFaults (λ n. n) result (target_faults (path_text path.now) (view value.now))
-        (target_value (view value.now)) }
+    ensures { GivesOrFaults (λ n. n) result (tables_target_faults (path_text path.now) (view value.now))
+        (tables_target_value (view value.now)) }
 {
     let path = Path::Member(path, "target");
     let target = number_in(alloc, member(value, "target"), &path, 0, MOST, Some(0))?;

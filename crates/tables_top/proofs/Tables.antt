@@ -7,7 +7,7 @@ use Rattle.spin_base.specs.declared.blocks.Entry.{Entry}
 use Rattle.spin_base.specs.Lookup.{matches}
 use Rattle.table_rules.specs.declared.rows.RoutedBlock.{RoutedBlock}
 use Rattle.table_rules.specs.Made.{HasTooManyPieces}
-use Rattle.table_rules.specs.Rows.{KeepsRoutes, first_with, has_key}
+use Rattle.table_rules.specs.Rows.{KeepsRoutes, first_with, takes_key}
 use Rattle.table_rules.specs.Shortened.{IsShortenedTo}
 use Rattle.table_text.specs.declared.asking.GivenTable.{GivenTable}
 use Rattle.table_text.specs.declared.writing.ShortTable.{ShortTable}
@@ -34,7 +34,7 @@ tables_all target tables i short past so_far = subst (λ l. AreShorter target l 
 
 first_entry : (rows : List RoutedBlock) (k : ℕ) (row : RoutedBlock) → first_with rows k ≡ Some row → find (λ (e : Entry). matches e k) (map entry_at rows) ≡ Some (entry_at row)
 first_entry [] k row first = absurd (none-some row first)
-first_entry (r ∷ rows) k row first = by_test (has_key k r) first
+first_entry (r ∷ rows) k row first = by_test (takes_key k r) first
   where
     by_test : (b : Bool) → cond b (Some r) (first_with rows k) ≡ Some row → cond b (Some (entry_at r)) (find (λ (e : Entry). matches e k) (map entry_at rows)) ≡ Some (entry_at row)
     by_test true same = ap (λ x. Some (entry_at x)) (same_Some r row same)

@@ -12,11 +12,11 @@ use Rattle.table_text.specs.Texts.{short_lines}
 use Rattle.table_text.specs.declared.asking.Asked.{Asked}
 use Rattle.table_text.specs.declared.writing.ShortTable.{ShortTable}
 use Rattle.tables_top.specs.declared.outcomes.Outcome.{Outcome}
-use Rattle.tables_top.specs.Shorter.{AreShorter, is_one_long}
+use Rattle.tables_top.specs.Shorter.{AreShorter, has_long_table}
 
 -- which tables are asked for by bytes, or why none are
-abbrev pub asked_in : List ℕ → Result Asked Refusal
-asked_in = input_in (input_of asked_faults asked_value)
+abbrev pub tables_asked_in : List ℕ → Result Asked Refusal
+tables_asked_in = input_in (input_of asked_faults asked_value)
 
 -- the line where there are words
 abbrev pub usage_line : List ℕ
@@ -34,41 +34,41 @@ sending_of sent faults old new = record { sent = sent old; sent' = sent new; fau
 
 -- A text was written whole, and no byte besides; and the call says what it says then. Or, at a fault of the sink, a proper prefix of
 -- it was written, and the call says that.
-abbrev pub IsSent : Sending → List ℕ → Option Refusal → Option Refusal → Type 0
-IsSent s text then_said said =
+abbrev pub IsSentOut : Sending → List ℕ → Option Refusal → Option Refusal → Type 0
+IsSentOut s text then_said said =
     ((said ≡ then_said) × Takes s.sent text s.sent')
     ⊎ ((said ≡ Some refusals.WriteFault) × TakesProperPrefix s.sent text s.sent' × FaultsRose s.faults s.faults')
 
 -- Why there are no tables, with what was read of the source: reading has its causes, or memory ran out after all was read.
 pub data HasNoTables (reading : Reading) (r : Refusal) : Type 0 where
-  has_no_input : HasNoInput asked_in reading r → HasNoTables reading r
-  has_no_memory : (asked : Asked) → IsReadAs asked_in reading asked → r ≡ refusals.Memory → HasNoTables reading r
+  has_no_input : HasNoInput tables_asked_in reading r → HasNoTables reading r
+  has_no_memory : (asked : Asked) → IsReadAs tables_asked_in reading asked → r ≡ refusals.Memory → HasNoTables reading r
 
 -- tables that the source's bytes ask for, and their text
 pub record AreMadeTables (reading : Reading) (tables : List ShortTable) (text : List ℕ) : Type 0 where
   pub asked : Asked
-  pub read : IsReadAs asked_in reading asked
+  pub read : IsReadAs tables_asked_in reading asked
   pub shorter : AreShorter asked.target asked.tables tables
   pub is : text ≡ flat_map short_lines tables
 
 -- the line of a refusal was written, and nothing else is given
 pub record IsTold (sending : Sending) (line : List ℕ) (r : Refusal) (o : Outcome) : Type 0 where
   pub none_given : o.tables ≡ None
-  pub sent : IsSent sending line (Some r) o.refusal
+  pub sent : IsSentOut sending line (Some r) o.refusal
 
 -- How a call ends. There are words, and nothing was read. Or the source's bytes ask for tables, these are shorter ones, and their text was
 -- written. Or there is a refusal with its cause, and its line was written; or, where there was no memory for that line, that of want of
 -- memory.
 pub data EndsTables (words : ℕ) (reading : Reading) (sending : Sending) (o : Outcome) : Type 0 where
   has_words : 0 < words → IsUntouched reading → IsTold sending usage_line refusals.Usage o → EndsTables words reading sending o
-  made : words ≡ 0 → (tables : List ShortTable) (text : List ℕ) → AreMadeTables reading tables text → o.tables ≡ Some tables → IsSent sending text None o.refusal → EndsTables words reading sending o
+  made : words ≡ 0 → (tables : List ShortTable) (text : List ℕ) → AreMadeTables reading tables text → o.tables ≡ Some tables → IsSentOut sending text None o.refusal → EndsTables words reading sending o
   refused : words ≡ 0 → (r : Refusal) → HasNoTables reading r → IsTold sending (line_of r) r o → EndsTables words reading sending o
   no_line : words ≡ 0 → (r : Refusal) → HasNoTables reading r → IsTold sending (line_of refusals.Memory) refusals.Memory o → EndsTables words reading sending o
 
 -- the status of tables: 8 where one is longer than a router's
 abbrev pub tables_status : Option (List ShortTable) → ℕ
 tables_status None = 0
-tables_status (Some tables) = if is_one_long tables then 8 else 0
+tables_status (Some tables) = if has_long_table tables then 8 else 0
 
 -- the status of an outcome
 abbrev pub outcome_status : Option Refusal → Option (List ShortTable) → ℕ

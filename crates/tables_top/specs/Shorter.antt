@@ -49,8 +49,8 @@ abbrev pub AreShorter : ℕ → List GivenTable → List ShortTable → Type 0
 AreShorter target given short = AreBeside (IsShorterTable target) given short
 
 -- a table has more entries than a router
-abbrev pub is_long : ShortTable → Bool
-is_long t = nat_lt 1024 (length t.table.entries)
+abbrev pub is_long_table : ShortTable → Bool
+is_long_table t = nat_lt 1024 (length t.table.entries)
 
-abbrev pub is_one_long : List ShortTable → Bool
-is_one_long tables = list_any is_long tables
+abbrev pub has_long_table : List ShortTable → Bool
+has_long_table tables = list_any is_long_table tables

@@ -1,6 +1,6 @@
 // Shorter tables, one for each given.
 ghost use Rattle.std.specs.Prelude.{◌≡◌, IfOk, map};
-ghost use Rattle.tables_top.specs.Shorter.{AreShorter, IsShorterTable, entry_at, is_long, is_one_long};
+ghost use Rattle.tables_top.specs.Shorter.{AreShorter, IsShorterTable, entry_at, is_long_table, has_long_table};
 
 use spin_base::{ChipTable, Entry, Memory, ROUTER_ENTRIES, Seq};
 use std::alloc::Global;
@@ -69,15 +69,15 @@ fn entry_at(row: RoutedBlock) -> Entry
 }
 
 // Whether the table has more entries than a router.
-fn is_long(short: &ShortTable) -> bool
-    ensures { result ≡ is_long short.now }
+fn is_long_table(short: &ShortTable) -> bool
+    ensures { result ≡ is_long_table short.now }
 {
     short.table.entries.len() > ROUTER_ENTRIES
 }
 
 // Whether one of the tables has.
-pub(crate) fn is_one_long(tables: &[ShortTable]) -> bool
-    ensures { result ≡ is_one_long tables.now }
+pub(crate) fn has_long_table(tables: &[ShortTable]) -> bool
+    ensures { result ≡ has_long_table tables.now }
 {
-    tables.iter().any(|short| is_long(short))
+    tables.iter().any(|short| is_long_table(short))
 }

@@ -4,11 +4,11 @@ ghost use Rattle.run_report.specs.Refusals.{line_of as line_of_refusal};
 ghost use Rattle.run_report.specs.declared.causes.Refusal.TheVariants.{Memory as NoMemory};
 ghost use Rattle.spin_input.specs.Inputs.{reading_of};
 ghost use Rattle.table_text.specs.Texts.{short_lines};
-ghost use Rattle.tables_top.specs.Ending.{AreMadeTables, EndsTables, HasNoTables, IsSent, IsTold, outcome_status, sending_of, tables_status};
+ghost use Rattle.tables_top.specs.Ending.{AreMadeTables, EndsTables, HasNoTables, IsSentOut, IsTold, outcome_status, sending_of, tables_status};
 ghost use Rattle.tables_top.specs.Shorter.{AreShorter};
 
 use crate::outcomes::Outcome;
-use crate::shorter::{is_one_long, shorter_tables};
+use crate::shorter::{has_long_table, shorter_tables};
 use run_report::{OUT_OF_MEMORY, Refusal, line_of};
 use spin_base::{Memory, Seq, Sink, Source, write_all};
 use spin_input::read_input;
@@ -85,7 +85,7 @@ fn made(alloc: Global, asked: &Asked) -> Result<Made, Memory>
 fn write_text<K: Sink>(made: Made, sink: &mut K) -> Outcome
     ensures status { result.status ≡ outcome_status result.refusal result.tables }
     ensures tables { result.tables ≡ Some made.tables }
-    ensures sent { IsSent (sending_of K.written K.faults sink.old sink.new)
+    ensures sent { IsSentOut (sending_of K.written K.faults sink.old sink.new)
         made.text None result.refusal }
 {
     let Made { tables, text } = made;
@@ -108,7 +108,11 @@ fn write_text<K: Sink>(made: Made, sink: &mut K) -> Outcome
 fn status_of(tables: &[ShortTable]) -> u8
     ensures { result ≡ tables_status (Some tables.now) }
 {
-    if is_one_long(tables) { TABLE_LONG } else { 0 }
+    if has_long_table(tables) {
+        TABLE_LONG
+    } else {
+        0
+    }
 }
 
 // Writes the line of a refusal. Where there is no memory for it, that of want of memory is written.

@@ -2,7 +2,7 @@
 use Rattle.std.proofs.Common.{◌≡◌, ◌-◌, ◌+◌, ◌≤◌, Some, length, take, drop, sym, ap, ◌∙◌, subst, arith}
 use Rattle.std.specs.Prelude.{IfSome}
 use Rattle.block_cuts.specs.Cuts.{cut}
-use Rattle.table_rules.specs.Made.{HasTooManyPieces, IsMadeFrom, IsMadeOf, IsPut}
+use Rattle.table_rules.specs.Made.{HasTooManyPieces, IsTableFrom, IsTableMadeOf, IsRowAdded}
 use Rattle.table_rules.proofs.Turns.{blocks_more, more_rows, no_room, rows_all, too_many_later}
 use Rattle.table_rules.proofs.making.made_table.Goals as goal
 
@@ -22,8 +22,8 @@ loop-row-preserved c =
       goes_on = λ table from. c.loop-row.invariant.goes_on table
           (more_rows c.loop-row.left c.args.given.now c.loop-row.row-index c.loop-row.rows.items c.row-item.result c.loop-row.blocks.items c.loop-row-test.true c.row-item.is c.loop-row.invariant.blocks
           c.in-Some.pieces cuts c.put.new.rows.items table
-          (subst (λ ps. IsPut c.loop-row.rows.items c.row-item.result ps c.put.new.rows.items) c.as_slice-in-loop-row.ensures c.in_ok-put.ensures.put)
-          (subst (λ n. IsMadeFrom (c.loop-row.left - n) (take (c.loop-row.row-index + 1) c.args.given.now) c.put.new.rows.items (drop (c.loop-row.row-index + 1) c.args.given.now) table) c.len-left.ensures from));
+          (subst (λ ps. IsRowAdded c.loop-row.rows.items c.row-item.result ps c.put.new.rows.items) c.as_slice-in-loop-row.ensures c.in_ok-put.ensures.put)
+          (subst (λ n. IsTableFrom (c.loop-row.left - n) (take (c.loop-row.row-index + 1) c.args.given.now) c.put.new.rows.items (drop (c.loop-row.row-index + 1) c.args.given.now) table) c.len-left.ensures from));
       too_many = λ many. c.loop-row.invariant.too_many
           (too_many_later c.loop-row.left c.args.given.now c.loop-row.row-index c.loop-row.rows.items c.row-item.result c.loop-row.blocks.items c.loop-row-test.true c.row-item.is c.loop-row.invariant.blocks
           c.in-Some.pieces cuts
@@ -33,5 +33,5 @@ loop-row-preserved c =
 
 pub returns-clause-made : goal.returns-clause-made
 returns-clause-made c =
-    subst (IsMadeOf c.args.room c.args.given.now) (sym c.from_vec.ensures)
+    subst (IsTableMadeOf c.args.room c.args.given.now) (sym c.from_vec.ensures)
     (c.loop-row.invariant.goes_on c.loop-row.rows.items (rows_all c.loop-row.left c.args.given.now c.loop-row.row-index c.loop-row.rows.items c.loop-row-test.false))
