@@ -9,7 +9,7 @@ use Rattle.table_rules.specs.declared.rows.RoutedBlock.{RoutedBlock}
 use Rattle.table_rules.specs.Made.{HasTooManyPieces}
 use Rattle.table_rules.specs.Rows.{KeepsRoutes, first_with, takes_key}
 use Rattle.table_rules.specs.Shortened.{IsShortenedTo}
-use Rattle.table_text.specs.declared.asking.GivenTable.{GivenTable}
+use Rattle.table_readers.specs.declared.asking.GivenTable.{GivenTable}
 use Rattle.table_text.specs.declared.writing.ShortTable.{ShortTable}
 use Rattle.spin_base.specs.declared.blocks.ChipTable.{ChipTable}
 use Rattle.tables_top.specs.Shorter.{AreBeside, AreShorter, IsShorterTable, KeepsTable, as_given, entry_at, more, none, shortened}
@@ -18,7 +18,7 @@ use Rattle.tables_top.specs.Shorter.{AreBeside, AreShorter, IsShorterTable, Keep
 
 beside_push : {A B : Type 0} (R : A → B → Type 0) (xs : List A) (ys : List B) (x : A) (y : B) → AreBeside R xs ys → R x y → AreBeside R (xs ++ x ∷ []) (ys ++ y ∷ [])
 beside_push R xs ys x y none this = more x y [] [] this none
-beside_push R xs ys x y (more a b as bs here rest) this = more a b (as ++ x ∷ []) (bs ++ y ∷ []) here (beside_push R as bs x y rest this)
+beside_push R xs ys x y (more a b us vs here rest) this = more a b (us ++ x ∷ []) (vs ++ y ∷ []) here (beside_push R us vs x y rest this)
 
 pub tables_more : (target : ℕ) (tables : List GivenTable) (i : ℕ) (given : GivenTable) (old new : List ShortTable) (short : ShortTable) → i < length tables → given ≡ get_or tables i given
     → AreShorter target (take i tables) old → IsShorterTable target given short → new ≡ old ++ short ∷ [] → AreShorter target (take (i + 1) tables) new

@@ -7,16 +7,17 @@ use Rattle.run_report.specs.declared.causes.Refusal.TheVariants as refusals
 use Rattle.run_report.specs.Refusals.{line_of, status_of}
 use Rattle.spin_input.specs.Inputs.{Reading, HasNoInput, IsReadAs, IsUntouched}
 use Rattle.spin_input.specs.Kinds.{input_in, input_of}
-use Rattle.table_text.specs.Asking.{asked_faults, asked_value}
+use Rattle.table_readers.specs.Asking.{asked_faults}
+use Rattle.tables_top.specs.Asking.{input_value}
 use Rattle.table_text.specs.Texts.{short_lines}
-use Rattle.table_text.specs.declared.asking.Asked.{Asked}
+use Rattle.tables_top.specs.declared.inputs.TablesInput.{TablesInput}
 use Rattle.table_text.specs.declared.writing.ShortTable.{ShortTable}
 use Rattle.tables_top.specs.declared.outcomes.Outcome.{Outcome}
 use Rattle.tables_top.specs.Shorter.{AreShorter, has_long_table}
 
 -- which tables are asked for by bytes, or why none are
-abbrev pub tables_asked_in : List ℕ → Result Asked Refusal
-tables_asked_in = input_in (input_of asked_faults asked_value)
+abbrev pub tables_asked_in : List ℕ → Result TablesInput Refusal
+tables_asked_in = input_in (input_of asked_faults input_value)
 
 -- the line where there are words
 abbrev pub usage_line : List ℕ
@@ -42,13 +43,13 @@ IsSentOut s text then_said said =
 -- Why there are no tables, with what was read of the source: reading has its causes, or memory ran out after all was read.
 pub data HasNoTables (reading : Reading) (r : Refusal) : Type 0 where
   has_no_input : HasNoInput tables_asked_in reading r → HasNoTables reading r
-  has_no_memory : (asked : Asked) → IsReadAs tables_asked_in reading asked → r ≡ refusals.Memory → HasNoTables reading r
+  has_no_memory : (input : TablesInput) → IsReadAs tables_asked_in reading input → r ≡ refusals.Memory → HasNoTables reading r
 
 -- tables that the source's bytes ask for, and their text
 pub record AreMadeTables (reading : Reading) (tables : List ShortTable) (text : List ℕ) : Type 0 where
-  pub asked : Asked
-  pub read : IsReadAs tables_asked_in reading asked
-  pub shorter : AreShorter asked.target asked.tables tables
+  pub input : TablesInput
+  pub read : IsReadAs tables_asked_in reading input
+  pub shorter : AreShorter input.asked.target input.asked.tables tables
   pub is : text ≡ flat_map short_lines tables
 
 -- the line of a refusal was written, and nothing else is given

@@ -8,7 +8,7 @@ use Rattle.table_rules.specs.declared.rows.RoutedBlock.{RoutedBlock}
 use Rattle.table_rules.specs.Made.{HasTooManyPieces}
 use Rattle.table_rules.specs.Rows.{first_with}
 use Rattle.table_rules.specs.Shortened.{IsShortenedTo}
-use Rattle.table_text.specs.declared.asking.GivenTable.{GivenTable}
+use Rattle.table_readers.specs.declared.asking.GivenTable.{GivenTable}
 use Rattle.table_text.specs.declared.writing.ShortTable.{ShortTable}
 
 -- the entry that a row is

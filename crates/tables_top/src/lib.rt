@@ -4,6 +4,7 @@
 //! text and the refusals are this project's own.
 #![tactic(auto)]
 
+mod inputs;
 mod outcomes;
 mod shorter;
 mod tops;

@@ -4,8 +4,9 @@ ghost use Rattle.tables_top.specs.Shorter.{AreShorter, IsShorterTable, entry_at,
 
 use spin_base::{ChipTable, Entry, Memory, ROUTER_ENTRIES, Seq};
 use std::alloc::Global;
+use table_readers::GivenTable;
 use table_rules::{RoutedBlock, shorten_rows};
-use table_text::{GivenTable, ShortTable};
+use table_text::ShortTable;
 
 /// Into how many pieces the rows of a table may be cut.
 const ROOM: u32 = 262144;

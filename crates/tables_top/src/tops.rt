@@ -7,13 +7,15 @@ ghost use Rattle.table_text.specs.Texts.{short_lines};
 ghost use Rattle.tables_top.specs.Ending.{AreMadeTables, EndsTables, HasNoTables, IsSentOut, IsTold, outcome_status, sending_of, tables_status};
 ghost use Rattle.tables_top.specs.Shorter.{AreShorter};
 
+use crate::inputs::TablesInput;
 use crate::outcomes::Outcome;
 use crate::shorter::{has_long_table, shorter_tables};
 use run_report::{OUT_OF_MEMORY, Refusal, line_of};
 use spin_base::{Memory, Seq, Sink, Source, write_all};
 use spin_input::read_input;
 use std::alloc::Global;
-use table_text::{Asked, ShortTable, tables_text};
+use table_readers::Asked;
+use table_text::{ShortTable, tables_text};
 
 // The line where there are words.
 const USAGE: &str = "usage: no words, and tables as JSON on standard input\n";
@@ -64,8 +66,8 @@ fn made_of<S: Source>(alloc: Global, source: &mut S) -> Result<Made, Refusal>
         made.tables made.text) }
     ensures err { IfErr result (HasNoTables (reading_of S.left S.faults source.old source.new)) }
 {
-    let asked: Asked = read_input(alloc, source)?;
-    match made(alloc, &asked) {
+    let input: TablesInput = read_input(alloc, source)?;
+    match made(alloc, &input.asked) {
         Ok(made) => Ok(made),
         Err(Memory) => Err(Refusal::Memory),
     }

@@ -3,13 +3,12 @@ ghost use Rattle.std.specs.Prelude.{◌≡◌, ◌<◌, ◌≤◌, ◌^◌, ◌=
 ghost use Rattle.serde_json.specs.View.{view};
 ghost use Rattle.job_text.specs.Reading.{GivesOrFaults};
 ghost use Rattle.job_text.specs.Paths.{path_text};
-ghost use Rattle.table_text.specs.Asking.{HasFewRows, asked_faults, asked_value, chip_numbers, chip_numbers_faults, row_faults, row_of_numbers, row_value, rows_faults, rows_value, table_faults, table_value, tables_faults, tables_value, tables_target_faults, tables_target_value};
+ghost use Rattle.table_readers.specs.Asking.{HasFewRows, asked_faults, asked_value, chip_numbers, chip_numbers_faults, row_faults, row_of_numbers, row_value, rows_faults, rows_value, table_faults, table_value, tables_faults, tables_value, tables_target_faults, tables_target_value};
 
 use job_readers::{ItemReader, each_item, items_in};
 use job_text::{Path, TextErr, count_to, list, member, number_in, range, shape};
 use serde_json::Value;
 use spin_base::{Block, Chip, Route, Seq};
-use spin_input::Input;
 use std::alloc::Global;
 use table_rules::RoutedBlock;
 
@@ -42,7 +41,7 @@ struct Rows;
 
 impl ItemReader for Rows {
     ghost use Rattle.std.specs.Prelude.{⊤};
-    ghost use Rattle.table_text.specs.Asking.{row_faults, row_value};
+    ghost use Rattle.table_readers.specs.Asking.{row_faults, row_value};
 
     type Item = RoutedBlock;
 
@@ -99,7 +98,7 @@ struct Tables;
 
 impl ItemReader for Tables {
     ghost use Rattle.std.specs.Prelude.{⊤};
-    ghost use Rattle.table_text.specs.Asking.{HasFewRows, table_faults, table_value};
+    ghost use Rattle.table_readers.specs.Asking.{HasFewRows, table_faults, table_value};
 
     type Item = GivenTable;
 
@@ -200,19 +199,4 @@ fn tables_in(alloc: Global, value: &Value, path: &Path<'_>) -> Result<Seq<GivenT
     let items = list(alloc, member(value, "tables"), &path, true)?;
     count_to(alloc, &path, MOST_ITEMS, items.len() as u64)?;
     each_item(alloc, items, &path, &Tables)
-}
-
-impl Input for Asked {
-    ghost use Rattle.std.specs.Prelude.{All};
-    ghost use Rattle.table_text.specs.Asking.{HasFewRows, asked_faults, asked_value};
-
-    ghost faults = { asked_faults };
-
-    ghost value_of = { asked_value };
-
-    ghost IsSound = { λ a. All HasFewRows a.tables };
-
-    fn of_value(alloc: Global, value: &Value) -> Result<Asked, TextErr> {
-        asked_of(alloc, value)
-    }
 }

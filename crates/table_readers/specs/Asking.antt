@@ -16,8 +16,8 @@ use Rattle.job_readers.specs.Entries.{chip_of_numbers}
 use Rattle.job_readers.specs.Items.{items_faults}
 use Rattle.job_readers.specs.RunPart.{items_in}
 use Rattle.table_rules.specs.declared.rows.RoutedBlock.{RoutedBlock}
-use Rattle.table_text.specs.declared.asking.Asked.{Asked}
-use Rattle.table_text.specs.declared.asking.GivenTable.{GivenTable}
+use Rattle.table_readers.specs.declared.asking.Asked.{Asked}
+use Rattle.table_readers.specs.declared.asking.GivenTable.{GivenTable}
 
 -- a key, a mask or a route of a row
 abbrev pub key_faults : List ℕ → Data → List JobFault
