@@ -61,8 +61,8 @@ def tables_program_of(program: Optional[str] = None) -> str:
 def minimise(tables: AnyTables, target: int = 0, program: Optional[str] = None) -> Minimised:
     """Tables with fewer rows that give each key the route that the given ones give it. `tables` is an image, or rows by chip: of each a
     key, a mask and a route word (bits 0 to 5 the links, 6 to 23 the cores), as `verify` takes them. A table of at most `target` rows is
-    left as it is, and a longer one is shortened until it has so many, or no two of its rows can be joined. Refused where the program
-    takes the rows for none, as where a key has a bit outside its mask."""
+    left as it is, and a longer one is shortened until it has so many, or no two of its rows can be joined. Rows whose key has a bit outside
+    the mask match no packet, and are left out. Refused where the program takes the rows for none, as where a route has 25 bits."""
     wanted, given, path = whole("minimise: target", target), rows_by_chip(tables), tables_program_of(program)
     shares = list(shares_of(given))
     with ThreadPoolExecutor(min(len(shares), os.cpu_count() or 1) or 1) as workers:
@@ -86,7 +86,9 @@ def shares_of(given: Mapping[Chip, Sequence[Row]]) -> Iterator[Dict[Chip, Sequen
 
 def minimised(given: Mapping[Chip, Sequence[Row]], target: int, path: str) -> Minimised:
     """What one call of the program makes of tables."""
-    listed = [{"x": x, "y": y, "rows": [[row.key, row.mask, row.route] for row in rows]} for (x, y), rows in given.items()]
+    # (a row whose key has a bit outside the mask has no key)
+    words = {chip: [[row.key, row.mask, row.route] for row in rows if not row.key & ~row.mask] for chip, rows in given.items()}
+    listed = [{"x": x, "y": y, "rows": rows} for (x, y), rows in words.items()]
     request = {"target": target, "tables": listed}
     text = json.dumps(request, separators=(",", ":")).encode()
     status, written = call([], text, path)

@@ -165,7 +165,7 @@ class Refusals(unittest.TestCase):
 
     def test_calls(self):
         with self.assertRaises(Refused) as refused:
-            minimise({(0, 0): [(2, 1, 1)]})
+            minimise({(0, 0): [(1, 1, 1 << 24)]})
         self.assertEqual((refused.exception.fault, refused.exception.path), ("range", "in.tables[0].rows[0]"))
         for wrong in ({(0, 0): 5}, {(0, 0): [(1, 2)]}):
             with self.assertRaises((TypeError, ValueError)):
@@ -173,6 +173,7 @@ class Refusals(unittest.TestCase):
         with self.assertRaises((TypeError, ValueError)):
             minimise({}, "7")
         self.assertEqual(minimise({}), Minimised({}))
+        self.assertEqual(words(minimise({(0, 0): [(ONES, 0, 0), (1, 1, 1)]}).tables[0, 0]), [(1, 1, 1)])
 
     def test_broken_answers(self):
         for text in ("table 0 0 1\n", "table 0 0 0\ntable 0 0 0\n", "kept 0 0 1\n", "00000000 00000000 000001\n", "table 0 0 1\n0 0 0\n", "table 0 0 0"):
@@ -231,7 +232,7 @@ class Command(unittest.TestCase):
         self.assertEqual(self.call(csv, "--target", "8")[1], csv)
 
     def test_spoiled(self):
-        for data in (b"x,y,key\n", b"\xff\xfe", b"SPNT", b"0 0 1 2\n", b"table 0 0 1\n", b"x,y,key,mask,route\n0,0,2,1,1\n"):
+        for data in (b"x,y,key\n", b"\xff\xfe", b"SPNT", b"0 0 1 2\n", b"table 0 0 1\n", b"x,y,key,mask,route\n0,0,1,1,0x1000000\n"):
             status, written, told = self.call(data)
             self.assertEqual((status, written), (4, b""), data)
             self.assertTrue(told.strip(), data)
