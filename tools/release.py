@@ -27,6 +27,8 @@ import building  # noqa: E402
 
 # The program needs a C library as new as that for which the toolchain links.
 TAG = "py3-none-linux_x86_64"
+# The status of the program that shortens tables, where its input is empty.
+NO_TABLES = 4
 EXAMPLES = ("one_chip", "image", "reinject_fan_out", "trace_fan_out", "check_right", "apps_used_again", "long_table")
 
 
@@ -60,9 +62,12 @@ def make(folder):
     if subprocess.run([f"{ROOT}/spin", "gen", "0"], stdout=subprocess.DEVNULL, check=False).returncode:
         sys.exit("release: the launcher gives no program")
     os.makedirs(folder, exist_ok=True)
+    if subprocess.run([f"{ROOT}/spin_tables"], stdin=subprocess.DEVNULL, stdout=subprocess.DEVNULL, check=False).returncode != NO_TABLES:
+        sys.exit("release: the launcher gives no program that shortens tables")
     shutil.copy(f"{ROOT}/out/spin", f"{folder}/spin")
     told = json.dumps(built_from(), indent=1) + "\n"
     inside = [("kulzobad/compiled/built.json", told.encode()), ("kulzobad/compiled/spin", read(f"{folder}/spin"))]
+    inside.append(("kulzobad/compiled/spin_tables", read(f"{ROOT}/out/spin_tables")))
     wheel = building.write_wheel(folder, TAG, more=inside)
     with open(f"{folder}/SHA256SUMS", "w", encoding="utf-8") as sums:
         sums.writelines(f"{hashlib.sha256(read(f'{folder}/{name}')).hexdigest()}  {name}\n" for name in sorted(("spin", wheel)))
@@ -107,6 +112,11 @@ def failures_of_release(room, wheel, python):
         given = done.stderr.split(b"\n", 1)[0] + b"\n" if status else done.stdout
         if (done.returncode, given) != (status, wanted):
             yield f"kulzobad {word} of examples/{name}.json: status {done.returncode}, {given[:200]}, {done.stderr[:200]}"
+    with open(f"{room}/tables.csv", "w", encoding="utf-8") as rows:
+        rows.write("x,y,key,mask,route\n0,0,0,0xffffffff,1\n0,0,1,0xffffffff,1\n")
+    shorter = call("minimise", "tables.csv").stdout
+    if shorter != b"x,y,key,mask,route\n0,0,0x00000000,0xfffffffe,0x000001\n":
+        yield f"kulzobad minimise gives {shorter!r}"
     told, known = call("--version").stdout.decode(), built_from()
     for line in (f"sources {known['sources']}", f"toolchain {known['toolchain']}", "not proved on this machine"):
         if line not in told:

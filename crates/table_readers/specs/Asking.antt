@@ -1,5 +1,5 @@
 -- Tables to be shortened, as JSON: all faults in the order of reading, and what they are (this project's own).
-use Rattle.std.specs.Prelude.{◌==◌, ℕ, ◌≤◌, ◌%◌, ◌<◌, List, [], ◌∷◌, Some, None, map, length, codes, bit_and}
+use Rattle.std.specs.Prelude.{◌==◌, ℕ, ◌≤◌, ◌%◌, ◌<◌, if◌then◌else◌, List, [], ◌∷◌, ◌++◌, true, Some, None, map, length, codes, bit_and}
 use Rattle.std.proofs.Common.{lit<}
 use Rattle.std.proofs.lemmas.Nat.{mod_below}
 use Rattle.serde_json.specs.Data.{Data}
@@ -10,7 +10,8 @@ use Rattle.job_text.specs.declared.faults.JobFault.TheVariants.{Shape}
 use Rattle.job_text.specs.Reading.{◌▹◌}
 use Rattle.job_text.specs.Members.{member_of}
 use Rattle.job_text.specs.Paths.{member_at}
-use Rattle.job_text.specs.Fields.{count_faults, list_faults, list_value, number_faults, number_value, range_unless}
+use Rattle.job_text.specs.Fields.{number_faults, number_value, range_unless}
+use Rattle.job_readers.specs.Members.{list_member, list_member_faults}
 use Rattle.job_readers.specs.Blocks.{block_at}
 use Rattle.job_readers.specs.Entries.{chip_of_numbers}
 use Rattle.job_readers.specs.Items.{items_faults}
@@ -31,13 +32,21 @@ whole_value d = number_value None (Some d)
 
 -- A row is [key,mask,route]: a key and a mask of 32 bits, and a route of 24. Range of the row, too, where the key has a bit outside
 -- the mask, so that no key is in the block.
-abbrev pub three_faults : List ℕ → List Data → List JobFault
-three_faults path [] = Shape path ∷ []
-three_faults path (k ∷ []) = Shape path ∷ []
-three_faults path (k ∷ (m ∷ [])) = Shape path ∷ []
-three_faults path (k ∷ (m ∷ (r ∷ []))) =
+abbrev pub numbers_faults : List ℕ → Data → Data → Data → List JobFault
+numbers_faults path k m r =
     key_faults path k ▹ (key_faults path m ▹ (route_faults path r ▹ range_unless (bit_and (whole_value k) (whole_value m) == whole_value k) path))
-three_faults path (k ∷ (m ∷ (r ∷ (d ∷ ds)))) = Shape path ∷ []
+
+unfoldable pub one_faults : List ℕ → Data → Data → List Data → List JobFault
+one_faults path k m [] = Shape path ∷ []
+one_faults path k m (r ∷ ds) = if length ds == 0 then numbers_faults path k m r else Shape path ∷ []
+
+unfoldable pub two_faults : List ℕ → Data → List Data → List JobFault
+two_faults path k [] = Shape path ∷ []
+two_faults path k (m ∷ ds) = one_faults path k m ds
+
+unfoldable pub three_faults : List ℕ → List Data → List JobFault
+three_faults path [] = Shape path ∷ []
+three_faults path (k ∷ ds) = two_faults path k ds
 
 unfoldable pub row_faults : List ℕ → Data → List JobFault
 row_faults path d = three_faults path (items_in d)
@@ -49,11 +58,20 @@ route_at bits = record { bits = bits % 16777216; within = mod_below bits 1677721
 abbrev pub row_of_numbers : ℕ → ℕ → ℕ → RoutedBlock
 row_of_numbers key mask bits = record { block = block_at key mask; route = route_at bits }
 
-abbrev pub three_value : List Data → RoutedBlock
+abbrev pub numbers_value : Data → Data → Data → RoutedBlock
+numbers_value k m r = row_of_numbers (whole_value k) (whole_value m) (whole_value r)
+
+unfoldable pub one_value : Data → Data → List Data → RoutedBlock
+one_value k m [] = row_of_numbers 0 0 0
+one_value k m (r ∷ ds) = numbers_value k m r
+
+unfoldable pub two_value : Data → List Data → RoutedBlock
+two_value k [] = row_of_numbers 0 0 0
+two_value k (m ∷ ds) = one_value k m ds
+
+unfoldable pub three_value : List Data → RoutedBlock
 three_value [] = row_of_numbers 0 0 0
-three_value (k ∷ []) = row_of_numbers 0 0 0
-three_value (k ∷ (m ∷ [])) = row_of_numbers 0 0 0
-three_value (k ∷ (m ∷ (r ∷ ds))) = row_of_numbers (whole_value k) (whole_value m) (whole_value r)
+three_value (k ∷ ds) = two_value k ds
 
 unfoldable pub row_value : Data → RoutedBlock
 row_value d = three_value (items_in d)
@@ -67,13 +85,10 @@ chip_numbers d = chip_of_numbers (number_value None (member_of (codes "x") d)) (
 
 -- A table has at most 65,536 rows.
 unfoldable pub rows_faults : List ℕ → Data → List JobFault
-rows_faults path d =
-    list_faults (member_at path (codes "rows")) true (member_of (codes "rows") d)
-    ▹ (count_faults (member_at path (codes "rows")) 65536 (length (list_value (member_of (codes "rows") d)))
-    ▹ items_faults row_faults (member_at path (codes "rows")) 0 (list_value (member_of (codes "rows") d)))
+rows_faults path d = list_member_faults path (codes "rows") true 65536 d ++ items_faults row_faults (member_at path (codes "rows")) 0 (list_member (codes "rows") d)
 
 unfoldable pub rows_value : Data → List RoutedBlock
-rows_value d = map row_value (list_value (member_of (codes "rows") d))
+rows_value d = map row_value (list_member (codes "rows") d)
 
 -- A table is an object of the chip's numbers x and y and of rows.
 unfoldable pub table_faults : List ℕ → Data → List JobFault
@@ -95,13 +110,10 @@ tables_target_value d = number_value (Some 0) (member_of (codes "target") d)
 
 -- There are at most 65,536 tables.
 unfoldable pub tables_faults : List ℕ → Data → List JobFault
-tables_faults path d =
-    list_faults (member_at path (codes "tables")) true (member_of (codes "tables") d)
-    ▹ (count_faults (member_at path (codes "tables")) 65536 (length (list_value (member_of (codes "tables") d)))
-    ▹ items_faults table_faults (member_at path (codes "tables")) 0 (list_value (member_of (codes "tables") d)))
+tables_faults path d = list_member_faults path (codes "tables") true 65536 d ++ items_faults table_faults (member_at path (codes "tables")) 0 (list_member (codes "tables") d)
 
 unfoldable pub tables_value : Data → List GivenTable
-tables_value d = map table_value (list_value (member_of (codes "tables") d))
+tables_value d = map table_value (list_member (codes "tables") d)
 
 -- Tables stand at the path `in`. What is no object has no members.
 unfoldable pub asked_faults : Data → List JobFault

@@ -1,9 +1,11 @@
 // Tables to be shortened.
-ghost use Rattle.std.specs.Prelude.{◌≡◌, ◌<◌, ◌≤◌, ◌^◌, ◌==◌, All, IfOk, IfSome, bit_and, is_some, length, map};
+ghost use Rattle.std.specs.Prelude.{◌≡◌, ◌<◌, ◌≤◌, ◌^◌, ◌==◌, true, All, IfOk, IfSome, bit_and, is_some, length, map};
 ghost use Rattle.serde_json.specs.View.{view};
 ghost use Rattle.job_text.specs.Reading.{GivesOrFaults};
 ghost use Rattle.job_text.specs.Paths.{path_text};
-ghost use Rattle.table_readers.specs.Asking.{HasFewRows, asked_faults, asked_value, chip_numbers, chip_numbers_faults, row_faults, row_of_numbers, row_value, rows_faults, rows_value, table_faults, table_value, tables_faults, tables_value, tables_target_faults, tables_target_value};
+ghost use Rattle.job_readers.specs.Blocks.{block_at};
+ghost use Rattle.job_readers.specs.Members.{list_member, list_member_faults};
+ghost use Rattle.table_readers.specs.Asking.{HasFewRows, asked_faults, asked_value, chip_numbers, chip_numbers_faults, numbers_faults, numbers_value, one_faults, one_value, route_at, row_faults, row_value, rows_faults, rows_value, table_faults, table_value, tables_faults, tables_value, tables_target_faults, tables_target_value, three_faults, three_value, two_faults, two_value};
 
 use job_readers::{ItemReader, each_item, items_in};
 use job_text::{Path, TextErr, count_to, list, member, number_in, range, shape};
@@ -59,37 +61,111 @@ impl ItemReader for Rows {
 }
 
 // The row that an item is.
-#[tactic(auto, using(job_readers::proofs::Firsts::firsts), unfolding(crate::specs::Asking::row_faults, crate::specs::Asking::row_value))]
+#[tactic(auto, unfolding(crate::specs::Asking::row_faults, crate::specs::Asking::row_value))]
 fn row_in(alloc: Global, item: &Value, path: &Path<'_>) -> Result<RoutedBlock, TextErr>
     ensures { GivesOrFaults (λ r. r) result (row_faults (path_text path.now) (view item.now))
         (row_value (view item.now)) }
 {
-    let [key, mask, route] = items_in(item) else {
+    row_of_items(alloc, items_in(item), path)
+}
+
+// The row that three items are.
+#[tactic(auto, unfolding(crate::specs::Asking::three_faults, crate::specs::Asking::three_value))]
+fn row_of_items(alloc: Global, items: &[Value], path: &Path<'_>) -> Result<RoutedBlock, TextErr>
+    ensures { GivesOrFaults (λ r. r) result (three_faults (path_text path.now)
+        (map view items.now)) (three_value (map view items.now)) }
+{
+    let [key, rest @ ..] = items else {
         return Err(shape(alloc, path));
     };
+    row_of_two(alloc, key, rest, path)
+}
+
+// The row of a key, and of the mask and the route that two items are.
+#[tactic(auto, unfolding(crate::specs::Asking::two_faults, crate::specs::Asking::two_value))]
+fn row_of_two(
+    alloc: Global,
+    key: &Value,
+    items: &[Value],
+    path: &Path<'_>,
+) -> Result<RoutedBlock, TextErr>
+    ensures { GivesOrFaults (λ r. r) result (two_faults (path_text path.now) (view key.now)
+        (map view items.now)) (two_value (view key.now) (map view items.now)) }
+{
+    let [mask, rest @ ..] = items else {
+        return Err(shape(alloc, path));
+    };
+    row_of_one(alloc, key, mask, rest, path)
+}
+
+// The row of a key and a mask, and of the route that one item is.
+#[tactic(auto, unfolding(crate::specs::Asking::one_faults, crate::specs::Asking::one_value))]
+fn row_of_one(
+    alloc: Global,
+    key: &Value,
+    mask: &Value,
+    items: &[Value],
+    path: &Path<'_>,
+) -> Result<RoutedBlock, TextErr>
+    ensures { GivesOrFaults (λ r. r) result
+        (one_faults (path_text path.now) (view key.now) (view mask.now) (map view items.now))
+        (one_value (view key.now) (view mask.now) (map view items.now)) }
+{
+    let [route, rest @ ..] = items else {
+        return Err(shape(alloc, path));
+    };
+    if rest.is_empty() {
+        return row_of_three(alloc, key, mask, route, path);
+    }
+    Err(shape(alloc, path))
+}
+
+// The row that a key, a mask and a route are.
+#[tactic(auto, using(job_readers::proofs::Firsts::firsts))]
+fn row_of_three(
+    alloc: Global,
+    key: &Value,
+    mask: &Value,
+    route: &Value,
+    path: &Path<'_>,
+) -> Result<RoutedBlock, TextErr>
+    ensures { GivesOrFaults (λ r. r) result
+        (numbers_faults (path_text path.now) (view key.now) (view mask.now) (view route.now))
+        (numbers_value (view key.now) (view mask.now) (view route.now)) }
+{
     let key = number_in(alloc, Some(key), path, 0, MOST, None)? as u32;
     let mask = number_in(alloc, Some(mask), path, 0, MOST, None)? as u32;
     let bits = number_in(alloc, Some(route), path, 0, MOST_ROUTE, None)? as u32;
-    match row_of(key, mask, bits) {
-        Some(row) => Ok(row),
+    match block_of(key, mask) {
+        Some(block) => {
+            Ok(RoutedBlock {
+                block,
+                route: route_of(bits),
+            })
+        }
         None => Err(range(alloc, path)),
     }
 }
 
-// The row of these numbers, where the key has no bit outside the mask.
-#[tactic(auto, unfolding(job_readers::specs::Blocks::block_at, crate::specs::Asking::route_at))]
-fn row_of(key: u32, mask: u32, bits: u32) -> Option<RoutedBlock>
-    requires { bits < 2 ^ 24 }
+// The block of a key and a mask, where the key has no bit outside the mask.
+#[tactic(auto, unfolding(job_readers::specs::Blocks::block_at))]
+fn block_of(key: u32, mask: u32) -> Option<Block>
     ensures tested { is_some result ≡ (bit_and key mask == key) }
-    ensures value { IfSome result (λ r. r ≡ row_of_numbers key mask bits) }
+    ensures value { IfSome result (λ b. b ≡ block_at key mask) }
 {
     if key & mask != key {
         return None;
     }
-    Some(RoutedBlock {
-        block: Block { key, mask },
-        route: Route { bits },
-    })
+    Some(Block { key, mask })
+}
+
+// The route of bits.
+#[tactic(auto, unfolding(crate::specs::Asking::route_at))]
+fn route_of(bits: u32) -> Route
+    requires { bits < 2 ^ 24 }
+    ensures { result ≡ route_at bits }
+{
+    Route { bits }
 }
 
 // Reads a table: an object with a chip and rows.
@@ -152,9 +228,8 @@ fn rows_in(alloc: Global, item: &Value, path: &Path<'_>) -> Result<Seq<RoutedBlo
         (rows_value (view item.now)) }
     ensures few { IfOk result (λ rs. length rs ≤ 65536) }
 {
+    let items = list_of(alloc, item, path, "rows")?;
     let path = Path::Member(path, "rows");
-    let items = list(alloc, member(item, "rows"), &path, true)?;
-    count_to(alloc, &path, MOST_ITEMS, items.len() as u64)?;
     each_item(alloc, items, &path, &Rows)
 }
 
@@ -195,8 +270,26 @@ fn tables_in(alloc: Global, value: &Value, path: &Path<'_>) -> Result<Seq<GivenT
         (tables_value (view value.now)) }
     ensures few { IfOk result (All HasFewRows) }
 {
+    let items = list_of(alloc, value, path, "tables")?;
     let path = Path::Member(path, "tables");
-    let items = list(alloc, member(value, "tables"), &path, true)?;
-    count_to(alloc, &path, MOST_ITEMS, items.len() as u64)?;
     each_item(alloc, items, &path, &Tables)
+}
+
+// The list of at most so many items that a member is.
+#[tactic(auto, unfolding(job_readers::specs::Members::list_member_faults, job_readers::specs::Members::list_member))]
+fn list_of<'a>(
+    alloc: Global,
+    object: &'a Value,
+    path: &Path<'_>,
+    name: &str,
+) -> Result<&'a [Value], TextErr>
+    ensures read { GivesOrFaults (λ items. map view items.now) result
+        (list_member_faults (path_text path.now) name.now true 65536 (view object.now))
+        (list_member name.now (view object.now)) }
+    ensures within { IfOk result (λ items. length items.now ≤ 65536) }
+{
+    let path = Path::Member(path, name);
+    let items = list(alloc, member(object, name), &path, true)?;
+    count_to(alloc, &path, MOST_ITEMS, items.len() as u64)?;
+    Ok(items)
 }
