@@ -1,0 +1,84 @@
+use Rattle.std.proofs.Common.{◌≡◌, ◌+◌, ◌*◌, ◌<◌, length, set, refl, ap, subst, ◌∙◌, arith}
+use Rattle.std.proofs.lemmas.Bool.{false≢true}
+use Rattle.std.proofs.lemmas.List.Elements.{All-set}
+use Rattle.spin_base.proofs.Places.{one_item_at}
+use Rattle.chip_node.specs.declared.ends.Seen.{Seen}
+use Rattle.chip_node.specs.declared.ends.Seen.TheVariants.{Nothing}
+use Rattle.chip_node.specs.Going.{IsEndOf}
+use Rattle.chip_node.specs.Items.{port_place}
+use Rattle.chip_node.specs.Passing.{IsSeen}
+use Rattle.chip_node.proofs.EndSteps.{end_lacks_idle, end_stays_lacks}
+use Rattle.chip_node.proofs.Flows.{goes_none, ready_router_on}
+use Rattle.chip_node.proofs.Looking.{idle_at, idle_past, read_stands, room_kept, seen_room}
+use Rattle.chip_node.proofs.Placing.{stays_at, took_goes, Writes}
+use Rattle.chip_node.proofs.Stays.{stays_same}
+use Rattle.chip_node.proofs.nodes.RouterNode.look.Goals as goal
+use Rattle.chip_node.proofs.nodes.RouterNode.look.Goals.{in-Nothing, in_default-matches}
+
+pub returns-in_default-clause-looks : goal.returns-in_default-clause-looks
+returns-in_default-clause-looks g c =
+    let at : 7 * c.args.self.index + c.from.result ≡ port_place c.args.self.index c.args.port = ap (λ n. 7 * c.args.self.index + n) (c.from.ensures ∙ c.number.ensures.number) in
+    (stays_same c.args.hold.now, idle_past c.args.hold.now.ends.items c.deref.result.now _ _ c.deref.ensures.value at c.in_default.ensures.lookup.3)
+
+pub returns-then-matches-clause-looks : goal.returns-then-matches-clause-looks
+returns-then-matches-clause-looks g c =
+    let at : 7 * c.args.self.index + c.from.result ≡ port_place c.args.self.index c.args.port = ap (λ n. 7 * c.args.self.index + n) (c.from.ensures ∙ c.number.ensures.number) in
+    let x = c.in-Some.end.now in
+    let stands = read_stands c.args.hold.now.ends.items c.deref.result.now _ _ x c.deref.ensures.value at c.in-Some.ensures.lookup.3.0 c.in-Some.ensures.lookup.1 in
+    let nothing : c.front-seen.result ≡ Nothing = elim c.match-matches.branch [
+      | in-Nothing w ↦ w.in-Nothing.is
+      | in_default-matches w ↦ (let was = w.matches-is in let said = c.if-matches.true in cc)
+    ] in
+    (stays_same c.args.hold.now, idle_at c.args.hold.now.ends.items _ x stands (end_lacks_idle x x (subst (λ (s : Seen). IsSeen s x) nothing c.front-seen.ensures)))
+
+pub returns-then-not-has_room_for-clause-looks : goal.returns-then-not-has_room_for-clause-looks
+returns-then-not-has_room_for-clause-looks g c = (stays_same c.args.hold.now, λ roomy. false≢true (c.if-not-has_room_for.ensures.no roomy))
+
+pub returns-in-Some-take-clause-looks : goal.returns-in-Some-take-clause-looks
+returns-in-Some-take-clause-looks g c =
+    let r = c.args.self in
+    let a = c.args.hold.now in
+    let at : 7 * r.index + c.from.result ≡ port_place r.index c.args.port = ap (λ n. 7 * r.index + n) (c.from.ensures ∙ c.number.ensures.number) in
+    let old = c.index_mut.result.now in
+    let new = c.take.new.self in
+    let long = ap length c.deref.ensures.value in
+    let inside = c.in-Some.ensures.lookup.3.0 in
+    let below : 7 * r.index + c.from.result < length a.ends.items = omega arith in
+    let stood = read_stands a.ends.items a.ends.items _ _ old refl at below c.index_mut.ensures.value in
+    let w : Writes a.ends.items (set a.ends.items (7 * r.index + c.from.result) new) (port_place r.index c.args.port) old new = record { stood = stood; stands = ap (λ n. set a.ends.items n new) at } in
+    let x = c.in-Some.end.now in
+    let stands = read_stands a.ends.items c.deref.result.now _ _ x c.deref.ensures.value at inside c.in-Some.ensures.lookup.1 in
+    let sees : IsSeen c.front-seen.result old = subst (IsSeen c.front-seen.result) (one_item_at a.ends.items (port_place r.index c.args.port) _ x old refl stands stood) c.front-seen.ensures in
+    let takes = c.in-Some-take.ensures.some in (
+      took_goes c.args.around.capacity c.args.around.patience r.index c.args.port c.in-Some-take.copy a _ old new w takes refl refl refl,
+      room_kept c.args.around.capacity c.args.around.links.now r c.args.port _ a _ old new c.requires w refl
+          (seen_room c.args.around.capacity r.table.now r c.args.port a c.in-Some-take.copy c.front-seen.result old new sees takes (c.if-not-has_room_for.ensures.yes refl)),
+    )
+
+pub returns-in-Some-take-clause-ready : goal.returns-in-Some-take-clause-ready
+returns-in-Some-take-clause-ready g c =
+    ready_router_on c.args.around.capacity c.args.around.patience c.args.around.links.now c.args.self c.args.hold.now _ _ (returns-in-Some-take-clause-looks g c).0
+    (All-set (IsEndOf c.args.around.links.now) c.args.hold.now.ends.items _ c.take.new.self c.in-Some-take.ensures.end c.requires.ends) c.requires
+
+pub returns-in-None-clause-looks : goal.returns-in-None-clause-looks
+returns-in-None-clause-looks g c =
+    let r = c.args.self in
+    let a = c.args.hold.now in
+    let at : 7 * r.index + c.from.result ≡ port_place r.index c.args.port = ap (λ n. 7 * r.index + n) (c.from.ensures ∙ c.number.ensures.number) in
+    let old = c.index_mut.result.now in
+    let new = c.take.new.self in
+    let long = ap length c.deref.ensures.value in
+    let inside = c.in-Some.ensures.lookup.3.0 in
+    let below : 7 * r.index + c.from.result < length a.ends.items = omega arith in
+    let stood = read_stands a.ends.items a.ends.items _ _ old refl at below c.index_mut.ensures.value in
+    let w : Writes a.ends.items (set a.ends.items (7 * r.index + c.from.result) new) (port_place r.index c.args.port) old new = record { stood = stood; stands = ap (λ n. set a.ends.items n new) at } in
+    let lacks = c.in-None.ensures.none in (
+      stays_at a _ (port_place r.index c.args.port) old new w (end_stays_lacks old new lacks) refl refl refl,
+      idle_at a.ends.items (port_place r.index c.args.port) old stood (end_lacks_idle old new lacks),
+    )
+
+pub returns-in-None-clause-ready : goal.returns-in-None-clause-ready
+returns-in-None-clause-ready g c =
+    ready_router_on c.args.around.capacity c.args.around.patience c.args.around.links.now c.args.self c.args.hold.now _ _
+    (goes_none c.args.around.capacity c.args.around.patience c.args.hold.now _ (returns-in-None-clause-looks g c).0)
+    (All-set (IsEndOf c.args.around.links.now) c.args.hold.now.ends.items _ c.take.new.self c.in-None.ensures.end c.requires.ends) c.requires

@@ -1,0 +1,86 @@
+-- Rounds on threads that were played one after the other lead on.
+use Rattle.std.proofs.Common.{◌≡◌, ◌∙◌, ℕ, ◌<◌, Bool, true, false, List, [], sym, subst, inl, inr}
+use Rattle.std.specs.Prelude.{IfOk, Result, Ok, Err}
+use Rattle.spin_base.specs.declared.wants.Memory.{Memory}
+use Rattle.chip_node.specs.Items.{Item}
+use Rattle.mesh_core.specs.State.{State, IsMesh}
+use Rattle.mesh_run.specs.declared.raised.RaisedMesh.{RaisedMesh}
+use Rattle.mesh_run.specs.Played.{IsPlayedBy}
+use Rattle.mesh_run.specs.Raised.{IsNoted, IsRaisedFrom, PlaysTo}
+use Rattle.mesh_round.specs.RoundFlow.{HasNoHand, HasRounds, IsRound, none, more}
+use Rattle.mesh_round.specs.Bound.{HasMovingRounds}
+use Rattle.mesh_round.proofs.Resting.{none_left}
+use Rattle.mesh_round.specs.OnThreads.{HasSome, LeadsByFlow, LeadsByRound, MayGoOn, has_none}
+
+-- what the law of rounds on threads tells of one of them
+pub record IsLaw : Type 0 where
+  pub mesh : (patience turns : ℕ) (items : List Item) (m n : State) → IsMesh m → HasNoHand m → IsPlayedBy patience turns items m n → IsMesh n
+  pub hands : (patience turns : ℕ) (items : List Item) (m n : State) → HasNoHand m → IsPlayedBy patience turns items m n → HasNoHand n
+  pub round : (patience turns : ℕ) (items : List Item) (m n : State) → IsMesh m → HasNoHand m → IsPlayedBy patience turns items m n → LeadsByFlow patience turns items m n
+  pub still : (patience turns : ℕ) (items : List Item) (m n : State) → IsMesh m → IsPlayedBy patience turns items m n → items ≡ [] → n ≡ m
+
+-- A mesh that was reached by rounds in each of which a copy moved, that may go on, and is split.
+pub record IsReached (patience turns : ℕ) (m : State) (r : RaisedMesh) : Type 0 where
+  pub mesh : State
+  pub rounds : HasMovingRounds patience turns m mesh
+  pub ready : MayGoOn mesh
+  pub raised : IsRaisedFrom mesh 0 r
+
+pub begins : (patience turns : ℕ) (m : State) (r : RaisedMesh) → MayGoOn m → IsRaisedFrom m 0 r → IsReached patience turns m r
+begins patience turns m r ready raised = record { mesh = m; rounds = record { rounds = none; each = tt }; ready = ready; raised = raised }
+
+module _ (law : IsLaw) (patience turns : ℕ) where
+  -- a mesh after a round may go on
+  pub ready_after : (m n : State) (items : List Item) → MayGoOn m → IsPlayedBy patience turns items m n → MayGoOn n
+  ready_after m n items ready played = record {
+    mesh = law.mesh patience turns items m n ready.mesh ready.no_hand played;
+    no_hand = law.hands patience turns items m n ready.no_hand played;
+  }
+
+  some_moved : (items : List Item) → IsNoted false items true → items ≡ [] → ⊥
+  some_moved items (inl noted) nothing = cc
+  some_moved items (inr some) nothing = some nothing
+
+  -- a round that moved a copy is one more
+  pub moved_on : (m : State) (r s : RaisedMesh) (is : IsReached patience turns m r) → PlaysTo patience turns is.mesh true s → IsReached patience turns m s
+  moved_on m r s is to =
+      let ready = ready_after is.mesh to.mesh to.items is.ready to.played in
+      let lead = law.round patience turns to.items is.mesh to.mesh is.ready.mesh is.ready.no_hand to.played in
+      record {
+        mesh = to.mesh;
+        rounds = record {
+          rounds = more lead.flow is.mesh to.mesh is.rounds.rounds ready.mesh lead.round;
+          each = (is.rounds.each, lead.moved (some_moved to.items to.noted));
+        };
+        ready = ready;
+        raised = to.raised;
+      }
+
+  -- one that moved none leaves the mesh as it was
+  pub stood_still : (m : State) (s : RaisedMesh) → IsMesh m → PlaysTo patience turns m false s → IsRaisedFrom m 0 s
+  stood_still m s mesh to = subst (λ (k : State). IsRaisedFrom k 0 s) (law.still patience turns to.items m to.mesh mesh to.played to.noted.1) to.raised
+
+  pub stood_on : (m : State) (r s : RaisedMesh) (is : IsReached patience turns m r) → PlaysTo patience turns is.mesh false s → IsReached patience turns m s
+  stood_on m r s is to = record { mesh = is.mesh; rounds = is.rounds; ready = is.ready; raised = stood_still is.mesh s is.ready.mesh to }
+
+  -- A round by itself: a copy moved in it; or none did, and there was none.
+  pub leads : (m n : State) (items : List Item) → MayGoOn m → IsPlayedBy patience turns items m n → IsNoted false items true → LeadsByRound patience turns m n
+  leads m n items ready played noted =
+      let lead = law.round patience turns items m n ready.mesh ready.no_hand played in
+      record { flow = lead.flow; round = lead.round; moved = λ some has. lead.moved (some_moved items noted) }
+
+  -- A round in which no copy moved, of a mesh in which none is.
+  leads_nowhere : (m n : State) (s : RaisedMesh) → MayGoOn m → PlaysTo patience turns m false s → n ≡ m → has_none n ≡ true → LeadsByRound patience turns m n
+  leads_nowhere m n s ready to same is =
+      let lead = law.round patience turns to.items m to.mesh ready.mesh ready.no_hand to.played in
+      let still = law.still patience turns to.items m to.mesh ready.mesh to.played to.noted.1 in
+      record {
+        flow = lead.flow;
+        round = subst (λ (k : State). IsRound patience turns m lead.flow k) (still ∙ sym same) lead.round;
+        moved = λ some has. absurd (none_left m (subst (λ (k : State). has_none k ≡ true) same is) ready.no_hand has);
+      }
+
+  pub leads_at_rest : (m : State) (s : RaisedMesh) (answer : Result State (State × Memory)) → MayGoOn m → PlaysTo patience turns m false s
+      → IfOk answer (λ n. n ≡ m) → IfOk answer (λ n. has_none n ≡ true) → IfOk answer (LeadsByRound patience turns m)
+  leads_at_rest m s (Ok n) ready to same is = leads_nowhere m n s ready to same is
+  leads_at_rest m s (Err e) ready to same is = is
