@@ -1,9 +1,9 @@
 -- One end is written, and what was done tells of it alone.
-use Rattle.std.proofs.Common.{◌≡◌, ◌≢◌, ℕ, ◌<◌, inl, inr, List, [], ◌∷◌, ◌++◌, length, set, ◌==◌, Option, Some, None, refl, sym, ap, subst, ◌∙◌, append-nil}
+use Rattle.std.proofs.Common.{◌≡◌, ◌≢◌, ℕ, ◌+◌, ◌<◌, inl, inr, List, [], ◌∷◌, ◌++◌, length, set, ◌==◌, Option, Some, None, refl, sym, ap, subst, ◌∙◌, append-nil, arith}
 use Rattle.std.specs.List.{slice_get, slice_index_or}
 use Rattle.std.proofs.Math.ListN.{length-set}
 use Rattle.std.proofs.lemmas.Bool.{cases_eq, cond-true, cond-false, eq-eqb, ne_eqb}
-use Rattle.std.proofs.lemmas.List.{get_or-set_same, get_or-set_other}
+use Rattle.std.proofs.lemmas.List.{get_or-set_same, get_or-set_other, length-append}
 use Rattle.std.proofs.lemmas.Option.{same_Some}
 use Rattle.spin_base.specs.declared.chips.Chip.{Chip}
 use Rattle.spin_base.specs.declared.chips.Port.{Port}
@@ -107,6 +107,13 @@ unsent_items a b same = cc
 same_unsent : (a b : Holdings) → b.unsent.items ≡ a.unsent.items → (v : ℕ) → slice_index_or a.unsent.items v [] ≡ slice_index_or b.unsent.items v []
 same_unsent a b same v = ap (λ (l : List (List McCopy)). slice_index_or l v []) (sym same)
 
+-- A log that grew by some items has as much room less.
+grown : {T : Type 0} (a b : WithRoom T) (more : List T) → b.items ≡ a.items ++ more → b.spare + length more ≡ a.spare → b.spare + length b.items ≡ a.spare + length a.items
+grown a b more items spare =
+    let long = ap length items in
+    let both = length-append a.items more in
+    omega (arith, long, both, spare)
+
 -- the router took a copy
 pub took_goes : (cap patience i : ℕ) (port : Port) (k : McCopy) (a b : Holdings) (old new : End) → Writes a.ends.items b.ends.items (port_place i port) old new → EndTakes k old new
     → b.unsent.items ≡ a.unsent.items → b.deliveries ≡ a.deliveries → b.dumps ≡ a.dumps → Goes cap patience a (took i port k ∷ []) b
@@ -119,12 +126,14 @@ took_goes cap patience i port k a b old new w takes unsent deliveries dumps = re
   unsent = same_unsent a b unsent;
   delivered = ap (λ (l : WithRoom Delivery). l.items) deliveries ∙ sym (append-nil a.deliveries.items);
   dumped = ap (λ (l : WithRoom DumpRec). l.items) dumps ∙ sym (append-nil a.dumps.items);
+  deliveries_room = ap (λ (l : WithRoom Delivery). l.spare + length l.items) deliveries;
+  dumps_room = ap (λ (l : WithRoom DumpRec). l.spare + length l.items) dumps;
 }
 
 -- a vertex took a copy
 pub got_goes : (cap patience i v q : ℕ) (k : McCopy) (a b : Holdings) (old new : End) → Writes a.ends.items b.ends.items q old new → EndTakes k old new
-    → b.unsent.items ≡ a.unsent.items → b.deliveries.items ≡ a.deliveries.items ++ record { vertex = v; copy = k } ∷ [] → b.dumps ≡ a.dumps → Goes cap patience a (got i v q k ∷ []) b
-got_goes cap patience i v q k a b old new w takes unsent deliveries dumps = record {
+    → b.unsent.items ≡ a.unsent.items → b.deliveries.items ≡ a.deliveries.items ++ record { vertex = v; copy = k } ∷ [] → b.deliveries.spare + 1 ≡ a.deliveries.spare → b.dumps ≡ a.dumps → Goes cap patience a (got i v q k ∷ []) b
+got_goes cap patience i v q k a b old new w takes unsent deliveries spare dumps = record {
   ends_long = written_long a.ends.items b.ends.items q old new w;
   ends = ends_at cap patience a.ends.items b.ends.items (got i v q k ∷ []) q old new w
       (subst (λ (l : List McCopy). EndGoes cap patience [] l [] old new) (sym (only_here q (k ∷ []))) (end_goes_takes cap patience k old new takes))
@@ -133,6 +142,8 @@ got_goes cap patience i v q k a b old new w takes unsent deliveries dumps = reco
   unsent = same_unsent a b unsent;
   delivered = deliveries;
   dumped = ap (λ (l : WithRoom DumpRec). l.items) dumps ∙ sym (append-nil a.dumps.items);
+  deliveries_room = grown a.deliveries b.deliveries (record { vertex = v; copy = k } ∷ []) deliveries spare;
+  dumps_room = ap (λ (l : WithRoom DumpRec). l.spare + length l.items) dumps;
 }
 
 -- a vertex sent a copy
@@ -147,6 +158,8 @@ sent_goes cap patience tries i v k rest a b old new w sends below first unsent d
   unsent = each;
   delivered = ap (λ (l : WithRoom Delivery). l.items) deliveries ∙ sym (append-nil a.deliveries.items);
   dumped = ap (λ (l : WithRoom DumpRec). l.items) dumps ∙ sym (append-nil a.dumps.items);
+  deliveries_room = ap (λ (l : WithRoom Delivery). l.spare + length l.items) deliveries;
+  dumps_room = ap (λ (l : WithRoom DumpRec). l.spare + length l.items) dumps;
 }
   where
     each : (u : ℕ) → slice_index_or a.unsent.items u [] ≡ sent_by u (sent i v k ∷ []) ++ slice_index_or b.unsent.items u []
@@ -165,14 +178,16 @@ sent_goes cap patience tries i v k rest a b old new w sends below first unsent d
 
 -- where no queue stands behind the output, or one
 served_nowhere : (cap patience i : ℕ) (c : Chip) (s : Service) (a b : Holdings) → b.ends.items ≡ a.ends.items → b.unsent.items ≡ a.unsent.items → b.deliveries ≡ a.deliveries
-    → b.dumps.items ≡ a.dumps.items ++ recorded c s s.fate → Goes cap patience a (served i c None s ∷ []) b
-served_nowhere cap patience i c s a b ends unsent deliveries dumped = record {
+    → b.dumps.items ≡ a.dumps.items ++ recorded c s s.fate → b.dumps.spare + length (recorded c s s.fate) ≡ a.dumps.spare → Goes cap patience a (served i c None s ∷ []) b
+served_nowhere cap patience i c s a b ends unsent deliveries dumped spare = record {
   ends_long = ap length ends;
   ends = λ q x y at also. (let same : x ≡ y = same_Some x y (sym at ∙ (ap (λ (l : List End). slice_get l q) (sym ends) ∙ also)) in end_goes_none cap patience x y (subst (EndStays x) same (end_stays_same x)));
   unsent_long = ap length unsent;
   unsent = same_unsent a b unsent;
   delivered = ap (λ (l : WithRoom Delivery). l.items) deliveries ∙ sym (append-nil a.deliveries.items);
   dumped = dumped ∙ ap (λ l. a.dumps.items ++ l) (sym (append-nil (recorded c s s.fate)));
+  deliveries_room = ap (λ (l : WithRoom Delivery). l.spare + length l.items) deliveries;
+  dumps_room = grown a.dumps b.dumps (recorded c s s.fate) dumped spare;
 }
 
 served_end : (cap patience i : ℕ) (c : Chip) (q : ℕ) (o : Out) (k : McCopy) (fate : Served) (old new : End) → EndServes cap patience (onward k) fate old new
@@ -185,8 +200,8 @@ served_end cap patience i c q o k Dumped old new h =
     (subst (λ (l : List McCopy). EndGoes cap patience [] [] l old new) (sym (only_here q (k ∷ []))) (end_goes_refuses cap patience k old new h))
 
 served_there : (cap patience i : ℕ) (c : Chip) (q : ℕ) (o : Out) (k : McCopy) (fate : Served) (a b : Holdings) → SendsThere cap patience q (onward k) fate a.ends.items b.ends.items → b.unsent.items ≡ a.unsent.items
-    → b.deliveries ≡ a.deliveries → b.dumps.items ≡ a.dumps.items ++ recorded c (record { out = o; copy = k; fate = fate }) fate → Goes cap patience a (served i c (Some q) (record { out = o; copy = k; fate = fate }) ∷ []) b
-served_there cap patience i c q o k fate a b h unsent deliveries dumped = record {
+    → b.deliveries ≡ a.deliveries → b.dumps.items ≡ a.dumps.items ++ recorded c (record { out = o; copy = k; fate = fate }) fate → b.dumps.spare + length (recorded c (record { out = o; copy = k; fate = fate }) fate) ≡ a.dumps.spare → Goes cap patience a (served i c (Some q) (record { out = o; copy = k; fate = fate }) ∷ []) b
+served_there cap patience i c q o k fate a b h unsent deliveries dumped spare = record {
   ends_long = written_long a.ends.items b.ends.items q h.old h.new w;
   ends = ends_at cap patience a.ends.items b.ends.items (served i c (Some q) s ∷ []) q h.old h.new w (served_end cap patience i c q o k fate h.old h.new h.serves)
       (λ p other. record { none_entered = not_other q p (brought s fate) other; none_left = refl; none_lost = not_other q p (lost s fate) other });
@@ -194,6 +209,8 @@ served_there cap patience i c q o k fate a b h unsent deliveries dumped = record
   unsent = same_unsent a b unsent;
   delivered = ap (λ (l : WithRoom Delivery). l.items) deliveries ∙ sym (append-nil a.deliveries.items);
   dumped = dumped ∙ ap (λ l. a.dumps.items ++ l) (sym (append-nil (recorded c s fate)));
+  deliveries_room = ap (λ (l : WithRoom Delivery). l.spare + length l.items) deliveries;
+  dumps_room = grown a.dumps b.dumps (recorded c s fate) dumped spare;
 }
   where
     s : Service
@@ -203,9 +220,9 @@ served_there cap patience i c q o k fate a b h unsent deliveries dumped = record
     w = record { stood = h.stood; stands = h.stands }
 
 pub served_goes : (cap patience i : ℕ) (c : Chip) (place : Option ℕ) (o : Out) (k : McCopy) (fate : Served) (a b : Holdings) → SendsBehind cap patience place (onward k) fate a.ends.items b.ends.items → b.unsent.items ≡ a.unsent.items
-    → b.deliveries ≡ a.deliveries → b.dumps.items ≡ a.dumps.items ++ recorded c (record { out = o; copy = k; fate = fate }) fate → Goes cap patience a (served i c place (record { out = o; copy = k; fate = fate }) ∷ []) b
-served_goes cap patience i c None o k fate a b h unsent deliveries dumped = served_nowhere cap patience i c (record { out = o; copy = k; fate = fate }) a b h.1 unsent deliveries dumped
-served_goes cap patience i c (Some q) o k fate a b h unsent deliveries dumped = served_there cap patience i c q o k fate a b h unsent deliveries dumped
+    → b.deliveries ≡ a.deliveries → b.dumps.items ≡ a.dumps.items ++ recorded c (record { out = o; copy = k; fate = fate }) fate → b.dumps.spare + length (recorded c (record { out = o; copy = k; fate = fate }) fate) ≡ a.dumps.spare → Goes cap patience a (served i c place (record { out = o; copy = k; fate = fate }) ∷ []) b
+served_goes cap patience i c None o k fate a b h unsent deliveries dumped spare = served_nowhere cap patience i c (record { out = o; copy = k; fate = fate }) a b h.1 unsent deliveries dumped spare
+served_goes cap patience i c (Some q) o k fate a b h unsent deliveries dumped spare = served_there cap patience i c q o k fate a b h unsent deliveries dumped spare
 
 -- a queue that is not behind the output is as it was
 pub served_elsewhere : (cap patience : ℕ) (place : Option ℕ) (k : McCopy) (fate : Served) (before after : List End) (q : ℕ) → SendsBehind cap patience place k fate before after → place ≢ Some q → slice_get after q ≡ slice_get before q

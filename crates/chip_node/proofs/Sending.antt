@@ -1,5 +1,5 @@
 -- The queue behind an output of a router: where it stands, and that its end is one by which copies are sent.
-use Rattle.std.proofs.Common.{◌≡◌, ℕ, ◌<◌, List, [], ◌∷◌, ◌++◌, length, get_or, Option, Some, refl, sym, ap, subst, ◌∙◌, append-nil, arith}
+use Rattle.std.proofs.Common.{◌≡◌, ℕ, ◌+◌, ◌<◌, List, [], ◌∷◌, ◌++◌, length, get_or, Option, Some, None, refl, sym, ap, subst, ◌∙◌, append-nil, arith}
 use Rattle.std.specs.List.{slice_get}
 use Rattle.std.proofs.lemmas.Option.{slice_get-get_or, slice_get_read, slice_get_within}
 use Rattle.spin_base.specs.declared.chips.Chip.{Chip}
@@ -17,6 +17,7 @@ use Rattle.chip_node.specs.declared.nodes.Behind.{Behind}
 use Rattle.chip_node.specs.Acting.{place_behind, place_in}
 use Rattle.chip_node.specs.Going.{HoldsSender, IsSending}
 use Rattle.chip_node.specs.Items.{recorded}
+use Rattle.chip_node.specs.Passing.{SendsBehind}
 
 -- ---- the place behind an output
 
@@ -47,3 +48,17 @@ sent_recorded c o k fate a b is same =
 
 pub dumped_recorded : (c : Chip) (o : Out) (k : McCopy) (fate : Served) (a b : List DumpRec) → fate ≡ Dumped → b ≡ a ++ record { chip = c; out = o; copy = k } ∷ [] → b ≡ a ++ recorded c (record { out = o; copy = k; fate = fate }) fate
 dumped_recorded c o k fate a b is more = subst (λ (f : Served). b ≡ a ++ recorded c (record { out = o; copy = k; fate = f }) f) (sym is) more
+
+-- A record takes as much room as it says, and a copy that was sent none.
+pub sent_room : (c : Chip) (o : Out) (k : McCopy) (fate : Served) (a b : WithRoom DumpRec) → fate ≡ Sent → b ≡ a → b.spare + length (recorded c (record { out = o; copy = k; fate = fate }) fate) ≡ a.spare
+sent_room c o k fate a b is same =
+    let spare = ap (λ (l : WithRoom DumpRec). l.spare) same in
+    subst (λ (f : Served). b.spare + length (recorded c (record { out = o; copy = k; fate = f }) f) ≡ a.spare) (sym is) (omega (arith, spare))
+
+pub dumped_room : (c : Chip) (o : Out) (k : McCopy) (fate : Served) (a b : ℕ) → fate ≡ Dumped → b + 1 ≡ a → b + length (recorded c (record { out = o; copy = k; fate = fate }) fate) ≡ a
+dumped_room c o k fate a b is more = subst (λ (f : Served). b + length (recorded c (record { out = o; copy = k; fate = f }) f) ≡ a) (sym is) more
+
+-- behind an output without a queue a copy is dumped
+pub sent_nowhere : (cap patience : ℕ) (place : Option ℕ) (k : McCopy) (fate : Served) (before after : List End) → SendsBehind cap patience place k fate before after → place ≡ None → fate ≡ Dumped
+sent_nowhere cap patience None k fate before after h is = h.0
+sent_nowhere cap patience (Some q) k fate before after h is = cc

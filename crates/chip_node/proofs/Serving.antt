@@ -1,5 +1,5 @@
 -- Outputs of a copy that are served one after the other.
-use Rattle.std.proofs.Common.{◌≡◌, ◌≢◌, ℕ, ◌+◌, ◌<◌, ◌≤◌, List, [], ◌∷◌, ◌++◌, length, map, take, get_or, Some, refl, sym, ap, subst, ◌∙◌, arith}
+use Rattle.std.proofs.Common.{◌≡◌, ◌≢◌, ℕ, ◌+◌, ◌<◌, ◌≤◌, List, [], ◌∷◌, ◌++◌, length, map, take, get_or, Some, None, refl, sym, ap, subst, ◌∙◌, arith}
 use Rattle.std.specs.List.{All, AllPairs, AllWithin, slice_get}
 use Rattle.std.proofs.lemmas.List.{get_or_default, map-append, take_more, take_all}
 use Rattle.spin_base.specs.declared.copies.McCopy.{McCopy}
@@ -11,17 +11,20 @@ use Rattle.chip_node.specs.declared.nodes.RouterNode.{RouterNode}
 use Rattle.chip_node.specs.Acting.{IsReadyRouter, ServesOuts, place_behind, service_items}
 use Rattle.chip_node.specs.Going.{Goes}
 use Rattle.chip_node.specs.Items.{Item, Service, served}
+use Rattle.std.proofs.lemmas.List.Elements.{All-nil, All-cons, All-append}
+use Rattle.chip_node.specs.declared.ends.Served.TheVariants.{Dumped}
 use Rattle.chip_node.specs.Taking.{HasRoomBehind}
 use Rattle.chip_node.proofs.Flows.{goes_none, goes_on}
 use Rattle.chip_node.proofs.Stays.{stays_same}
 
 pub serves_none : (cap patience : ℕ) (r : RouterNode) (k : McCopy) (a : Holdings) → ServesOuts cap patience r [] k a a
-serves_none cap patience r k a = record { done = []; each_once = refl; goes = goes_none cap patience a a (stays_same a) }
+serves_none cap patience r k a = record { done = []; each_once = refl; nowhere = All-nil (λ (s : Service). place_behind r.behind.now s.out ≡ None → s.fate ≡ Dumped); goes = goes_none cap patience a a (stays_same a) }
 
 -- one output more
-pub serves_more : (cap patience : ℕ) (r : RouterNode) (k : McCopy) (a b c : Holdings) (outs : List Out) (i : ℕ) (s : Service) → i < length outs → s.out ≡ get_or outs i s.out → s.copy ≡ k
+pub serves_more : (cap patience : ℕ) (r : RouterNode) (k : McCopy) (a b c : Holdings) (outs : List Out) (i : ℕ) (s : Service) → i < length outs → s.out ≡ get_or outs i s.out → s.copy ≡ k → (place_behind r.behind.now s.out ≡ None → s.fate ≡ Dumped)
     → ServesOuts cap patience r (take i outs) k a b → Goes cap patience b (service_items r (s ∷ [])) c → ServesOuts cap patience r (take (i + 1) outs) k a c
-serves_more cap patience r k a b c outs i s below read of h goes = record {
+serves_more cap patience r k a b c outs i s below read of nowhere h goes = record {
+  nowhere = All-append (λ (x : Service). place_behind r.behind.now x.out ≡ None → x.fate ≡ Dumped) h.done (s ∷ []) h.nowhere (All-cons (λ (x : Service). place_behind r.behind.now x.out ≡ None → x.fate ≡ Dumped) s [] nowhere (All-nil (λ (x : Service). place_behind r.behind.now x.out ≡ None → x.fate ≡ Dumped)));
   done = h.done ++ s ∷ [];
   each_once =
       map-append pair h.done (s ∷ [])

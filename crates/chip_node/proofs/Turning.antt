@@ -24,7 +24,7 @@ pub routes_one : (cap patience : ℕ) (entries : List Entry) (r : RouterNode) (p
     → outs ≡ outputs_at entries port k → ServesOuts cap patience r outs k c d → (items : List Item) × RoutesOne entries r items × Goes cap patience a items d
 routes_one cap patience entries r port k outs a b c d stays takes given serves = (
   took r.index port k ∷ service_items r serves.done,
-  record { port = port; copy = k; done = serves.done; each_once = serves.each_once ∙ ap (λ (l : List Out). map {B = Out × McCopy} (λ o. (o, k)) l) given; are = refl },
+  record { port = port; copy = k; done = serves.done; each_once = serves.each_once ∙ ap (λ (l : List Out). map {B = Out × McCopy} (λ o. (o, k)) l) given; nowhere = serves.nowhere; are = refl },
   stays_goes cap patience a b d (took r.index port k ∷ service_items r serves.done) stays (goes_on cap patience b c d (took r.index port k ∷ []) (service_items r serves.done) takes serves.goes),
 )
 

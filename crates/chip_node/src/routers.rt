@@ -1,10 +1,11 @@
 // A chip's router between queues.
-ghost use Rattle.std.specs.Prelude.{◌≡◌, ◌≢◌, ◌≤◌, ◌<◌, ◌+◌, [], ◌∷◌, ℕ, Some, length, slice_get, All, AllPairs, IsTrue};
+ghost use Rattle.std.specs.Prelude.{◌≡◌, ◌≢◌, ◌≤◌, ◌<◌, ◌+◌, [], ◌∷◌, ℕ, None, Some, length, slice_get, All, AllPairs, IsTrue};
 ghost use Rattle.spin_base.specs.Outputs.{IsOutput};
 ghost use Rattle.chip_node.specs.Acting.{IsIdleRouter, IsReadyRouter, RouterActs, ServesOuts, place_behind, service_items};
 ghost use Rattle.chip_node.specs.Going.{AreEndsOf, Goes, IsRoomy};
 ghost use Rattle.chip_node.specs.Passing.{SendsBehind};
 ghost use Rattle.chip_node.specs.Taking.{HasRoomBehind, HasRoomFor, HasRoomForSeen, Looks};
+ghost use Rattle.chip_node.specs.declared.ends.Served.TheVariants.{Dumped};
 ghost use Rattle.chip_node.specs.declared.holdings.Turn.TheVariants.{Moved};
 
 use crate::ends::{Bounds, Seen, Served};
@@ -182,6 +183,7 @@ impl RouterNode<'_> {
         ensures goes { Goes around.entry.capacity around.entry.patience hold.old
             (service_items self.entry (record { out = out; copy = copy; fate = result } ∷ []))
             hold.new }
+        ensures nowhere { place_behind self.entry.behind.now out ≡ None → result ≡ Dumped }
         ensures elsewhere { (q : ℕ) → place_behind self.entry.behind.now out ≢ Some q
             → slice_get hold.new.ends.items q ≡ slice_get hold.old.ends.items q }
         ensures spare { hold.old.dumps.spare ≤ hold.new.dumps.spare + 1 }

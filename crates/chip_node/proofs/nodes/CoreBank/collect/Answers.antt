@@ -25,7 +25,7 @@ returns-in-Some-clause-acts g c =
       _,
       record { vertex = v; copy = c.in-Some.copy; has = (at, below, sym c.index-vertex.ensures); are = refl },
       stays_goes c.args.around.capacity c.args.around.patience c.args.hold.now m _ _ c.loop-step.invariant.stays
-          (got_goes c.args.around.capacity c.args.around.patience b.index v (b.cores + v) c.in-Some.copy m _ old new w c.in-Some.ensures.some refl c.put.ensures.items refl),
+          (got_goes c.args.around.capacity c.args.around.patience b.index v (b.cores + v) c.in-Some.copy m _ old new w c.in-Some.ensures.some refl c.put.ensures.items c.put.ensures.spare refl),
     )
 
 pub loop-step-preserved : goal.loop-step-preserved
