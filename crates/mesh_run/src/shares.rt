@@ -159,7 +159,8 @@ pub(crate) fn play_all<R: Threads + Wait + Sync, G: Gate>(
         shares.as_mut_slice(),
         1,
         &|_, part: &mut [Share]|
-            requires { All (IsShareOf ground.setup.now ground.around.links.now) part.now }
+            requires floor { IsFloorOf ground.setup.now ground.floor.now }
+            requires shares { All (IsShareOf ground.setup.now ground.around.links.now) part.now }
             ensures { (k : ℕ) (d : Share) → k < length part.entry.now
                 → PlaysAndStays ground.entry.setup.now ground.entry.around.links.now
                 ground.entry.around.patience ground.entry.turns
