@@ -81,7 +81,7 @@ module _ (u : Setup) where
   abbrev told : Service → Out × McCopy
   told s = (s.out, s.copy)
 
-  one_if : Bool → ℕ
+  abbrev one_if : Bool → ℕ
   one_if b = if b then 1 else 0
 
   at_most_one : (b : Bool) → one_if b ≤ 1
@@ -117,7 +117,7 @@ module _ (u : Setup) where
         let one = one_output u (chip_of u.machine j) (chip_of u.machine i) s.out o q (live_inside u.machine (chip_of u.machine j) done.0.live) (live_inside u.machine (chip_of u.machine i) live.live) place behind in
         let index : j ≡ i = sym done.0.is ∙ (ap (index_of u.machine) one.0 ∙ live.is) in
         let service : service_of i (served j c (Some p) s) ≡ s ∷ [] = here j i (s ∷ []) index in
-        let counted : count_by (by o) (map told (s ∷ [])) ≡ 1 = ap (λ (b : Bool). one_if b + 0) (subst (λ (e : Out). out_eq o e ≡ true) (sym one.1) (out_eq_same o)) in
+        let counted : count_by (by o) (map told (s ∷ [])) ≡ 1 = ap (λ (b : Bool). 0 + one_if b) (subst (λ (e : Out). out_eq o e ≡ true) (sym one.1) (out_eq_same o)) in
         let all = ap (λ (l : List Service). count_by (by o) (map told l)) service in
         let brings = ap length (here p q (brought s s.fate) same) in
         let few = few_brought s s.fate in

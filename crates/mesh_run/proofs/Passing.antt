@@ -102,7 +102,7 @@ module _ (cap patience : ℕ) (before after : List Share) (parts : List (List It
     fulls : (sending e.tx).fulls ≡ l.sends.goes.notes
     fulls = ap (λ t. (sending t).fulls) (sym l.tx) ∙ (l.sends.goes.fulls ∙ ap (λ (x : List ℕ). x ++ l.sends.goes.notes) l.sender_new.fulls)
 
-    moment : ℕ → ℕ × ℕ
+    abbrev moment : ℕ → ℕ × ℕ
     moment x = (x - length held, x - cap)
 
     -- A note of Full is such a moment: turns cannot fill a link that has fewer places than its queue.
