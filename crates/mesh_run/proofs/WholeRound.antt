@@ -55,9 +55,9 @@ module _ (w : Whole) where
   u = w.m.setup
 
   -- what one share did
-  record Part (k : ℕ) (items : List Item) : Type 0 where
-    plays : (s : Share) → SharePlays u w.patience w.turns (get_or w.dealt k s) items (get_or w.played k s)
-    noted : (s : Share) → IsNoted false items (get_or w.played k s).moved
+  pub record Part (k : ℕ) (items : List Item) : Type 0 where
+    pub plays : (s : Share) → SharePlays u w.patience w.turns (get_or w.dealt k s) items (get_or w.played k s)
+    pub noted : (s : Share) → IsNoted false items (get_or w.played k s).moved
 
   part_at : (k : ℕ) → k < length w.dealt → (items : List Item) × Part k items
   part_at k below =
@@ -72,7 +72,7 @@ module _ (w : Whole) where
       })
 
   -- what all shares did
-  all_parts : (parts : List (List Item)) × (length parts ≡ length w.dealt) × ((k : ℕ) (d : List Item) → k < length w.dealt → Part k (get_or parts k d))
+  pub all_parts : (parts : List (List Item)) × (length parts ≡ length w.dealt) × ((k : ℕ) (d : List Item) → k < length w.dealt → Part k (get_or parts k d))
   all_parts = listed (length w.dealt) Part part_at
 
   abbrev pub parts : List (List Item)
