@@ -2,6 +2,7 @@ mod Acting
 mod Apart
 mod BringingUp
 mod CrossingLaws
+mod EachQueue
 mod Ends
 pub mod Feeding
 mod Filling

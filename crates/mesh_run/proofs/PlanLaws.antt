@@ -62,7 +62,7 @@ cuts_inside homes cuts n are long = λ i d below.
     let cut = are.cut i (get_or cuts i d) (slice_get-get_or cuts i d below) in
     subst (λ (k : ℕ). (get_or cuts i d).queue < k) long (slice_get_within homes (get_or cuts i d).queue (record { sender = (get_or cuts i d).sender; receiver = (get_or cuts i d).receiver }) cut.0)
 
-fits_at : (cap : ℕ) (queues : List (List McCopy)) (i : ℕ) → All (FitsQueue cap) queues → length (get_or queues i []) ≤ cap
+pub fits_at : (cap : ℕ) (queues : List (List McCopy)) (i : ℕ) → All (FitsQueue cap) queues → length (get_or queues i []) ≤ cap
 fits_at cap queues i all = elim (cases_lt i (length queues)) [
   | inl inside ↦ (all i [] inside).within
   | inr past ↦ let none : length (get_or queues i []) ≡ 0 = ap length (get_or_past queues i [] past) in omega (arith, none)

@@ -120,7 +120,7 @@ noted_joined (s ∷ shares) (p ∷ parts) long each =
 
 -- ---- what each share holds of a queue
 
-stood : (x : Option Share) (q : ℕ) (a : End) → end_in x q ≡ Some a → (s : Share) × (x ≡ Some s) × (slice_get s.hold.ends.items q ≡ Some a)
+pub stood : (x : Option Share) (q : ℕ) (a : End) → end_in x q ≡ Some a → (s : Share) × (x ≡ Some s) × (slice_get s.hold.ends.items q ≡ Some a)
 stood None q a at = absurd (nothing at)
   where
     nothing : None ≡ Some a → ⊥

@@ -85,7 +85,7 @@ module _ (w : Whole) where
     goes = λ k s below. ((all_parts.2 k [] below).plays s).goes;
   }
 
-  dealt_long : length w.dealt ≡ length w.r.shares.items
+  pub dealt_long : length w.dealt ≡ length w.r.shares.items
   dealt_long = w.deals.same.0
 
   -- the turns of all shares are turns of a round
@@ -122,15 +122,15 @@ module _ (w : Whole) where
   -- ---- a queue that is a lane of one share
 
   module _ (q : ℕ) (h : Home) (at : slice_get w.r.homes.items q ≡ Some h) (same : h.sender ≡ h.receiver) where
-    uncut : (s : ℕ) → IsUncut w.r.cuts.items s q
+    pub uncut : (s : ℕ) → IsUncut w.r.cuts.items s q
     uncut s l c stands of =
         let shared = w.roomy.raised.shared in
         let cut = shared.cut l c stands in
         let home : h ≡ record { sender = c.sender; receiver = c.receiver } = same_Some h (record { sender = c.sender; receiver = c.receiver }) (sym at ∙ (ap (slice_get w.r.homes.items) of.0 ∙ cut.0)) in
         cut.1 (ap (λ (x : Home). x.sender) (sym home) ∙ (same ∙ ap (λ (x : Home). x.receiver) home))
 
-    dealt_same : (s : ℕ) → end_at w.dealt s q ≡ end_at w.r.shares.items s q
+    pub dealt_same : (s : ℕ) → end_at w.dealt s q ≡ end_at w.r.shares.items s q
     dealt_same s = w.deals.others s q (uncut s)
 
-    collected_same : (s : ℕ) → end_at w.collected s q ≡ end_at w.played s q
+    pub collected_same : (s : ℕ) → end_at w.collected s q ≡ end_at w.played s q
     collected_same s = w.collects.collects.others s q (uncut s)
