@@ -45,7 +45,7 @@ module _ (w : Whole) where
     pub lane : (h : Home) → slice_get w.r.homes.items q ≡ Some h → h.sender ≡ h.receiver → (a : WithRoom McCopy) × (end_at w.cleared h.sender q ≡ Some (Own a)) × (a.items ≡ after)
     pub link : (l : ℕ) (c : Cut) → slice_get w.r.cuts.items l ≡ Some c → c.queue ≡ q → get_or (map queue_of_link w.rests.now) l [] ≡ after
 
-  home_below : (q : ℕ) (h : Home) → slice_get w.r.homes.items q ≡ Some h → (h.sender < length w.dealt) × (h.receiver < length w.dealt)
+  pub home_below : (q : ℕ) (h : Home) → slice_get w.r.homes.items q ≡ Some h → (h.sender < length w.dealt) × (h.receiver < length w.dealt)
   home_below q h at =
       let shared = w.roomy.raised.shared in
       let below = shared.homes_are.below q h (length shared.ends) at shared.numbers.below in

@@ -3,6 +3,7 @@ mod Apart
 mod BringingUp
 mod CrossingLaws
 mod EachQueue
+mod EachVertex
 mod Ends
 pub mod Feeding
 mod Filling
