@@ -1,4 +1,5 @@
 mod Acting
+mod AfterMesh
 mod Apart
 mod BringingUp
 mod CrossingLaws
