@@ -95,7 +95,7 @@ module _ (w : Whole) where
     two : c.sender ≢ c.receiver
     two = (w.roomy.raised.shared.cut l c stands).1
 
-    elsewhere : (k : ℕ) → k ≢ c.sender → k ≢ c.receiver → IsUncut w.r.cuts.items k c.queue
+    pub elsewhere : (k : ℕ) → k ≢ c.sender → k ≢ c.receiver → IsUncut w.r.cuts.items k c.queue
     elsewhere k no_sender no_receiver j d at of =
         let same = one_item_at w.r.cuts.items l j c d (w.roomy.raised.shared.apart l j c d stands at of.0) stands at in
         elim of.1 [

@@ -1,5 +1,6 @@
 mod Acting
 mod AfterMesh
+mod AfterSplit
 mod Apart
 mod BringingUp
 mod CrossingLaws
