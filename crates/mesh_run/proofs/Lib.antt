@@ -1,6 +1,7 @@
 mod Acting
 mod AfterMesh
 mod AfterSplit
+mod AfterLinks
 mod Apart
 mod BringingUp
 mod CrossingLaws
