@@ -2,6 +2,7 @@ mod Acting
 mod AfterMesh
 mod AfterSplit
 mod AfterLinks
+mod AfterRuns
 mod Apart
 mod BringingUp
 mod CrossingLaws
