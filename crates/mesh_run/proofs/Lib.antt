@@ -3,6 +3,7 @@ mod AfterMesh
 mod AfterSplit
 mod AfterLinks
 mod AfterRuns
+mod AfterLogs
 mod Apart
 mod BringingUp
 mod CrossingLaws
