@@ -257,6 +257,33 @@ place_there m homes shares s q fits below inside =
     let e = slice_get_there x.0.hold.ends.items q (omega (arith, inside, long)) in
     (e.0, ap (λ (o : Option Share). end_in o q) x.1 ∙ e.1)
 
+-- the home of a vertex's queue
+home_inside : (m : State) (homes : List Home) (shares : List Share) (ports v : ℕ) → FitHomes m homes shares → ports ≡ length m.inputs → v < length m.unsent → ports + v < length homes
+home_inside m homes shares ports v fits is below = let long = fits.long in let vertices = fits.vertices in omega (arith, long, vertices, is, below)
+
+pub vertex_home : (m : State) (homes : List Home) (shares : List Share) (ports v : ℕ) → FitHomes m homes shares → ports ≡ length m.inputs → v < length m.unsent →
+    slice_get homes (length m.inputs + v) ≡ Some (get_or homes (ports + v) (record { sender = 0; receiver = 0 }))
+vertex_home m homes shares ports v fits is below =
+    ap (λ (p : ℕ). slice_get homes (p + v)) (sym is) ∙ slice_get-get_or homes (ports + v) (record { sender = 0; receiver = 0 }) (home_inside m homes shares ports v fits is below)
+
+-- the share of its receiver is there
+pub receiver_there : (m : State) (homes : List Home) (start second now : List Share) (ports v : ℕ) → FitHomes m homes start → AreSameButEnds start second → AreSameButUnsent second now → ports ≡ length m.inputs → v < length m.unsent →
+    (get_or homes (ports + v) (record { sender = 0; receiver = 0 })).receiver < length now
+receiver_there m homes start second now ports v fits ends unsent is below =
+    subst (λ (k : ℕ). (get_or homes (ports + v) (record { sender = 0; receiver = 0 })).receiver < k) (sym (unsent.0 ∙ ends.0))
+    (fits.receivers (ports + v) (record { sender = 0; receiver = 0 }) (home_inside m homes start ports v fits is below))
+
+-- a share has a place for each vertex
+pub unsent_wide : (m : State) (homes : List Home) (start second now : List Share) (k : ℕ) (t : Share) → FitHomes m homes start → AreSameButEnds start second → AreSameButUnsent second now → slice_get now k ≡ Some t →
+    length t.hold.unsent.items ≡ length m.unsent
+unsent_wide m homes start second now k t fits ends unsent at =
+    let within = slice_get_within now k t at in
+    let long_b = unsent.0 in
+    let long_c = ends.0 in
+    let s = slice_get_there start k (omega (arith, within, long_b, long_c)) in
+    let x = slice_get_there second k (omega (arith, within, long_b)) in
+    (unsent.1 k x.0 t x.1 at).unsent_long ∙ (ap (λ e. length e.items) (ends.1 k s.0 x.0 s.1 x.1).unsent ∙ All-at (λ (y : Share). length y.hold.unsent.items ≡ length m.unsent) start k s.0 fits.unsent_long s.1)
+
 -- a share with the same actors, logs and places
 record Parts (s t : Share) : Type 0 where
   from : t.from ≡ s.from

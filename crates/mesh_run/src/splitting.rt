@@ -152,7 +152,6 @@ fn empty_holdings(alloc: Global, queues: usize, vertices: usize) -> Result<Holdi
 
 /// The queues that no two shares are between, and what vertices did not send, move into their shares. Who takes from another share is
 /// polled. It takes no memory.
-#[tactic(none)]
 pub(crate) fn move_in(
     alloc: Global,
     parts: &mut MeshParts,
@@ -218,7 +217,6 @@ fn poll(shares: &mut Vec<Share>, share: usize, taker: usize)
 }
 
 /// All that shares hold moves back. It takes no memory.
-#[tactic(none)]
 pub(crate) fn move_out(
     alloc: Global,
     parts: &mut MeshParts,
