@@ -38,7 +38,6 @@ pub(crate) struct SplitPlan {
 
 impl SplitPlan {
     /// How a mesh is split for so many workers.
-    #[tactic(none)]
     pub fn of<R: Wait>(
         rt: &R,
         alloc: Global,
