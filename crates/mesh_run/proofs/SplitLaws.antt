@@ -16,7 +16,7 @@ use Rattle.mesh_run.specs.declared.shares.Share.{Share}
 use Rattle.mesh_run.specs.Crossing.{AreSameButEnds, PutsEnd, SameButEnds}
 use Rattle.mesh_run.specs.Homes.{run_start}
 use Rattle.mesh_run.specs.Split.{HaveNoLogs, HoldLanes, end_at, end_in, unsent_at, unsent_in}
-use Rattle.mesh_run.specs.Splitting.{AreSameButUnsent, AreSameHolds, AreSameRuns, FitHomes, HoldNothing, HoldVertices, IsEmptyHand, MayPutLane, MovesIn, MovesOut, PutsUnsent, SameButCopies, SameButUnsent, SetsQueue}
+use Rattle.mesh_run.specs.Splitting.{AreSameButUnsent, AreSameHolds, AreSameRuns, FitHomes, HoldNothing, HoldVertices, IsEmptyHand, MayPutLane, MayTakeLane, MovesIn, MovesOut, PutsUnsent, SameButCopies, SameButUnsent, SetsQueue, SetsUnsent}
 use Rattle.mesh_run.proofs.CrossingLaws.{end_there, same_on, same_self}
 use Rattle.mesh_run.proofs.HomeLaws.{start_more}
 
@@ -59,6 +59,15 @@ read_input m place q below read = read ∙ sym (get_or_append_left m.inputs m.co
 
 pub read_core : (m : State) (place : ℕ) (q : List McCopy) → length m.inputs ≤ place → q ≡ get_or m.cores (place - length m.inputs) [] → q ≡ get_or (m.inputs ++ m.cores) place []
 read_core m place q past read = read ∙ sym (get_or-append_right m.inputs m.cores (length m.inputs) place [] refl past)
+
+pub sets_unsent : (m n : State) (vertex : ℕ) (q : List McCopy) → n.unsent ≡ set m.unsent vertex q → n.inputs ≡ m.inputs → n.cores ≡ m.cores → n.setup ≡ m.setup → n.hands ≡ m.hands → n.delivered ≡ m.delivered → n.dumped ≡ m.dumped →
+    SetsUnsent vertex q m n
+sets_unsent m n vertex q unsent inputs cores setup hands delivered dumped = record {
+  same = record {
+    setup = setup; hands = hands; inputs_long = ap length inputs; cores_long = ap length cores; unsent_long = ap length unsent ∙ length-set m.unsent vertex q; delivered = delivered; dumped = dumped;
+  };
+  inputs = inputs; cores = cores; unsent = unsent;
+}
 
 -- ---- unsent copies of one vertex in a share
 
@@ -248,6 +257,42 @@ place_there m homes shares s q fits below inside =
     let e = slice_get_there x.0.hold.ends.items q (omega (arith, inside, long)) in
     (e.0, ap (λ (o : Option Share). end_in o q) x.1 ∙ e.1)
 
+-- the home of a vertex's queue
+home_inside : (m : State) (homes : List Home) (shares : List Share) (ports v : ℕ) → FitHomes m homes shares → ports ≡ length m.inputs → v < length m.unsent → ports + v < length homes
+home_inside m homes shares ports v fits is below = let long = fits.long in let vertices = fits.vertices in omega (arith, long, vertices, is, below)
+
+pub vertex_home : (m : State) (homes : List Home) (shares : List Share) (ports v : ℕ) → FitHomes m homes shares → ports ≡ length m.inputs → v < length m.unsent →
+    slice_get homes (length m.inputs + v) ≡ Some (get_or homes (ports + v) (record { sender = 0; receiver = 0 }))
+vertex_home m homes shares ports v fits is below =
+    ap (λ (p : ℕ). slice_get homes (p + v)) (sym is) ∙ slice_get-get_or homes (ports + v) (record { sender = 0; receiver = 0 }) (home_inside m homes shares ports v fits is below)
+
+-- the share of its receiver is there
+pub receiver_there : (m : State) (homes : List Home) (start second now : List Share) (ports v : ℕ) → FitHomes m homes start → AreSameButEnds start second → AreSameButUnsent second now → ports ≡ length m.inputs → v < length m.unsent →
+    (get_or homes (ports + v) (record { sender = 0; receiver = 0 })).receiver < length now
+receiver_there m homes start second now ports v fits ends unsent is below =
+    subst (λ (k : ℕ). (get_or homes (ports + v) (record { sender = 0; receiver = 0 })).receiver < k) (sym (unsent.0 ∙ ends.0))
+    (fits.receivers (ports + v) (record { sender = 0; receiver = 0 }) (home_inside m homes start ports v fits is below))
+
+-- a share has a place for each vertex
+pub unsent_wide : (m : State) (homes : List Home) (start second now : List Share) (k : ℕ) (t : Share) → FitHomes m homes start → AreSameButEnds start second → AreSameButUnsent second now → slice_get now k ≡ Some t →
+    length t.hold.unsent.items ≡ length m.unsent
+unsent_wide m homes start second now k t fits ends unsent at =
+    let within = slice_get_within now k t at in
+    let long_b = unsent.0 in
+    let long_c = ends.0 in
+    let s = slice_get_there start k (omega (arith, within, long_b, long_c)) in
+    let x = slice_get_there second k (omega (arith, within, long_b)) in
+    (unsent.1 k x.0 t x.1 at).unsent_long ∙ (ap (λ e. length e.items) (ends.1 k s.0 x.0 s.1 x.1).unsent ∙ All-at (λ (y : Share). length y.hold.unsent.items ≡ length m.unsent) start k s.0 fits.unsent_long s.1)
+
+-- a share with the same actors, logs and places
+record Parts (s t : Share) : Type 0 where
+  from : t.from ≡ s.from
+  to : t.to ≡ s.to
+  ends_long : length t.hold.ends.items ≡ length s.hold.ends.items
+  unsent_long : length t.hold.unsent.items ≡ length s.hold.unsent.items
+  dumps : t.hold.dumps ≡ s.hold.dumps
+  deliveries : t.hold.deliveries ≡ s.hold.deliveries
+
 -- all that moved in
 pub moved_in : (m mid left : State) (homes : List Home) (runs : List ℕ) (queues vertices n k : ℕ) (start second third after : List Share) → HoldNothing runs queues vertices start → FitHomes m homes start → length homes ≤ n → length m.unsent ≤ k →
     LanesTo m homes start n mid second → VerticesTo (length m.inputs) m homes second k left third → AreSameHolds third after → MovesIn m homes start left after
@@ -284,14 +329,6 @@ moved_in m mid left homes runs queues vertices n k start second third after noth
   };
 }
   where
-    record Parts (s t : Share) : Type 0 where
-      from : t.from ≡ s.from
-      to : t.to ≡ s.to
-      ends_long : length t.hold.ends.items ≡ length s.hold.ends.items
-      unsent_long : length t.hold.unsent.items ≡ length s.hold.unsent.items
-      dumps : t.hold.dumps ≡ s.hold.dumps
-      deliveries : t.hold.deliveries ≡ s.hold.deliveries
-
     all : (j : ℕ) (s t : Share) → slice_get start j ≡ Some s → slice_get after j ≡ Some t → Parts s t
     all j s t at also =
         let within = slice_get_within start j s at in
@@ -437,6 +474,16 @@ out_lane left homes start n now next shares new home end copies so_far at togeth
   ends = λ s q from. put.others s q (λ same. omega (arith, same.1, from)) ∙ so_far.ends s q (omega (arith, from));
   shares_same = same_on start shares new so_far.shares_same put.same;
 }
+
+-- a queue stays, or moves out
+pub out_more : (left : State) (homes : List Home) (start : List Share) (n : ℕ) (now next : State) (shares new : List Share) (home : Home) → OutTo left homes start n now shares → slice_get homes n ≡ Some home → n < length now.inputs + length now.cores →
+    MayTakeLane home n now shares next new → OutTo left homes start (n + 1) next new
+out_more left homes start n now next shares new home so_far at below (inl apart) =
+    subst (λ (m : State). OutTo left homes start (n + 1) m new) (sym apart.1)
+    (subst (λ (l : List Share). OutTo left homes start (n + 1) now l) (sym apart.2) (out_apart left homes start n now shares home so_far at apart.0))
+out_more left homes start n now next shares new home so_far at below (inr lane) =
+    let long : length (now.inputs ++ now.cores) ≡ length now.inputs + length now.cores = length-append now.inputs now.cores in
+    out_lane left homes start n now next shares new home lane.1 lane.2 so_far at lane.0 (omega (arith, below, long)) lane.3 lane.4 lane.5 lane.6
 
 pub record UnsentOutTo (ports : ℕ) (mid : State) (homes : List Home) (start : List Share) (n : ℕ) (now : State) (shares : List Share) : Type 0 where
   pub same : SameButCopies mid now

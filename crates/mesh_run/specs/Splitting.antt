@@ -4,6 +4,7 @@ use Rattle.spin_base.specs.WithRoom.{WithRoom}
 use Rattle.spin_base.specs.declared.copies.McCopy.{McCopy}
 use Rattle.link_queue.specs.declared.links.LinkEnds.{LinkEnds}
 use Rattle.mesh_core.specs.State.{Setup, State}
+use Rattle.chip_node.specs.declared.ends.End.{End}
 use Rattle.chip_node.specs.declared.ends.End.TheVariants.{Away, Own}
 use Rattle.chip_node.specs.declared.holdings.Holdings.{Holdings}
 use Rattle.mesh_run.specs.declared.homes.Cut.{Cut}
@@ -14,7 +15,7 @@ use Rattle.mesh_run.specs.Crossing.{PutsEnd}
 use Rattle.mesh_run.specs.Floors.{IsFloorOf}
 use Rattle.mesh_run.specs.Homes.{run_start}
 use Rattle.mesh_run.specs.Queues.{AreUp}
-use Rattle.mesh_run.specs.Split.{AreShared, HaveNoLogs, HoldLanes, cut_queues, unsent_at}
+use Rattle.mesh_run.specs.Split.{AreShared, HaveNoLogs, HoldLanes, cut_queues, end_at, unsent_at}
 use Rattle.mesh_run.specs.Standing.{HoldsAll}
 
 -- nothing is held
@@ -72,6 +73,13 @@ pub record SetsQueue (place : ℕ) (queue : List McCopy) (before after : State) 
   pub unsent : after.unsent ≡ before.unsent
   pub queues : after.inputs ++ after.cores ≡ slice_set (before.inputs ++ before.cores) place queue
 
+-- other unsent copies of a vertex stand in a mesh
+pub record SetsUnsent (vertex : ℕ) (copies : List McCopy) (before after : State) : Type 0 where
+  pub same : SameButCopies before after
+  pub inputs : after.inputs ≡ before.inputs
+  pub cores : after.cores ≡ before.cores
+  pub unsent : after.unsent ≡ slice_set before.unsent vertex copies
+
 -- What each vertex did not send is held where its queue is received, and nowhere else. The vertices' queues stand behind those of ports.
 pub record HoldVertices (ports : ℕ) (unsent : List (List McCopy)) (homes : List Home) (shares : List Share) : Type 0 where
   pub here : (v : ℕ) (h : Home) → slice_get homes (ports + v) ≡ Some h → unsent_at shares h.receiver v ≡ slice_index_or unsent v []
@@ -89,6 +97,12 @@ pub record AreSameRuns (before after : List Share) : Type 0 where
 abbrev pub MayPutLane : Home → ℕ → List McCopy → List Share → List Share → Type 0
 MayPutLane home place copies before after = ((home.sender ≢ home.receiver) × (after ≡ before))
     ⊎ ((home.sender ≡ home.receiver) × (a : WithRoom McCopy) × (a.items ≡ copies) × PutsEnd home.sender place (Own a) before after)
+
+-- the lane of a queue that no two shares are between moves back into a mesh
+abbrev pub MayTakeLane : Home → ℕ → State → List Share → State → List Share → Type 0
+MayTakeLane home place m before n after = ((home.sender ≢ home.receiver) × (n ≡ m) × (after ≡ before))
+    ⊎ ((home.sender ≡ home.receiver) × (e : End) × (copies : List McCopy) × (end_at before home.sender place ≡ Some e) × PutsEnd home.sender place Away before after
+    × ((a : WithRoom McCopy) → e ≡ Own a → copies ≡ a.items) × SetsQueue place copies m n)
 
 -- all of a share but what its vertices did not send is the same
 pub record SameButUnsent (before after : Share) : Type 0 where

@@ -7,7 +7,7 @@ ghost use Rattle.mesh_core.specs.State.{IsMesh};
 ghost use Rattle.chip_node.specs.declared.ends.End.{End};
 ghost use Rattle.mesh_run.specs.declared.shares.Share.{Share};
 ghost use Rattle.mesh_run.specs.Split.{cut_queues, end_at, unsent_at};
-ghost use Rattle.mesh_run.specs.Splitting.{AreInside, AreSameHolds, FitHomes, HoldNothing, IsEmptyHand, IsPlanOf, MayPutLane, MovesIn, MovesOut, PutsUnsent, SetsQueue};
+ghost use Rattle.mesh_run.specs.Splitting.{AreInside, AreSameHolds, FitHomes, HoldNothing, IsEmptyHand, IsPlanOf, MayPutLane, MayTakeLane, MovesIn, MovesOut, PutsUnsent, SetsQueue, SetsUnsent};
 
 use crate::crossing::put_end;
 use crate::floors::Floor;
@@ -38,7 +38,6 @@ pub(crate) struct SplitPlan {
 
 impl SplitPlan {
     /// How a mesh is split for so many workers.
-    #[tactic(none)]
     pub fn of<R: Wait>(
         rt: &R,
         alloc: Global,
@@ -152,7 +151,6 @@ fn empty_holdings(alloc: Global, queues: usize, vertices: usize) -> Result<Holdi
 
 /// The queues that no two shares are between, and what vertices did not send, move into their shares. Who takes from another share is
 /// polled. It takes no memory.
-#[tactic(none)]
 pub(crate) fn move_in(
     alloc: Global,
     parts: &mut MeshParts,
@@ -171,7 +169,7 @@ pub(crate) fn move_in(
     let ports = parts.inputs.len();
     for vertex in 0..parts.unsent.len() {
         let share = homes[ports + vertex].receiver as usize;
-        let copies = mem::replace(&mut parts.unsent[vertex], Fifo::new(alloc));
+        let copies = swap_kept(parts, vertex, Fifo::new(alloc));
         let _ = swap_unsent(shares, share, vertex, copies);
     }
     for cut in cuts {
@@ -218,7 +216,6 @@ fn poll(shares: &mut Vec<Share>, share: usize, taker: usize)
 }
 
 /// All that shares hold moves back. It takes no memory.
-#[tactic(none)]
 pub(crate) fn move_out(
     alloc: Global,
     parts: &mut MeshParts,
@@ -229,17 +226,31 @@ pub(crate) fn move_out(
     ensures { MovesOut homes.now shares.old.items parts.old parts.new }
 {
     for place in 0..homes.len() {
-        let home = homes[place];
-        if home.sender == home.receiver {
-            let end = put_end(shares, home.sender as usize, place, End::Away);
-            let _ = swap_queue(parts, place, queue_in(alloc, end));
-        }
+        take_lane(alloc, parts, homes[place], place, shares);
     }
     let ports = parts.inputs.len();
     for vertex in 0..parts.unsent.len() {
         let share = homes[ports + vertex].receiver as usize;
         let copies = swap_unsent(shares, share, vertex, Fifo::new(alloc));
-        parts.unsent[vertex] = copies;
+        let _ = swap_kept(parts, vertex, copies);
+    }
+}
+
+// The lane of a queue that no two shares are between moves back.
+fn take_lane(
+    alloc: Global,
+    parts: &mut MeshParts,
+    home: Home,
+    place: usize,
+    shares: &mut Vec<Share>,
+)
+    requires queue { place < length parts.old.inputs + length parts.old.cores }
+    requires end { (e : End) × (end_at shares.old.items home.sender place ≡ Some e) }
+    ensures { MayTakeLane home place parts.old shares.old.items parts.new shares.new.items }
+{
+    if home.sender == home.receiver {
+        let end = put_end(shares, home.sender as usize, place, End::Away);
+        let _ = swap_queue(parts, place, queue_in(alloc, end));
     }
 }
 
@@ -285,6 +296,16 @@ pub(crate) fn swap_queue(parts: &mut MeshParts, place: usize, queue: Fifo<McCopy
     } else {
         mem::replace(&mut parts.cores[place - ports], queue)
     }
+}
+
+// Other unsent copies of a vertex stand in a mesh. Those that stood there.
+#[tactic(auto, using(crate::proofs::SplitLaws::sets_unsent))]
+fn swap_kept(parts: &mut MeshParts, vertex: usize, copies: Fifo<McCopy>) -> Fifo<McCopy>
+    requires { vertex < length parts.old.unsent }
+    ensures stood { result ≡ slice_index_or parts.old.unsent vertex [] }
+    ensures stands { SetsUnsent vertex copies parts.old parts.new }
+{
+    mem::replace(&mut parts.unsent[vertex], copies)
 }
 
 // The queue at a place among all queues.
