@@ -1,5 +1,5 @@
 """Writes what the sources say into two documents: the picture of docs/architecture.md, which has the crates by layer, each with its lines
-and what it stands on; and the list at the end of docs/definitions.md, which has the files that its tables do not name.
+and what it stands on, but what another of these stands on; and the list at the end of docs/definitions.md, which has the files that its tables do not name.
 
     python3 tools/house.py [--check]
 
@@ -59,12 +59,19 @@ def picture():
             layers[name] = 1 + max((layer(it) for it in below[name]), default=0)
         return layers[name]
 
+    def all_below(name):
+        return set(below[name]).union(*map(all_below, below[name]))
+
+    def direct(name):
+        """The crates on which this one stands, but those on which another of them stands."""
+        return [it for it in below[name] if not any(it in all_below(other) for other in below[name])]
+
     top = max(map(layer, below))
     rows = [BEGIN, "| layer | crate | code | definitions | proofs | stands on |\n", "|---|---|---|---|---|---|\n"]
     for at in range(1, top + 1):
         for name in [it for it in below if layers[it] == at]:
             sizes = [lines_of(f"crates/{name}/src/**/*.rt", tests_of(name)), lines_of(f"crates/{name}/specs/**/*.antt"), lines_of(f"crates/{name}/proofs/**/*.antt")]
-            rows.append(f"| {at} | `{name}` | {sizes[0]} | {sizes[1]} | {sizes[2]} | {', '.join(below[name])} |\n")
+            rows.append(f"| {at} | `{name}` | {sizes[0]} | {sizes[1]} | {sizes[2]} | {', '.join(direct(name))} |\n")
     return "".join([*rows, END])
 
 
