@@ -1,14 +1,14 @@
-"""Writes what the sources say into two documents: the picture of docs/architecture.md, which has the crates by layer, each with its lines
-and what it stands on, but what another of these stands on; and the list at the end of docs/definitions.md, which has the files that its tables do not name.
+"""Writes what the sources say into docs/architecture.md: the picture of the crates by layer, each with its lines of code and what it
+stands on, but what another of these stands on.
 
     python3 tools/house.py [--check]
 
-With --check it compares these with what stands there, and docs/promises.md with the sources: what carries a promise has to be there,
-with the clauses that are named; so has what breaks it, and each edit has to break one. The rooms of docs/architecture.md
-have to name each file of code. The status is 1 where something differs.
+With --check it compares the picture with what stands there, and docs/promises.md with the sources: what carries a promise has to be
+there, with the clauses that are named; so has what breaks it, and each edit has to break one. The rooms of docs/architecture.md have
+to name each file of code, and the files that docs/definitions.md names have to be there. The status is 1 where something differs.
 
 A crate's layer is one more than the highest layer below it, among the crates of this repository. A chain of crates is as long
-as the number of layers. Lines: code without tests, definitions, proofs.
+as the number of layers. Lines are those of code without tests.
 """
 import glob
 import os
@@ -17,7 +17,6 @@ import sys
 
 ROOT = os.path.dirname(os.path.dirname(os.path.realpath(__file__)))
 BEGIN, END = "<!-- made by tools/house.py -->\n", "<!-- end -->\n"
-FILES = "<!-- files by tools/house.py -->\n"
 ALONE = r"\((Tests alone|No command)"
 PROMISES, LAWS = "| promise | carried by | broken by |", "| law or lemma | stands as |"
 
@@ -67,11 +66,11 @@ def picture():
         return [it for it in below[name] if not any(it in all_below(other) for other in below[name])]
 
     top = max(map(layer, below))
-    rows = [BEGIN, "| layer | crate | code | definitions | proofs | stands on |\n", "|---|---|---|---|---|---|\n"]
+    rows = [BEGIN, "| layer | crate | lines | stands on |\n", "|---|---|---|---|\n"]
     for at in range(1, top + 1):
         for name in [it for it in below if layers[it] == at]:
-            sizes = [lines_of(f"crates/{name}/src/**/*.rt", tests_of(name)), lines_of(f"crates/{name}/specs/**/*.antt"), lines_of(f"crates/{name}/proofs/**/*.antt")]
-            rows.append(f"| {at} | `{name}` | {sizes[0]} | {sizes[1]} | {sizes[2]} | {', '.join(direct(name))} |\n")
+            lines = lines_of(f"crates/{name}/src/**/*.rt", tests_of(name))
+            rows.append(f"| {at} | `{name}` | {lines} | {', '.join(direct(name))} |\n")
     return "".join([*rows, END])
 
 
@@ -177,27 +176,15 @@ def wrong_promises():
     return [f"docs/promises.md: {it}" for it in wrong]
 
 
-def other_files(text):
-    """The files of definitions that a document does not name before its list of all other files, by crate: that list."""
-    named = set(re.findall(r"`(\w+/specs/[\w/]+\.antt)`", text.partition(FILES)[0]))
-    found = {}
-    for file in sorted(files_of_definitions() - named):
-        crate, _, name = file.partition("/specs/")
-        found.setdefault(crate, []).append(name[:-5])
-    return FILES + "".join(f"- `{crate}`: {', '.join(f'`{it}`' for it in names)}\n" for crate, names in found.items()) + END
-
-
 def files_of_definitions():
     files = {os.path.relpath(it, f"{ROOT}/crates") for it in glob.glob(f"{ROOT}/crates/*/specs/**/*.antt", recursive=True)}
     return {it for it in files if os.path.basename(it) != "Lib.antt"}
 
 
-def renewed(file, begin, made):
-    """A document as it stands, and as it is with what is made between the two marks."""
-    with open(f"{ROOT}/{file}", encoding="utf-8") as text:
-        text = text.read()
-    before, _, rest = text.partition(begin)
-    return text, before + made(text) + rest.partition(END)[2]
+def renewed(text):
+    """A document as it is with the picture between the two marks."""
+    before, _, rest = text.partition(BEGIN)
+    return before + picture() + rest.partition(END)[2]
 
 
 def wrong_rooms():
@@ -218,17 +205,16 @@ def wrong_rooms():
 
 
 def main(words):
-    documents = {"docs/architecture.md": (BEGIN, lambda text: picture()), "docs/definitions.md": (FILES, other_files)}
-    wrong = []
-    for file, (begin, made) in documents.items():
-        stands, wanted = renewed(file, begin, made)
-        if "--check" not in words:
-            with open(f"{ROOT}/{file}", "w", encoding="utf-8") as text:
-                text.write(wanted)
-        elif stands != wanted:
-            wrong.append(f"{file} is behind the sources: python3 tools/house.py")
+    file, wrong = f"{ROOT}/docs/architecture.md", []
+    with open(file, encoding="utf-8") as text:
+        stands = text.read()
+    wanted = renewed(stands)
     if "--check" not in words:
+        with open(file, "w", encoding="utf-8") as text:
+            text.write(wanted)
         return 0
+    if stands != wanted:
+        wrong.append("docs/architecture.md is behind the sources: python3 tools/house.py")
     with open(f"{ROOT}/docs/definitions.md", encoding="utf-8") as text:
         named = set(re.findall(r"`(\w+/specs/[\w/]+\.antt)`", text.read()))
     wrong += [f"docs/definitions.md names {it}, which is not there" for it in sorted(named - files_of_definitions())]
