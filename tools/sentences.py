@@ -8,7 +8,7 @@ are those that a reader has before him, in tables and code too: whatever stands 
 headings, pictures and short cells of tables are no sentences. A sentence ends at a full stop, a question or an exclamation mark, and
 at the end of a paragraph, of a point of a list and of a cell; not at a colon or a semicolon. What stands in backticks counts as one
 word of it. With --check the status is 1 where a document's mean is above MOST_MEAN, documents have more words than MOST_WORDS allows
-them together, or a link leads to a file or a heading that is not there.
+them together, all of them more than MOST_IN_ALL, or a link leads to a file or a heading that is not there.
 """
 import glob
 import os
