@@ -7,7 +7,7 @@ from kulzobad import formats, frames, spinntools
 from kulzobad.graphs import from_networkx
 from kulzobad.jobs import inject
 from kulzobad.spinntools import RoutingEntry, from_spinntools, read_machine, read_placements, read_tables, to_routing_tables
-from kulzobad.spinntools import write_machine, write_placements, write_tables
+from kulzobad.spinntools import read_routing_infos, write_machine, write_placements, write_routing_infos, write_tables
 
 STEPS = ((1, 0), (1, 1), (0, 1), (-1, 0), (-1, -1), (0, -1))
 
@@ -108,6 +108,8 @@ class SpiNNTools(unittest.TestCase):
             (lambda: self.vertices and setattr(self, "infos", []), ValueError, "has no keys"),
             (lambda: setattr(self, "placements", self.placements.listed[:2]), ValueError, "has no place"),
             (lambda: setattr(self, "placements", [Thing(vertex="a", x=0, y=0)]), TypeError, r"placements\[0\] is .*, and has no p$"),
+            (lambda: setattr(self, "placements", self.placements.listed * 2), ValueError, r"placements\[3\] is of .*, which has a place before it"),
+            (lambda: setattr(self, "infos", self.infos.listed * 2), ValueError, r"routing_infos\[1\] is of partition 'SPIKES' of .*, which has keys before it"),
             (lambda: setattr(self, "placements", 5), TypeError, "from_spinntools: placements is 5"),
             (lambda: setattr(self, "infos", [Thing(vertex="a", partition_id=1, key=0)]), TypeError, "has no mask and no first_mask"),
             (lambda: setattr(self, "infos", [Thing(vertex="a", partition_id=1, key="x", mask=0)]), TypeError, "is 'x', and should be a whole number"),
@@ -170,6 +172,30 @@ class SpiNNTools(unittest.TestCase):
         for name, value in (("width", "2"), ("chips", [[0, 0]]), ("chips", [[0, 0, {}]]), ("chips", [[0, 5, {"cores": 1}]]), ("chips", [["x", 0, {"cores": 1}]]), ("height", 99)):
             with self.assertRaisesRegex(ValueError, "machine"):
                 read_machine(json.dumps({**whole, name: value}))
+
+    def test_routing_infos_as_json(self):
+        text = '[{"vertex_label": "eye", "partition_id": "SPIKES", "key": 16, "mask": 4294967280}, {"vertex_label": "eye", "partition_id": "LIVE", "key": 1, "mask": 4294967295}]'
+        infos = [spinntools.RoutingInfo("eye", "SPIKES", 0x10, 0xFFFFFFF0), spinntools.RoutingInfo("eye", "LIVE", 1, 0xFFFFFFFF)]
+        self.assertEqual(read_routing_infos(text), infos)
+        self.assertEqual(json.loads(write_routing_infos(infos)), json.loads(text))
+        # (objects of SpiNNTools, whose vertices have labels)
+        self.assertEqual(json.loads(write_routing_infos(self.infos)), json.loads(text)[:1])
+        partitions = [spinntools.Partition("eye", "SPIKES", [spinntools.Edge("eye", "left"), spinntools.Edge("eye", "right")])]
+        self.tables.routing_tables[0].multicast_routing_entries[0].link_ids = ()
+        made = from_spinntools(self.machine, [spinntools.Placement(it.vertex.label, it.x, it.y, it.p) for it in self.placements], read_routing_infos(text), partitions, self.tables)
+        self.assertEqual((made.nets[0].blocks, verify(*made)), ([(0x10, 0xFFFFFFF0)], Right()))
+        one = {"vertex_label": "a", "partition_id": "p", "key": 0, "mask": 0}
+        for value, told in (
+            ({}, "routing_infos is no list"), ([5], "routing_infos has an item"), ([{**one, "key": "0"}], r"routing_infos\[0\].key is '0'"),
+            ([{**one, "vertex_label": 5}], "should have texts"), ([one, one], r"routing_infos\[1\] is of partition 'p' of 'a'"),
+            ([{"vertex_label": "a", "partition_id": "p", "key": 0}], "has no mask"),
+        ):
+            with self.assertRaisesRegex(ValueError, told):
+                read_routing_infos(json.dumps(value))
+        with self.assertRaisesRegex(ValueError, "two vertices are called 'eye'"):
+            write_routing_infos([*infos, *self.infos])
+        with self.assertRaisesRegex(TypeError, "write_routing_infos: routing_infos is 5"):
+            write_routing_infos(5)
 
 
 class Graph:
