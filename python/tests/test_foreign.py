@@ -1,6 +1,7 @@
 """Objects and JSON of other tools, written by hand after their published sources; and graphs, and tables of reports."""
 import json
 import unittest
+from importlib.util import find_spec
 
 from kulzobad import Job, KeyedNet, Machine, Misses, Net, Packet, Right, Row, Vertex, compile, run, tables, trace, verify
 from kulzobad import formats, frames, spinntools
@@ -221,30 +222,30 @@ class Graphs(unittest.TestCase):
         ("left", "left", {"net": "x y"}), ("left", "eye", {}), (("a", 1), "eye", {}),
     ]
 
-    def test_nodes_are_vertices_and_edges_nets(self):
-        for graph in self.graphs(self.nodes, self.edges, machine=Machine(2, 1)):
-            job = from_networkx(graph, target=3)
-            self.assertEqual(job.vertices, [Vertex("eye", 5, (0, 0)), Vertex("left"), Vertex("v0"), Vertex("led", device=(1, 0, 2))])
-            self.assertEqual(job.nets, [
-                Net("eye", "eye", ["left", "led"], 4), Net("slow", "eye", ["v0"], 256, (0x100, 0xFFFFFF00)), Net("n0", "left", ["left"]),
-                Net("left", "left", ["eye"]), Net("n1", "v0", ["eye"]),
-            ])
-            self.assertEqual((job.machine, job.target), (Machine(2, 1), 3))
-            self.assertEqual(sum(len(it.rows) for it in tables(job).tables.values()), tables(job).rows)
+    def is_the_job(self, graph):
+        """The graph of these nodes and edges is the job that is wanted."""
+        job = from_networkx(graph, target=3)
+        self.assertEqual(job.vertices, [Vertex("eye", 5, (0, 0)), Vertex("left"), Vertex("v0"), Vertex("led", device=(1, 0, 2))])
+        self.assertEqual(job.nets, [
+            Net("eye", "eye", ["left", "led"], 4), Net("slow", "eye", ["v0"], 256, (0x100, 0xFFFFFF00)), Net("n0", "left", ["left"]),
+            Net("left", "left", ["eye"]), Net("n1", "v0", ["eye"]),
+        ])
+        self.assertEqual((job.machine, job.target), (Machine(2, 1), 3))
+        self.assertEqual(sum(len(it.rows) for it in tables(job).tables.values()), tables(job).rows)
 
-    def graphs(self, nodes, edges, **graph):
-        """The graph, and the same of networkx where that is there."""
-        yield Graph(nodes, edges, **graph)
-        try:
-            import networkx
-        except ImportError:
-            return
-        made = networkx.MultiDiGraph(**graph)
-        for it, data in Graph(nodes, edges).nodes(True):
+    def test_nodes_are_vertices_and_edges_nets(self):
+        self.is_the_job(Graph(self.nodes, self.edges, machine=Machine(2, 1)))
+
+    @unittest.skipUnless(find_spec("networkx"), "there is no networkx")
+    def test_a_graph_of_networkx(self):
+        import networkx
+
+        made = networkx.MultiDiGraph(machine=Machine(2, 1))
+        for it, data in Graph(self.nodes, self.edges).nodes(True):
             made.add_node(it, **data)
-        for source, target, data in edges:
+        for source, target, data in self.edges:
             made.add_edge(source, target, **data)
-        yield made
+        self.is_the_job(made)
 
     def test_graphs_that_are_no_jobs(self):
         good, bad = Machine(1, 1), Graph(["a"], [])
@@ -283,10 +284,10 @@ class Tables(unittest.TestCase):
     def test_frames(self):
         plan = tables(self.job)
         self.assertEqual(frames.frame(plan, "keys", lambda lines, columns: (lines, columns)), ([("n", 0, 0xFFFFFFFF)], ["net", "key", "mask"]))
-        try:
-            found = frames.frame(plan, "keys")
-        except ImportError:
-            return
+
+    @unittest.skipUnless(find_spec("pandas"), "there is no pandas")
+    def test_a_frame_of_pandas(self):
+        found = frames.frame(tables(self.job), "keys")
         self.assertEqual(found.to_dict("records"), [{"net": "n", "key": 0, "mask": 0xFFFFFFFF}])
 
     def test_tables_that_are_none(self):
