@@ -104,7 +104,8 @@ def zsh(commands: Dict[str, Words], flags: List[Flag]) -> Iterator[str]:
         specs = [f"'{spec}'" for flag in part.flags for spec in zsh_specs(flag)]
         specs += [f"'{i + 1}: :{zsh_values(values)}'" for i, values in enumerate(part.words)]
         yield f"        {name}) _arguments {' '.join(specs)} ;;"
-    yield from ("        esac ;;", "    esac", "}", "compdef _kulzobad kulzobad")
+    # (as a file of $fpath the script is the function, and its first call has to complete, too)
+    yield from ("        esac ;;", "    esac", "}", 'if [[ $funcstack[1] == _kulzobad ]]; then _kulzobad "$@"; else compdef _kulzobad kulzobad; fi')
 
 
 def zsh_specs(flag: Flag) -> Iterator[str]:

@@ -25,12 +25,14 @@ function go(what, value) {
   if (what) by("answer").scrollTop = 0;
 }
 const hrefOf = (what, value) => `#${new URLSearchParams({ [what]: value, ...(asked().get("show") ? { show: asked().get("show") } : {}) })}`;
-const netLink = net => make("a", { href: hrefOf("net", net.name) }, net.name);
+/** The class of a name: a short one is not broken. */
+const wholeIfShort = name => name.length > 16 ? null : "whole";
+const netLink = net => make("a", { href: hrefOf("net", net.name), class: wholeIfShort(net.name) }, net.name);
 const chipLink = chip => make("a", { href: hrefOf("chip", xy(chip).join(",")), class: "chip-link" }, at(chip));
 function vertexLink(vertex) {
-  if (typeof vertex !== "number") return make("span", {}, vertex);
-  const [name, chip, core] = vertices[vertex];
-  return make("a", { href: hrefOf("chip", xy(chip).join(",")), title: `${at(chip)} ${coreWord(core)}` }, name);
+  if (typeof vertex !== "number") return make("span", { class: wholeIfShort(vertex) }, vertex);
+  const [name, chip, core] = vertices[vertex], title = `${at(chip)} ${coreWord(core)}`;
+  return make("a", { href: hrefOf("chip", xy(chip).join(",")), title, class: wholeIfShort(name) }, name);
 }
 const keyLink = (key, from) => make("a", { href: hrefOf("key", from ? `${key}@${from}` : String(key)), class: "mono" }, hex(key, 8));
 
@@ -255,7 +257,7 @@ function netColumns() {
     ...(data.trees ? [["hops", it => hopsOfNet(it).toLocaleString("en"), hopsOfNet, true]] : []),
     ...(outcome ? [["packets", sent, sent, true], ["dumped", it => outcome.nets[it.number][2], it => outcome.nets[it.number][2], true],
       ["traffic", it => (sent(it) * hopsOfNet(it)).toLocaleString("en"), it => sent(it) * hopsOfNet(it), true]] : []),
-    ["keys", it => make("span", { class: "mono" }, blockOf(it))],
+    ["keys", it => make("span", { class: "mono" }, blockOf(it).split("/").map((part, i) => i ? ["/", make("wbr"), part] : part))],
   ];
 }
 /** A list that is sorted by the column whose head is clicked: from the greatest on, and once more from the least on. */

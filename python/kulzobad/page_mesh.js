@@ -20,6 +20,8 @@ function hexagon(chip, classes, share = 0.96) {
   return draw("polygon", { points: corners(...middle(chip), UNIT / Math.sqrt(3) * share), class: classes });
 }
 const cells = [];
+// How large the numbers beside a far mesh are seen.
+const FAR_AXIS = 12;
 const view = { x: 0, y: 0, scale: 1, moved: false };
 
 function bounds() {
@@ -31,6 +33,7 @@ function place() {
   const size = UNIT * view.scale;
   by("mesh").classList.remove("far", "mid", "close", "near");
   by("mesh").classList.add(size < 24 ? "far" : size < 46 ? "mid" : size < 62 ? "close" : "near");
+  by("mesh").style.setProperty("--axis", `${(FAR_AXIS / view.scale).toFixed(0)}px`);
   if (size >= 24) addNumbers();
 }
 function whole() {
@@ -98,8 +101,9 @@ function drawMesh() {
   }
 }
 
-// The coordinates of a chip stand above its middle, and of a chip with arrows where they meet none.
+// The coordinates of a chip stand above its middle, and of a chip with arrows or flows where they meet none.
 const numbers = [], coordinates = [], coordinatesAt = new Map(), COORDINATES = [-27, -35, 37, 30, -20];
+let besideFlows = new Map();
 function addNumbers() {
   if (numbers.length || !chips) return;
   for (let chip = 0; chip < chips; chip++) {
@@ -131,6 +135,8 @@ const deliveries = new Map(outcome ? outcome.deliveries : []);
 const dumps = grouped(outcome ? outcome.dumps : [], it => it[0]), passing = grouped(outcome ? outcome.links : [], it => it[0]);
 let shown = { name: "use", counts: [], most: 0, mostOfFlows: 0 };
 
+// How wide flows of each level are (page.css).
+const FLOW_WIDTHS = [0, 3, 5, 7, 9, 11, 13];
 const levelOf = (count, most) => count ? Math.ceil(count * 6 / most) : 0;
 let waiting = new Map();
 function colour() {
@@ -143,11 +149,14 @@ function colour() {
     ? outcome.dumps.filter(it => LINKS.includes(it[1])).map(([chip, out, count]) => [chip, LINKS.indexOf(out), count]) : [];
   const most = flows.reduce((most, it) => Math.max(most, it[2]), 0), paths = new Map();
   shown.mostOfFlows = most;
+  const lines = new Map();
   for (const [chip, link, count] of flows) {
-    const [from, to] = [toward(chip, link, name === "dumps" ? 0.32 : 0.14), toward(chip, link, 0.47)].map(it => it.map(number => number.toFixed(1)));
-    const level = levelOf(count, most);
+    const ends_ = [toward(chip, link, name === "dumps" ? 0.32 : 0.14), toward(chip, link, 0.47)], level = levelOf(count, most);
+    const [from, to] = ends_.map(it => it.map(number => number.toFixed(1)));
     paths.set(level, `${paths.get(level) || ""}M${from}L${to}`);
+    lines.set(chip, [...(lines.get(chip) || []), [...ends_.map(it => fromMiddle(chip, it)), FLOW_WIDTHS[level]]]);
   }
+  besideFlows = new Map([...lines].map(([chip, met]) => [chip, freeCoordinates(chip, met, [])]));
   const lost = name === "dumps" ? " lost" : "", drawn = [...paths].sort((a, b) => a[0] - b[0]);
   by("flows").replaceChildren(...drawn.map(([level, path]) => draw("path", { d: path, class: `flow h${level}${lost}` })));
 }
@@ -175,9 +184,9 @@ function showNumbers() {
   const isPlain = SHOWN[shown.name].flows;
   numbers.forEach((label, chip) => {
     const isOver = !isPlain && !onTree.size && levelOf(shown.counts[chip], shown.most) > 1;
-    label.textContent = dead.has(chip) || !shown.counts[chip] || SHOWN[shown.name].flows ? "" : shown.counts[chip].toLocaleString("en");
-    label.setAttribute("class", isOver ? "number over" : "number");
-    const y = coordinatesAt.has(chip) ? coordinatesAt.get(chip) : COORDINATES[0];
+    label.textContent = dead.has(chip) || !shown.counts[chip] || isPlain ? "" : shown.counts[chip].toLocaleString("en");
+    label.setAttribute("class", `number${label.textContent.length > 4 ? " long" : ""}${isOver ? " over" : ""}`);
+    const placed = [coordinatesAt, besideFlows].find(it => it.has(chip)), y = placed ? placed.get(chip) : COORDINATES[0];
     coordinates[chip].setAttribute("class", dead.has(chip) ? "place in-dead" : isOver ? "place over" : "place");
     coordinates[chip].setAttribute("visibility", y === undefined ? "hidden" : "visible");
     if (y !== undefined) coordinates[chip].setAttribute("y", middle(chip)[1] + y);
@@ -216,6 +225,8 @@ function showLegend() {
 
 // Where an arrow begins and ends, as shares of the way to a neighbour, and where one that leads nowhere does.
 const ARROW = [0.32, 0.68], OFF_PAPER = 0.58, NOWHERE = [0.26, 0.7], LETTER = 0.6;
+// How wide arrows are, their heads, and what goes astray with the ground round it (page.css).
+const WIDE = 5, HEAD_WIDE = 16, ASTRAY_WIDE = 17;
 const PLACES = [0, -14, 14, -24, 24, -32, 32].flatMap(y => [0, -12, 12, -22, 22, -30, 30].map(x => [x, y]))
   .sort((a, b) => Math.hypot(...a) - Math.hypot(...b));
 
@@ -237,11 +248,25 @@ function isInside(x, y, wide, tall) {
   const farX = Math.abs(x) + wide, farY = Math.abs(y) + tall;
   return farX <= UNIT * 0.48 && farY + farX / Math.sqrt(3) <= UNIT / Math.sqrt(3) * 0.94;
 }
-/** The lines of an arrow on all of its chips: from the middle of the one that it leaves, in units. */
-function linesAt(chip, outs, port) {
-  const [cx, cy] = middle(chip), local = ([x, y]) => [x - cx, y - cy];
-  const leaving = outs.filter(out => out < 6).map(out => [local(toward(chip, out, 0.2)), local(toward(chip, out, 0.6))]);
-  return port < 6 ? [...leaving, [local(toward(chip, port, 0.6)), local(toward(chip, port, 1 - ARROW[1] - 0.04))]] : leaving;
+function fromMiddle(chip, [x, y]) {
+  const [cx, cy] = middle(chip);
+  return [x - cx, y - cy];
+}
+/** The arrows on a chip by which packets come and leave, each as a line from the chip's middle, and how wide it is; that of a head goes
+    before its tip. */
+function linesAt(chip, outs, port, isAstray) {
+  const line = (link, from, to, wide) => [...[from, to].map(share => fromMiddle(chip, toward(chip, link, share))), wide];
+  const tip = 1 - ARROW[1] - 0.04;
+  return [...outs.filter(out => out < 6).map(out => line(out, 0.2, 0.6, isAstray(out) ? ASTRAY_WIDE : WIDE)),
+    ...(port < 6 ? [line(port, 0.6, tip, WIDE), line(port, tip + 0.16, tip + 0.06, HEAD_WIDE)] : [])];
+}
+/** Whether a line of some width meets a box round a point. */
+const isMet = ([from, to, thick], x, y, wide, tall) => meetsBox(from, to, x, y, wide + thick / 2, tall + thick / 2);
+/** Where the coordinates of a chip meet neither these lines nor words at these heights; nothing where they find no place. */
+function freeCoordinates(chip, lines, taken) {
+  // (below the middle is the dot of dead cores)
+  const wide = 4 * xy(chip).join(", ").length, free = COORDINATES.filter(y => y < 0 || !deadCores.has(chip));
+  return free.find(y => !lines.some(it => isMet(it, 0, y - 5, wide, 7)) && !taken.some(it => Math.abs(it - y) < 19));
 }
 /** Words on a chip, in one line or in several, where they meet none of these lines; nothing where they find no place. */
 function wordsOn(chip, choicesOf, lines) {
@@ -251,7 +276,7 @@ function wordsOn(chip, choicesOf, lines) {
     for (const size of [20, 17]) for (const layout of layouts) {
       const wide = Math.max(...layout.map(it => it.length)) * size * LETTER / 2, tall = layout.length * size / 2;
       const found = PLACES.find(([x, y]) => isInside(x, y, wide, tall)
-        && !lines.some(([from, to]) => meetsBox(from, to, x, y, wide + 5, tall + 4)));
+        && !lines.some(it => isMet(it, x, y, wide + 3, tall + 2)));
       if (!found) continue;
       const classes = size < 20 ? "word small tree-word" : "word tree-word";
       return layout.map((line, i) => draw("text",
@@ -288,7 +313,11 @@ function drawAstray(chip, out, lines, word) {
 function drawVisits(visits, targets, isVerdict = false) {
   const overlay = by("overlay"), words = [], lines = new Map();
   onTree = new Map();
-  for (const { chip, port, outs } of visits) lines.set(chip, [...(lines.get(chip) || []), ...linesAt(chip, outs, port)]);
+  const isLost = (chip, out) => out < 6 && ends[chip * 6 + out] === NONE && !standing.has(chip * 32 + 18 + out);
+  visits.forEach(({ chip, port, outs }, i) => {
+    const isAstray = out => isLost(chip, out) || (isVerdict && i === visits.length - 1);
+    lines.set(chip, [...(lines.get(chip) || []), ...linesAt(chip, outs, port, isAstray)]);
+  });
   visits.forEach(({ chip, port, row, outs }, i) => {
     const gets = outs.filter(out => out >= 6 || (ends[chip * 6 + out] === NONE && standing.has(chip * 32 + 18 + out)));
     const before = onTree.get(chip),
@@ -301,8 +330,8 @@ function drawVisits(visits, targets, isVerdict = false) {
     const isLast = isVerdict && i === visits.length - 1;
     if (!before) words.push(...wordsOn(chip, choicesFor(i === 0, row, isLast ? [] : outs), lines.get(chip)));
     for (const out of outs.filter(it => it < 6)) {
-      const isEnd = ends[chip * 6 + out] === NONE, isLost = isEnd && !standing.has(chip * 32 + 18 + out);
-      if (isLost || isLast) {
+      const isEnd = ends[chip * 6 + out] === NONE;
+      if (isLost(chip, out) || isLast) {
         drawAstray(chip, out, []);
         continue;
       }
@@ -315,10 +344,7 @@ function drawVisits(visits, targets, isVerdict = false) {
   by("labels").append(...words);
   for (const [chip, met] of lines) {
     const taken = words.filter(it => it.dataset.chip === String(chip)).map(it => Number(it.getAttribute("y")) - middle(chip)[1]);
-    // (below the middle is the dot of dead cores)
-    const free = COORDINATES.filter(y => y < 0 || !deadCores.has(chip));
-    coordinatesAt.set(chip, free.find(y => !met.some(([from, to]) => meetsBox(from, to, 0, y - 5, 24, 9))
-      && !taken.some(it => Math.abs(it - y) < 19)));
+    coordinatesAt.set(chip, freeCoordinates(chip, met, taken));
   }
 }
 

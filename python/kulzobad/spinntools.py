@@ -1,5 +1,5 @@
 """Machines, placements, keys and tables as SpiNNTools (SpiNNMachine, PACMAN) have them: objects by their attributes alone, and the JSON
-that they write. Nothing of these tools is imported.
+that they write; of keys, of which they write none, JSON of a form of the package's own. Nothing of these tools is imported.
 
     from kulzobad import verify
     from kulzobad.spinntools import from_spinntools
@@ -67,8 +67,11 @@ def from_spinntools(machine: Any, placements: Any, routing_infos: Any, partition
     for i, it in enumerate(all_in("from_spinntools: placements", placements, "placements")):
         what = f"from_spinntools: placements[{i}]"
         x, y, core = (whole(f"{what}.{name}", attribute_of(what, it, name)) for name in ("x", "y", "p"))
-        places[hashable(f"{what}.vertex", attribute_of(what, it, "vertex"))] = (x, y, core)
-    keys = keys_of_infos(routing_infos)
+        vertex = hashable(f"{what}.vertex", attribute_of(what, it, "vertex"))
+        if vertex in places:
+            raise ValueError(f"{what} is of {shown(vertex)}, which has a place before it")
+        places[vertex] = (x, y, core)
+    keys = keys_of_infos("from_spinntools", routing_infos)
     nets: List[KeyedNet] = []
     for i, it in enumerate(in_order("from_spinntools: partitions", partitions)):
         what = f"from_spinntools: partitions[{i}]"
@@ -84,16 +87,18 @@ def from_spinntools(machine: Any, placements: Any, routing_infos: Any, partition
     return Network(machine_of(machine), places, nets, {**tables_of(routing_tables)})
 
 
-def keys_of_infos(routing_infos: Any) -> Dict[Any, Tuple[int, int]]:
-    """Key and mask by the vertex and the identifier of a partition."""
-    found: Dict[Any, Tuple[int, int]] = {}
-    for i, it in enumerate(all_in("from_spinntools: routing_infos", routing_infos, "infos")):
-        what = f"from_spinntools: routing_infos[{i}]"
+def keys_of_infos(caller: str, routing_infos: Any) -> Dict[Tuple[Any, Any], Tuple[int, int]]:
+    """Key and mask by the vertex and the identifier of a partition. ValueError where one has keys twice."""
+    found: Dict[Tuple[Any, Any], Tuple[int, int]] = {}
+    for i, it in enumerate(all_in(f"{caller}: routing_infos", routing_infos, "infos")):
+        what = f"{caller}: routing_infos[{i}]"
         partition = getattr(it, "partition", None)
         vertex = first_of(what, it, "vertex", "machine_vertex") if partition is None else attribute_of(f"{what}.partition", partition, "pre_vertex")
         name = first_of(what, it, "partition_id") if partition is None else attribute_of(f"{what}.partition", partition, "identifier")
         key, mask = numbers(what, (first_of(what, it, "key", "first_key"), first_of(what, it, "mask", "first_mask")), "key mask")
-        found[hashable(what, (vertex, name))] = key, mask
+        if hashable(what, (vertex, name)) in found:
+            raise ValueError(f"{what} is of partition {shown(name)} of {shown(vertex)}, which has keys before it")
+        found[vertex, name] = key, mask
     return found
 
 
@@ -468,3 +473,32 @@ def write_placements(places: Mapping[str, Place]) -> str:
             raise ValueError(f"{name!r} is a device, and placements have cores alone")
         found.append({"vertex_label": str(name), "x": x, "y": y, "p": core})
     return json.dumps(found)
+
+
+def read_routing_infos(text: str) -> List[RoutingInfo]:
+    """The routing infos of JSON text: a list of objects with `vertex_label`, `partition_id`, `key` and `mask`. This form is the package's
+    own, named after the attributes: SpiNNTools write keys into reports for people and into databases, and not as JSON. ValueError, with
+    the path, of other text."""
+    found: Dict[Tuple[str, str], RoutingInfo] = {}
+    for i, it in enumerate(listed(json_in("read_routing_infos: text", text), "routing_infos", (dict,))):
+        where = f"routing_infos[{i}]"
+        members(it, where, ("vertex_label", "partition_id", "key", "mask"), None)
+        label, partition = it["vertex_label"], it["partition_id"]
+        if not isinstance(label, str) or not isinstance(partition, str):
+            raise ValueError(f"{where} has {shown(label)} and {shown(partition)}, and should have texts for vertex and partition")
+        if (label, partition) in found:
+            raise ValueError(f"{where} is of partition {shown(partition)} of {shown(label)}, which has keys before it")
+        found[label, partition] = RoutingInfo(label, partition, count_in(it, where, "key"), count_in(it, where, "mask"))
+    return list(found.values())
+
+
+def write_routing_infos(routing_infos: Any) -> str:
+    """Routing infos, by the attributes that `from_spinntools` looks at, as JSON text. A vertex is told by its `label`, or else as text.
+    ValueError where two are told alike."""
+    found: Dict[Tuple[str, str], Tuple[int, int]] = {}
+    for (vertex, name), block in keys_of_infos("write_routing_infos", routing_infos).items():
+        told = str(getattr(vertex, "label", vertex)), str(name)
+        if told in found:
+            raise ValueError(f"two vertices are called {told[0]!r}, and both have a partition {told[1]!r}")
+        found[told] = block
+    return json.dumps([{"vertex_label": label, "partition_id": name, "key": key, "mask": mask} for (label, name), (key, mask) in found.items()])

@@ -95,11 +95,11 @@ class Amiss(NamedTuple):
     what: Union[Verdict, TooManyParts]
 
 
-def first_of(one: Optional[Amiss], other: Optional[Amiss]) -> Optional[Amiss]:
+def earlier_of(found: Optional[Amiss], other: Optional[Amiss]) -> Optional[Amiss]:
     """What is amiss with the earlier net of two; of one net the first."""
-    if one is None or other is None:
-        return one or other
-    return other if other.place < one.place else one
+    if found is None or other is None:
+        return found or other
+    return other if other.place < found.place else found
 
 
 @dataclass
@@ -145,7 +145,7 @@ def parts_of_place(what: str, place: Place) -> Sequence[Any]:
     return found
 
 
-def spot_of(name: Name, place: Place, machine: Machine, grid: Grid) -> Spot:
+def spot_of(name: Name, place: Place, grid: Grid) -> Spot:
     """The spot of a vertex. ValueError where nothing can stand there."""
     x, y, number = number_of(name, place)
     if not grid.has((x, y)):
@@ -162,14 +162,13 @@ def spot_of(name: Name, place: Place, machine: Machine, grid: Grid) -> Spot:
     return x, y, number
 
 
-def spots_of(machine: Machine, grid: Grid, places: Places) -> Dict[Any, Spot]:
+def spots_of(grid: Grid, places: Places) -> Dict[Any, Spot]:
     """The spots of all vertices. ValueError where one can't stand where it does, or two stand at one place."""
-    dead = {tuple(it) for it in machine.dead_cores}
     taken: Dict[Spot, Any] = {}
     found: Dict[Any, Spot] = {}
     for name, place in mapping("places", places, "names of vertices to places").items():
-        spot = spot_of(name, place, machine, grid)
-        if spot in dead:
+        spot = spot_of(name, place, grid)
+        if spot in grid.dead_cores:
             raise ValueError(f"{name!r} stands on the dead core {spot[2]} of ({spot[0]}, {spot[1]})")
         if spot in taken:
             raise ValueError(f"{name!r} and {taken[spot]!r} stand at one place, {spot}")
@@ -300,7 +299,7 @@ class Verifier:
     ) -> None:
         self.machine, self.program = one("machine", machine, Machine), program
         self.grid = Grid(machine)
-        self.spots = spots_of(machine, self.grid, places)
+        self.spots = spots_of(self.grid, places)
         self.nets = known_nets(nets, self.spots)
         self.rows = known_rows(tables, self.grid)
         self.trees = known_trees(trees, self.nets, self.grid)
@@ -476,7 +475,7 @@ class Verifier:
             row = rows[verdict.x, verdict.y][verdict.row]
             parts = parts[:place] + parts[place + 1:]
             for half in halves(part.block, row[1]):
-                found = first_of(found, self._take(part.net, half))
+                found = earlier_of(found, self._take(part.net, half))
 
     def _amiss(self, part: Part, verdict: Union[Wrong, BadTree], order: Order) -> Verdict:
         """What the program's answer says in terms of a way."""

@@ -2,11 +2,15 @@
 import contextlib
 import io
 import json
+import os
+import pty
 import re
+import select
 import shutil
 import subprocess
 import sys
 import tempfile
+import time
 import unittest
 from pathlib import Path
 
@@ -178,6 +182,73 @@ class Shown(unittest.TestCase):
         self.assertEqual(called("run", "-q", "-v", "a")[0], 64)
 
 
+# What an interactive zsh does as it starts: behind Tab it notes the line that is completed, and behind Control-O what is offered.
+ZSHRC = """fpath=($PWD $fpath)
+autoload -U compinit
+compinit -D -u
+unsetopt auto_list auto_menu
+ended() { print -r -- "> $BUFFER" >>noted; BUFFER= }
+completed() { zle complete-word; ended }
+offered() {
+    compadd() {
+        local -a words
+        builtin compadd -A words "$@"
+        print -rl -- $words >>noted
+        builtin compadd "$@"
+    }
+    zle complete-word
+    unfunction compadd
+    ended
+}
+zle -N zle-line-init ended
+zle -N completed
+zle -N offered
+bindkey '^I' completed
+bindkey '^O' offered
+"""
+
+
+class ZshOnTerminal:
+    """A zsh on a terminal of its own, that has found a completion on its path."""
+
+    def __init__(self, folder, script):
+        Path(folder, "_kulzobad").write_text(script)
+        Path(folder, ".zshrc").write_text(ZSHRC)
+        self.noted = Path(folder, "noted")
+        self.terminal, inner = pty.openpty()
+        variables = {**os.environ, "ZDOTDIR": folder, "TERM": "dumb"}
+        self.process = subprocess.Popen(["zsh", "-d", "-i"], stdin=inner, stdout=inner, stderr=inner, cwd=folder, env=variables, start_new_session=True)
+        os.close(inner)
+        self.seen = 0
+        self.next()
+
+    def __enter__(self):
+        return self
+
+    def __exit__(self, *_):
+        self.process.kill()
+        self.process.wait()
+        os.close(self.terminal)
+
+    def next(self):
+        """What is noted next: the words that are offered, and the line as it stands then."""
+        until = time.monotonic() + 120
+        while time.monotonic() < until:
+            if select.select([self.terminal], [], [], 0.02)[0]:
+                os.read(self.terminal, 65536)
+            lines = self.noted.read_text().splitlines()[self.seen:] if self.noted.exists() else []
+            end = next((i for i, line in enumerate(lines) if line.startswith("> ")), None)
+            if end is not None:
+                self.seen += end + 1
+                return lines[:end], lines[end][2:]
+        raise TimeoutError("zsh notes nothing")
+
+    def tried(self, line, key):
+        """What is noted behind a line and a key."""
+        os.write(self.terminal, f"{line}{key}".encode())
+        return self.next()
+
+
 class Completion(unittest.TestCase):
     def script(self, shell):
         status, written, told = called("completion", shell)
@@ -213,11 +284,12 @@ class Completion(unittest.TestCase):
 
     @unittest.skipUnless(shutil.which("zsh"), "there is no zsh")
     def test_zsh(self):
-        with tempfile.TemporaryDirectory() as folder:
-            Path(folder, "_kulzobad").write_text(self.script("zsh"))
-            script = f"fpath=({folder} $fpath); autoload -U compinit; compinit -D -u; print $_comps[kulzobad]; autoload -Uz +X _kulzobad"
-            done = subprocess.run(["zsh", "-f", "-c", script], capture_output=True, text=True, check=False)
-        self.assertEqual((done.stdout, done.stderr), ("_kulzobad\n", ""))
+        with tempfile.TemporaryDirectory() as folder, ZshOnTerminal(folder, self.script("zsh")) as shell:
+            for line, wanted in self.TRIED:
+                if len(wanted) == 1:
+                    self.assertEqual(shell.tried(f"kulzobad {line}", "\t")[1].split()[-1], wanted[0], line)
+                if wanted:
+                    self.assertEqual({it for it in shell.tried(f"kulzobad {line}", "\x0f")[0] if it}, set(wanted), line)
 
     def test_each_shell_has_each_command_with_its_options(self):
         scripts = {shell: self.script(shell) for shell in ("bash", "zsh", "fish")}

@@ -1,13 +1,14 @@
 """Objects and JSON of other tools, written by hand after their published sources; and graphs, and tables of reports."""
 import json
 import unittest
+from importlib.util import find_spec
 
 from kulzobad import Job, KeyedNet, Machine, Misses, Net, Packet, Right, Row, Vertex, compile, run, tables, trace, verify
 from kulzobad import formats, frames, spinntools
 from kulzobad.graphs import from_networkx
 from kulzobad.jobs import inject
 from kulzobad.spinntools import RoutingEntry, from_spinntools, read_machine, read_placements, read_tables, to_routing_tables
-from kulzobad.spinntools import write_machine, write_placements, write_tables
+from kulzobad.spinntools import read_routing_infos, write_machine, write_placements, write_routing_infos, write_tables
 
 STEPS = ((1, 0), (1, 1), (0, 1), (-1, 0), (-1, -1), (0, -1))
 
@@ -108,6 +109,8 @@ class SpiNNTools(unittest.TestCase):
             (lambda: self.vertices and setattr(self, "infos", []), ValueError, "has no keys"),
             (lambda: setattr(self, "placements", self.placements.listed[:2]), ValueError, "has no place"),
             (lambda: setattr(self, "placements", [Thing(vertex="a", x=0, y=0)]), TypeError, r"placements\[0\] is .*, and has no p$"),
+            (lambda: setattr(self, "placements", self.placements.listed * 2), ValueError, r"placements\[3\] is of .*, which has a place before it"),
+            (lambda: setattr(self, "infos", self.infos.listed * 2), ValueError, r"routing_infos\[1\] is of partition 'SPIKES' of .*, which has keys before it"),
             (lambda: setattr(self, "placements", 5), TypeError, "from_spinntools: placements is 5"),
             (lambda: setattr(self, "infos", [Thing(vertex="a", partition_id=1, key=0)]), TypeError, "has no mask and no first_mask"),
             (lambda: setattr(self, "infos", [Thing(vertex="a", partition_id=1, key="x", mask=0)]), TypeError, "is 'x', and should be a whole number"),
@@ -171,6 +174,30 @@ class SpiNNTools(unittest.TestCase):
             with self.assertRaisesRegex(ValueError, "machine"):
                 read_machine(json.dumps({**whole, name: value}))
 
+    def test_routing_infos_as_json(self):
+        text = '[{"vertex_label": "eye", "partition_id": "SPIKES", "key": 16, "mask": 4294967280}, {"vertex_label": "eye", "partition_id": "LIVE", "key": 1, "mask": 4294967295}]'
+        infos = [spinntools.RoutingInfo("eye", "SPIKES", 0x10, 0xFFFFFFF0), spinntools.RoutingInfo("eye", "LIVE", 1, 0xFFFFFFFF)]
+        self.assertEqual(read_routing_infos(text), infos)
+        self.assertEqual(json.loads(write_routing_infos(infos)), json.loads(text))
+        # (objects of SpiNNTools, whose vertices have labels)
+        self.assertEqual(json.loads(write_routing_infos(self.infos)), json.loads(text)[:1])
+        partitions = [spinntools.Partition("eye", "SPIKES", [spinntools.Edge("eye", "left"), spinntools.Edge("eye", "right")])]
+        self.tables.routing_tables[0].multicast_routing_entries[0].link_ids = ()
+        made = from_spinntools(self.machine, [spinntools.Placement(it.vertex.label, it.x, it.y, it.p) for it in self.placements], read_routing_infos(text), partitions, self.tables)
+        self.assertEqual((made.nets[0].blocks, verify(*made)), ([(0x10, 0xFFFFFFF0)], Right()))
+        one = {"vertex_label": "a", "partition_id": "p", "key": 0, "mask": 0}
+        for value, told in (
+            ({}, "routing_infos is no list"), ([5], "routing_infos has an item"), ([{**one, "key": "0"}], r"routing_infos\[0\].key is '0'"),
+            ([{**one, "vertex_label": 5}], "should have texts"), ([one, one], r"routing_infos\[1\] is of partition 'p' of 'a'"),
+            ([{"vertex_label": "a", "partition_id": "p", "key": 0}], "has no mask"),
+        ):
+            with self.assertRaisesRegex(ValueError, told):
+                read_routing_infos(json.dumps(value))
+        with self.assertRaisesRegex(ValueError, "two vertices are called 'eye'"):
+            write_routing_infos([*infos, *self.infos])
+        with self.assertRaisesRegex(TypeError, "write_routing_infos: routing_infos is 5"):
+            write_routing_infos(5)
+
 
 class Graph:
     """A directed graph with what the package asks of one."""
@@ -195,30 +222,30 @@ class Graphs(unittest.TestCase):
         ("left", "left", {"net": "x y"}), ("left", "eye", {}), (("a", 1), "eye", {}),
     ]
 
-    def test_nodes_are_vertices_and_edges_nets(self):
-        for graph in self.graphs(self.nodes, self.edges, machine=Machine(2, 1)):
-            job = from_networkx(graph, target=3)
-            self.assertEqual(job.vertices, [Vertex("eye", 5, (0, 0)), Vertex("left"), Vertex("v0"), Vertex("led", device=(1, 0, 2))])
-            self.assertEqual(job.nets, [
-                Net("eye", "eye", ["left", "led"], 4), Net("slow", "eye", ["v0"], 256, (0x100, 0xFFFFFF00)), Net("n0", "left", ["left"]),
-                Net("left", "left", ["eye"]), Net("n1", "v0", ["eye"]),
-            ])
-            self.assertEqual((job.machine, job.target), (Machine(2, 1), 3))
-            self.assertEqual(sum(len(it.rows) for it in tables(job).tables.values()), tables(job).rows)
+    def is_the_job(self, graph):
+        """The graph of these nodes and edges is the job that is wanted."""
+        job = from_networkx(graph, target=3)
+        self.assertEqual(job.vertices, [Vertex("eye", 5, (0, 0)), Vertex("left"), Vertex("v0"), Vertex("led", device=(1, 0, 2))])
+        self.assertEqual(job.nets, [
+            Net("eye", "eye", ["left", "led"], 4), Net("slow", "eye", ["v0"], 256, (0x100, 0xFFFFFF00)), Net("n0", "left", ["left"]),
+            Net("left", "left", ["eye"]), Net("n1", "v0", ["eye"]),
+        ])
+        self.assertEqual((job.machine, job.target), (Machine(2, 1), 3))
+        self.assertEqual(sum(len(it.rows) for it in tables(job).tables.values()), tables(job).rows)
 
-    def graphs(self, nodes, edges, **graph):
-        """The graph, and the same of networkx where that is there."""
-        yield Graph(nodes, edges, **graph)
-        try:
-            import networkx
-        except ImportError:
-            return
-        made = networkx.MultiDiGraph(**graph)
-        for it, data in Graph(nodes, edges).nodes(True):
+    def test_nodes_are_vertices_and_edges_nets(self):
+        self.is_the_job(Graph(self.nodes, self.edges, machine=Machine(2, 1)))
+
+    @unittest.skipUnless(find_spec("networkx"), "there is no networkx")
+    def test_a_graph_of_networkx(self):
+        import networkx
+
+        made = networkx.MultiDiGraph(machine=Machine(2, 1))
+        for it, data in Graph(self.nodes, self.edges).nodes(True):
             made.add_node(it, **data)
-        for source, target, data in edges:
+        for source, target, data in self.edges:
             made.add_edge(source, target, **data)
-        yield made
+        self.is_the_job(made)
 
     def test_graphs_that_are_no_jobs(self):
         good, bad = Machine(1, 1), Graph(["a"], [])
@@ -257,10 +284,10 @@ class Tables(unittest.TestCase):
     def test_frames(self):
         plan = tables(self.job)
         self.assertEqual(frames.frame(plan, "keys", lambda lines, columns: (lines, columns)), ([("n", 0, 0xFFFFFFFF)], ["net", "key", "mask"]))
-        try:
-            found = frames.frame(plan, "keys")
-        except ImportError:
-            return
+
+    @unittest.skipUnless(find_spec("pandas"), "there is no pandas")
+    def test_a_frame_of_pandas(self):
+        found = frames.frame(tables(self.job), "keys")
         self.assertEqual(found.to_dict("records"), [{"net": "n", "key": 0, "mask": 0xFFFFFFFF}])
 
     def test_tables_that_are_none(self):

@@ -290,17 +290,20 @@ MENDED = "2 0 00001010 ffffffff 000080\n" + ROWS
 DEAD_END = "".join(f"{line}\n" for line in ROWS.splitlines() if line != "2 1 00001000 ffffffe0 000080") + "2 1 00001000 fffffff0 000080\n"
 DEAD_END = DEAD_END.replace("2 0 00001000 ffffffe0 000084", "2 0 00001000 fffffff0 000084")
 
-# The words on chips that meet an arrow, and how many words there are.
+# The words on chips that meet an arrow or a flow, as wide as these are, and how many words there are.
 OVERLAPS = """(() => {
-    const words = [...document.querySelectorAll('.tree-word, #labels .place, #astray .word')].filter(it => it.textContent
+    const words = [...document.querySelectorAll('.tree-word, #labels .place, #labels .number, #astray .word')].filter(it => it.textContent
         && it.getAttribute('visibility') !== 'hidden' && getComputedStyle(it).display !== 'none');
-    const lines = [...document.querySelectorAll('#overlay .hop-line, #astray .hop-line')].map(it =>
-        ['x1', 'y1', 'x2', 'y2'].map(name => it[name].baseVal.value));
+    const wide = it => parseFloat(getComputedStyle(it).strokeWidth);
+    const lines = [...document.querySelectorAll('#overlay .hop-line, #astray line')].map(it =>
+        [...['x1', 'y1', 'x2', 'y2'].map(name => it[name].baseVal.value), wide(it)]);
+    const flows = [...document.querySelectorAll('#flows path')].flatMap(it =>
+        it.getAttribute('d').slice(1).split('M').map(part => [...part.split(/[L,]/).map(Number), wide(it)]));
     const met = words.filter(it => {
         const box = it.getBBox();
-        return lines.some(([x1, y1, x2, y2]) => [...Array(41).keys()].some(i => {
-            const x = x1 + (x2 - x1) * i / 40, y = y1 + (y2 - y1) * i / 40;
-            return x > box.x && x < box.x + box.width && y > box.y + box.height * 0.2 && y < box.y + box.height * 0.85;
+        return [...lines, ...flows].some(([x1, y1, x2, y2, wide]) => [...Array(41).keys()].some(i => {
+            const x = x1 + (x2 - x1) * i / 40, y = y1 + (y2 - y1) * i / 40, half = wide / 2 - 0.5;
+            return x > box.x - half && x < box.x + box.width + half && y > box.y + box.height * 0.2 - half && y < box.y + box.height * 0.85 + half;
         }));
     });
     return [met.map(it => it.textContent), words.length];
@@ -788,6 +791,14 @@ class Pages(unittest.TestCase):
         self.assertGreater(tried, 40)
         browser = self.network_page("clear", NETWORK, DEAD_END)
         self.assertEqual(browser.ask(OVERLAPS)[0], [])
+        # (of a run with short queues the flows too, which are as wide as they are strong)
+        short = json.loads(BOARD.read_bytes())
+        short["run"]["queue"] = 1
+        for show in ("links", "dumps"):
+            browser = self.open("short", text_of(short), f"#show={show}")
+            met, count = browser.ask(OVERLAPS)
+            self.assertEqual(met, [], show)
+            self.assertGreater(count, 20)
 
     def test_what_is_used_stands_out(self):
         job = {"version": 1, "machine": {"width": 64, "height": 64, "dead_chips": [[9, 9]]}, "graph": {
@@ -861,6 +872,19 @@ class Pages(unittest.TestCase):
             for spoiled_list in ("0", "8,", "x", "70000", "1,2,3,4,5", ""):
                 self.assertEqual(called("page", BOARD, "--queues", spoiled_list)[0], 64)
 
+    def test_short_names_are_whole_and_lists_no_wider_than_the_answer(self):
+        try:
+            for size in ((1280, 900), (390, 844)):
+                self.browser.sized(*size)
+                browser = self.open("fan_out")
+                self.assertEqual(browser.texts("#nets td:first-child"), ["spikes", "turn", "echo"])
+                # (a name in one line is one box)
+                self.assertEqual(browser.ask("[...document.querySelectorAll('#nets a')].filter(it => it.getClientRects().length > 1).length"), 0)
+                room = "(it => it.scrollWidth - it.clientWidth)(document.querySelector('#answer'))"
+                self.assertLessEqual(browser.ask(room), 0, size)
+        finally:
+            self.browser.sized(1280, 800)
+
     def test_nothing_is_cut_in_the_head_and_a_phone_has_the_answer_first(self):
         # (what is written into a box is as wide as its letters, and may not be wider than the box inside)
         cut = """[...document.querySelectorAll('header *')].filter(it => {
@@ -895,6 +919,9 @@ class Pages(unittest.TestCase):
         job = {"version": 1, "machine": {"width": 64, "height": 64, "wrap": True}, "graph": {"vertices": vertices, "nets": nets}}
         browser = self.open("largest", text_of(job), "#show=rows")
         self.assertEqual(browser.count("[data-chip]"), 4096)
+        # (numbers beside it are seen as large as other letters)
+        tall = browser.ask("document.querySelector('#labels .axis').getBoundingClientRect().height")
+        self.assertTrue(11 < tall < 20, tall)
         self.asks("n", "n4095", "Net n4095")
         self.asks("c", "63 63", "Chip (63, 63)")
 
