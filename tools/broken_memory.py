@@ -12,11 +12,15 @@ A refused run may write two things: the example's own report with the example's 
 status 9. Where nothing was read yet, status 9 may come without the line: there was no memory for the command's words. Anything else is
 wrong: a part of a report, another status, the end by a signal, a byte on standard error, no end at all.
 
-Each N is tried of three examples, and of two jobs of two chips: one compiled, whose image is that of tools/model.py, and one run with
-queues of one copy, whose report may be any that tools/stress_runs.py finds right. Of other jobs with threads, whose count may
-differ from run to run, a sample of N is tried, and each of their threads: two examples, and the generated job of
-tools/gen_reference.py, compiled and run. Its report is what the program writes where nothing is refused. With --all each N is tried of every example, or some 2,000 where it asks for memory more often. The last line
-is 'N passed, M failed', and the status 1 where one failed. Python's standard library alone.
+Each N is tried of three examples, and of three small jobs: one compiled, whose image is that of tools/model.py, and two run with
+short queues, by two workers on two chips and by four on four, whose report may be any that tools/stress_runs.py finds right. Of
+other jobs with threads, whose count may differ from run to run, a sample of N is tried, and each of their threads: two examples,
+and the generated job of tools/gen_reference.py, compiled and run. Its report is what the program writes where nothing is refused.
+With --all each N is tried of every example, or some 2,000 where it asks for memory more often.
+
+First the threads of a run are counted. With four workers `run` has to ask for three more than `tables` asks for, at least; with one
+worker neither asks for any. The last line is 'N passed, M failed', and the status 1 where one failed. Python's standard library
+alone.
 """
 import argparse
 import concurrent.futures
@@ -38,7 +42,7 @@ SHOWN = 20
 EVERY = ("one_chip", "check_right", "apps_unsent")
 THREADED = ("ample_queues", "reinject_fan_out")
 GENERATED = ("compile", "run")
-COMPILED, SHORT = "compile of two_chips", "run of two_chips with short queues"
+COMPILED, SHORT, FOUR = "compile of two_chips", "run of two_chips with short queues", "run of four chips by four workers"
 SAMPLE = 60
 SAMPLE_OF_ALL = 2000
 
@@ -201,12 +205,26 @@ def two_chips():
     job = json.loads(text)
     plan = model.plan_of(job)
     yield Case(COMPILED, ["compile"], text, model.image_of(job["machine"], plan.tables), 0)
-    short = stress_runs.with_run(job, packets=job["run"]["packets"] * 3, queue=1, patience=1, workers=2, turns=4)
+    yield run_with_short_queues(SHORT, stress_runs.with_run(job, packets=job["run"]["packets"] * 3, queue=1, patience=1, workers=2, turns=4))
+
+
+def four_chips(workers):
+    """Packets from each of four chips to the three others, through queues of two copies."""
+    names = {"a": [0, 0], "b": [1, 0], "c": [0, 1], "d": [1, 1]}
+    vertices = [{"name": name, "at": at} for name, at in names.items()]
+    nets = [{"name": f"n{name}", "source": name, "targets": [it for it in names if it != name]} for name in names]
+    run = {"packets": [{"net": net["name"], "index": 0} for net in nets] * 3, "queue": 2, "patience": 3, "workers": workers, "turns": 4}
+    return {"version": 1, "machine": {"width": 2, "height": 2}, "graph": {"vertices": vertices, "nets": nets}, "run": run}
+
+
+def run_with_short_queues(name, job):
+    """A run of a job, whose report may be any that is right."""
+    plan = model.plan_of(job)
 
     def is_right(report):
-        return not stress_runs.faults_of(short, plan, report.decode(errors="backslashreplace"))
+        return not stress_runs.faults_of(job, plan, report.decode(errors="backslashreplace"))
 
-    yield Case(SHORT, ["run"], json.dumps(short).encode(), is_right, 0)
+    return Case(name, ["run"], json.dumps(job).encode(), is_right, 0)
 
 
 def is_own(case, came):
@@ -302,6 +320,16 @@ def try_case(trials, case, most):
     return whole
 
 
+def count_threads(trials):
+    """Whether a run has threads of its own: more than compiling has, where there are four workers, and none where there is one."""
+    for workers, least in ((4, 3), (1, 0)):
+        job = json.dumps(four_chips(workers)).encode()
+        compiling, whole = (trials.came(Case("", [word], job, b"", 0), NONE) for word in ("tables", "run"))
+        own = whole.threads - compiling.threads
+        right = own >= least if least else (whole.threads, compiling.threads) == (0, 0)
+        trials.told(right, f"threads of {workers} workers", Case(f"{own} threads of a run's own", [], b"", b"", 0), NONE, whole)
+
+
 def selftest(folder, library):
     """Whether each stand-in that is right passes, and each that is wrong is found out."""
     stand_in = compiled(folder, "stand_in", STAND_IN)
@@ -343,10 +371,12 @@ def main():
             names = EVERY + THREADED
             if given.all:
                 names = sorted(name[:-5] for name in os.listdir(f"{ROOT}/examples") if name.endswith(".json"))
-            cases = [*map(case_of, names), *two_chips(), *(generated(program, word) for word in GENERATED)]
+            cases = [*map(case_of, names), *two_chips(), run_with_short_queues(FOUR, four_chips(4))]
+            cases += [generated(program, word) for word in GENERATED]
+            count_threads(trials)
             threads = 0
             for case in cases:
-                most = SAMPLE_OF_ALL if given.all else EVER if case.name in (*EVERY, COMPILED, SHORT) else SAMPLE
+                most = SAMPLE_OF_ALL if given.all else EVER if case.name in (*EVERY, COMPILED, SHORT, FOUR) else SAMPLE
                 whole = try_case(trials, case, most)
                 threads += whole.threads
                 print(f"{case.name}: {whole.memory} requests for memory, {whole.threads} for a thread", flush=True)

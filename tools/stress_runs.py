@@ -1,4 +1,4 @@
-"""Random jobs with short queues, and a check of what became of each copy. It stands outside the gate.
+"""Random jobs with short queues on threads, and a check of what became of each copy. The gate runs 40 of them.
 
     python3 tools/stress_runs.py [PROGRAM] [COUNT] [SEED]               so many jobs through `run` (200, from seed 0)
     python3 tools/stress_runs.py --reinject [PROGRAM] [COUNT] [SEED]    through `reinject`, beside `run` with ample queues
@@ -7,7 +7,7 @@
 PROGRAM is ./spin where none is named. The jobs have up to 24 chips, some of them dead, as some links and cores are; up to 30
 vertices and 20 nets; 5 to 200 packets. One job in ten, or each with --large, has up to 144 chips, 100 vertices, 60 nets and 2,000
 packets. There are nets with fixed keys, and devices, also on tori with a side of 1. Queues hold one to 50 copies, most of them one
-to three; patience is 1 to 20, and there are up to 64 workers and turns.
+to three; patience is 1 to 20. There are 2 to 64 workers, each a thread of its own with its share of the chips, and up to 64 turns.
 
 `run` may drop copies of such a job, and which ones depends on the order of turns, which nothing promises. So no bytes are
 compared but those of the places, keys and tables, which are to be those of tools/model.py. Each packet is followed over the tables
@@ -310,7 +310,7 @@ class Dice(model.Dice):
             if self.now_and_then(0.3):
                 packets[-1]["payload"] = self.randrange(2**32)
         run = {"packets": packets, "queue": self.randint(1, self.choice([3, 3, 3, 50])), "patience": self.randint(1, self.choice([1, 20]))}
-        run = {**run, "workers": self.randint(1, self.choice([8, 64])), "turns": self.randint(1, self.choice([16, 64]))}
+        run = {**run, "workers": self.randint(2, self.choice([8, 64])), "turns": self.randint(1, self.choice([16, 64]))}
         return {**run, "target": self.choice([0, model.MOST_ROWS])}
 
     def planned_job(self, is_large):

@@ -1,9 +1,12 @@
-pub mod BankFlows
-mod BankSteps
-mod Beside
-mod GoingRound
-mod LookingFor
 mod Offering
-pub mod RouterFlows
-mod ServingOne
+pub mod Stays
+pub mod Flows
+pub mod EndSteps
+pub mod Placing
+mod Outputs
+mod GoingRound
 mod Turning
+mod Banking
+mod Sending
+mod Looking
+mod Serving

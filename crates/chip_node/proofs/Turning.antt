@@ -1,36 +1,62 @@
--- A router's turn: what it tells of what it took.
-use Rattle.std.proofs.Common.{◌≡◌, ℕ, ◌+◌, ◌≤◌, List, [], ◌∷◌, ◌++◌, length, ap, ◌∙◌, arith}
-use Rattle.std.specs.List.{AllZip}
-use Rattle.spin_base.specs.declared.chips.Chip.{Chip}
+-- A router's turn: looks at its ports until one gives a copy, which is routed.
+use Rattle.std.proofs.Common.{◌≡◌, ℕ, zero, suc, ◌+◌, ◌*◌, ◌%◌, ◌<◌, ◌≤◌, List, [], ◌∷◌, map, get_or, refl, sym, ap, subst, ◌∙◌, inl, inr, arith}
+use Rattle.std.proofs.lemmas.Bool.{cases_lt}
+use Rattle.spin_base.specs.declared.blocks.Entry.{Entry}
+use Rattle.spin_base.specs.declared.chips.Dir.TheVariants.{East, NorthEast, North, West, SouthWest, South}
 use Rattle.spin_base.specs.declared.chips.Port.{Port}
-use Rattle.spin_base.specs.declared.routes.Out.{Out}
+use Rattle.spin_base.specs.declared.chips.Port.TheVariants.{Link, Local}
 use Rattle.spin_base.specs.declared.copies.McCopy.{McCopy}
-use Rattle.link_queue.specs.declared.known.Known.{Known}
-use Rattle.link_queue.specs.Ends.{taking}
-use Rattle.chip_node.specs.declared.ends.InEnd.{InEnd}
-use Rattle.chip_node.specs.declared.ends.Served.{Served}
-use Rattle.chip_node.specs.declared.ends.Served.TheVariants.{Sent, Dumped}
-use Rattle.chip_node.specs.Looking.{taken_at, TakesAt, IsEmptyAt, TakesOne, TakesNone}
-use Rattle.chip_node.specs.Serving.{records_of}
-use Rattle.chip_node.proofs.Beside.{AllZip-weaker, one_grew}
-use Rattle.chip_node.proofs.LookingFor.{taken_at_own}
+use Rattle.spin_base.specs.declared.routes.Out.{Out}
+use Rattle.spin_base.specs.Links.{dir_number, port_number}
+use Rattle.spin_base.proofs.Outputs.{dir_number_below}
+use Rattle.chip_node.specs.declared.holdings.Holdings.{Holdings}
+use Rattle.chip_node.specs.declared.nodes.RouterNode.{RouterNode}
+use Rattle.chip_node.specs.Acting.{RoutesOne, ServesOuts, service_items}
+use Rattle.chip_node.specs.Going.{Goes, IsIdleAt, Stays}
+use Rattle.chip_node.specs.Items.{Item, port_place, took}
+use Rattle.chip_node.specs.Routing.{outputs_at}
+use Rattle.chip_node.proofs.Flows.{goes_on, stays_goes}
+use Rattle.chip_node.proofs.GoingRound.{GoneBy, IsPlaceOf, gone_all}
+use Rattle.chip_node.proofs.Stays.{idle_before}
 
--- serving one output leaves at most one record
-few_records : (c : Chip) (o : Out) (k : McCopy) (s : Served) → length (records_of c o k s) ≤ 1
-few_records c o k Sent = omega arith
-few_records c o k Dumped = omega arith
+-- a copy was taken after looks that did nothing, and each of its outputs was served
+pub routes_one : (cap patience : ℕ) (entries : List Entry) (r : RouterNode) (port : Port) (k : McCopy) (outs : List Out) (a b c d : Holdings) → Stays a b → Goes cap patience b (took r.index port k ∷ []) c
+    → outs ≡ outputs_at entries port k → ServesOuts cap patience r outs k c d → (items : List Item) × RoutesOne entries r items × Goes cap patience a items d
+routes_one cap patience entries r port k outs a b c d stays takes given serves = (
+  took r.index port k ∷ service_items r serves.done,
+  record { port = port; copy = k; done = serves.done; each_once = serves.each_once ∙ ap (λ (l : List Out). map {B = Out × McCopy} (λ o. (o, k)) l) given; nowhere = serves.nowhere; are = refl },
+  stays_goes cap patience a b d (took r.index port k ∷ service_items r serves.done) stays (goes_on cap patience b c d (took r.index port k ∷ []) (service_items r serves.done) takes serves.goes),
+)
 
--- so the spare falls by at most one an output
-pub spare_falls : (c : Chip) (o : Out) (k : McCopy) (s : Served) (begun before after i : ℕ) → begun ≤ before + i → after + length (records_of c o k s) ≡ before → begun ≤ after + (i + 1)
-spare_falls c o k s begun before after i so_far now = omega (arith, few_records c o k s)
+-- the place of a turn's step among seven ports
+pub port_step : (number steps : ℕ) → steps < 7 → IsPlaceOf (number % 7) 7 steps ((number % 7 + steps) % 7)
+port_step number steps low =
+    elim (cases_lt (number % 7 + steps) 7) [
+      | inl before ↦ inl (omega arith)
+      | inr past ↦ inr (omega arith)
+    ]
 
--- from empty queues nothing is taken
-pub empty_takes_nothing : (xs ys : List (Port × InEnd)) → AllZip IsEmptyAt xs ys → TakesNone xs ys
-empty_takes_nothing xs ys h = AllZip-weaker IsEmptyAt (λ e f. (taking f.1.rx).took ≡ (taking e.1.rx).took) (λ x y r. ap (λ (v : Known). v.took) r.nothing_there.noted) xs ys h
+-- what holds at each place that was gone by holds at each port
+pub ports_gone : (P : ℕ → Type 0) (start steps : ℕ) → 7 ≤ steps → GoneBy P start 7 steps → (port : Port) → P (port_number port)
+ports_gone P start steps end gone (Link d) = gone_all P start 7 steps end gone (dir_number d) (let below = dir_number_below d in omega arith)
+ports_gone P start steps end gone Local = gone_all P start 7 steps end gone 6 (omega arith)
 
--- where a copy was taken, not nothing was
-pub one_is_not_none : (t : Port × McCopy) (xs ys : List (Port × InEnd)) → TakesOne t xs ys → TakesNone xs ys → ⊥
-one_is_not_none t xs ys one none =
-    one_grew (λ (e : Port × InEnd). e.0) (λ (e : Port × InEnd). (taking e.1.rx).took) t.0 t.1 xs ys one.at_a_port
-    (AllZip-weaker (TakesAt (t ∷ [])) (λ e f. e.0 ≡ t.0 → (taking f.1.rx).took ≡ (taking e.1.rx).took ++ t.1 ∷ [])
-    (λ x y r is. r.took ∙ ap (λ l. (taking x.1.rx).took ++ l) (ap (λ p. taken_at p (t ∷ [])) is ∙ taken_at_own t.0 t.1)) xs ys one.ends) none
+-- at the port of a number nothing is there to take, and was not before
+pub next_idle : (a b : Holdings) (i at : ℕ) (p : Port) → Stays a b → port_number p ≡ at → IsIdleAt b.ends.items (port_place i p) → (port : Port) → port_number port ≡ at → IsIdleAt a.ends.items (port_place i port)
+next_idle a b i at p stays number idle port same =
+    subst (λ n. IsIdleAt a.ends.items (7 * i + n)) (number ∙ sym same) (idle_before a b (port_place i p) stays idle)
+
+-- ---- the ports in the order of their numbers
+
+abbrev pub seven_ports : List Port
+seven_ports = Link East ∷ Link NorthEast ∷ Link North ∷ Link West ∷ Link SouthWest ∷ Link South ∷ Local ∷ []
+
+pub port_at : (n : ℕ) → n < 7 → port_number (get_or seven_ports n (Link East)) ≡ n
+port_at zero low = refl
+port_at (suc zero) low = refl
+port_at (suc (suc zero)) low = refl
+port_at (suc (suc (suc zero))) low = refl
+port_at (suc (suc (suc (suc zero)))) low = refl
+port_at (suc (suc (suc (suc (suc zero))))) low = refl
+port_at (suc (suc (suc (suc (suc (suc zero)))))) low = refl
+port_at (suc (suc (suc (suc (suc (suc (suc n))))))) low = absurd (omega arith)

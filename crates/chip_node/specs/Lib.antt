@@ -1,8 +1,9 @@
-pub mod BankFlow
+pub mod Acting
 pub mod Ends
-pub mod Looking
-pub mod Numbers
+pub mod Going
+pub mod Items
+pub mod Lanes
 pub mod Offers
-pub mod RouterFlow
+pub mod Passing
 pub mod Routing
-pub mod Serving
+pub mod Taking

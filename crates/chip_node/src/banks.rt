@@ -1,181 +1,126 @@
-// The bank of a chip's vertices between the links.
-ghost use Rattle.std.specs.Prelude.{◌≡◌, ◌≢◌, ◌≤◌, ◌+◌, ◌↔◌, if◌then◌else◌, [], ◌∷◌, List, All, AllPairs, IfNone, IfSome, length};
-ghost use Rattle.spin_base.specs.declared.copies.McCopy.{McCopy};
-ghost use Rattle.std.specs.List.{AllZip};
-ghost use Rattle.link_queue.specs.Ends.{sending};
-ghost use Rattle.chip_node.specs.Ends.{IsOutEndOf};
-ghost use Rattle.chip_node.specs.Numbers.{vertex_numbers_of};
+// The bank of a chip's vertices between queues.
+ghost use Rattle.std.specs.Prelude.{◌≡◌, ◌≢◌, ◌+◌, ◌<◌, [], All, IfNone, IfSome, length, slice_index_or};
+ghost use Rattle.chip_node.specs.Acting.{BankActs, CannotGet, CannotSend, GetsOne, HalfActs, IsIdleBank, IsReadyBank, IsUnsentAt, SendsOne, turn_of_both};
+ghost use Rattle.chip_node.specs.Going.{AreEndsOf, IsRoomy};
+ghost use Rattle.chip_node.specs.declared.holdings.Turn.TheVariants.{Moved};
 
-use crate::ends::{InEnd, OutEnd};
+use crate::ends::{Bounds, Served};
+use crate::flags::Flags;
+use crate::holdings::{Around, Holdings, Turn};
+use crate::nodes::CoreBank;
 use crate::rings::Ring;
-use link_queue::{Link, Offered};
-use spin_base::{Delivery, Fifo, McCopy, Room, Seq, Shared};
+use spin_base::{Delivery, McCopy, Port};
 use std::sync::Wait;
 
-/// A vertex on one of a chip's cores, or a device on one of its links: its number, its copies that are not sent yet, and
-/// the receiving end of its queue.
-#[derive(Drop)]
-pub struct BankVertex {
-    pub vertex: u32,
-    pub unsent: Fifo<McCopy>,
-    pub end: InEnd,
-}
-
-/// The vertices of a chip: the sending end of the injection queue, the vertices with their unsent copies and queues, and
-/// the log of what was delivered.
-#[derive(Drop)]
-pub struct CoreBank {
-    inject: OutEnd,
-    vertices: Vec<BankVertex>,
-    log: Room<Delivery>,
-    ghost differ: { AllPairs (λ a b. a ≢ b) (vertex_numbers_of vertices.items) },
-}
-
-impl Shared for CoreBank {}
-
-/// What became of an unsent copy that a bank offered to its chip's injection queue.
-#[derive(Clone, Copy)]
-pub enum Injection {
-    /// The copy stands in the queue.
-    Entered,
-    /// The queue refused it, and it is the first unsent copy of its vertex still.
-    Refused,
-}
-
-/// What a bank did in a turn: what became of the unsent copy that it offered, where there was one, and whether it took a
-/// copy for a vertex.
-#[derive(Clone, Copy)]
-pub struct BankTurn {
-    pub offered: Option<Injection>,
-    pub collected: bool,
-}
-
 impl CoreBank {
-    ghost use Rattle.chip_node.specs.BankFlow.{AnswersOffer, CanCollect, CanOffer, HaveInEndsOf, bank_unsent_of, OffersOne, IsEmptyFor, CollectsNone, BankFlow, IsWaitingAt, OffersAny, CollectsAny};
-
-    /// A bank of these vertices.
-    pub fn new(inject: OutEnd, vertices: Seq<BankVertex>, log: Room<Delivery>) -> CoreBank
-        requires { AllPairs (λ a b. a ≢ b) (vertex_numbers_of vertices) }
-        ensures inject { result.inject ≡ inject }
-        ensures vertices { result.vertices.items ≡ vertices }
-        ensures log { result.log ≡ log }
+    /// One turn: offers the first unsent copy of one vertex once to the chip's injection queue, where there is one, and looks at the queues
+    /// of its vertices, from a start that goes round with the turn's number, until one gives a copy, which is logged. A refused offer
+    /// leaves the copy unsent, in its place. The chip's router is awake where a copy was sent. No clause says at which vertex it begins.
+    pub fn turn<R: Wait>(
+        &self,
+        rt: &R,
+        around: Around,
+        hold: &mut Holdings,
+        awake: &mut Flags,
+        number: u32,
+    ) -> Turn
+        requires { IsReadyBank around.links.now self.now hold.old }
+        ensures acts { BankActs around.entry.capacity around.entry.patience self.now hold.old
+            result hold.new }
+        ensures idle { result ≢ Moved → IsRoomy around.entry.capacity hold.old
+            → IsIdleBank around.entry.capacity self.now hold.old }
+        ensures ends { AreEndsOf around.entry.links.now hold.new.ends.items }
     {
-        CoreBank {
-            inject,
-            vertices: vertices.into_vec(),
-            log,
+        let sent = self.send(rt, around, hold, number);
+        if sent == Turn::Moved {
+            awake.set(2 * self.index as usize);
         }
+        let got = self.collect(rt, around, hold, number);
+        both(sent, got)
     }
 
-    /// What `new` took, in the order of its parameters, as it now is.
-    pub fn into_parts(self) -> (OutEnd, Seq<BankVertex>, Room<Delivery>)
-        ensures inject { result.0 ≡ self.inject }
-        ensures vertices { result.1 ≡ self.vertices.items }
-        ensures log { result.2 ≡ self.log }
+    // Offers the first unsent copy of the first vertex that has one.
+    fn send<R: Wait>(&self, rt: &R, around: Around, hold: &mut Holdings, number: u32) -> Turn
+        requires { IsReadyBank around.links.now self.now hold.old }
+        ensures acts { HalfActs around.entry.capacity around.entry.patience (SendsOne self.now)
+            hold.old result hold.new }
+        ensures idle { result ≢ Moved → IsRoomy around.entry.capacity hold.old
+            → CannotSend around.entry.capacity self.now hold.old }
+        ensures ready { IsReadyBank around.entry.links.now self.now hold.new }
     {
-        let CoreBank {
-            inject,
-            vertices,
-            log,
-        } = self;
-        (inject, Seq::from_vec(vertices), log)
-    }
-
-    /// One turn: offers the next unsent copy of one vertex once, where there is one, and looks at the queues of its
-    /// vertices, from a start that goes round with the turn's number, until one gives a copy, which is logged. A refused offer
-    /// leaves the copy unsent, in its place. It takes nothing exactly where each of its vertices' queues was found empty in this
-    /// call. No clause says at which vertex it begins.
-    pub fn turn<R: Wait>(&mut self, rt: &R, links: &[Link], number: u32) -> BankTurn
-        requires inject { IsOutEndOf links.now self.old.inject }
-        requires ends { HaveInEndsOf links.now self.old.vertices.items }
-        requires spare { 1 ≤ self.old.log.spare }
-        ensures flow { BankFlow 1 self.old self.new }
-        ensures offered { AnswersOffer result.offered (sending self.old.inject.tx)
-            (sending self.new.inject.tx) self.old.vertices.items }
-        ensures collected { length self.new.log.items
-            ≡ length self.old.log.items + (if result.collected then 1 else 0) }
-        ensures offers { OffersOne (sending self.old.inject.tx) (sending self.new.inject.tx)
-            (bank_unsent_of self.old.vertices.items) (bank_unsent_of self.new.vertices.items) }
-        ensures nothing { CollectsNone self.old.vertices.items self.new.vertices.items
-            ↔ AllZip IsEmptyFor self.old.vertices.items self.new.vertices.items }
-        ensures spare { self.old.log.spare ≤ self.new.log.spare + 1 }
-        ensures inject { IsOutEndOf links.now self.new.inject }
-        ensures ends { HaveInEndsOf links.now self.new.vertices.items }
-    {
-        let offered = self.send(rt, links, number);
-        let collected = self.collect(rt, links, number);
-        BankTurn { offered, collected }
-    }
-
-    // Offers the first unsent copy of the first vertex that has one, and tells what became of the offer.
-    fn send<R: Wait>(&mut self, rt: &R, links: &[Link], number: u32) -> Option<Injection>
-        requires { CanOffer links.now self.old.inject self.old.vertices.items }
-        ensures offers { OffersAny self.old.inject self.new.inject
-            self.old.vertices.items self.new.vertices.items }
-        ensures told { AnswersOffer result (sending self.old.inject.tx) (sending self.new.inject.tx)
-            self.old.vertices.items }
-        ensures numbers { vertex_numbers_of self.new.vertices.items
-            ≡ vertex_numbers_of self.old.vertices.items }
-        ensures log { self.new.log ≡ self.old.log }
-        ensures inject { IsOutEndOf links.now self.new.inject }
-        ensures ends { HaveInEndsOf links.now self.new.vertices.items }
-    {
-        let Some((place, copy)) = self.waiting(number) else {
-            return None;
+        let Some((vertex, copy)) = self.waiting(hold, number) else {
+            return Turn::Nothing;
         };
-        match self.inject.offer(rt, links, copy) {
-            Offered::Taken => {
-                let _ = self.vertices[place].unsent.pop();
-                Some(Injection::Entered)
+        let place = (Port::COUNT * self.index + 6) as usize;
+        if !hold.ends[place].has_room(around.capacity) {
+            return Turn::Waits;
+        }
+        let bounds = Bounds {
+            capacity: around.capacity,
+            patience: 1,
+        };
+        match hold.ends[place].send(rt, around.links, copy, bounds) {
+            Served::Sent => {
+                let _ = hold.unsent[vertex].pop();
+                Turn::Moved
             }
-            Offered::Full(_) => Some(Injection::Refused),
+            Served::Dumped => Turn::Waits,
         }
     }
 
-    // Looks at the queues of the vertices, one after the other, until one gives a copy, and logs it. It tells whether one did.
-    fn collect<R: Wait>(&mut self, rt: &R, links: &[Link], number: u32) -> bool
-        requires { CanCollect links.now self.old.vertices.items self.old.log.spare }
-        ensures collects { CollectsAny self.old self.new }
-        ensures told { length self.new.log.items ≡ length self.old.log.items
-            + (if result then 1 else 0) }
-        ensures inject { self.new.inject ≡ self.old.inject }
-        ensures spare { self.old.log.spare ≤ self.new.log.spare + 1 }
-        ensures ends { HaveInEndsOf links.now self.new.vertices.items }
+    // Looks at the queues of the vertices, one after the other, until one gives a copy, and logs it.
+    fn collect<R: Wait>(&self, rt: &R, around: Around, hold: &mut Holdings, number: u32) -> Turn
+        requires { IsReadyBank around.links.now self.now hold.old }
+        ensures acts { HalfActs around.entry.capacity around.entry.patience (GetsOne self.now)
+            hold.old result hold.new }
+        ensures idle { result ≢ Moved → IsRoomy around.entry.capacity hold.old
+            → CannotGet self.now hold.old }
+        ensures ends { AreEndsOf around.entry.links.now hold.new.ends.items }
     {
+        if hold.deliveries.spare() == 0 {
+            return Turn::Waits;
+        }
         let count = self.vertices.len();
         let ring = Ring::of_turn(number, count);
         for step in 0..count {
-            let place = ring.place_after(step);
-            let vertex = self.vertices[place].vertex;
-            if let Some(copy) = self.vertices[place].end.take(rt, links) {
-                self.log.put(Delivery { vertex, copy });
-                return true;
+            let vertex = self.vertices[ring.place_after(step)];
+            let place = self.cores as usize + vertex as usize;
+            if let Some(copy) = hold.ends[place].take(rt, around.links) {
+                hold.deliveries.put(Delivery { vertex, copy });
+                return Turn::Moved;
             }
         }
-        false
+        Turn::Nothing
     }
 
     // The first vertex round the ring that has an unsent copy, and its first one.
-    fn waiting(&self, number: u32) -> Option<(usize, McCopy)>
-        ensures none { IfNone result (All (λ v. v.unsent ≡ []) self.now.vertices.items) }
-        ensures first { IfSome result (λ p. IsWaitingAt self.now.vertices.items p.0 p.1) }
+    fn waiting(&self, hold: &Holdings, number: u32) -> Option<(usize, McCopy)>
+        requires { All (λ v. v < length hold.now.unsent.items) self.now.vertices.items }
+        ensures none { IfNone result
+            (All (λ v. slice_index_or hold.now.unsent.items v [] ≡ []) self.now.vertices.items) }
+        ensures first { IfSome result (λ p. IsUnsentAt self.now hold.now p.0 p.1) }
     {
         let count = self.vertices.len();
         let ring = Ring::of_turn(number, count);
         for step in 0..count {
-            let place = ring.place_after(step);
-            if let Some(copy) = front(&self.vertices[place].unsent) {
-                return Some((place, copy));
+            let vertex = self.vertices[ring.place_after(step)] as usize;
+            if let Some(copy) = hold.unsent[vertex].as_slice().first() {
+                return Some((vertex, *copy));
             }
         }
         None
     }
 }
 
-// The front of a list of unsent copies.
-fn front(unsent: &Fifo<McCopy>) -> Option<McCopy>
-    ensures none { IfNone result (unsent.now ≡ []) }
-    ensures first { IfSome result (λ k. (rest : List McCopy) × (unsent.now ≡ k ∷ rest)) }
+// What came of a turn of two halves.
+fn both(one: Turn, other: Turn) -> Turn
+    ensures { result ≡ turn_of_both one other }
 {
-    unsent.as_slice().first().copied()
+    match (one, other) {
+        (Turn::Moved, _) => Turn::Moved,
+        (_, Turn::Moved) => Turn::Moved,
+        (Turn::Waits, _) => Turn::Waits,
+        (_, Turn::Waits) => Turn::Waits,
+        (Turn::Nothing, Turn::Nothing) => Turn::Nothing,
+    }
 }

@@ -1,121 +1,201 @@
-// A chip's router between the links.
-ghost use Rattle.std.specs.Prelude.{◌≡◌, ◌≢◌, ◌≤◌, ◌<◌, ◌+◌, ◌++◌, AllPairs, Contains, length, position};
-ghost use Rattle.std.specs.List.{AllZip};
-ghost use Rattle.spin_base.specs.Equality.{out_eq};
-ghost use Rattle.spin_base.specs.Hops.{onward};
-ghost use Rattle.chip_node.specs.Serving.{ports_of, outs_with_ends, AreInEndsOf, AreOutEndsOf, HaveEndsAndRoom, IsLinkOf, OffersBy, records_of};
+// A chip's router between queues.
+ghost use Rattle.std.specs.Prelude.{◌≡◌, ◌≢◌, ◌≤◌, ◌<◌, ◌+◌, [], ◌∷◌, ℕ, None, Some, length, slice_get, All, AllPairs, IsTrue};
+ghost use Rattle.spin_base.specs.Outputs.{IsOutput};
+ghost use Rattle.chip_node.specs.Acting.{IsIdleRouter, IsReadyRouter, RouterActs, ServesOuts, place_behind, service_items};
+ghost use Rattle.chip_node.specs.Going.{AreEndsOf, Goes, IsRoomy};
+ghost use Rattle.chip_node.specs.Passing.{SendsBehind};
+ghost use Rattle.chip_node.specs.Taking.{HasRoomBehind, HasRoomFor, Looks};
+ghost use Rattle.chip_node.specs.declared.ends.Served.TheVariants.{Dumped};
+ghost use Rattle.chip_node.specs.declared.holdings.Turn.TheVariants.{Moved};
 
-use crate::ends::{InEnd, OutEnd, Served};
-use crate::rings::Ring;
-use crate::routing::{onward, outputs_of};
-use link_queue::Link;
-use spin_base::{Chip, DumpRec, McCopy, Out, Outs, Port, Room, Seq, Shared};
+use crate::ends::{Bounds, Seen, Served};
+use crate::flags::Flags;
+use crate::holdings::{Around, Holdings, Turn};
+use crate::nodes::RouterNode;
+use crate::routing::{ALL_OUTS, onward, outputs_of};
+use spin_base::{DumpRec, McCopy, Out, Outs, Port};
 use std::sync::Wait;
-use tcam_find::Tcam;
 
-/// A chip's router: the receiving ends of its input queues, the sending ends of the queues behind its outputs, how often
-/// it offers a copy, and the log of what it dropped. It has no plan and no net.
+/// A copy that left a queue, and the outputs that the table gives it.
 #[derive(Drop)]
-pub struct RouterNode {
-    chip: Chip,
-    inputs: Vec<(Port, InEnd)>,
-    outputs: Vec<(Out, OutEnd)>,
-    patience: u32,
-    log: Room<DumpRec>,
-    ghost patient: { 1 ≤ patience },
-    ghost ports_differ: { AllPairs (λ a b. a ≢ b) (ports_of inputs.items) },
-    ghost outs_differ: { AllPairs (λ a b. a ≢ b) (outs_with_ends outputs.items) },
+struct Taken {
+    copy: McCopy,
+    outs: Outs,
 }
 
-impl Shared for RouterNode {}
+/// What a look at a port came to.
+#[derive(Drop)]
+enum Look {
+    /// This copy was there, and left the queue.
+    Took(Taken),
+    /// The queue was found empty.
+    Empty,
+    /// There may be no room for what the copy's turn needs.
+    NoRoom,
+}
 
-impl RouterNode {
-    ghost use Rattle.std.specs.Prelude.{◌↔◌, MatchOption};
-    ghost use Rattle.chip_node.specs.Looking.{IsEmptyAt, TakesOne, TakesNone};
-    ghost use Rattle.chip_node.specs.RouterFlow.{RouterFlow, RoutesOne, ServesAll};
-
-    /// A router of a chip with these ends. An output that isn't listed has no queue behind it.
-    pub fn new(
-        chip: Chip,
-        inputs: Seq<(Port, InEnd)>,
-        outputs: Seq<(Out, OutEnd)>,
-        patience: u32,
-        log: Room<DumpRec>,
-    ) -> RouterNode
-        requires ports_differ { AllPairs (λ a b. a ≢ b) (ports_of inputs) }
-        requires outs_differ { AllPairs (λ a b. a ≢ b) (outs_with_ends outputs) }
-        requires patient { 1 ≤ patience }
-        ensures chip { result.chip ≡ chip }
-        ensures inputs { result.inputs.items ≡ inputs }
-        ensures outputs { result.outputs.items ≡ outputs }
-        ensures patience { result.patience ≡ patience }
-        ensures log { result.log ≡ log }
+impl RouterNode<'_> {
+    /// One turn: looks at the queues of its ports, from a start that goes round with the turn's number, until one gives a copy, and serves
+    /// each output that the table gives the copy at its port once, in order; none where its hop number is 4,294,967,295. It takes nothing
+    /// where there may be no room for what it would do. Where there is room, it takes nothing only where each of its queues is found empty.
+    /// Whoever takes what it sends is awake. No clause says at which queue it begins.
+    pub fn turn<R: Wait>(
+        self,
+        rt: &R,
+        around: Around,
+        hold: &mut Holdings,
+        awake: &mut Flags,
+        number: u32,
+    ) -> Turn
+        requires { IsReadyRouter around.links.now self hold.old }
+        ensures acts { RouterActs around.entry.capacity around.entry.patience self.entry.table.now
+            self.entry hold.old result hold.new }
+        ensures idle { result ≢ Moved → IsRoomy around.entry.capacity hold.old
+            → IsIdleRouter self.entry hold.old }
+        ensures ends { AreEndsOf around.entry.links.now hold.new.ends.items }
     {
-        RouterNode {
-            chip,
-            inputs: inputs.into_vec(),
-            outputs: outputs.into_vec(),
-            patience,
-            log,
+        let start = number % Port::COUNT;
+        let mut found = Turn::Nothing;
+        for step in 0..Port::COUNT {
+            let port = Port::ALL[((start + step) % Port::COUNT) as usize];
+            match self.look(rt, around, hold, port) {
+                Look::Took(taken) => {
+                    self.serve_all(rt, around, hold, awake, taken.outs.as_slice(), taken.copy);
+                    return Turn::Moved;
+                }
+                Look::Empty => {}
+                Look::NoRoom => found = Turn::Waits,
+            }
+        }
+        found
+    }
+
+    // Looks at the queue of a port: its first copy leaves it, where there is one and room for its turn.
+    fn look<R: Wait>(self, rt: &R, around: Around, hold: &mut Holdings, port: Port) -> Look
+        requires { IsReadyRouter around.links.now self hold.old }
+        ensures looks { Looks around.entry.capacity around.entry.patience self.entry.table.now
+            self.entry port hold.old result hold.new }
+        ensures ready { IsReadyRouter around.entry.links.now self.entry hold.new }
+    {
+        let place = (Port::COUNT * self.index) as usize + usize::from(port.number());
+        let Some(end) = hold.ends.get(place) else {
+            return Look::Empty;
+        };
+        match end.front() {
+            Seen::Nothing => Look::Empty,
+            Seen::Front(copy) => {
+                let outs = outputs_of(self.table, port, copy);
+                if !self.has_room(around, hold, outs.as_slice()) {
+                    return Look::NoRoom;
+                }
+                match hold.ends[place].take(rt, around.links) {
+                    Some(copy) => Look::Took(Taken { copy, outs }),
+                    None => Look::Empty,
+                }
+            }
+            Seen::Unknown => {
+                if !self.has_room(around, hold, &ALL_OUTS) {
+                    return Look::NoRoom;
+                }
+                match hold.ends[place].take(rt, around.links) {
+                    Some(copy) => {
+                        let outs = outputs_of(self.table, port, copy);
+                        Look::Took(Taken { copy, outs })
+                    }
+                    None => Look::Empty,
+                }
+            }
         }
     }
 
-    /// What `new` took, in the order of its parameters, as it now is.
-    pub fn into_parts(
-        self,
-    ) -> (
-        Chip,
-        Seq<(Port, InEnd)>,
-        Seq<(Out, OutEnd)>,
-        u32,
-        Room<DumpRec>,
-    )
-        ensures chip { result.0 ≡ self.chip }
-        ensures inputs { result.1 ≡ self.inputs.items }
-        ensures outputs { result.2 ≡ self.outputs.items }
-        ensures patience { result.3 ≡ self.patience }
-        ensures log { result.4 ≡ self.log }
+    // Whether there is room for a copy at each of these outputs, and for as many records.
+    fn has_room(self, around: Around, hold: &Holdings, outs: &[Out]) -> bool
+        requires outputs { length self.behind.now ≡ 24 }
+        requires numbered { All IsOutput outs.now }
+        requires few { length outs.now ≤ 24 }
+        ensures yes { IsTrue result
+            → HasRoomFor around.entry.capacity self.entry outs.entry.now hold.now }
+        ensures no { IsRoomy around.entry.capacity hold.now → IsTrue result }
     {
-        let RouterNode {
-            chip,
-            inputs,
-            outputs,
-            patience,
-            log,
-        } = self;
-        (
-            chip,
-            Seq::from_vec(inputs),
-            Seq::from_vec(outputs),
-            patience,
-            log,
-        )
+        if hold.dumps.spare() < outs.len() {
+            return false;
+        }
+        for out in outs {
+            if !self.has_room_at(around, hold, *out) {
+                return false;
+            }
+        }
+        true
     }
 
-    /// Serves one output of a copy: offers the copy, with one hop more, up to `patience` times. `Sent` exactly where an
-    /// offer of this call was taken. `Dumped` exactly where all of them were refused: the notes of the output's end then
-    /// grew by as many, and one record of the copy as it was handed in is logged. An output without an end refuses every
-    /// offer.
-    pub fn serve<R: Wait>(&mut self, rt: &R, links: &[Link], out: Out, copy: McCopy) -> Served
-        requires ends { AreOutEndsOf links.now self.old.outputs.items }
-        requires spare { 1 ≤ self.old.log.spare }
-        ensures offers { AllZip (OffersBy self.old.patience out (onward copy) result)
-            self.old.outputs.items self.new.outputs.items }
-        ensures by_an_end { result ≡ Served.Sent
-            → Contains (outs_with_ends self.old.outputs.items) out }
-        ensures logged { self.new.log.items ≡ self.old.log.items
-            ++ records_of self.old.chip out copy result }
-        ensures spare { self.new.log.spare + length (records_of self.old.chip out copy result)
-            ≡ self.old.log.spare }
-        ensures chip { self.new.chip ≡ self.old.chip }
-        ensures inputs { self.new.inputs ≡ self.old.inputs }
-        ensures patience { self.new.patience ≡ self.old.patience }
-        ensures ends { AreOutEndsOf links.now self.new.outputs.items }
+    // Whether the queue behind an output takes a copy without more room, or takes none.
+    fn has_room_at(self, around: Around, hold: &Holdings, out: Out) -> bool
+        requires outputs { length self.behind.now ≡ 24 }
+        requires numbered { IsOutput out }
+        ensures yes { IsTrue result → HasRoomBehind around.entry.capacity self.entry hold.now out }
+        ensures no { IsRoomy around.entry.capacity hold.now → IsTrue result }
     {
-        let served = self.send_by(rt, links, out, onward(copy));
+        let Some(behind) = self.behind[out.number() as usize] else {
+            return true;
+        };
+        match hold.ends.get(behind.place as usize) {
+            None => true,
+            Some(end) => end.has_room(around.capacity),
+        }
+    }
+
+    // Serves a copy at these outputs.
+    fn serve_all<R: Wait>(
+        self,
+        rt: &R,
+        around: Around,
+        hold: &mut Holdings,
+        awake: &mut Flags,
+        outs: &[Out],
+        copy: McCopy,
+    )
+        requires ready { IsReadyRouter around.links.now self hold.old }
+        requires numbered { All IsOutput outs.now }
+        requires differ { AllPairs (λ a b. a ≢ b) outs.now }
+        requires room { HasRoomFor around.capacity self outs.now hold.old }
+        ensures serves { ServesOuts around.entry.capacity around.entry.patience self.entry
+            outs.entry.now copy hold.old hold.new }
+        ensures ready { IsReadyRouter around.entry.links.now self.entry hold.new }
+    {
+        for out in outs {
+            let _ = self.serve(rt, around, hold, awake, *out, copy);
+        }
+    }
+
+    /// Serves one output of a copy: offers the copy, with one hop more, up to `patience` times. `Sent` exactly where an offer of this call
+    /// was taken. `Dumped` exactly where all of them were refused: one record of the copy as it was handed in is logged then. An output
+    /// with no queue behind it refuses every offer. Who takes from the queue is awake.
+    pub fn serve<R: Wait>(
+        self,
+        rt: &R,
+        around: Around,
+        hold: &mut Holdings,
+        awake: &mut Flags,
+        out: Out,
+        copy: McCopy,
+    ) -> Served
+        requires ready { IsReadyRouter around.links.now self hold.old }
+        requires numbered { IsOutput out }
+        requires room { HasRoomBehind around.capacity self hold.old out }
+        requires spare { 1 ≤ hold.old.dumps.spare }
+        ensures goes { Goes around.entry.capacity around.entry.patience hold.old
+            (service_items self.entry (record { out = out; copy = copy; fate = result } ∷ []))
+            hold.new }
+        ensures nowhere { place_behind self.entry.behind.now out ≡ None → result ≡ Dumped }
+        ensures elsewhere { (q : ℕ) → place_behind self.entry.behind.now out ≢ Some q
+            → slice_get hold.new.ends.items q ≡ slice_get hold.old.ends.items q }
+        ensures spare { hold.old.dumps.spare ≤ hold.new.dumps.spare + 1 }
+        ensures ready { IsReadyRouter around.entry.links.now self.entry hold.new }
+    {
+        let served = self.send(rt, around, hold, awake, out, onward(copy));
         match served {
             Served::Sent => {}
-            Served::Dumped => self.log.put(DumpRec {
+            Served::Dumped => hold.dumps.put(DumpRec {
                 chip: self.chip,
                 out,
                 copy,
@@ -124,113 +204,35 @@ impl RouterNode {
         served
     }
 
-    /// The place of the link behind an output, and `None` exactly where the output has no end.
-    pub fn link_behind(&self, out: Out) -> Option<u32>
-        ensures { IsLinkOf self.now.outputs.items out result }
-    {
-        match place_of(&self.outputs, out) {
-            Some(place) => Some(self.outputs[place].1.link),
-            None => None,
-        }
-    }
-
-    /// One turn: looks at the input queues, from a start that goes round with the turn's number, until one gives a copy, and
-    /// serves each output that the table gives the copy at its port once, in order; none where its hop number is 4,294,967,295.
-    /// It answers these outputs, and `None` where it took nothing: exactly where each of its queues was found empty in this call.
-    /// No clause says at which queue it begins: a mesh may not rest on that.
-    pub fn turn<R: Wait>(
-        &mut self,
+    // Offers a copy to the queue behind an output. Where there is none, it is refused.
+    fn send<R: Wait>(
+        self,
         rt: &R,
-        links: &[Link],
-        table: &Tcam,
-        number: u32,
-    ) -> Option<Outs>
-        requires input_ends { AreInEndsOf links.now self.old.inputs.items }
-        requires output_ends { AreOutEndsOf links.now self.old.outputs.items }
-        requires spare { 24 ≤ self.old.log.spare }
-        ensures flow { RouterFlow table.now 1 self.old self.new }
-        ensures told { MatchOption result
-            (AllZip IsEmptyAt self.old.inputs.items self.new.inputs.items)
-            (λ outs. RoutesOne table.now outs.items self.old.inputs.items self.new.inputs.items) }
-        ensures nothing { TakesNone self.old.inputs.items self.new.inputs.items
-            ↔ AllZip IsEmptyAt self.old.inputs.items self.new.inputs.items }
-        ensures spare { self.old.log.spare ≤ self.new.log.spare + 24 }
-        ensures input_ends { AreInEndsOf links.now self.new.inputs.items }
-        ensures output_ends { AreOutEndsOf links.now self.new.outputs.items }
+        around: Around,
+        hold: &mut Holdings,
+        awake: &mut Flags,
+        out: Out,
+        copy: McCopy,
+    ) -> Served
+        requires ready { IsReadyRouter around.links.now self hold.old }
+        requires numbered { IsOutput out }
+        requires room { HasRoomBehind around.capacity self hold.old out }
+        ensures sends { SendsBehind around.entry.capacity around.entry.patience
+            (place_behind self.entry.behind.now out) copy result hold.old.ends.items
+            hold.new.ends.items }
+        ensures ends { AreEndsOf around.entry.links.now hold.new.ends.items }
+        ensures unsent { hold.new.unsent ≡ hold.old.unsent }
+        ensures dumps { hold.new.dumps ≡ hold.old.dumps }
+        ensures deliveries { hold.new.deliveries ≡ hold.old.deliveries }
     {
-        let Some((port, copy)) = self.take(rt, links, number) else {
-            return None;
+        let Some(behind) = self.behind[out.number() as usize] else {
+            return Served::Dumped;
         };
-        let outs = outputs_of(table, port, copy);
-        self.serve_all(rt, links, outs.as_slice(), copy);
-        Some(outs)
+        awake.set(behind.taker as usize);
+        let bounds = Bounds {
+            capacity: around.capacity,
+            patience: around.patience,
+        };
+        hold.ends[behind.place as usize].send(rt, around.links, copy, bounds)
     }
-
-    // Looks at the input queues, one after the other, until one gives a copy: that copy with its port.
-    fn take<R: Wait>(&mut self, rt: &R, links: &[Link], number: u32) -> Option<(Port, McCopy)>
-        requires ends { AreInEndsOf links.now self.old.inputs.items }
-        ensures looked { MatchOption result
-            (AllZip IsEmptyAt self.old.inputs.items self.new.inputs.items)
-            (λ t. TakesOne t self.old.inputs.items self.new.inputs.items) }
-        ensures chip { self.new.chip ≡ self.old.chip }
-        ensures outputs { self.new.outputs ≡ self.old.outputs }
-        ensures patience { self.new.patience ≡ self.old.patience }
-        ensures log { self.new.log ≡ self.old.log }
-        ensures ends { AreInEndsOf links.now self.new.inputs.items }
-    {
-        let count = self.inputs.len();
-        let ring = Ring::of_turn(number, count);
-        for step in 0..count {
-            let place = ring.place_after(step);
-            let port = self.inputs[place].0;
-            if let Some(copy) = self.inputs[place].1.take(rt, links) {
-                return Some((port, copy));
-            }
-        }
-        None
-    }
-
-    // Serves a copy at these outputs.
-    fn serve_all<R: Wait>(&mut self, rt: &R, links: &[Link], outs: &[Out], copy: McCopy)
-        requires { HaveEndsAndRoom links.now self.old.outputs.items self.old.log.spare (length outs.now) }
-        ensures serves { ServesAll outs.now copy self.old self.new }
-        ensures inputs { self.new.inputs ≡ self.old.inputs }
-        ensures spare { self.old.log.spare ≤ self.new.log.spare + length outs.now }
-        ensures ends { AreOutEndsOf links.now self.new.outputs.items }
-    {
-        for out in outs {
-            let _ = self.serve(rt, links, *out, copy);
-        }
-    }
-
-    // Offers a copy by the end of an output, up to `patience` times. An output without an end refuses every offer.
-    fn send_by<R: Wait>(&mut self, rt: &R, links: &[Link], out: Out, copy: McCopy) -> Served
-        requires ends { AreOutEndsOf links.now self.old.outputs.items }
-        ensures offers { AllZip (OffersBy self.old.patience out copy result)
-            self.old.outputs.items self.new.outputs.items }
-        ensures by_an_end { result ≡ Served.Sent
-            → Contains (outs_with_ends self.old.outputs.items) out }
-        ensures chip { self.new.chip ≡ self.old.chip }
-        ensures inputs { self.new.inputs ≡ self.old.inputs }
-        ensures patience { self.new.patience ≡ self.old.patience }
-        ensures log { self.new.log ≡ self.old.log }
-        ensures ends { AreOutEndsOf links.now self.new.outputs.items }
-    {
-        match place_of(&self.outputs, out) {
-            Some(place) => {
-                let patience = self.patience;
-                self.outputs[place].1.send(rt, links, copy, patience)
-            }
-            None => Served::Dumped,
-        }
-    }
-}
-
-// The place of an output's end.
-fn place_of(outputs: &Vec<(Out, OutEnd)>, out: Out) -> Option<usize>
-    ensures { result ≡ position (λ e. out_eq e.0 out) outputs.now.items }
-{
-    outputs
-        .iter()
-        .position(|end| end.0.number() == out.number())
 }

@@ -1,8 +1,16 @@
+mod Joined
 pub mod Sums
 mod Balance
 pub mod Ends
 pub mod Sources
 pub mod Entered
+mod Apart
+mod Serving
+mod Done
+mod TheFlow
+mod PlayedQueues
+mod PlayedRound
+mod PlayedMesh
 mod Parts
 mod Weights
 mod Taken
@@ -15,26 +23,7 @@ mod PassedOnce
 mod Ample
 mod Nearer
 mod Resting
-mod Lists
-mod Spreading
-mod TheFlow
-mod Links
-mod Turns
-mod Services
-mod Served
-mod TakenBack
-mod OneMove
-mod RoutedMove
-mod VertexMoves
-mod TurnMoves
-mod Routers
-mod Banks
-mod Senders
-mod Dead
-mod Vertices
-mod Still
-mod Moved
-mod RoundLaw
+mod Played
 mod Passes
 mod PutBackParts
 mod PutBackWork

@@ -1,15 +1,15 @@
 -- A mesh without a copy in a queue or unsent is at rest, and any other has some.
-use Rattle.std.proofs.Common.{◌≡◌, ◌≢◌, ℕ, suc, Bool, true, false, ◌&&◌, List, [], ◌∷◌, length, refl, arith, inl, inr}
+use Rattle.std.proofs.Common.{◌≡◌, ◌≢◌, ℕ, ◌+◌, suc, Bool, true, false, ◌&&◌, List, [], ◌∷◌, length, refl, sym, ◌∙◌, arith, inl, inr}
 use Rattle.std.specs.List.{All, list_all, slice_index_or}
-use Rattle.std.proofs.lemmas.Bool.{and_parts, eqb-true}
+use Rattle.std.proofs.lemmas.Bool.{and_parts, cases_lt, eqb-true}
+use Rattle.std.proofs.lemmas.List.{get_or_append_left, get_or-append-add, get_or_default, get_or_past}
 use Rattle.std.proofs.lemmas.List.Elements.{All-nil, All-cons}
 use Rattle.spin_base.specs.declared.copies.McCopy.{McCopy}
-use Rattle.mesh_core.specs.State.{State, input, core}
+use Rattle.mesh_core.specs.State.{State, input, core, nowhere}
 use Rattle.mesh_core.specs.Expected.{IsAtRest}
 use Rattle.mesh_round.specs.RoundFlow.{HasNoHand}
-use Rattle.mesh_run.specs.Queues.{is_empty}
-use Rattle.mesh_run.specs.Raised.{has_none}
-use Rattle.mesh_round.specs.OnThreads.{HasSome}
+use Rattle.mesh_run.specs.Played.{HasNone}
+use Rattle.mesh_round.specs.OnThreads.{HasSome, is_empty, has_none}
 
 no_copies : (q : List McCopy) → is_empty q ≡ true → q ≡ []
 no_copies [] is = refl
@@ -51,3 +51,28 @@ has_some s is = by_parts (list_all is_empty s.inputs) refl (list_all is_empty s.
     by_parts true inputs false cores d unsent some = let of = some_copy s.cores cores in inl (core of.0, of.1)
     by_parts true inputs true cores false unsent some = inr (some_copy s.unsent unsent)
     by_parts true inputs true cores true unsent some = cc
+
+-- A mesh of which it is known that no queue holds a copy and that none is unsent.
+pub rests_with_none : (s : State) → HasNone s → HasNoHand s → IsAtRest s
+rests_with_none s none no_hand = record {
+  waits = record {
+    inputs_empty = λ i d below. get_or_default s.inputs i d [] below ∙ (sym (get_or_append_left s.inputs s.cores [] i below) ∙ none.queues i);
+    hands_empty = no_hand;
+    cores_empty = λ v d below. get_or_default s.cores v d [] below ∙ (sym (get_or-append-add s.inputs s.cores v []) ∙ none.queues (length s.inputs + v));
+  };
+  all_sent = λ v d below. get_or_default s.unsent v d [] below ∙ none.unsent v;
+}
+
+-- Where each list is empty, no item stands at a place.
+all_none : (qs : List (List McCopy)) (i : ℕ) → All (λ q. q ≡ []) qs → slice_index_or qs i [] ≡ []
+all_none qs i all = elim (cases_lt i (length qs)) [
+  | inl below ↦ all i [] below
+  | inr past ↦ get_or_past qs i [] past
+]
+
+-- In a mesh that has none there is none.
+pub none_left : (s : State) → has_none s ≡ true → HasNoHand s → HasSome s → ⊥
+none_left s is no_hand (inl (input i, some)) = some (all_none s.inputs i (rests s is no_hand).waits.inputs_empty)
+none_left s is no_hand (inl (core v, some)) = some (all_none s.cores v (rests s is no_hand).waits.cores_empty)
+none_left s is no_hand (inl (nowhere, some)) = some refl
+none_left s is no_hand (inr (v, some)) = some (all_none s.unsent v (rests s is no_hand).all_sent)

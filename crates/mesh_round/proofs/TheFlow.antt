@@ -1,58 +1,109 @@
--- The flow of a round on threads, as the ends that came back tell it.
-use Rattle.std.proofs.Common.{ℕ, ◌+◌, ◌-◌, ◌*◌, List, [], map, take, cond, nat_lt, length, Option, Some, None, replicate}
-use Rattle.std.specs.List.{slice_get, slice_index_or}
-use Rattle.spin_base.specs.declared.copies.DumpRec.{DumpRec}
-use Rattle.link_queue.specs.declared.links.LinkEnds.{LinkEnds}
-use Rattle.link_queue.specs.Ends.{sending, taking}
+-- The flow of a round on threads, as what was done tells it.
+use Rattle.std.proofs.Common.{◌≡◌, ℕ, ◌+◌, ◌*◌, ◌<◌, List, [], length, replicate, Some, None, refl, sym, ap, ◌∙◌, arith, inl, inr}
+use Rattle.std.proofs.lemmas.Bool.{cases_lt}
+use Rattle.std.proofs.lemmas.List.{get_or_append_left, get_or-append-add, get_or_past}
+use Rattle.std.proofs.lemmas.Option.{same_Some}
+use Rattle.chip_node.specs.Items.{Item, deliveries, entered, left, records, sent_by}
 use Rattle.mesh_core.specs.State.{Setup, State, IsMesh, Queue, input, core, nowhere}
-use Rattle.mesh_run.specs.Holders.{IsPlayed, delivered_by, dumped_by}
-use Rattle.mesh_round.specs.RoundFlow.{Flow, HasNoHand, held_in}
+use Rattle.mesh_core.proofs.Keeping.{core_is_somewhere, input_is_somewhere}
+use Rattle.mesh_run.specs.Played.{held_at, port_count, queue_place_of, vertex_place, IsPlayedBy, QueueGoes}
+use Rattle.mesh_round.specs.RoundFlow.{Flow, HasNoHand, IsQueueOf, capacity_of, held_in}
 
 -- a round on threads from a mesh without a hand
 pub record Round : Type 0 where
   pub patience : ℕ
   pub turns : ℕ
+  pub items : List Item
   pub m : State
   pub n : State
   pub mesh : IsMesh m
   pub no_hand : HasNoHand m
-  pub played : IsPlayed patience turns m n
+  pub played : IsPlayedBy patience turns items m n
 
--- how many ports the grid has
-abbrev pub ports_many : Setup → ℕ
-ports_many u = 7 * (u.machine.width * u.machine.height)
+module _ (r : Round) where
+  abbrev u : Setup
+  u = r.m.setup
 
--- the link of a queue, among links at the places of all queues
-abbrev pub link_at : Setup → List LinkEnds → Queue → Option LinkEnds
-link_at u ends (input i) = cond (nat_lt i (ports_many u)) (slice_get ends i) None
-link_at u ends (core v) = slice_get ends (ports_many u + v)
-link_at u ends nowhere = None
+  -- where a queue of the mesh stands
+  pub record Place (q : Queue) : Type 0 where
+    pub at : ℕ
+    pub is : queue_place_of u q ≡ Some at
+    pub below : at < port_count u + length u.spots
+    pub before : held_in r.m q ≡ held_at r.m at
+    pub after : held_in r.n q ≡ held_at r.n at
+    pub room : capacity_of u q ≡ u.capacity
 
--- what the ends of a link tell, and nothing where there is none
-abbrev pub told : {X : Type 0} → (LinkEnds → List X) → Option LinkEnds → List X
-told f (Some e) = f e
-told f None = []
+  -- a queue is one of the mesh, none of it, or nowhere
+  pub data Stands (q : Queue) : Type 0 where
+    found : Place q → Stands q
+    beyond : (IsQueueOf r.m q → ⊥) → (q ≡ nowhere → ⊥) → held_in r.m q ≡ [] → held_in r.n q ≡ [] → Stands q
+    dark : q ≡ nowhere → Stands q
 
--- A note of Full, as the numbers of copies that had entered the queue and left it.
-abbrev pub moment : State → Queue → ℕ → ℕ × ℕ
-moment m q x = (x - length (held_in m q), x - m.setup.capacity)
+  pub stands : (q : Queue) → Stands q
+  stands (input i) =
+      let before = r.mesh.input_lists in
+      let after = r.played.inputs_long in
+      elim (cases_lt i (port_count u)) [
+        | inl below ↦ found (record {
+          at = i;
+          is = refl;
+          below = omega arith;
+          before = sym (get_or_append_left r.m.inputs r.m.cores [] i (omega (arith, below, before)));
+          after = sym (get_or_append_left r.n.inputs r.n.cores [] i (omega (arith, below, before, after)));
+          room = refl;
+        })
+        | inr past ↦
+            beyond (λ is. omega (arith, is, past, before)) input_is_somewhere
+            (get_or_past r.m.inputs i [] (omega (arith, past, before))) (get_or_past r.n.inputs i [] (omega (arith, past, before, after)))
+      ]
+  stands (core v) =
+      let before = r.mesh.core_lists in
+      let after = r.played.cores_long in
+      let ports = r.mesh.input_lists in
+      let ports_after = r.played.inputs_long ∙ ports in
+      elim (cases_lt v (length u.spots)) [
+        | inl below ↦ found (record {
+          at = vertex_place u v;
+          is = refl;
+          below = omega arith;
+          before = sym (ap (λ k. held_at r.m (k + v)) (sym ports) ∙ get_or-append-add r.m.inputs r.m.cores v []);
+          after = sym (ap (λ k. held_at r.n (k + v)) (sym ports_after) ∙ get_or-append-add r.n.inputs r.n.cores v []);
+          room = refl;
+        })
+        | inr past ↦
+            beyond (λ is. omega (arith, is, past, before)) core_is_somewhere
+            (get_or_past r.m.cores v [] (omega (arith, past, before))) (get_or_past r.n.cores v [] (omega (arith, past, before, after)))
+      ]
+  stands nowhere = dark refl
 
-abbrev pub moments : State → Queue → LinkEnds → List (ℕ × ℕ)
-moments m q e = map (moment m q) (sending e.tx).fulls
+  -- what is told of a queue's place, and what of nowhere
+  abbrev pub by_place : {X : Type 0} → (q : Queue) → (Place q → List X) → List X → Stands q → List X
+  by_place q f d (found p) = f p
+  by_place q f d (beyond out some before after) = []
+  by_place q f d (dark is) = d
 
--- The moments at which a queue was found full. Where an output leads nowhere there is never room: as many moments as all dumped
--- copies ask for.
-abbrev pub fulls_of : ℕ → State → List LinkEnds → List DumpRec → Queue → List (ℕ × ℕ)
-fulls_of patience m ends dumped (input i) = told (moments m (input i)) (link_at m.setup ends (input i))
-fulls_of patience m ends dumped (core v) = told (moments m (core v)) (link_at m.setup ends (core v))
-fulls_of patience m ends dumped nowhere = replicate (patience * length dumped) (0, 0)
+  -- where a queue of the mesh is known to stand
+  pub told_at : {X : Type 0} (f : ℕ → List X) (q : Queue) (i : ℕ) → queue_place_of u q ≡ Some i → IsQueueOf r.m q → (x : Stands q) → by_place q (λ p. f p.at) [] x ≡ f i
+  told_at f q i is there (found p) = ap f (same_Some p.at i (sym p.is ∙ is))
+  told_at f q i is there (beyond out some before after) = absurd (out there)
+  told_at f q i is there (dark none) = nothing (sym (ap (queue_place_of u) none) ∙ is)
+    where
+      nothing : None ≡ Some i → [] ≡ f i
+      nothing same = cc
 
-abbrev pub flow_of : Round → Flow
-flow_of r = record {
-  entered = λ q. told (λ (e : LinkEnds). (sending e.tx).sent) (link_at r.m.setup r.played.back q);
-  left = λ q. told (λ (e : LinkEnds). (taking e.rx).took) (link_at r.m.setup r.played.back q);
-  fulls = λ q. fulls_of r.patience r.m r.played.back (dumped_by r.played.played) q;
-  sent = λ v. take (length (slice_index_or r.m.unsent v []) - length (slice_index_or r.n.unsent v [])) (slice_index_or r.m.unsent v []);
-  delivered = delivered_by r.played.played;
-  dumped = dumped_by r.played.played;
-}
+  pub goes : (q : Queue) (p : Place q) → QueueGoes u.capacity r.patience r.items p.at (held_at r.m p.at) (held_at r.n p.at)
+  goes q p = r.played.queues p.at p.below
+
+  -- Where an output leads nowhere there is never room: as many moments as all dumped copies ask for.
+  abbrev pub nowhere_fulls : List (ℕ × ℕ)
+  nowhere_fulls = replicate (r.patience * length (records r.items)) (0, 0)
+
+  abbrev pub flow_of : Flow
+  flow_of = record {
+    entered = λ q. by_place q (λ p. entered p.at r.items) [] (stands q);
+    left = λ q. by_place q (λ p. left p.at r.items) [] (stands q);
+    fulls = λ q. by_place q (λ p. (goes q p).fulls) nowhere_fulls (stands q);
+    sent = λ v. sent_by v r.items;
+    delivered = deliveries r.items;
+    dumped = records r.items;
+  }

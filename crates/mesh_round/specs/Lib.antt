@@ -1,10 +1,9 @@
 pub use Rattle.mesh_core.specs.State
 pub use Rattle.mesh_core.specs.Ledger
 pub use Rattle.mesh_core.specs.Opened
-pub use Rattle.mesh_run.specs.Holders
+pub use Rattle.mesh_run.specs.Played
 pub mod RoundFlow
 pub mod Work
 pub mod Bound
 pub mod OnThreads
 pub mod Reinjecting
-pub mod Turning

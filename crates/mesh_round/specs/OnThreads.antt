@@ -1,11 +1,29 @@
 -- What a round on threads asks of a mesh, and what it is (this project's own).
-use Rattle.std.specs.Prelude.{◌≢◌, ◌⊎◌, ℕ, ◌<◌, [], slice_index_or}
+use Rattle.std.specs.Prelude.{◌≢◌, ◌⊎◌, ℕ, ◌<◌, ◌==◌, Bool, ◌&&◌, List, [], length, slice_index_or}
+use Rattle.std.specs.List.{list_all}
+use Rattle.spin_base.specs.declared.copies.McCopy.{McCopy}
+use Rattle.chip_node.specs.Items.{Item}
 use Rattle.mesh_core.specs.State.{State, Queue, IsMesh}
 use Rattle.mesh_round.specs.RoundFlow.{Flow, held_in, HasNoHand, IsRound, HasMoved}
 
 -- a queue holds a copy, or a vertex has one that it did not send yet
 abbrev pub HasSome : State → Type 0
 HasSome s = ((q : Queue) × (held_in s q ≢ [])) ⊎ ((v : ℕ) × (slice_index_or s.unsent v [] ≢ []))
+
+-- whether a queue holds no copy
+abbrev pub is_empty : List McCopy → Bool
+is_empty copies = length copies == 0
+
+-- whether no queue holds a copy and no vertex has one that it did not send
+abbrev pub has_none : State → Bool
+has_none s = list_all is_empty s.inputs && (list_all is_empty s.cores && list_all is_empty s.unsent)
+
+-- One mesh leads to another by a round in which routers and banks did this: with some flow, in which a copy moves where anything was
+-- done.
+pub record LeadsByFlow (patience turns : ℕ) (items : List Item) (m n : State) : Type 0 where
+  pub flow : Flow
+  pub round : IsRound patience turns m flow n
+  pub moved : items ≢ [] → HasMoved m flow
 
 -- One mesh leads to another by a round, for a patience and a number of turns: with some flow, in which a copy moves where there
 -- is one and turns are given.

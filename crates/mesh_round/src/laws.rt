@@ -7,33 +7,32 @@ ghost use Rattle.mesh_core.specs.State.{State, IsMesh};
 ghost use Rattle.mesh_core.specs.Ledger.{Label, MeetsLedger};
 ghost use Rattle.mesh_core.specs.Opened.{MeetsJobLedger};
 ghost use Rattle.mesh_core.specs.Expected.{AreAsExpected, IsAtRest, NothingWaits};
-ghost use Rattle.mesh_run.specs.Holders.{IsPlayed};
+ghost use Rattle.mesh_run.specs.Played.{IsPlayedBy};
+ghost use Rattle.chip_node.specs.Items.{Item};
 ghost use Rattle.mesh_round.specs.RoundFlow.{HasNoHand};
-ghost use Rattle.mesh_round.specs.OnThreads.{LeadsByRound};
+ghost use Rattle.mesh_round.specs.OnThreads.{LeadsByFlow};
 ghost use Rattle.mesh_round.specs.Reinjecting.{HasPasses};
 
 use crate::flow_laws::a_round_keeps_the_ledger;
 use mesh_core::laws::a_mesh_at_rest_has_delivered_all;
-use mesh_run::laws::{a_copy_is_taken_at_one_port, a_router_sends_or_dumps};
 
 /// A round on threads leads from a mesh to a mesh, in whatever order the threads took their turns: by a round in which a copy
-/// moves where there is one and turns are given. No router has a copy in hand after it.
+/// moves where anything was done. No router has a copy in hand after it. Where nothing was done the mesh is as it was.
 pub fn a_round_on_threads_is_a_round()
-    ensures mesh { (patience turns : ℕ) (m n : State) →
-        IsMesh m → HasNoHand m → IsPlayed patience turns m n → IsMesh n }
-    ensures hands { (patience turns : ℕ) (m n : State) →
-        HasNoHand m → IsPlayed patience turns m n → HasNoHand n }
-    ensures round { (patience turns : ℕ) (m n : State) →
-        IsMesh m → HasNoHand m → IsPlayed patience turns m n → LeadsByRound patience turns m n }
-{
-    a_router_sends_or_dumps();
-    a_copy_is_taken_at_one_port();
-}
+    ensures mesh { (patience turns : ℕ) (items : List Item) (m n : State) → IsMesh m → HasNoHand m
+        → IsPlayedBy patience turns items m n → IsMesh n }
+    ensures hands { (patience turns : ℕ) (items : List Item) (m n : State) → HasNoHand m
+        → IsPlayedBy patience turns items m n → HasNoHand n }
+    ensures round { (patience turns : ℕ) (items : List Item) (m n : State) → IsMesh m → HasNoHand m
+        → IsPlayedBy patience turns items m n → LeadsByFlow patience turns items m n }
+    ensures still { (patience turns : ℕ) (items : List Item) (m n : State) →
+        IsMesh m → IsPlayedBy patience turns items m n → items ≡ [] → n ≡ m }
+{}
 
 /// So it keeps the ledger of a job, where the tables are right for its nets.
 pub fn a_round_on_threads_keeps_the_ledger()
-    ensures { (patience turns : ℕ) (m n : State) (nets : List NetPlan) (packets : List Packet) →
-        IsMesh m → HasNoHand m → IsPlayed patience turns m n →
+    ensures { (patience turns : ℕ) (items : List Item) (m n : State) (nets : List NetPlan)
+        (packets : List Packet) → IsMesh m → HasNoHand m → IsPlayedBy patience turns items m n →
         AreRight m.setup.machine m.setup.tables nets →
         MeetsJobLedger m nets packets → MeetsJobLedger n nets packets }
 {

@@ -4,21 +4,15 @@
 //! of each queue what entered and what left it, and asks for no order in time between two chips. The laws say that a round keeps the
 //! ledger of copies, for right tables.
 //!
-//! A round on threads says what each router and each bank of cores did with the ends of links that it had. It is a round, in whatever
-//! order the threads took their turns. A single move is a round, too: so one thread may make a run move by move. The rules are this
-//! project's own.
+//! A round on threads says what routers and banks of cores did, as one list. It is a round, in whatever order the threads took their
+//! turns. The rules are this project's own.
 #![tactic(auto)]
 
 pub mod flow_laws;
-mod gates;
 pub mod laws;
-mod moves;
-mod ready;
+mod putting;
 mod reinjecting;
 mod rounds;
-mod turning;
-mod waking;
 
-pub use gates::RoundGate;
 pub use reinjecting::{put_back, reinject};
 pub use rounds::{round, run_out};

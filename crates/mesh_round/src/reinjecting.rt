@@ -10,15 +10,13 @@ ghost use Rattle.mesh_round.specs.OnThreads.{MayGoOn};
 ghost use Rattle.mesh_round.specs.Reinjecting.{put_back_answer, HasPasses, IsOfNets};
 
 use crate::flow_laws::a_round_leaves_less_to_do;
-use crate::gates::RoundGate;
 use crate::laws::passes_keep_the_ledger;
-use crate::moves::{has_room, onward, push_behind, queue_behind};
+use crate::putting::{has_room, onward, push_behind, queue_behind};
 use crate::rounds::run_parts;
-use crate::waking::Awake;
 use mesh_core::laws::a_mesh_stays_a_mesh;
 use mesh_core::{Did, Mesh, MeshParts};
 use mesh_run::Pace;
-use spin_base::Memory;
+use spin_base::{Gate, Memory};
 use std::alloc::Global;
 use std::sync::Wait;
 use std::thread::Threads;
@@ -49,7 +47,7 @@ pub fn put_back(mesh: Mesh) -> Result<(Mesh, Did), (Mesh, Memory)>
 /// # Errors
 ///
 /// `Memory` where memory runs out, with the mesh after the last whole round or copy that was put back, which may go on from there.
-pub fn reinject<R: Threads + Wait + Sync, G: RoundGate>(
+pub fn reinject<R: Threads + Wait + Sync, G: Gate>(
     rt: &R,
     alloc: Global,
     mesh: Mesh,
@@ -64,21 +62,19 @@ pub fn reinject<R: Threads + Wait + Sync, G: RoundGate>(
     ensures refused { IfErr result (λ b. HasPasses pace.patience pace.turns mesh b.0) }
     ensures ready { IfErr result (λ b. MayGoOn b.0) }
 {
-    let mut awake = Awake::all();
-    match pass_parts(rt, alloc, mesh.take_apart(), pace, gate, &mut awake) {
+    match pass_parts(rt, alloc, mesh.take_apart(), pace, gate) {
         Ok(parts) => Ok(Mesh::put_together(parts)),
         Err((parts, e)) => Err((Mesh::put_together(parts), e)),
     }
 }
 
 // Rounds and copies put back, in turn, on the parts of a mesh.
-fn pass_parts<R: Threads + Wait + Sync, G: RoundGate>(
+fn pass_parts<R: Threads + Wait + Sync, G: Gate>(
     rt: &R,
     alloc: Global,
     parts: MeshParts,
     pace: Pace,
     gate: &G,
-    awake: &mut Awake,
 ) -> Result<MeshParts, (MeshParts, Memory)>
     requires ready { MayGoOn parts }
     requires ledger { IsOfNets parts }
@@ -91,16 +87,16 @@ fn pass_parts<R: Threads + Wait + Sync, G: RoundGate>(
 {
     passes_keep_the_ledger();
     a_round_leaves_less_to_do();
-    let mut parts = run_parts(rt, alloc, parts, pace, gate, awake)?;
+    let mut parts = run_parts(rt, alloc, parts, pace, gate)?;
     'passes: while parts.dumped.len() > 0 {
-        let filled = put_parts_back(parts, awake)?;
-        parts = run_parts(rt, alloc, filled, pace, gate, awake)?;
+        let filled = put_parts_back(parts)?;
+        parts = run_parts(rt, alloc, filled, pace, gate)?;
     }
     Ok(parts)
 }
 
 // Puts dumped copies back, first ones first, until the first one can't be, on the parts of a mesh.
-fn put_parts_back(parts: MeshParts, awake: &mut Awake) -> Result<MeshParts, (MeshParts, Memory)>
+fn put_parts_back(parts: MeshParts) -> Result<MeshParts, (MeshParts, Memory)>
     requires ready { MayGoOn parts }
     ensures passes { IfOk result (λ n. (patience turns : ℕ) → HasPasses patience turns parts n) }
     ensures ready { IfOk result MayGoOn }
@@ -109,14 +105,14 @@ fn put_parts_back(parts: MeshParts, awake: &mut Awake) -> Result<MeshParts, (Mes
         → HasPasses patience turns parts b.0) }
     ensures ready_still { IfErr result (λ b. MayGoOn b.0) }
 {
-    match put_all_back(Mesh::put_together(parts), awake) {
+    match put_all_back(Mesh::put_together(parts)) {
         Ok(mesh) => Ok(mesh.take_apart()),
         Err((mesh, e)) => Err((mesh.take_apart(), e)),
     }
 }
 
 // Puts dumped copies back, first ones first, until the first one can't be.
-fn put_all_back(mesh: Mesh, awake: &mut Awake) -> Result<Mesh, (Mesh, Memory)>
+fn put_all_back(mesh: Mesh) -> Result<Mesh, (Mesh, Memory)>
     requires ready { MayGoOn mesh }
     ensures passes { IfOk result (λ n. (patience turns : ℕ) → HasPasses patience turns mesh n) }
     ensures ready { IfOk result MayGoOn }
@@ -126,21 +122,12 @@ fn put_all_back(mesh: Mesh, awake: &mut Awake) -> Result<Mesh, (Mesh, Memory)>
 {
     let mut mesh = mesh;
     'copies: loop {
-        wake_behind_first(&mesh, awake);
         let (next, did) = put_back(mesh)?;
         mesh = next;
         match did {
             Did::Moved => {}
             Did::Idle => return Ok(mesh),
         }
-    }
-}
-
-// Who takes from the queue behind the first record's output is awake.
-fn wake_behind_first(mesh: &Mesh, awake: &mut Awake) {
-    if let Some(record) = mesh.dumped().first() {
-        let queue = mesh.behind(record.chip, record.out);
-        awake.wake(mesh.machine(), mesh.spots(), queue);
     }
 }
 

@@ -1,23 +1,16 @@
 // Rounds of a mesh on threads: one, and as many as it takes.
-ghost use Rattle.std.specs.Prelude.{◌≡◌, IfErr, IfOk};
+ghost use Rattle.std.specs.Prelude.{◌≡◌, IfErr, IfOk, true};
 ghost use Rattle.std.specs.List.{list_all};
-ghost use Rattle.mesh_run.specs.Queues.{is_empty};
-ghost use Rattle.mesh_run.specs.Raised.{has_none};
 ghost use Rattle.mesh_core.specs.State.{IsMesh};
 ghost use Rattle.mesh_core.specs.Expected.{IsAtRest};
 ghost use Rattle.mesh_round.specs.RoundFlow.{HasNoHand, HasRounds};
-ghost use Rattle.mesh_round.specs.OnThreads.{MayGoOn, LeadsByRound};
+ghost use Rattle.mesh_round.specs.OnThreads.{LeadsByRound, MayGoOn, has_none, is_empty};
 ghost use Rattle.mesh_round.specs.Bound.{HasMovingRounds, LeadsSoon};
-ghost use Rattle.mesh_round.specs.Turning.{GoesTo};
 
-use crate::flow_laws::{a_round_leaves_less_to_do, rounds_that_move_copies_are_few};
-use crate::gates::RoundGate;
+use crate::flow_laws::rounds_that_move_copies_are_few;
 use crate::laws::a_round_on_threads_is_a_round;
-use crate::ready::{ReadyMesh, every_ready_mesh_may_go_on};
-use crate::turning::turn_all;
-use crate::waking::Awake;
 use mesh_core::{Mesh, MeshParts};
-use mesh_run::{Pace, RaisedMesh, play_parts};
+use mesh_run::{Pace, RaisedMesh, Round};
 use spin_base::{Fifo, Gate, McCopy, Memory};
 use std::alloc::Global;
 use std::sync::Wait;
@@ -43,24 +36,61 @@ pub fn round<R: Threads + Wait + Sync, G: Gate>(
     ensures no_hand { IfOk result HasNoHand }
     ensures back { IfErr result (λ b. b.0 ≡ mesh) }
 {
-    a_round_on_threads_is_a_round();
     match play_parts(rt, alloc, mesh.take_apart(), pace, number, gate) {
         Ok(parts) => Ok(Mesh::put_together(parts)),
         Err((parts, e)) => Err((Mesh::put_together(parts), e)),
     }
 }
 
+// One round on the parts of a mesh, in which each actor is asked to look at all its queues.
+fn play_parts<R: Threads + Wait + Sync, G: Gate>(
+    rt: &R,
+    alloc: Global,
+    parts: MeshParts,
+    pace: Pace,
+    number: u32,
+    gate: &G,
+) -> Result<MeshParts, (MeshParts, Memory)>
+    requires { MayGoOn parts }
+    ensures round { IfOk result (LeadsByRound pace.patience pace.turns parts) }
+    ensures ready { IfOk result MayGoOn }
+    ensures back { IfErr result (λ b. b.0 ≡ parts) }
+{
+    a_round_on_threads_is_a_round();
+    let mut raised = RaisedMesh::raise(rt, alloc, parts, pace)?;
+    let round = Round {
+        number,
+        gate,
+        thorough: true,
+    };
+    match raised.play(rt, alloc, &round) {
+        Err(e) => Err((raised.lower(rt, alloc), e)),
+        Ok(true) => Ok(raised.lower(rt, alloc)),
+        Ok(false) => at_rest(raised.lower(rt, alloc)),
+    }
+}
+
+// A mesh in which a round that looked everywhere moved no copy is at rest.
+fn at_rest(parts: MeshParts) -> Result<MeshParts, (MeshParts, Memory)>
+    ensures same { IfOk result (λ n. n ≡ parts) }
+    ensures none { IfOk result (λ n. has_none n ≡ true) }
+    ensures back { IfErr result (λ b. b.0 ≡ parts) }
+{
+    if is_at_rest(&parts) {
+        Ok(parts)
+    } else {
+        Err((parts, Memory))
+    }
+}
+
 /// Rounds, numbered from 1, until nothing waits and nothing is unsent. Numbers stay at the greatest, should it come to that. In the mesh
-/// of a job there are at most as many as copies can move: for each packet one, one for each chip of its net's tree, and one for each
-/// target.
-///
-/// Where the gate never holds anybody, the calling thread gives all turns, however many workers are asked for: each move is a round
-/// then, and no thread is made.
+/// of a job there are at most as many in which a copy moves as copies can move: for each packet one, one for each chip of its net's
+/// tree, and one for each target.
 ///
 /// # Errors
 ///
 /// `Memory` where memory runs out, with the mesh after the last whole round, which may go on from there.
-pub fn run_out<R: Threads + Wait + Sync, G: RoundGate>(
+pub fn run_out<R: Threads + Wait + Sync, G: Gate>(
     rt: &R,
     alloc: Global,
     mesh: Mesh,
@@ -75,60 +105,51 @@ pub fn run_out<R: Threads + Wait + Sync, G: RoundGate>(
     ensures ready { IfErr result (λ b. MayGoOn b.0) }
 {
     rounds_that_move_copies_are_few();
-    let mut awake = Awake::all();
-    match run_parts(rt, alloc, mesh.take_apart(), pace, gate, &mut awake) {
+    match run_parts(rt, alloc, mesh.take_apart(), pace, gate) {
         Ok(parts) => Ok(Mesh::put_together(parts)),
         Err((parts, e)) => Err((Mesh::put_together(parts), e)),
     }
 }
 
-// Rounds on the parts of a mesh, numbered from 1. Where no worker may be held the calling thread gives the turns, to those who are
-// awake: at every size of a job it is sooner done than workers, who take several times as long for a move.
-pub(crate) fn run_parts<R: Threads + Wait + Sync, G: RoundGate>(
+// Rounds on the parts of a mesh, numbered from 1. Where a round moved no copy, the next asks each actor to look at all its queues; where
+// that one moved none either, the mesh is at rest.
+pub(crate) fn run_parts<R: Threads + Wait + Sync, G: Gate>(
     rt: &R,
     alloc: Global,
     parts: MeshParts,
     pace: Pace,
     gate: &G,
-    awake: &mut Awake,
 ) -> Result<MeshParts, (MeshParts, Memory)>
     requires { MayGoOn parts }
     ensures rounds { IfOk result (HasMovingRounds pace.patience pace.turns parts) }
     ensures ready { IfOk result MayGoOn }
     ensures at_rest { IfOk result IsAtRest }
-    ensures refused { IfErr result (λ b. HasRounds pace.patience pace.turns parts b.0) }
+    ensures refused { IfErr result (λ b. HasMovingRounds pace.patience pace.turns parts b.0) }
     ensures ready_still { IfErr result (λ b. MayGoOn b.0) }
 {
-    if gate.may_hold() {
-        return run_raised(rt, alloc, parts, pace, gate);
-    }
-    let mut mesh = ReadyMesh { parts };
-    let turned = turn_out(alloc, &mut mesh, pace.turns, awake);
-    let ReadyMesh { parts } = mesh;
-    if let Err(e) = turned {
-        return Err((parts, e));
-    }
-    if is_at_rest(&parts) {
-        return Ok(parts);
-    }
-    run_raised(rt, alloc, parts, pace, gate)
-}
-
-// Turns of those who are awake until none of them moves a copy.
-fn turn_out(
-    alloc: Global,
-    mesh: &mut ReadyMesh,
-    turns: u32,
-    awake: &mut Awake,
-) -> Result<(), Memory>
-    ensures { GoesTo mesh.old mesh.new }
-{
-    every_ready_mesh_may_go_on(mesh);
-    'turns: loop {
-        if !turn_all(alloc, mesh, turns, awake)? {
-            return Ok(());
+    a_round_on_threads_is_a_round();
+    let mut raised = RaisedMesh::raise(rt, alloc, parts, pace)?;
+    let mut number: u32 = 0;
+    let mut thorough = true;
+    for _ in rt.forever() {
+        number = number.saturating_add(1);
+        let round = Round {
+            number,
+            gate,
+            thorough,
+        };
+        match raised.play(rt, alloc, &round) {
+            Err(e) => return Err((raised.lower(rt, alloc), e)),
+            Ok(true) => thorough = false,
+            Ok(false) => {
+                if thorough {
+                    return at_rest(raised.lower(rt, alloc));
+                }
+                thorough = true;
+            }
         }
     }
+    unreachable!()
 }
 
 // Whether no copy waits in a queue and none is unsent.
@@ -143,33 +164,4 @@ fn are_empty(queues: &[Fifo<McCopy>]) -> bool
     ensures { result ≡ list_all is_empty queues.now }
 {
     queues.iter().all(|queue| queue.len() == 0)
-}
-
-// Rounds on links, numbered from 1.
-fn run_raised<R: Threads + Wait + Sync, G: RoundGate>(
-    rt: &R,
-    alloc: Global,
-    parts: MeshParts,
-    pace: Pace,
-    gate: &G,
-) -> Result<MeshParts, (MeshParts, Memory)>
-    requires { MayGoOn parts }
-    ensures rounds { IfOk result (HasMovingRounds pace.patience pace.turns parts) }
-    ensures ready { IfOk result MayGoOn }
-    ensures at_rest { IfOk result IsAtRest }
-    ensures refused { IfErr result (λ b. HasRounds pace.patience pace.turns parts b.0) }
-    ensures ready_still { IfErr result (λ b. MayGoOn b.0) }
-{
-    a_round_on_threads_is_a_round();
-    a_round_leaves_less_to_do();
-    let mut raised = RaisedMesh::raise(rt, alloc, parts, pace.turns)?;
-    let mut number: u32 = 0;
-    'rounds: while !raised.is_at_rest() {
-        number = number.saturating_add(1);
-        match raised.play(rt, alloc, pace, number, gate) {
-            Ok(next) => raised = next,
-            Err((last, e)) => return Err((last.lower(rt), e)),
-        }
-    }
-    Ok(raised.lower(rt))
 }

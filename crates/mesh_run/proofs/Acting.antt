@@ -1,117 +1,360 @@
--- Turns of actors, one after the other.
-use Rattle.std.proofs.Common.{◌≡◌, inl, inr, ℕ, ◌+◌, ◌-◌, ◌<◌, ◌≤◌, List, length, get_or, refl, sym, ◌∙◌, subst, arith}
-use Rattle.std.specs.List.{All}
-use Rattle.spin_base.specs.declared.blocks.Entry.{Entry}
-use Rattle.link_queue.specs.declared.links.Link.{Link}
-use Rattle.chip_node.specs.declared.banks.CoreBank.{CoreBank}
-use Rattle.chip_node.specs.declared.routers.RouterNode.{RouterNode}
-use Rattle.chip_node.specs.BankFlow.{BankFlow}
-use Rattle.chip_node.specs.RouterFlow.{RouterFlow}
-use Rattle.chip_node.proofs.RouterFlows.{router_flow_start, router_flow_join}
-use Rattle.chip_node.proofs.BankFlows.{bank_flow_start, bank_flow_join}
-use Rattle.mesh_run.specs.declared.actors.Actor.{Actor}
-use Rattle.mesh_run.specs.declared.actors.Actor.TheVariants.{Router, Bank}
-use Rattle.mesh_run.specs.Acting.{table_of, IsReadyActor, ActorFlow, MayPlayOn, PlaysOn}
+-- What one turn of the actor at a place does to a share, and turns one after the other.
+use Rattle.std.proofs.Common.{◌≡◌, ◌≢◌, ◌⊎◌, ℕ, zero, suc, ◌+◌, ◌-◌, ◌*◌, ◌/◌, ◌%◌, ◌<◌, ◌≤◌, Bool, true, false, min, List, [], ◌∷◌, ◌++◌, length, take, drop, Option, None, Some, refl, sym, ap, ◌∙◌, subst, arith, inl, inr, append-nil}
+use Rattle.std.specs.List.{All, Contains, slice_get, slice_index_or}
+use Rattle.std.proofs.lemmas.List.{length-take, length-drop}
+use Rattle.std.proofs.lemmas.List.Elements.{All-append, All-cons, All-contains, All-nil, All-weaker}
+use Rattle.std.proofs.lemmas.Bool.{cases_eq}
+use Rattle.std.proofs.lemmas.Nat.{div-add-mod', mod_below}
+use Rattle.std.proofs.lemmas.Option.{slice_get_within, same_Some}
+use Rattle.spin_base.proofs.Outputs.{out_number_below}
+use Rattle.spin_base.proofs.Places.{All-each, both_none}
+use Rattle.spin_base.specs.declared.chips.Chip.{Chip}
+use Rattle.spin_base.specs.declared.chips.Port.{Port}
+use Rattle.spin_base.specs.declared.routes.Out.{Out}
+use Rattle.spin_base.specs.declared.routes.Out.TheVariants.{Link, Core}
+use Rattle.spin_base.specs.Links.{port_number}
+use Rattle.spin_base.specs.Outputs.{out_number, IsOutput}
+use Rattle.machine_desc.specs.Live.{chip_of, index_of, is_live_chip, IsInside}
+use Rattle.machine_desc.proofs.Far.{live_inside}
+use Rattle.machine_desc.proofs.Live.{index_of-chip_of}
+use Rattle.link_queue.specs.declared.links.Link.{Link as QueueLink}
+use Rattle.chip_node.specs.declared.holdings.Holdings.{Holdings}
+use Rattle.chip_node.specs.declared.holdings.Turn.{Turn}
+use Rattle.chip_node.specs.declared.holdings.Turn.TheVariants.{Moved, Nothing, Waits}
+use Rattle.chip_node.specs.declared.nodes.Behind.{Behind}
+use Rattle.chip_node.specs.declared.nodes.CoreBank.{CoreBank}
+use Rattle.chip_node.specs.declared.nodes.RouterNode.{RouterNode}
+use Rattle.chip_node.specs.Acting.{place_in, BankActs, IsReadyBank, IsReadyRouter, RouterActs}
+use Rattle.chip_node.specs.Acting.{place_behind as place_at_router}
+use Rattle.chip_node.specs.Going.{AreEndsOf, Goes, HoldsSender, Stays}
+use Rattle.chip_node.specs.Items.{Item, injection_place, port_place}
+use Rattle.chip_node.proofs.Flows.{goes_none, goes_on, holds_sender_on}
+use Rattle.chip_node.proofs.Stays.{stays_same}
+use Rattle.mesh_core.specs.State.{Setup}
+use Rattle.mesh_run.specs.declared.floors.Floor.{Floor}
+use Rattle.mesh_run.specs.declared.shares.Share.{Share}
+use Rattle.mesh_run.specs.Floors.{chip_count, IsBankOf, IsFloorOf}
+use Rattle.mesh_run.specs.Played.{place_behind, port_count, vertex_place, AreTurns, IsLiveIndex}
+use Rattle.mesh_run.specs.Shares.{actor_of, bank_place, router_place, ActsAt, AreOf, DoesAt, IsIn, IsNoted, IsShareOf, MovesAt, PlaysOne, PlaysRound, PlaysTurns, SharePlays}
+use Rattle.mesh_run.proofs.Apart.{not_to_itself, one_output}
+use Rattle.mesh_run.proofs.Turns.{IsNotOf, IsRouterOf, bank_by, bank_turns, routed_by, routed_some, routed_turns, turns_beside, turns_none, turns_on}
 
--- a flow over some turns is one over a turn more
-router_longer : (es : List Entry) (n : ℕ) (a b : RouterNode) → 0 < n → RouterFlow es n a b → RouterFlow es (n + 1) a b
-router_longer es n a b some h = record {
-  taken = h.taken;
-  served = h.served;
-  few = (let few = h.few in omega (arith, few));
-  at_ports = h.at_ports;
-  each_once = h.each_once;
-  inputs = h.inputs;
-  serves = h.serves;
-  idle = λ _ none. h.idle some none;
-}
+-- ---- parts of lists
 
-bank_longer : (n : ℕ) (a b : CoreBank) → 0 < n → BankFlow n a b → BankFlow (n + 1) a b
-bank_longer n a b some h = record {
-  sent = h.sent;
-  got = h.got;
-  few_sent = (let few = h.few_sent in omega (arith, few));
-  few_got = (let few = h.few_got in omega (arith, few));
-  senders = h.senders;
-  receivers = h.receivers;
-  moves = h.moves;
-  idle_sender = λ _ none. h.idle_sender some none;
-  idle_receivers = λ _ none. h.idle_receivers some none;
-}
+slice_get_take : {X : Type 0} (n k : ℕ) (xs : List X) → k < n → slice_get (take n xs) k ≡ slice_get xs k
+slice_get_take zero k xs below = absurd (omega (arith, below))
+slice_get_take (suc n) k [] below = refl
+slice_get_take (suc n) zero (x ∷ xs) below = refl
+slice_get_take (suc n) (suc k) (x ∷ xs) below = slice_get_take n k xs (omega (arith, below))
 
-module _ (links : List Link) (tables : List (List Entry)) where
-  -- an actor that can take so many turns can take fewer
-  pub ready_less : (n m : ℕ) (a : Actor) → m ≤ n → IsReadyActor links tables n a → IsReadyActor links tables m a
-  ready_less n m (Router i r) fewer ready = let room = ready.1 in (ready.0, omega (arith, fewer, room), ready.2, ready.3)
-  ready_less n m (Bank b) fewer ready = let room = ready.0 in (omega (arith, fewer, room), ready.1, ready.2)
+slice_get_drop : {X : Type 0} (n k : ℕ) (xs : List X) → slice_get (drop n xs) k ≡ slice_get xs (n + k)
+slice_get_drop zero k xs = let same : k ≡ 0 + k = omega arith in ap (slice_get xs) same
+slice_get_drop (suc n) k [] = refl
+slice_get_drop (suc n) k (x ∷ xs) = let same : suc (n + k) ≡ suc n + k = omega arith in slice_get_drop n k xs ∙ ap (slice_get (x ∷ xs)) same
 
-  no_flow : (a : Actor) → ActorFlow tables 0 a a
-  no_flow (Router i r) = (refl, router_flow_start (table_of tables i) r)
-  no_flow (Bank b) = bank_flow_start b
+-- ---- places of actors
 
-  -- no turn
-  pub plays_none : (a : Actor) → PlaysOn links tables 0 a a
-  plays_none a = record {
-    flow = no_flow a;
-    ready = λ more ready. ready_less (0 + more) more a (omega arith) ready;
+pub even_place : (at : ℕ) → at % 2 ≡ 0 → router_place (at / 2) ≡ at
+even_place at even = omega (arith, even, div-add-mod' at 2)
+
+pub odd_place : (at : ℕ) → at % 2 ≢ 0 → bank_place (at / 2) ≡ at
+odd_place at odd = omega (arith, odd, div-add-mod' at 2, mod_below at 2 (omega arith))
+
+pub in_place : (from to at a : ℕ) → a ≡ at → from ≤ at → at < to → IsIn from to a
+in_place from to at a is above below = record { above = omega (arith, is, above); below = omega (arith, is, below) }
+
+pub half_below : (at to chips : ℕ) → at < to → to ≤ 2 * chips → at / 2 < chips
+half_below at to chips below within = omega (arith, below, within, div-add-mod' at 2)
+
+pub live_some : (b : Bool) → (b ≡ false → true ≡ false) → b ≡ true
+live_some true other = refl
+live_some false other = sym (other refl)
+
+-- ---- what a share has for an actor
+
+-- what the floor says of the router of an index
+abbrev pub IsFloorRouter : Setup → Floor → ℕ → RouterNode → Type 0
+IsFloorRouter u f i r =
+    (r.chip ≡ chip_of u.machine i) × (r.index ≡ i) × (r.table.now ≡ slice_index_or u.tables i []) × (r.behind.now ≡ take 24 (drop (24 * i) f.behind.items))
+
+module _ (u : Setup) (f : Floor) where
+  pub live_index : (i : ℕ) → is_live_chip u.machine (chip_of u.machine i) ≡ true → IsLiveIndex u i
+  live_index i live = record { live = live; is = index_of-chip_of u.machine i }
+
+  router_outputs : (i : ℕ) (r : RouterNode) → IsFloorOf u f → i < chip_count u → IsFloorRouter u f i r → length r.behind.now ≡ 24
+  router_outputs i r of below is =
+      let all = ap length is.3 in
+      let taken = length-take 24 (drop (24 * i) f.behind.items) in
+      let dropped = length-drop (24 * i) f.behind.items in
+      let long = of.behind_long in
+      omega (arith, all, taken, dropped, long, below)
+
+  pub router_of : (i : ℕ) (r : RouterNode) → IsFloorOf u f → i < chip_count u → is_live_chip u.machine (chip_of u.machine i) ≡ true → IsFloorRouter u f i r → IsRouterOf u i r
+  router_of i r of below live is = record {
+    live = live_index i live;
+    index = is.1;
+    chip = is.0;
+    table = is.2;
+    behind = λ o output.
+        ap place_in (ap (λ l. slice_get l (out_number o)) is.3
+        ∙ (slice_get_take 24 (out_number o) (drop (24 * i) f.behind.items) (out_number_below o output) ∙ slice_get_drop (24 * i) (out_number o) f.behind.items))
+        ∙ of.behind i o below live output;
   }
 
-  joined_flow : (n m : ℕ) (a b c : Actor) → ActorFlow tables n a b → ActorFlow tables m b c → ActorFlow tables (n + m) a c
-  joined_flow n m (Router i a) (Router j b) (Router k c) f g =
-      (g.0 ∙ f.0, router_flow_join (table_of tables i) n m a b c f.1 (subst (λ t. RouterFlow (table_of tables t) m b c) f.0 g.1))
-  joined_flow n m (Router i a) (Router j b) (Bank c) f g = absurd g
-  joined_flow n m (Router i a) (Bank b) c f g = absurd f
-  joined_flow n m (Bank a) (Router j b) c f g = absurd f
-  joined_flow n m (Bank a) (Bank b) (Router k c) f g = absurd g
-  joined_flow n m (Bank a) (Bank b) (Bank c) f g = bank_flow_join n m a b c f g
+  something : (x : Option (Option Behind)) (q : ℕ) → place_in x ≡ Some q → (y : Option Behind) × (x ≡ Some y)
+  something None q is = absurd (none_some is)
+    where
+      none_some : None ≡ Some q → ⊥
+      none_some same = cc
+  something (Some y) q is = (y, refl)
 
-  -- turns and then others
-  pub plays_join : (n m : ℕ) (a b c : Actor) → PlaysOn links tables n a b → PlaysOn links tables m b c → PlaysOn links tables (n + m) a c
-  plays_join n m a b c first second = record {
-    flow = joined_flow n m a b c first.flow second.flow;
-    ready = λ more ready. second.ready more (first.ready (m + more) (ready_less (n + m + more) (n + (m + more)) a (omega arith) ready));
+  bit_within : (o : Out) → out_number o < 24 → IsOutput o
+  bit_within (Link d) below = tt
+  bit_within (Core p) below = omega (arith, below)
+
+  -- an output behind which a router knows a queue has a bit
+  has_bit : (r : RouterNode) (o : Out) (q : ℕ) → length r.behind.now ≡ 24 → place_at_router r.behind.now o ≡ Some q → IsOutput o
+  has_bit r o q long is =
+      let at = something (slice_get r.behind.now (out_number o)) q is in
+      bit_within o (let within = slice_get_within r.behind.now (out_number o) at.0 at.1 in omega (arith, within, long))
+
+  module _ (links : List QueueLink) (s : Share) where
+    pub ready_router : (i : ℕ) (r : RouterNode) → IsFloorOf u f → IsShareOf u links s → i < chip_count u → is_live_chip u.machine (chip_of u.machine i) ≡ true → IsFloorRouter u f i r →
+        IsIn s.from s.to (router_place i) → IsReadyRouter links r s.hold
+    ready_router i r of share below live is within =
+        let long = router_outputs i r of below is in
+        let router = router_of i r of below live is in
+        let inside = live_inside u.machine (chip_of u.machine i) live in
+        let at : (o : Out) (q : ℕ) → place_at_router r.behind.now o ≡ Some q → place_behind u (chip_of u.machine i) o ≡ Some q =
+        λ o q behind. sym (router.behind o (has_bit r o q long behind)) ∙ behind in
+        record {
+          outputs = long;
+          senders = λ o q behind. share.routers i o q router.live within (at o q behind);
+          differ = λ o p q one two o_is p_is. (one_output u (chip_of u.machine i) (chip_of u.machine i) o p q inside inside (at o q one) (at p q two)).1;
+          apart = λ o port behind.
+              let place : port_place r.index port ≡ 7 * index_of u.machine (chip_of u.machine i) + port_number port =
+              ap (λ n. 7 * n + port_number port) (is.1 ∙ sym (index_of-chip_of u.machine i)) in
+              not_to_itself u (chip_of u.machine i) o port inside (at o (port_place r.index port) behind ∙ ap Some place);
+          ends = share.ends;
+        }
+
+    pub ready_bank : (i : ℕ) (b : CoreBank) → IsFloorOf u f → IsShareOf u links s → slice_get f.banks.items i ≡ Some b → is_live_chip u.machine (chip_of u.machine i) ≡ true →
+        IsIn s.from s.to (bank_place i) → IsReadyBank links b s.hold
+    ready_bank i b of share stands live within =
+        let bank = of.banks i b stands in
+        record {
+          sender = subst (λ n. HoldsSender s.hold.ends.items (injection_place n)) (sym bank.index) (share.banks i (live_index i live) within);
+          vertices = All-each (λ v. (v < length s.hold.unsent.items) × (b.cores + v < length s.hold.ends.items)) b.vertices.items (λ v has.
+              let on = bank.vertices v has in
+              let below = slice_get_within u.spots v on.spot on.stands in
+              let unsent_long = share.unsent_long in
+              let ends_long = share.ends_long in
+              let cores = bank.cores in
+              (omega (arith, below, unsent_long), omega (arith, below, ends_long, cores)));
+          ends = share.ends;
+        }
+
+module _ (u : Setup) (links : List QueueLink) (s : Share) where
+  -- a share is one of its mesh after what was done
+  pub share_on : (cap patience : ℕ) (t : Share) (items : List Item) → t.from ≡ s.from → t.to ≡ s.to → Goes cap patience s.hold items t.hold → AreEndsOf links t.hold.ends.items →
+      IsShareOf u links s → IsShareOf u links t
+  share_on cap patience t items from to goes ends share = record {
+    ends_long = goes.ends_long ∙ share.ends_long;
+    unsent_long = goes.unsent_long ∙ share.unsent_long;
+    within = subst (λ n. n ≤ 2 * chip_count u) (sym to) share.within;
+    routers = λ i o q live within behind. holds_sender_on cap patience s.hold t.hold items q goes (share.routers i o q live (was_in within) behind);
+    banks = λ i live within. holds_sender_on cap patience s.hold t.hold items (injection_place i) goes (share.banks i live (was_in within));
+    ends = ends;
+  }
+    where
+      was_in : {a : ℕ} → IsIn t.from t.to a → IsIn s.from s.to a
+      was_in {a} is = record { above = subst (λ n. n ≤ a) from is.above; below = subst (λ n. a < n) to is.below }
+
+  pub share_same : (t : Share) → t.from ≡ s.from → t.to ≡ s.to → t.hold ≡ s.hold → IsShareOf u links s → IsShareOf u links t
+  share_same t from to hold share = record {
+    ends_long = subst (λ (h : Holdings). length h.ends.items ≡ port_count u + length u.spots) (sym hold) share.ends_long;
+    unsent_long = subst (λ (h : Holdings). length h.unsent.items ≡ length u.spots) (sym hold) share.unsent_long;
+    within = subst (λ n. n ≤ 2 * chip_count u) (sym to) share.within;
+    routers = λ i o q live within behind. subst (λ (h : Holdings). HoldsSender h.ends.items q) (sym hold) (share.routers i o q live (was_in within) behind);
+    banks = λ i live within. subst (λ (h : Holdings). HoldsSender h.ends.items (injection_place i)) (sym hold) (share.banks i live (was_in within));
+    ends = subst (λ (h : Holdings). AreEndsOf links h.ends.items) (sym hold) share.ends;
+  }
+    where
+      was_in : {a : ℕ} → IsIn t.from t.to a → IsIn s.from s.to a
+      was_in {a} is = record { above = subst (λ n. n ≤ a) from is.above; below = subst (λ n. a < n) to is.below }
+
+-- ---- what a turn does
+
+module _ (u : Setup) (patience : ℕ) where
+  router_goes : (cap i : ℕ) (r : RouterNode) (a b : Holdings) (turn : Turn) → RouterActs cap patience r.table.now r a turn b → (items : List Item) × Goes cap patience a items b
+  router_goes cap i r a b Moved acts = (acts.0, acts.2)
+  router_goes cap i r a b Nothing acts = ([], goes_none cap patience a b acts)
+  router_goes cap i r a b Waits acts = ([], goes_none cap patience a b acts)
+
+  bank_goes : (cap : ℕ) (k : CoreBank) (a b : Holdings) (turn : Turn) → BankActs cap patience k a turn b → (items : List Item) × Goes cap patience a items b
+  bank_goes cap k a b Moved acts = (acts.0, acts.2)
+  bank_goes cap k a b Nothing acts = ([], goes_none cap patience a b acts)
+  bank_goes cap k a b Waits acts = ([], goes_none cap patience a b acts)
+
+  pub router_keeps : (links : List QueueLink) (s t : Share) (cap i : ℕ) (r : RouterNode) (turn : Turn) → t.from ≡ s.from → t.to ≡ s.to → RouterActs cap patience r.table.now r s.hold turn t.hold →
+      AreEndsOf links t.hold.ends.items → IsShareOf u links s → IsShareOf u links t
+  router_keeps links s t cap i r turn from to acts ends share =
+      let goes = router_goes cap i r s.hold t.hold turn acts in
+      share_on u links s cap patience t goes.0 from to goes.1 ends share
+
+  pub bank_keeps : (links : List QueueLink) (s t : Share) (cap : ℕ) (k : CoreBank) (turn : Turn) → t.from ≡ s.from → t.to ≡ s.to → BankActs cap patience k s.hold turn t.hold →
+      AreEndsOf links t.hold.ends.items → IsShareOf u links s → IsShareOf u links t
+  bank_keeps links s t cap k turn from to acts ends share =
+      let goes = bank_goes cap k s.hold t.hold turn acts in
+      share_on u links s cap patience t goes.0 from to goes.1 ends share
+
+  router_does : (cap at i : ℕ) (r : RouterNode) (s t : Share) (turn : Turn) → cap ≡ u.capacity → IsRouterOf u i r → router_place i ≡ at →
+      RouterActs cap patience r.table.now r s.hold turn t.hold → DoesAt u patience at s turn t
+  router_does cap at i r s t Moved is of place acts = record {
+    items = acts.0;
+    goes = subst (λ n. Goes n patience s.hold acts.0 t.hold) is acts.2;
+    of_it = All-weaker (λ x. actor_of x ≡ router_place r.index) (λ x. actor_of x ≡ at) (λ x by. by ∙ (ap router_place of.index ∙ place)) acts.0 (routed_by u r acts.0 acts.1);
+    turns_are = routed_turns u r i of acts.0 acts.1;
+    some = routed_some u r acts.0 acts.1;
+  }
+  router_does cap at i r s t Nothing is of place acts = acts
+  router_does cap at i r s t Waits is of place acts = acts
+
+  bank_does : (cap at i : ℕ) (k : CoreBank) (s t : Share) (turn : Turn) → cap ≡ u.capacity → IsLiveIndex u i → IsBankOf u i k → bank_place i ≡ at →
+      BankActs cap patience k s.hold turn t.hold → DoesAt u patience at s turn t
+  bank_does cap at i k s t Moved is live of place acts = record {
+    items = acts.0;
+    goes = subst (λ n. Goes n patience s.hold acts.0 t.hold) is acts.2;
+    of_it = All-weaker (λ x. actor_of x ≡ bank_place k.index) (λ x. actor_of x ≡ at) (λ x by. by ∙ (ap bank_place of.index ∙ place)) acts.0 (bank_by u k acts.0 acts.1);
+    turns_are = bank_turns u i k acts.0 live of acts.1;
+    some = acts.1.some;
+  }
+  bank_does cap at i k s t Nothing is live of place acts = acts
+  bank_does cap at i k s t Waits is live of place acts = acts
+
+  pub router_acts : (cap at i : ℕ) (r : RouterNode) (s t : Share) (turn : Turn) → t.from ≡ s.from → t.to ≡ s.to → t.moved ≡ s.moved → cap ≡ u.capacity → IsRouterOf u i r → router_place i ≡ at →
+      RouterActs cap patience r.table.now r s.hold turn t.hold → ActsAt u patience at s turn t
+  router_acts cap at i r s t turn from to moved is of place acts = record { from = from; to = to; moved = moved; does = router_does cap at i r s t turn is of place acts }
+
+  pub bank_acts : (cap at i : ℕ) (k : CoreBank) (s t : Share) (turn : Turn) → t.from ≡ s.from → t.to ≡ s.to → t.moved ≡ s.moved → cap ≡ u.capacity → IsLiveIndex u i → IsBankOf u i k →
+      bank_place i ≡ at → BankActs cap patience k s.hold turn t.hold → ActsAt u patience at s turn t
+  bank_acts cap at i k s t turn from to moved is live of place acts = record { from = from; to = to; moved = moved; does = bank_does cap at i k s t turn is live of place acts }
+
+  -- ---- what is noted
+
+  noted_none : (x y : Bool) → y ≡ x → IsNoted x [] y
+  noted_none x true same = inl (sym same)
+  noted_none x false same = (sym same, refl)
+
+  noted_on : (x y z : Bool) (xs ys : List Item) → IsNoted x xs y → IsNoted y ys z → IsNoted x (xs ++ ys) z
+  noted_on x true true xs ys h k = elim h [
+    | inl before ↦ inl before
+    | inr some ↦ inr (λ none. some (both_none xs ys none).0)
+  ]
+  noted_on x false true xs ys h k = elim k [
+    | inl before ↦ absurd (let differ : false ≡ true = before in cc)
+    | inr some ↦ inr (λ none. some (both_none xs ys none).1)
+  ]
+  noted_on x true false xs ys h k = absurd (let differ : true ≡ false = k.0 in cc)
+  noted_on x false false xs ys h k = (h.0, ap (λ l. l ++ ys) h.1 ∙ k.1)
+
+  -- ---- one turn, noted
+
+  pub one_stays : (at : ℕ) (s t : Share) → t.from ≡ s.from → t.to ≡ s.to → t.moved ≡ s.moved → Stays s.hold t.hold → PlaysOne u patience at s t
+  one_stays at s t from to moved stays = record {
+    items = [];
+    plays = record { from = from; to = to; goes = goes_none u.capacity patience s.hold t.hold stays; own = All-nil (λ x. IsIn s.from s.to (actor_of x)); turns_are = turns_none u 1 };
+    of_it = All-nil (λ x. actor_of x ≡ at);
+    noted = noted_none s.moved t.moved moved;
   }
 
-  longer_flow : (n : ℕ) (a b : Actor) → 0 < n → ActorFlow tables n a b → ActorFlow tables (n + 1) a b
-  longer_flow n (Router i a) (Router j b) some f = (f.0, router_longer (table_of tables i) n a b some f.1)
-  longer_flow n (Router i a) (Bank b) some f = absurd f
-  longer_flow n (Bank a) (Router j b) some f = absurd f
-  longer_flow n (Bank a) (Bank b) some f = bank_longer n a b some f
-
-  -- what some turns do, one more may do
-  plays_longer : (n : ℕ) (a b : Actor) → 0 < n → PlaysOn links tables n a b → PlaysOn links tables (n + 1) a b
-  plays_longer n a b some h = record {
-    flow = longer_flow n a b some h.flow;
-    ready = λ more ready. h.ready more (ready_less (n + 1 + more) (n + more) a (omega arith) ready);
+  pub one_moves : (at : ℕ) (s t : Share) → t.from ≡ s.from → t.to ≡ s.to → t.moved ≡ true → s.from ≤ at → at < s.to → MovesAt u patience at s t → PlaysOne u patience at s t
+  one_moves at s t from to moved above below h = record {
+    items = h.items;
+    plays = record {
+      from = from;
+      to = to;
+      goes = h.goes;
+      own = All-weaker (λ x. actor_of x ≡ at) (λ x. IsIn s.from s.to (actor_of x)) (λ x is. subst (IsIn s.from s.to) (sym is) (record { above = above; below = below })) h.items h.of_it;
+      turns_are = h.turns_are;
+    };
+    of_it = h.of_it;
+    noted = subst (IsNoted s.moved h.items) (sym moved) (inr h.some);
   }
 
-  -- turns, and then one that may be none
-  plays_more : (n : ℕ) (a b c : Actor) → PlaysOn links tables n a b → MayPlayOn links tables n b c → PlaysOn links tables (n + 1) a c
-  plays_more n a b c first (inl turn) = plays_join n 1 a b c first turn
-  plays_more n a b c first (inr (some, same)) = subst (PlaysOn links tables (n + 1) a) (sym same) (plays_longer n a b some first)
+  -- ---- turns of actors, one after the other
 
-  -- each actor of a list takes so many turns
-  pub record PlayOn (turns : ℕ) (before after : List Actor) : Type 0 where
-    pub long : length after ≡ length before
-    pub each : (i : ℕ) (d : Actor) → i < length before → PlaysOn links tables turns (get_or before i d) (get_or after i d)
+  -- the actors of a share below a place took at most one turn
+  pub record OneEach (start : Share) (at : ℕ) (now : Share) : Type 0 where
+    pub items : List Item
+    pub plays : SharePlays u patience 1 start items now
+    pub before : All (λ x. actor_of x < at) items
+    pub noted : IsNoted start.moved items now.moved
 
-  pub play_none : (xs : List Actor) → PlayOn 0 xs xs
-  play_none xs = record { long = refl; each = λ i d below. plays_none (get_or xs i d) }
-
-  pub play_more : (n : ℕ) (xs ys zs : List Actor) → PlayOn n xs ys → length zs ≡ length ys →
-      ((i : ℕ) (d : Actor) → i < length ys → MayPlayOn links tables n (get_or ys i d) (get_or zs i d)) → PlayOn (n + 1) xs zs
-  play_more n xs ys zs first long second = record {
-    long = long ∙ first.long;
-    each = λ i d below.
-        let same = first.long in
-        plays_more n (get_or xs i d) (get_or ys i d) (get_or zs i d) (first.each i d below) (second i d (omega (arith, below, same)));
+  plays_none : (n : ℕ) (s t : Share) → t.from ≡ s.from → t.to ≡ s.to → t.hold ≡ s.hold → SharePlays u patience n s [] t
+  plays_none n s t from to hold = record {
+    from = from;
+    to = to;
+    goes = subst (Goes u.capacity patience s.hold []) (sym hold) (goes_none u.capacity patience s.hold s.hold (stays_same s.hold));
+    own = All-nil (λ x. IsIn s.from s.to (actor_of x));
+    turns_are = turns_none u n;
   }
 
-  -- each can still take what is left of its turns
-  pub still_ready : (turns n : ℕ) (xs ys : List Actor) → PlayOn n xs ys → n < turns → All (IsReadyActor links tables turns) xs → All (IsReadyActor links tables 1) ys
-  still_ready turns n xs ys so_far below all = λ i d inside.
-      let same = so_far.long in
-      let there : i < length xs = omega (arith, inside, same) in
-      let rest : ℕ = turns - n in
-      let all_of : IsReadyActor links tables (n + rest) (get_or xs i d) = ready_less turns (n + rest) (get_or xs i d) (omega (arith, below)) (all i d there) in
-      ready_less rest 1 (get_or ys i d) (omega (arith, below)) ((so_far.each i d there).ready rest all_of)
+  pub each_none : (start : Share) (at : ℕ) → OneEach start at start
+  each_none start at = record { items = []; plays = plays_none 1 start start refl refl refl; before = All-nil (λ x. actor_of x < at); noted = noted_none start.moved start.moved refl }
+
+  own_on : (a b : Share) (xs ys : List Item) → b.from ≡ a.from → b.to ≡ a.to → AreOf a.from a.to xs → AreOf b.from b.to ys → AreOf a.from a.to (xs ++ ys)
+  own_on a b xs ys from to h k = All-append (λ x. IsIn a.from a.to (actor_of x)) xs ys h
+      (subst (λ n. AreOf n a.to ys) from (subst (λ n. AreOf b.from n ys) to k))
+
+  -- a place further on
+  pub each_past : (start now : Share) (at next : ℕ) → at ≤ next → OneEach start at now → OneEach start next now
+  each_past start now at next past h = record {
+    items = h.items;
+    plays = h.plays;
+    before = All-weaker (λ x. actor_of x < at) (λ x. actor_of x < next) (λ x below. omega (arith, below, past)) h.items h.before;
+    noted = h.noted;
+  }
+
+  pub each_more : (start now new : Share) (at : ℕ) → OneEach start at now → PlaysOne u patience at now new → OneEach start (at + 1) new
+  each_more start now new at h k = record {
+    items = h.items ++ k.items;
+    plays = record {
+      from = k.plays.from ∙ h.plays.from;
+      to = k.plays.to ∙ h.plays.to;
+      goes = goes_on u.capacity patience start.hold now.hold new.hold h.items k.items h.plays.goes k.plays.goes;
+      own = own_on start now h.items k.items h.plays.from h.plays.to h.plays.own k.plays.own;
+      turns_are = turns_beside u 1 h.items k.items apart h.plays.turns_are k.plays.turns_are;
+    };
+    before = All-append (λ x. actor_of x < at + 1) h.items k.items
+        (All-weaker (λ x. actor_of x < at) (λ x. actor_of x < at + 1) (λ x below. omega (arith, below)) h.items h.before)
+        (All-weaker (λ x. actor_of x ≡ at) (λ x. actor_of x < at + 1) (λ x is. omega (arith, is)) k.items k.of_it);
+    noted = noted_on start.moved now.moved new.moved h.items k.items h.noted k.noted;
+  }
+    where
+      apart : (a : ℕ) → IsNotOf u a h.items ⊎ IsNotOf u a k.items
+      apart a = elim (cases_eq a at) [
+        | inl here ↦ inl (All-weaker (λ x. actor_of x < at) (λ x. actor_of x ≢ a) (λ x below same. omega (arith, below, same, here)) h.items h.before)
+        | inr other ↦ inr (All-weaker (λ x. actor_of x ≡ at) (λ x. actor_of x ≢ a) (λ x is same. other (sym same ∙ is)) k.items k.of_it)
+      ]
+
+  pub each_turns : (start now : Share) (at : ℕ) → OneEach start at now → PlaysTurns u patience 1 start now
+  each_turns start now at h = record { items = h.items; plays = h.plays; noted = h.noted }
+
+  -- ---- turns of a round
+
+  pub round_none : (s t : Share) → t.from ≡ s.from → t.to ≡ s.to → t.hold ≡ s.hold → t.moved ≡ false → PlaysRound u patience 0 s t
+  round_none s t from to hold moved = record { items = []; plays = plays_none 0 s t from to hold; noted = noted_none false t.moved moved }
+
+  pub round_more : (n : ℕ) (a b c : Share) → PlaysRound u patience n a b → PlaysTurns u patience 1 b c → PlaysRound u patience (n + 1) a c
+  round_more n a b c h k = record {
+    items = h.items ++ k.items;
+    plays = record {
+      from = k.plays.from ∙ h.plays.from;
+      to = k.plays.to ∙ h.plays.to;
+      goes = goes_on u.capacity patience a.hold b.hold c.hold h.items k.items h.plays.goes k.plays.goes;
+      own = own_on a b h.items k.items h.plays.from h.plays.to h.plays.own k.plays.own;
+      turns_are = turns_on u n 1 h.items k.items h.plays.turns_are k.plays.turns_are;
+    };
+    noted = noted_on false b.moved c.moved h.items k.items h.noted k.noted;
+  }

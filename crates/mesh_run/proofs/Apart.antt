@@ -1,77 +1,118 @@
--- Ports, outputs and vertices of a chip differ, and so do their queues.
-use Rattle.std.proofs.Common.{◌≡◌, ◌≢◌, ℕ, ◌+◌, ◌<◌, List, map, length, get_or, Option, None, refl, sym, ap, ◌∙◌, subst, arith}
-use Rattle.std.specs.List.{All, AllPairs, filter, range_with_len}
-use Rattle.std.proofs.lemmas.List.{get_or-map, length-map}
-use Rattle.std.proofs.lemmas.List.FromFn.{get_or-range_with_len, length-range_with_len}
-use Rattle.std.proofs.lemmas.List.Elements.{All-map}
-use Rattle.std.proofs.lemmas.List.Kept.{AllPairs-filter}
-use Rattle.spin_base.proofs.Pairs.{AllPairs-map, AllPairs-from_map}
+-- Places of queues: behind an output of a chip stands a queue that no other output leads to, and that no chip injects into.
+use Rattle.std.proofs.Common.{◌≡◌, ℕ, ◌<◌, Bool, true, false, List, [], length, ◌==◌, Option, Some, None, refl, sym, ap, ◌∙◌, subst, arith, ◌∷◌, inl}
+use Rattle.std.proofs.lemmas.Bool.{cond-true, cond-false, eq-eqb, ne_eqb}
+use Rattle.std.proofs.lemmas.Option.{slice_get_within, same_Some}
+use Rattle.spin_base.proofs.Members.{Among}
 use Rattle.spin_base.specs.declared.chips.Chip.{Chip}
+use Rattle.spin_base.specs.declared.chips.Dir.{Dir}
 use Rattle.spin_base.specs.declared.chips.Port.{Port}
-use Rattle.spin_base.specs.declared.chips.Port.TheVariants.{Local}
+use Rattle.spin_base.specs.declared.chips.Port.TheVariants.{Link as ByLink, Local}
 use Rattle.spin_base.specs.declared.routes.Out.{Out}
-use Rattle.spin_base.specs.Links.{port_number}
-use Rattle.spin_base.specs.Outputs.{all_outs, link_outs, core_outs, out_number}
-use Rattle.machine_desc.specs.Live.{IsInside}
-use Rattle.link_queue.specs.declared.links.Rx.{Rx}
-use Rattle.link_queue.specs.declared.links.Tx.{Tx}
-use Rattle.chip_node.specs.declared.banks.BankVertex.{BankVertex}
-use Rattle.chip_node.specs.declared.ends.InEnd.{InEnd}
-use Rattle.chip_node.specs.declared.ends.OutEnd.{OutEnd}
-use Rattle.chip_node.specs.Numbers.{vertex_numbers_of}
-use Rattle.chip_node.specs.Serving.{ports_of, outs_with_ends}
-use Rattle.mesh_core.specs.Ledger.{all_ports}
-use Rattle.mesh_core.specs.State.{Setup, queue_at}
-use Rattle.mesh_run.specs.Lending.{has_queue_behind, vertex_place, IsBehind, IsAtPort, IsOnChip, Lent, NotAt, rx_of, tx_of, txs_of, rxs_of, vertex_rxs}
-use Rattle.mesh_run.proofs.Feeding.{leads, no_injection, port_is_no_vertex}
+use Rattle.spin_base.specs.declared.routes.Out.TheVariants.{Link}
+use Rattle.spin_base.specs.Links.{opposite_of}
+use Rattle.spin_base.specs.Outputs.{out_of}
+use Rattle.machine_desc.specs.Live.{far_of, IsInside, IsLiveLink}
+use Rattle.machine_desc.proofs.Far.{far_inside, far_parts, live_back}
+use Rattle.spin_base.proofs.Equality.{chip_eq_same}
+use Rattle.spin_base.specs.Equality.{chip_eq}
+use Rattle.chip_node.specs.Items.{where_same, where_there}
+use Rattle.mesh_core.specs.State.{Setup, input, core, behind, queue_at}
+use Rattle.mesh_core.proofs.Changes.{queue_at-below}
+use Rattle.mesh_core.proofs.Ways.{vertex_behind_stands}
+use Rattle.mesh_run.specs.Played.{place_behind, queue_place_of, vertex_place}
+use Rattle.mesh_run.proofs.Ends.{leads, by_link, to_vertex, to_none, one_end, one_link, one_port}
 
-zero_more : (i : ℕ) → 0 + i ≡ i
-zero_more i = omega arith
+-- ---- where two places are the same
 
--- items that are numbered from 0 on differ
-numbered : {X : Type 0} (f : X → ℕ) (n : ℕ) (xs : List X) → map f xs ≡ range_with_len 0 n → AllPairs (λ a b. a ≢ b) xs
-numbered f n xs are i j d less below same =
-    let long : length xs ≡ n = sym (length-map xs f) ∙ (ap length are ∙ length-range_with_len 0 n) in
-    let number : (k : ℕ) → k < length xs → f (get_or xs k d) ≡ k = λ k inside.
-    sym (get_or-map f xs k d 0 inside) ∙ (ap (λ l. get_or l k 0) are ∙ (get_or-range_with_len 0 n k 0 (omega (arith, inside, long)) ∙ zero_more k))
-    in
-    let first = number i (omega (arith, less, below)) in
-    let second = number j below in
-    let equal : f (get_or xs i d) ≡ f (get_or xs j d) = ap f same in
-    omega (arith, first, second, equal, less)
+pub here : {X : Type 0} (p q : ℕ) (xs : List X) → p ≡ q → where_same p q xs ≡ xs
+here p q xs same = cond-true (p == q) xs [] (eq-eqb p q same)
 
-pub ports_differ : AllPairs (λ a b. a ≢ b) all_ports
-ports_differ = numbered port_number 7 all_ports refl
+pub first_here : {X : Type 0} (p q : ℕ) (x : X) → p ≡ q → Among x (where_same p q (x ∷ []))
+first_here {X} p q x same = subst (λ (l : List X). Among x l) (sym (here p q (x ∷ []) same)) (inl refl)
 
-pub outs_differ : AllPairs (λ a b. a ≢ b) all_outs
-unfolding link_outs core_outs
-outs_differ = numbered out_number 24 all_outs refl
+pub elsewhere : {X : Type 0} (p q : ℕ) (xs : List X) → (p ≡ q → ⊥) → where_same p q xs ≡ []
+elsewhere p q xs other = cond-false (p == q) xs [] (ne_eqb p q other)
 
--- there are 24 outputs
-pub among_outs : (outs : List Out) (i : ℕ) → outs ≡ all_outs → i < 24 → i < length outs
-unfolding link_outs core_outs
-among_outs outs i are below = subst (λ (l : List Out). i < length l) (sym are) below
+pub there : {X : Type 0} (place : Option ℕ) (q : ℕ) (xs : List X) → place ≡ Some q → where_there place q xs ≡ xs
+there place q xs is = ap (λ p. where_there p q xs) is ∙ here q q xs refl
 
-pub ends_differ : (u : Setup) (c : Chip) (ends : List (Out × OutEnd)) → outs_with_ends ends ≡ filter (has_queue_behind u c) all_outs → AllPairs (λ a b. a ≢ b) (outs_with_ends ends)
-ends_differ u c ends are = subst (AllPairs (λ a b. a ≢ b)) (sym are) (AllPairs-filter (λ (a b : Out). a ≢ b) (has_queue_behind u c) all_outs outs_differ)
+pub not_there : {X : Type 0} (place : Option ℕ) (q : ℕ) (xs : List X) → (place ≡ Some q → ⊥) → where_there place q xs ≡ []
+not_there None q xs other = refl
+not_there (Some p) q xs other = elsewhere p q xs (λ e. other (ap Some e))
 
-pub inputs_differ : (ends : List (Port × InEnd)) → ports_of ends ≡ all_ports → AllPairs (λ a b. a ≢ b) (ports_of ends)
-inputs_differ ends are = subst (AllPairs (λ a b. a ≢ b)) (sym are) ports_differ
+-- ---- behind outputs
 
--- vertices whose queues are at different places differ
-pub vertices_differ : (u : Setup) (c : Chip) (vs : List BankVertex) (rxs left : List (Option Rx)) → All (IsOnChip u c) vs → Lent None (vertex_rxs vs) rxs left → AllPairs (λ a b. a ≢ b) (vertex_numbers_of vs)
-vertices_differ u c vs rxs left each lent =
-    AllPairs-map (λ (v : BankVertex). v.vertex) (λ v w. v.vertex ≢ w.vertex) (λ (a b : ℕ). a ≢ b) (λ v w differ. differ) vs
-    (λ i j d less below same.
-    let pairs = AllPairs-from_map (λ (v : BankVertex). rx_of v.end) (λ (a b : ℕ × Option Rx). a.0 ≢ b.0) vs lent.apart in
-    pairs i j d less below ((each i d (omega (arith, less, below))).place ∙ (ap (vertex_place u) same ∙ sym (each j d below).place)))
+module _ (u : Setup) where
+  -- the queue at a place behind an output is that of a port at the far end of a live link, or of a vertex
+  pub data Behind (c : Chip) (o : Out) (q : ℕ) : Type 0 where
+    to_port : (d : Dir) (e : Chip) → o ≡ Link d → IsLiveLink u.machine c d → far_of u.machine c d ≡ Some e → IsInside u.machine e →
+        behind u c o ≡ input q → q ≡ queue_at u.machine e (ByLink (opposite_of d)) → Behind c o q
+    to_core : (v : ℕ) → v < length u.spots → behind u c o ≡ core v → q ≡ vertex_place u v → Behind c o q
 
--- ---- places of one chip's ends
+  pub behind_at : (c : Chip) (o : Out) (q : ℕ) → IsInside u.machine c → place_behind u c o ≡ Some q → Behind c o q
+  behind_at c o q inside is = elim (leads u c o) [
+    | by_link d e out live far at ↦
+        let place : q ≡ queue_at u.machine e (ByLink (opposite_of d)) = sym (same_Some (queue_at u.machine e (ByLink (opposite_of d))) q (sym (ap (queue_place_of u) at) ∙ is)) in
+        to_port d e out live far (far_inside u.machine c e d inside far) (at ∙ ap input (sym place)) place
+    | to_vertex v dead stands at ↦
+        let place : q ≡ vertex_place u v = sym (same_Some (vertex_place u v) q (sym (ap (queue_place_of u) at) ∙ is)) in
+        let spot = vertex_behind_stands u.spots c o v stands in
+        to_core v (slice_get_within u.spots v spot.0 spot.1) at place
+    | to_none none at ↦ absurd (nothing (sym (ap (queue_place_of u) at) ∙ is))
+  ]
+    where
+      nothing : {n : ℕ} → None ≡ Some n → ⊥
+      nothing same = cc
 
-pub not_at_injection : (u : Setup) (a c : Chip) (ends : List (Out × OutEnd)) → IsInside u.machine a → IsInside u.machine c → All (IsBehind u a) ends → NotAt (txs_of ends) (queue_at u.machine c Local)
-not_at_injection u a c ends in_a in_c places = All-map (λ (h : ℕ × Option Tx). h.0 ≢ queue_at u.machine c Local) (λ (e : Out × OutEnd). tx_of e.1) ends
-    (λ i d below same. no_injection u a c (get_or ends i d).0 (get_or ends i d).1.link in_a in_c (leads u a (get_or ends i d).0 (get_or ends i d).1.link (places i d below)) same)
+  -- no port's queue is a vertex's
+  pub port_is_no_vertex : (c : Chip) (port : Port) (v : ℕ) → IsInside u.machine c → queue_at u.machine c port ≡ vertex_place u v → ⊥
+  port_is_no_vertex c port v inside same = omega (arith, same, queue_at-below u.machine c port inside)
 
-pub not_at_vertex : (u : Setup) (c : Chip) (v : ℕ) (ends : List (Port × InEnd)) → IsInside u.machine c → All (IsAtPort u.machine c) ends → NotAt (rxs_of ends) (vertex_place u v)
-not_at_vertex u c v ends inside places = All-map (λ (h : ℕ × Option Rx). h.0 ≢ vertex_place u v) (λ (e : Port × InEnd). rx_of e.1) ends
-    (λ i d below same. port_is_no_vertex u c (get_or ends i d).0 v inside (sym (places i d below) ∙ same))
+  -- two outputs of chips of the grid that lead to one queue are one
+  pub one_output : (a c : Chip) (p o : Out) (q : ℕ) → IsInside u.machine a → IsInside u.machine c → place_behind u a p ≡ Some q → place_behind u c o ≡ Some q → (a ≡ c) × (p ≡ o)
+  one_output a c p o q in_a in_c first second = elim (behind_at a p q in_a first) [
+    | to_port d e out live far in_e at place ↦ elim (behind_at c o q in_c second) [
+      | to_port d' e' out' live' far' in_e' at' place' ↦
+          let one = one_link u a c d o e in_a in_c far (at' ∙ ap input place) in
+          (one.0, out ∙ one.1)
+      | to_core v below at' place' ↦ absurd (port_is_no_vertex e (ByLink (opposite_of d)) v in_e (sym place ∙ place'))
+    ]
+    | to_core v below at place ↦ elim (behind_at c o q in_c second) [
+      | to_port d e out live far in_e at' place' ↦ absurd (port_is_no_vertex e (ByLink (opposite_of d)) v in_e (sym place' ∙ place))
+      | to_core w below' at' place' ↦
+          let same : v ≡ w = omega (arith, place, place') in
+          let one = one_end u a p v at in
+          let other = one_end u c o v (at' ∙ ap core (sym same)) in
+          let spots = same_Some one.0 other.0 (sym one.1 ∙ other.1) in
+          (sym one.2 ∙ (ap (λ s. s.chip) spots ∙ other.2), sym one.3 ∙ (ap (λ s. out_of s.core) spots ∙ other.3))
+    ]
+  ]
+
+  -- an output that leads to a port's queue is of a live link
+  pub by_wire : (e c : Chip) (o : Out) (port : Port) → IsInside u.machine e → IsInside u.machine c → place_behind u e o ≡ Some (queue_at u.machine c port) →
+      (d : Dir) × (port ≡ ByLink d) × IsLiveLink u.machine c d
+  by_wire e c o port in_e in_c is = elim (behind_at e o (queue_at u.machine c port) in_e is) [
+    | to_port d far out live leads_to in_far at place ↦
+        let one = one_port u.machine c far port (ByLink (opposite_of d)) in_c in_far place in
+        (opposite_of d, one.1, subst (λ (x : Chip). IsLiveLink u.machine x (opposite_of d)) (sym one.0) (live_back u.machine e far d leads_to live))
+    | to_core v below at place ↦ absurd (port_is_no_vertex c port v in_c place)
+  ]
+
+  -- no output of a chip leads to a port of its own
+  pub not_to_itself : (c : Chip) (o : Out) (port : Port) → IsInside u.machine c → place_behind u c o ≡ Some (queue_at u.machine c port) → ⊥
+  not_to_itself c o port inside is = elim (behind_at c o (queue_at u.machine c port) inside is) [
+    | to_port d far out live leads_to in_far at place ↦
+        let one = one_port u.machine c far port (ByLink (opposite_of d)) inside in_far place in
+        let self : chip_eq c far ≡ true = subst (λ (x : Chip). chip_eq c x ≡ true) one.0 (chip_eq_same c) in
+        absurd (differ (sym self ∙ (far_parts u.machine c far d leads_to).2))
+    | to_core v below at place ↦ absurd (port_is_no_vertex c port v inside place)
+  ]
+    where
+      differ : true ≡ false → ⊥
+      differ same = cc
+
+  pub no_injection : (e c : Chip) (o : Out) → IsInside u.machine e → IsInside u.machine c → place_behind u e o ≡ Some (queue_at u.machine c Local) → ⊥
+  no_injection e c o in_e in_c is = not_local (by_wire e c o Local in_e in_c is).0 (by_wire e c o Local in_e in_c is).1
+    where
+      not_local : (d : Dir) → Local ≡ ByLink d → ⊥
+      not_local d same = cc

@@ -18,7 +18,7 @@ use Rattle.mesh_core.specs.State.{Setup, behind_link, core_queue_of, queue_at, v
 use Rattle.mesh_core.proofs.Changes.{queue_at-below}
 use Rattle.mesh_core.proofs.Keeping.{same_queue}
 use Rattle.mesh_core.proofs.Ways.{vertex_behind_stands}
-use Rattle.mesh_run.specs.Lending.{queue_place_of, place_behind, vertex_place}
+use Rattle.mesh_run.specs.Played.{queue_place_of, place_behind, vertex_place}
 
 -- Where an output leads: by a link to the port at the far end, or to a vertex on a spot of the chip.
 pub data LeadsTo (u : Setup) (c : Chip) (o : Out) (p : ℕ) : Type 0 where

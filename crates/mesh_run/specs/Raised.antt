@@ -1,49 +1,45 @@
--- A mesh whose links stay up between rounds, seen as a mesh.
-use Rattle.std.specs.Prelude.{◌≡◌, ℕ, ◌-◌, ◌≤◌, ◌&&◌, Bool, List, [], map, take, drop, length, Option, Some, None}
-use Rattle.std.specs.List.{list_all}
-use Rattle.spin_base.specs.declared.copies.McCopy.{McCopy}
+-- A mesh that is split, between rounds and over one (this project's own).
+use Rattle.std.specs.Prelude.{◌≡◌, ℕ, ◌≤◌, Bool, false, List, ◌++◌, length}
 use Rattle.link_queue.specs.declared.links.LinkEnds.{LinkEnds}
-use Rattle.link_queue.specs.declared.links.Tx.{Tx}
-use Rattle.link_queue.specs.Ends.{sending}
 use Rattle.mesh_core.specs.State.{State}
+use Rattle.chip_node.specs.Items.{Item}
 use Rattle.mesh_run.specs.declared.raised.RaisedMesh.{RaisedMesh}
-use Rattle.mesh_run.specs.declared.standing.Standing.{Standing}
-use Rattle.mesh_run.specs.Queues.{AreUp, is_empty}
+use Rattle.mesh_run.specs.Floors.{IsFloorOf}
+use Rattle.mesh_run.specs.Gathering.{HasRoomForLogs}
+use Rattle.mesh_run.specs.Played.{IsPlayedBy}
+use Rattle.mesh_run.specs.Queues.{AreUp}
+use Rattle.mesh_run.specs.Shares.{IsNoted}
+use Rattle.mesh_run.specs.Split.{AreShared, HaveNoLogs, HoldLanes, HoldUnsent, cut_queues}
 use Rattle.mesh_run.specs.Standing.{HoldsAll}
 
--- The queue of a link between rounds: what its sending end knows to have been there first.
-abbrev pub first_of : Option Tx → List McCopy
-first_of (Some tx) = (sending tx).first
-first_of None = []
-
-abbrev pub queues_of : Standing → List (List McCopy)
-queues_of s = map first_of s.txs.items
-
--- how many of the links are those of ports
-abbrev pub port_link_count : RaisedMesh → ℕ
-port_link_count r = length r.queues.items - length r.cores.items
-
--- The mesh that it is.
-abbrev pub mesh_of : RaisedMesh → State
-mesh_of r = record {
-  setup = r.setup;
-  unsent = r.unsent.items;
-  inputs = take (port_link_count r) (queues_of r.standing);
-  hands = r.hands.items;
-  cores = drop (port_link_count r) (queues_of r.standing);
-  delivered = r.delivered;
-  dumped = r.dumped;
-}
-
--- A link for each queue of the mesh, with both ends, that rests with the queue, and places for all queues to come down to.
-pub record IsRaised (r : RaisedMesh) : Type 0 where
+-- A mesh is split, and stands there between rounds. `more` is for how many copies more its links have places at least.
+pub record IsRaisedFrom (m : State) (more : ℕ) (r : RaisedMesh) : Type 0 where
+  pub setup : r.parts.setup ≡ m.setup
+  pub hands : r.parts.hands ≡ m.hands
+  pub inputs_long : length r.parts.inputs ≡ length m.inputs
+  pub cores_long : length r.parts.cores ≡ length m.cores
+  pub unsent_long : length r.parts.unsent ≡ length m.unsent
+  pub floor : IsFloorOf m.setup r.floor
+  pub shared : AreShared m.setup r.homes.items r.cuts.items r.shares.items
+  pub lanes : HoldLanes (m.inputs ++ m.cores) r.homes.items r.shares.items
+  pub unsent : HoldUnsent m.setup m.unsent r.homes.items r.shares.items
   pub ends : List LinkEnds
   pub holds : HoldsAll ends r.standing
-  pub up : AreUp r.setup.capacity r.free (queues_of r.standing) ends
-  pub queues : length r.queues.items ≡ length ends
-  pub cores : length r.cores.items ≤ length r.queues.items
-  pub quiet : r.quiet ≡ list_all is_empty (queues_of r.standing)
+  pub up : AreUp m.setup.capacity more (cut_queues (m.inputs ++ m.cores) r.cuts.items) ends
+  pub crossing : length r.crossing.items ≡ length r.cuts.items
+  pub no_logs : HaveNoLogs r.shares.items
+  pub delivered : r.logs.delivered.items ≡ m.delivered
+  pub dumped : r.logs.dumped.items ≡ m.dumped
 
--- whether no queue holds a copy and no vertex has one that it did not send
-abbrev pub has_none : State → Bool
-has_none s = list_all is_empty s.inputs && (list_all is_empty s.cores && list_all is_empty s.unsent)
+-- the same, with room for all that a round may log
+pub record IsRoomyFrom (m : State) (more : ℕ) (r : RaisedMesh) : Type 0 where
+  pub raised : IsRaisedFrom m more r
+  pub room : HasRoomForLogs r.shares.items r.logs
+
+-- A round on threads leads from a mesh to another, which is split so afterwards, and it is noted whether a copy moved.
+pub record PlaysTo (patience turns : ℕ) (m : State) (moved : Bool) (r : RaisedMesh) : Type 0 where
+  pub mesh : State
+  pub items : List Item
+  pub raised : IsRaisedFrom mesh 0 r
+  pub played : IsPlayedBy patience turns items m mesh
+  pub noted : IsNoted false items moved

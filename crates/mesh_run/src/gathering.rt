@@ -1,83 +1,100 @@
-// All queues of a mesh in one list, as links, and in two lists again.
-ghost use Rattle.std.specs.Prelude.{◌≡◌, ℕ, ◌<◌, ◌≤◌, ◌+◌, ◌++◌, List, All, OnErr, OnOk, IfOk, length};
-ghost use Rattle.link_queue.specs.declared.links.LinkEnds.{LinkEnds};
-ghost use Rattle.mesh_run.specs.Standing.{HoldsAll};
-ghost use Rattle.mesh_run.specs.Queues.{AreUp};
+// What the shares logged in a round, put at the ends of the mesh's lists.
+ghost use Rattle.std.specs.Prelude.{◌≡◌, ◌≤◌, ◌+◌, ◌++◌, ◌||◌, IfOk, OnOk, length};
+ghost use Rattle.std.specs.List.{flat_map};
+ghost use Rattle.mesh_run.specs.Gathering.{AreCleared, FitsLogs, HasRoomForLogs, IsAnyMoved, IsCleared};
 
-use crate::queues::{Places, bring_up};
-use crate::standing::{Standing, last_of};
-use spin_base::{Fifo, McCopy, Memory};
-use std::alloc::Global;
-use std::mem;
-use std::sync::Wait;
+use crate::shares::Share;
+use chip_node::Log;
+use spin_base::{Delivery, DumpRec, Memory};
 
-/// A link for each queue, those of ports and then those of vertices, with places for a round of so many turns, and in `inputs` a
-/// place for each of them. After a refusal the queues are as before.
-pub(crate) fn links_of<R: Wait>(
-    rt: &R,
-    alloc: Global,
-    inputs: &mut Vec<Fifo<McCopy>>,
-    cores: &mut Vec<Fifo<McCopy>>,
-    places: Places,
-) -> Result<Standing, Memory>
-    requires inputs_fit { All (λ q. length q ≤ places.cap) inputs.old.items }
-    requires cores_fit { All (λ q. length q ≤ places.cap) cores.old.items }
-    ensures cores_long { length cores.new.items ≡ length cores.old.items }
-    ensures long { OnOk result (length inputs.new.items
-        ≡ length inputs.old.items + length cores.old.items) }
-    ensures up { IfOk result (λ s. (ends : List LinkEnds) × HoldsAll ends s
-        × AreUp places.cap (places.turns + 1) (inputs.old.items ++ cores.old.items) ends) }
-    ensures inputs_back { OnErr result (inputs.new.items ≡ inputs.old.items) }
-    ensures cores_back { OnErr result (cores.new.items ≡ cores.old.items) }
-{
-    gather(alloc, inputs, cores)?;
-    match bring_up(rt, alloc, inputs, places) {
-        Ok(standing) => {
-            forget(alloc, inputs);
-            Ok(standing)
+/// The lists of deliveries and of dump records of a mesh.
+#[derive(Drop)]
+pub(crate) struct MeshLogs {
+    pub delivered: Log<Delivery>,
+    pub dumped: Log<DumpRec>,
+}
+
+impl MeshLogs {
+    /// Makes room for all that the shares have room for. After a refusal the lists are as before.
+    pub fn make_room(&mut self, shares: &[Share]) -> Result<(), Memory>
+        ensures delivered { self.new.delivered.items ≡ self.old.delivered.items }
+        ensures dumped { self.new.dumped.items ≡ self.old.dumped.items }
+        ensures room { OnOk result (HasRoomForLogs shares.now self.new) }
+    {
+        let mut deliveries: usize = 0;
+        let mut dumps: usize = 0;
+        for share in shares {
+            deliveries = sum_of(deliveries, share.hold.deliveries.spare())?;
+            dumps = sum_of(dumps, share.hold.dumps.spare())?;
         }
-        Err(e) => {
-            scatter(inputs, cores);
-            Err(e)
+        self.delivered.make_room(deliveries)?;
+        self.dumped.make_room(dumps)
+    }
+
+    /// Takes what the shares logged, share by share. Whether a copy moved in any of them.
+    pub fn gather(&mut self, shares: &mut [Share]) -> bool
+        requires { FitsLogs shares.old self.old }
+        ensures delivered { self.new.delivered.items
+            ≡ self.old.delivered.items ++ flat_map (λ s. s.hold.deliveries.items) shares.old }
+        ensures dumped { self.new.dumped.items
+            ≡ self.old.dumped.items ++ flat_map (λ s. s.hold.dumps.items) shares.old }
+        ensures cleared { AreCleared shares.old shares.new }
+        ensures moved { IsAnyMoved shares.old result }
+    {
+        let mut moved = false;
+        for number in 0..shares.len() {
+            moved = either(moved, shares[number].moved);
+            self.take(&mut shares[number]);
         }
+        moved
+    }
+
+    // Takes what a share logged.
+    fn take(&mut self, share: &mut Share)
+        requires delivered { length share.old.hold.deliveries.items ≤ self.old.delivered.spare }
+        requires dumped { length share.old.hold.dumps.items ≤ self.old.dumped.spare }
+        ensures delivered { self.new.delivered.items
+            ≡ self.old.delivered.items ++ share.old.hold.deliveries.items }
+        ensures delivered_room { self.new.delivered.spare + length share.old.hold.deliveries.items
+            ≡ self.old.delivered.spare }
+        ensures dumped { self.new.dumped.items
+            ≡ self.old.dumped.items ++ share.old.hold.dumps.items }
+        ensures dumped_room { self.new.dumped.spare + length share.old.hold.dumps.items
+            ≡ self.old.dumped.spare }
+        ensures cleared { IsCleared share.old share.new }
+    {
+        share.deliveries_wanted = share.hold.deliveries.as_slice().len().saturating_mul(2);
+        share.dumps_wanted = share.hold.dumps.as_slice().len().saturating_mul(2);
+        put_all(&mut self.delivered, share.hold.deliveries.as_slice());
+        put_all(&mut self.dumped, share.hold.dumps.as_slice());
+        share.hold.deliveries.clear();
+        share.hold.dumps.clear();
     }
 }
 
-// All queues in one list, those of vertices behind those of ports.
-fn gather(
-    alloc: Global,
-    inputs: &mut Vec<Fifo<McCopy>>,
-    cores: &mut Vec<Fifo<McCopy>>,
-) -> Result<(), Memory>
-    ensures cores_long { length cores.new.items ≡ length cores.old.items }
-    ensures all { OnOk result (inputs.new.items ≡ inputs.old.items ++ cores.old.items) }
-    ensures inputs_back { OnErr result (inputs.new.items ≡ inputs.old.items) }
-    ensures cores_back { OnErr result (cores.new.items ≡ cores.old.items) }
+fn either(first: bool, second: bool) -> bool
+    ensures { result ≡ (first || second) }
 {
-    inputs.reserve_exact(cores.len())?;
-    for vertex in 0..cores.len() {
-        inputs.push_reserved(mem::replace(&mut cores[vertex], Fifo::new(alloc)));
-    }
-    Ok(())
+    first || second
 }
 
-// Gives the memory of all queues back, whose copies are in their links.
-fn forget(alloc: Global, queues: &mut Vec<Fifo<McCopy>>)
-    ensures { length queues.new.items ≡ length queues.old.items }
+// The sum of two numbers of items. There is no memory for more items than a word counts.
+fn sum_of(a: usize, b: usize) -> Result<usize, Memory>
+    ensures { IfOk result (λ sum. sum ≡ a + b) }
 {
-    for place in 0..queues.len() {
-        queues[place] = Fifo::new(alloc);
+    match a.checked_add(b) {
+        Some(sum) => Ok(sum),
+        None => Err(Memory),
     }
 }
 
-/// The queues of vertices, which stand last, in their own list again.
-pub(crate) fn scatter(queues: &mut Vec<Fifo<McCopy>>, cores: &mut Vec<Fifo<McCopy>>)
-    requires { length cores.old.items ≤ length queues.old.items }
-    ensures long { length cores.new.items ≡ length cores.old.items }
-    ensures all { queues.new.items ++ cores.new.items ≡ queues.old.items }
+// Puts items at the end of a log.
+fn put_all<T: Copy>(log: &mut Log<T>, items: &[T])
+    requires { length items.now ≤ log.old.spare }
+    ensures items { log.new.items ≡ log.old.items ++ items.entry.now }
+    ensures spare { log.new.spare + length items.entry.now ≡ log.old.spare }
 {
-    let count = cores.len();
-    for gone in 0..count {
-        cores[count - gone - 1] = last_of(queues);
+    for item in items {
+        log.put(*item);
     }
 }

@@ -1,29 +1,23 @@
-//! One round of the mesh on threads: each router and each bank of cores takes its turns in a worker, joined by links alone.
+//! Rounds on threads: the router and the bank of cores of each live chip take turns, in workers that share nothing but the links between
+//! them, the routers' tables and a gate.
 //!
-//! A worker has a run of actors, gives each of them one turn after the other, and shares with other workers the links'
-//! queues, the routers' tables and the gate alone. The rules are this project's own.
+//! The actors, a router and then a bank for each live chip, are split in runs of equal length, one for each worker. A queue whose sender
+//! and receiver stand in one run is a lane of that worker's share; any other is a link. A mesh is split into shares once, and stays so
+//! from round to round. All memory of a round is taken before its first turn. Routers, ports and links are those of the SpiNNaker
+//! datasheet; workers, turns and rounds are this project's own.
 #![tactic(auto)]
 
-mod actors;
-mod dealing;
-mod end_spaces;
-mod flags;
+mod crossing;
+mod floors;
 mod gathering;
-pub mod laws;
-mod lending;
+mod homes;
+mod paces;
 mod queues;
 mod raised;
-mod returning;
-mod rounds;
-mod seats;
+mod rooms;
 mod shares;
-mod spaces;
+mod splitting;
 mod standing;
-mod waking;
 
-pub use actors::Actor;
-pub use flags::Flags;
+pub use paces::{Pace, Round};
 pub use raised::RaisedMesh;
-pub use rounds::{Pace, Round, play_parts};
-pub use shares::play;
-pub use standing::Standing;

@@ -1,42 +1,43 @@
-// A mesh whose links stay up between rounds.
-ghost use Rattle.std.specs.Prelude.{◌≡◌, ◌<◌, IfErr, IfOk};
-ghost use Rattle.std.specs.List.{list_all};
-ghost use Rattle.mesh_core.specs.State.{IsMesh};
-ghost use Rattle.mesh_run.specs.Holders.{IsPlayed};
-ghost use Rattle.mesh_run.specs.Queues.{is_empty};
-ghost use Rattle.mesh_run.specs.Raised.{IsRaised, has_none, mesh_of};
+// A mesh split into shares, from round to round.
+ghost use Rattle.std.specs.Prelude.{◌≡◌, ◌+◌, ◌<◌, IfErr, IfOk, OnErr, OnOk};
+ghost use Rattle.mesh_core.specs.State.{IsMesh, State};
+ghost use Rattle.mesh_run.specs.Raised.{IsRaisedFrom, IsRoomyFrom, PlaysTo};
 
-use crate::gathering::{links_of, scatter};
+use crate::crossing::{collect, deal};
+use crate::floors::Floor;
+use crate::gathering::MeshLogs;
+use crate::homes::{Cut, Home};
+use crate::paces::{Pace, Round};
 use crate::queues::{Places, bring_down, rest_all, widen_all};
-use crate::rounds::{Logs, Pace, Round, RoundSpace, play_links};
-use crate::spaces::live_spaces;
-use crate::standing::{Standing, room_for};
-use mesh_core::{Hand, MeshParts, MeshSetup};
-use spin_base::{Delivery, DumpRec, Fifo, Gate, McCopy, Memory, Seq};
+use crate::rooms::{RoundSize, make_room_in_all};
+use crate::shares::{Ground, Share, play_all};
+use crate::splitting::{SplitPlan, move_in, move_out, swap_queue};
+use crate::standing::Standing;
+use chip_node::{Around, Log};
+use mesh_core::MeshParts;
+use spin_base::{Fifo, Gate, McCopy, Memory, Seq};
 use std::alloc::Global;
+use std::mem;
 use std::sync::Wait;
 use std::thread::Threads;
 
-/// A mesh whose queues are links, which stay up between rounds. Contracts see the mesh that it is.
+/// A mesh that is split into shares, one for each worker, and stays so between rounds.
 #[derive(Drop)]
 pub struct RaisedMesh {
-    pub(crate) setup: MeshSetup,
-    pub(crate) hands: Vec<Option<Hand>>,
-    pub(crate) unsent: Vec<Fifo<McCopy>>,
+    // What never changes, and the lists that the shares' go back to.
+    pub(crate) parts: MeshParts,
+    pub(crate) pace: Pace,
+    pub(crate) floor: Floor,
+    pub(crate) homes: Vec<Home>,
+    pub(crate) cuts: Vec<Cut>,
     pub(crate) standing: Standing,
-    pub(crate) delivered: Seq<Delivery>,
-    pub(crate) dumped: Fifo<DumpRec>,
-    // Where the copies go when the links come down: a queue for each link, and one for each vertex.
-    pub(crate) queues: Vec<Fifo<McCopy>>,
-    pub(crate) cores: Vec<Fifo<McCopy>>,
-    // Whether no link holds a copy.
-    pub(crate) quiet: bool,
-    // A round of fewer turns fills no link that has fewer places than its queue.
-    pub(crate) free: usize,
+    pub(crate) crossing: Vec<Fifo<McCopy>>,
+    pub(crate) shares: Vec<Share>,
+    pub(crate) logs: MeshLogs,
 }
 
 impl RaisedMesh {
-    /// The mesh with a link for each queue, with places for rounds of so many turns.
+    /// The mesh, split for `pace.workers` workers.
     ///
     /// # Errors
     ///
@@ -45,181 +46,149 @@ impl RaisedMesh {
         rt: &R,
         alloc: Global,
         parts: MeshParts,
-        turns: u32,
+        pace: Pace,
     ) -> Result<RaisedMesh, (MeshParts, Memory)>
         requires { IsMesh parts }
-        ensures raised { IfOk result IsRaised }
-        ensures same { IfOk result (λ r. mesh_of r ≡ parts) }
+        ensures raised { IfOk result (λ r. IsRaisedFrom parts 0 r) }
+        ensures pace { IfOk result (λ r. r.pace ≡ pace) }
         ensures back { IfErr result (λ b. b.0 ≡ parts) }
     {
         let mut parts = parts;
-        let cap = parts.setup.capacity();
-        let places = Places { cap, turns };
-        match links_of(rt, alloc, &mut parts.inputs, &mut parts.cores, places) {
-            Ok(mut standing) => {
-                let rested = rest_all(rt, &mut standing, cap);
-                let MeshParts {
-                    setup,
-                    unsent,
-                    inputs: queues,
-                    hands,
-                    cores,
-                    delivered,
-                    dumped,
-                } = parts;
-                Ok(RaisedMesh {
-                    setup,
-                    hands,
-                    unsent,
+        match SplitPlan::of(rt, alloc, &parts, pace) {
+            Err(e) => Err((parts, e)),
+            Ok(plan) => {
+                let SplitPlan {
+                    floor,
+                    homes,
+                    cuts,
                     standing,
-                    delivered,
-                    dumped,
-                    queues,
-                    cores,
-                    quiet: rested.quiet,
-                    free: rested.free,
+                    crossing,
+                    mut shares,
+                } = plan;
+                move_in(alloc, &mut parts, &homes, &cuts, &mut shares);
+                let delivered = mem::replace(&mut parts.delivered, Seq::new(alloc));
+                let dumped = mem::replace(&mut parts.dumped, Fifo::new(alloc));
+                Ok(RaisedMesh {
+                    parts,
+                    pace,
+                    floor,
+                    homes,
+                    cuts,
+                    standing,
+                    crossing,
+                    shares,
+                    logs: MeshLogs {
+                        delivered: Log::of_list(delivered),
+                        dumped: Log::of_list(dumped.into_seq()),
+                    },
                 })
             }
-            Err(e) => Err((parts, e)),
         }
     }
 
-    /// One round: the router and the bank of each live chip take at most `pace.turns` turns, in `pace.workers` workers, of which
-    /// each enters the gate in phase `number`. All memory is taken before the first turn.
+    /// One round: the router and the bank of each live chip take at most `pace.turns` turns, in as many workers as there are shares, of
+    /// which each enters the gate in the phase of the round's number. All memory is taken before the first turn. Whether a copy moved.
     ///
     /// # Errors
     ///
     /// `Memory` where memory runs out, with the mesh as it was.
     pub fn play<R: Threads + Wait + Sync, G: Gate>(
-        self,
+        &mut self,
         rt: &R,
         alloc: Global,
-        pace: Pace,
-        number: u32,
-        gate: &G,
-    ) -> Result<RaisedMesh, (RaisedMesh, Memory)>
-        requires raised { IsRaised self }
-        requires mesh { IsMesh (mesh_of self) }
-        ensures raised { IfOk result IsRaised }
-        ensures played { IfOk result (λ r. IsPlayed pace.patience pace.turns (mesh_of self)
-            (mesh_of r)) }
-        ensures still_raised { IfErr result (λ b. IsRaised b.0) }
-        ensures back { IfErr result (λ b. mesh_of b.0 ≡ mesh_of self) }
+        round: &Round<G>,
+    ) -> Result<bool, Memory>
+        requires { (m : State) × IsMesh m × IsRaisedFrom m 0 self.old }
+        ensures played { IfOk result (λ moved. (m : State) → IsMesh m → IsRaisedFrom m 0 self.old
+            → PlaysTo self.old.pace.patience self.old.pace.turns m moved self.new) }
+        ensures back { OnErr result ((m : State) → IsMesh m → IsRaisedFrom m 0 self.old
+            → IsRaisedFrom m 0 self.new) }
+        ensures pace { self.new.pace ≡ self.old.pace }
     {
-        let mut raised = self.with_places(rt, alloc, pace.turns)?;
-        let Ok(spaces) = live_spaces(alloc, raised.setup.machine(), pace.turns) else {
-            return Err((raised, Memory));
-        };
-        let Ok(actors) = room_for(alloc, 2 * spaces.len()) else {
-            return Err((raised, Memory));
-        };
-        let cap = raised.setup.capacity();
-        match Logs::over(raised.delivered, raised.dumped, spaces.len(), pace.turns) {
-            Ok(logs) => {
-                let space = RoundSpace {
-                    alloc,
-                    spaces,
-                    actors,
-                    logs,
-                };
-                let round = Round { pace, number, gate };
-                let logs = play_links(
-                    rt,
-                    &raised.setup,
-                    space,
-                    &mut raised.standing,
-                    &mut raised.unsent,
-                    &round,
-                );
-                let rested = rest_all(rt, &mut raised.standing, cap);
-                (raised.delivered, raised.dumped) = logs.into_lists();
-                raised.quiet = rested.quiet;
-                raised.free = rested.free;
-                Ok(raised)
-            }
-            Err((delivered, dumped)) => {
-                raised.delivered = delivered;
-                raised.dumped = dumped;
-                Err((raised, Memory))
-            }
-        }
+        self.make_room(rt, alloc, round.thorough)?;
+        Ok(self.play_roomy(rt, round))
     }
 
-    // The same mesh, whose links have places for a round of so many turns.
-    fn with_places<R: Wait>(
-        self,
-        rt: &R,
-        alloc: Global,
-        turns: u32,
-    ) -> Result<RaisedMesh, (RaisedMesh, Memory)>
-        requires raised { IsRaised self }
-        requires mesh { IsMesh (mesh_of self) }
-        ensures raised { IfOk result IsRaised }
-        ensures same { IfOk result (λ r. mesh_of r ≡ mesh_of self) }
-        ensures places { IfOk result (λ r. turns < r.free) }
-        ensures still_raised { IfErr result (λ b. IsRaised b.0) }
-        ensures back { IfErr result (λ b. mesh_of b.0 ≡ mesh_of self) }
+    // A round for which there is room.
+    fn play_roomy<R: Threads + Wait + Sync, G: Gate>(&mut self, rt: &R, round: &Round<G>) -> bool
+        requires { (m : State) × IsMesh m × IsRoomyFrom m (self.old.pace.turns + 1) self.old }
+        ensures played { (m : State) → IsMesh m
+            → IsRoomyFrom m (self.old.pace.turns + 1) self.old
+            → PlaysTo self.old.pace.patience self.old.pace.turns m result self.new }
+        ensures pace { self.new.pace ≡ self.old.pace }
     {
-        let mut raised = self;
-        let turns_in_all = turns as usize;
-        if turns_in_all < raised.free {
-            return Ok(raised);
-        }
-        let cap = raised.setup.capacity();
-        let places = Places { cap, turns };
-        match widen_all(rt, alloc, &mut raised.standing, places) {
-            Ok(()) => {
-                raised.free = turns_in_all + 1;
-                Ok(raised)
-            }
-            Err(e) => {
-                raised.free = 0;
-                Err((raised, e))
-            }
-        }
+        deal(&mut self.shares, &mut self.standing, &self.cuts);
+        let ground = Ground {
+            setup: &self.parts.setup,
+            floor: &self.floor,
+            around: Around {
+                links: &self.standing.links,
+                capacity: self.parts.setup.capacity(),
+                patience: self.pace.patience,
+            },
+            turns: self.pace.turns,
+        };
+        play_all(rt, ground, &mut self.shares, round);
+        collect(&mut self.shares, &mut self.standing, &self.cuts);
+        let _ = rest_all(rt, &mut self.standing, self.parts.setup.capacity());
+        self.logs.gather(&mut self.shares)
     }
 
-    /// Whether no copy waits in a queue and none is unsent.
-    pub fn is_at_rest(&self) -> bool
-        requires { IsRaised self.now }
-        ensures { result ≡ has_none (mesh_of self.now) }
+    // Room for a round.
+    fn make_room<R: Wait>(&mut self, rt: &R, alloc: Global, all: bool) -> Result<(), Memory>
+        requires { (m : State) × IsMesh m × IsRaisedFrom m 0 self.old }
+        ensures room { OnOk result ((m : State) → IsMesh m → IsRaisedFrom m 0 self.old
+            → IsRoomyFrom m (self.new.pace.turns + 1) self.new) }
+        ensures back { OnErr result ((m : State) → IsMesh m → IsRaisedFrom m 0 self.old
+            → IsRaisedFrom m 0 self.new) }
+        ensures pace { self.new.pace ≡ self.old.pace }
     {
-        self.quiet && are_empty(&self.unsent)
+        let places = places_of(&self.parts, self.pace.turns);
+        widen_all(rt, alloc, &mut self.standing, places)?;
+        let size = RoundSize {
+            capacity: places.cap,
+            turns: places.turns,
+        };
+        make_room_in_all(&mut self.shares, &self.floor, size, all)?;
+        self.logs.make_room(&self.shares)
     }
 
     /// The mesh with its queues. It takes no memory.
-    pub fn lower<R: Wait>(self, rt: &R) -> MeshParts
-        requires { IsRaised self }
-        ensures { result ≡ mesh_of self }
+    pub fn lower<R: Wait>(self, rt: &R, alloc: Global) -> MeshParts
+        requires { (m : State) × IsMesh m × IsRaisedFrom m 0 self }
+        ensures { (m : State) → IsMesh m → IsRaisedFrom m 0 self → result ≡ m }
     {
         let RaisedMesh {
-            setup,
-            hands,
-            unsent,
+            mut parts,
+            homes,
+            cuts,
             standing,
-            delivered,
-            dumped,
-            mut queues,
-            mut cores,
+            mut crossing,
+            mut shares,
+            logs,
             ..
         } = self;
-        bring_down(rt, standing, &mut queues);
-        scatter(&mut queues, &mut cores);
-        MeshParts {
-            setup,
-            unsent,
-            inputs: queues,
-            hands,
-            cores,
-            delivered,
-            dumped,
+        move_out(alloc, &mut parts, &homes, &mut shares);
+        bring_down(rt, standing, &mut crossing);
+        for number in 0..cuts.len() {
+            let copies = mem::replace(&mut crossing[number], Fifo::new(alloc));
+            let _ = swap_queue(&mut parts, cuts[number].queue as usize, copies);
         }
+        let MeshLogs { delivered, dumped } = logs;
+        parts.delivered = delivered.into_list();
+        parts.dumped = Fifo::from_seq(dumped.into_list());
+        parts
     }
 }
 
-// Whether each queue is empty.
-fn are_empty(queues: &[Fifo<McCopy>]) -> bool
-    ensures { result ≡ list_all is_empty queues.now }
+// For what the links of a mesh have places, in rounds of so many turns.
+fn places_of(parts: &MeshParts, turns: u32) -> Places
+    requires { 0 < parts.now.setup.capacity }
+    ensures cap { result.cap ≡ parts.now.setup.capacity }
+    ensures turns { result.turns ≡ turns }
 {
-    queues.iter().all(|queue| queue.len() == 0)
+    Places {
+        cap: parts.setup.capacity(),
+        turns,
+    }
 }

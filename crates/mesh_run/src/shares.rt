@@ -1,104 +1,179 @@
-// The turns of all actors, by workers.
-ghost use Rattle.std.specs.Prelude.{◌≡◌, ℕ, ◌<◌, All, length, slice_index_or};
-ghost use Rattle.mesh_run.specs.declared.actors.Actor.{Actor};
-ghost use Rattle.mesh_run.specs.Acting.{IsReadyActor, MayPlayOn, PlaysOn};
+// One worker's share of a mesh, and its turns of a round.
+ghost use Rattle.std.specs.Prelude.{◌≡◌, ◌<◌, ◌≤◌, ℕ, All, length, slice_index_or};
+ghost use Rattle.mesh_run.specs.Floors.{IsFloorOf};
+ghost use Rattle.mesh_run.specs.Shares.{ActsAt, IsShareOf, PlaysAndStays, PlaysOne, PlaysRound, PlaysTurns};
 
-use crate::actors::{Actor, Around};
-use crate::rounds::Round;
-use crate::waking::{ActorPlaces, Awake};
-use link_queue::Link;
-use spin_base::Gate;
+use crate::floors::Floor;
+use crate::paces::Round;
+use chip_node::{Around, Flags, Holdings, Turn};
+use mesh_core::MeshSetup;
+use spin_base::{Gate, Shared};
 use std::sync::Wait;
 use std::thread;
 use std::thread::Threads;
-use tcam_find::Tcam;
 
-/// Gives each actor the turns of a round, of which those in which it is asleep are none. The actors are cut in as many runs of equal
-/// length as there are workers, the last shorter, one for each worker. Each worker enters the gate before each turn of its actors, in
-/// the phase of the round's number, and once more after the last.
-pub fn play<R: Threads + Wait + Sync, G: Gate>(
+/// A run of actors, and what they hold. Flags are hints, and no promise rests on them.
+#[derive(Drop)]
+pub struct Share {
+    /// The places of the run: from the first, to below the second.
+    pub from: usize,
+    pub to: usize,
+    pub hold: Holdings,
+    /// The number by which its worker enters the gate.
+    pub worker: u32,
+    /// Who may have something to do.
+    pub awake: Flags,
+    /// Who takes from another worker, and so always may have.
+    pub polled: Flags,
+    /// Who had no room in the last round.
+    pub short: Flags,
+    /// Whether a copy moved in the last round.
+    pub moved: bool,
+    /// For how many dump records and deliveries the next round gets room: twice as many as the last one had.
+    pub dumps_wanted: usize,
+    pub deliveries_wanted: usize,
+}
+
+impl Shared for Share {}
+
+/// What all shares of a round stand on.
+#[derive(Clone, Copy)]
+pub(crate) struct Ground<'a> {
+    pub setup: &'a MeshSetup,
+    pub floor: &'a Floor,
+    pub around: Around<'a>,
+    pub turns: u32,
+    ghost capacity: { around.capacity ≡ setup.now.capacity },
+}
+
+impl Share {
+    /// The share's turns of a round. Its worker enters the gate before each turn, and once more after the last.
+    pub(crate) fn play<R: Wait, G: Gate>(&mut self, rt: &R, ground: Ground, round: &Round<G>)
+        requires floor { IsFloorOf ground.setup.now ground.floor.now }
+        requires share { IsShareOf ground.setup.now ground.around.links.now self.old }
+        ensures plays { PlaysRound ground.entry.setup.now ground.entry.around.patience
+            ground.entry.turns self.old self.new }
+        ensures share { IsShareOf ground.entry.setup.now ground.entry.around.links.now self.new }
+    {
+        self.moved = false;
+        for step in 0..ground.turns {
+            round.gate.enter(round.number, self.worker, step);
+            self.turn_each(rt, ground, step, step == 0 && round.thorough);
+        }
+        round.gate.enter(round.number, self.worker, ground.turns);
+    }
+
+    // One turn of each actor that is awake, or of all.
+    fn turn_each<R: Wait>(&mut self, rt: &R, ground: Ground, number: u32, all: bool)
+        requires floor { IsFloorOf ground.setup.now ground.floor.now }
+        requires share { IsShareOf ground.setup.now ground.around.links.now self.old }
+        ensures plays { PlaysTurns ground.entry.setup.now ground.entry.around.patience 1 self.old
+            self.new }
+        ensures share { IsShareOf ground.entry.setup.now ground.entry.around.links.now self.new }
+    {
+        let mut at = self.from;
+        'actors: while at < self.to {
+            if !all {
+                match self.awake.next(at) {
+                    Some(place) => at = place,
+                    None => return,
+                }
+            }
+            if at < self.to {
+                self.turn_one(rt, ground, number, at);
+            }
+            at += 1;
+        }
+    }
+
+    // One turn of the actor at a place.
+    fn turn_one<R: Wait>(&mut self, rt: &R, ground: Ground, number: u32, at: usize)
+        requires floor { IsFloorOf ground.setup.now ground.floor.now }
+        requires share { IsShareOf ground.setup.now ground.around.links.now self.old }
+        requires above { self.old.from ≤ at }
+        requires below { at < self.old.to }
+        ensures plays { PlaysOne ground.entry.setup.now ground.entry.around.patience at self.old
+            self.new }
+        ensures share { IsShareOf ground.entry.setup.now ground.entry.around.links.now self.new }
+    {
+        match self.act(rt, ground, number, at) {
+            Turn::Moved => self.moved = true,
+            Turn::Waits => self.short.set(at),
+            Turn::Nothing => {
+                if !self.polled.has(at) {
+                    self.awake.clear(at);
+                }
+            }
+        }
+    }
+
+    // What the actor at a place does in a turn. On a chip that isn't live there is none.
+    fn act<R: Wait>(&mut self, rt: &R, ground: Ground, number: u32, at: usize) -> Turn
+        requires floor { IsFloorOf ground.setup.now ground.floor.now }
+        requires share { IsShareOf ground.setup.now ground.around.links.now self.old }
+        requires above { self.old.from ≤ at }
+        requires below { at < self.old.to }
+        ensures acts { ActsAt ground.entry.setup.now ground.entry.around.patience at self.old result
+            self.new }
+        ensures share { IsShareOf ground.entry.setup.now ground.entry.around.links.now self.new }
+    {
+        let index = at / 2;
+        if at % 2 == 0 {
+            match ground.floor.router(ground.setup, index) {
+                Some(router) => {
+                    router.turn(rt, ground.around, &mut self.hold, &mut self.awake, number)
+                }
+                None => Turn::Nothing,
+            }
+        } else if ground.floor.is_live(index) {
+            let bank = ground.floor.bank(index);
+            bank.turn(rt, ground.around, &mut self.hold, &mut self.awake, number)
+        } else {
+            Turn::Nothing
+        }
+    }
+}
+
+/// The turns of a round, by as many workers as there are shares. With one share the calling thread gives them.
+pub(crate) fn play_all<R: Threads + Wait + Sync, G: Gate>(
     rt: &R,
-    links: &[Link],
-    tables: &[Tcam],
-    actors: &mut Vec<Actor>,
+    ground: Ground,
+    shares: &mut Vec<Share>,
     round: &Round<G>,
 )
-    requires ready { All (IsReadyActor links.now tables.now round.now.pace.turns) actors.old.items }
-    ensures long { length actors.new.items ≡ length actors.old.items }
-    ensures each { (i : ℕ) (d : Actor) → i < length actors.old.items
-        → PlaysOn links.now tables.now round.now.pace.turns (slice_index_or actors.old.items i d)
-        (slice_index_or actors.new.items i d) }
+    requires floor { IsFloorOf ground.setup.now ground.floor.now }
+    requires shares { All (IsShareOf ground.setup.now ground.around.links.now) shares.old.items }
+    ensures long { length shares.new.items ≡ length shares.old.items }
+    ensures each { (i : ℕ) (d : Share) → i < length shares.old.items
+        → PlaysAndStays ground.entry.setup.now ground.entry.around.links.now
+        ground.entry.around.patience ground.entry.turns (slice_index_or shares.old.items i d)
+        (slice_index_or shares.new.items i d) }
 {
-    let size = actors.len().div_ceil(round.pace.workers as usize).max(1);
-    let places = ActorPlaces::of(actors.as_slice(), tables.len(), size);
     thread::for_each_chunk_mut(
         rt,
-        actors.as_mut_slice(),
-        size,
-        &|start: usize, part: &mut [Actor]|
-            requires { All (IsReadyActor links.now tables.now round.now.pace.turns) part.now }
-            ensures { (k : ℕ) (d : Actor) → k < length part.entry.now
-                → PlaysOn links.entry.now tables.entry.now round.entry.now.pace.turns
+        shares.as_mut_slice(),
+        1,
+        &|_, part: &mut [Share]|
+            requires floor { IsFloorOf ground.setup.now ground.floor.now }
+            requires shares { All (IsShareOf ground.setup.now ground.around.links.now) part.now }
+            ensures { (k : ℕ) (d : Share) → k < length part.entry.now
+                → PlaysAndStays ground.entry.setup.now ground.entry.around.links.now
+                ground.entry.around.patience ground.entry.turns
                 (slice_index_or part.entry.now k d) (slice_index_or part.exit.now k d) }
-        {
-            let around = Around {
-                links,
-                tables,
-                places: &places,
-            };
-            play_share(rt, around, part, start, round)
-        },
+        { play_chunk(rt, ground, part, round) },
     );
 }
 
 // One worker's turns.
-fn play_share<R: Wait, G: Gate>(
-    rt: &R,
-    around: Around,
-    part: &mut [Actor],
-    start: usize,
-    round: &Round<G>,
-)
-    requires { All (IsReadyActor around.links.now around.tables.now
-        round.now.pace.turns) part.old }
-    ensures { (k : ℕ) (d : Actor) → k < length part.old
-        → PlaysOn around.entry.links.now around.entry.tables.now round.now.pace.turns
-        (slice_index_or part.old k d) (slice_index_or part.new k d) }
-{
-    let worker = around.places.worker_at(start);
-    let mut awake = Awake::all(start);
-    for step in 0..round.pace.turns {
-        round.gate.enter(round.number, worker, step);
-        turn_each(rt, around, part, step, &mut awake);
-    }
-    round.gate.enter(round.number, worker, round.pace.turns);
-}
-
-// One turn of each actor that is awake.
-fn turn_each<R: Wait>(rt: &R, around: Around, part: &mut [Actor], number: u32, awake: &mut Awake)
-    requires { All (IsReadyActor around.links.now around.tables.now 1) part.old }
-    ensures { (k : ℕ) (d : Actor) → k < length part.old
-        → MayPlayOn around.entry.links.now around.entry.tables.now number
-        (slice_index_or part.old k d) (slice_index_or part.new k d) }
+fn play_chunk<R: Wait, G: Gate>(rt: &R, ground: Ground, part: &mut [Share], round: &Round<G>)
+    requires floor { IsFloorOf ground.setup.now ground.floor.now }
+    requires shares { All (IsShareOf ground.setup.now ground.around.links.now) part.old }
+    ensures { (k : ℕ) (d : Share) → k < length part.old
+        → PlaysAndStays ground.entry.setup.now ground.entry.around.links.now
+        ground.entry.around.patience ground.entry.turns (slice_index_or part.old k d)
+        (slice_index_or part.new k d) }
 {
     for k in 0..part.len() {
-        turn_one(rt, around, &mut part[k], number, k, awake);
-    }
-}
-
-// The turn of an actor, where it is awake. Each has the first turn of a round.
-fn turn_one<R: Wait>(
-    rt: &R,
-    around: Around,
-    actor: &mut Actor,
-    number: u32,
-    k: usize,
-    awake: &mut Awake,
-)
-    requires { IsReadyActor around.links.now around.tables.now 1 actor.old }
-    ensures { MayPlayOn around.entry.links.now around.entry.tables.now number actor.old actor.new }
-{
-    if number == 0 || awake.has(k) {
-        actor.turn(rt, around, number, k, awake);
+        part[k].play(rt, ground, round);
     }
 }

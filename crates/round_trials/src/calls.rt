@@ -2,8 +2,7 @@
 ghost use Rattle.std.specs.Prelude.{◌<◌};
 
 use crate::gates::{Greatest, InOrder};
-use mesh_round::RoundGate;
-use spin_base::{FreeGate, MemSink, MemSource, Room, Seq};
+use spin_base::{FreeGate, Gate, MemSink, MemSource, Room, Seq};
 use spin_top::spin;
 use std::alloc::Global;
 use std::mem;
@@ -68,7 +67,7 @@ fn sink_of(alloc: Global, end: End) -> Option<MemSink> {
 
 // The status of `run`, which leaves its text in the sink. What came of the call is forgotten, so that the tests owe no proof of
 // taking it apart.
-fn status<R: Threads + Wait + Sync, G: RoundGate>(
+fn status<R: Threads + Wait + Sync, G: Gate>(
     rt: &R,
     alloc: Global,
     words: &[String],
@@ -83,7 +82,7 @@ fn status<R: Threads + Wait + Sync, G: RoundGate>(
 }
 
 // The status of `run` of a job over these ends, under this gate, and the sink with its text.
-fn ran<R: Threads + Wait + Sync, G: RoundGate>(
+fn ran<R: Threads + Wait + Sync, G: Gate>(
     rt: &R,
     alloc: Global,
     job: &str,
@@ -99,7 +98,7 @@ fn ran<R: Threads + Wait + Sync, G: RoundGate>(
 }
 
 // Whether that status and that text are these.
-fn answers<R: Threads + Wait + Sync, G: RoundGate>(
+fn answers<R: Threads + Wait + Sync, G: Gate>(
     rt: &R,
     alloc: Global,
     job: &str,

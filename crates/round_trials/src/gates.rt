@@ -1,5 +1,4 @@
 // A gate that holds workers in an order, and one that looks on.
-use mesh_round::RoundGate;
 use spin_base::Gate;
 use std::sync::atomic::{AtomicU64, Ordering};
 use std::thread;
@@ -58,8 +57,6 @@ impl InOrder {
     }
 }
 
-impl RoundGate for InOrder {}
-
 impl Gate for InOrder {
     fn enter(&self, phase: u32, worker: u32, step: u32) {
         if phase != 1 || worker > 1 || step > 4 {
@@ -89,8 +86,6 @@ impl Greatest {
         self.phase.load(Ordering::SeqCst)
     }
 }
-
-impl RoundGate for Greatest {}
 
 impl Gate for Greatest {
     fn enter(&self, phase: u32, _worker: u32, _step: u32) {

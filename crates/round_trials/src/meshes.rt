@@ -10,7 +10,7 @@ use crate::calls::THREE_PACKETS;
 use crate::gates::InOrder;
 use job_readers::Job;
 use mesh_core::{Mesh, Place, Where};
-use mesh_round::{round, run_out};
+use mesh_round::round;
 use mesh_run::Pace;
 use spin_base::{Chip, Delivery, Dir, DumpRec, FreeGate, McCopy, Out, Port};
 use spin_input::job_of_text;
@@ -24,10 +24,6 @@ use std::thread::Threads;
 /// The same two chips with one packet, which its vertex has sent.
 const ONE_INJECTED: &str =
     "{\"version\":1,\"machine\":{\"width\":2,\"height\":1},\"graph\":{\"vertices\":[{\"name\":\"a\",\"at\":[0,0]},{\"name\":\"b\",\"at\":[1,0]}],\"nets\":[{\"name\":\"n\",\"source\":\"a\",\"targets\":[\"b\"]}]},\"run\":{\"packets\":[{\"net\":\"n\",\"index\":0}],\"events\":[[\"inject\",\"a\"]]}}";
-
-/// Three packets between neighbours on 256 chips, with queues for all of them.
-const MANY_CHIPS: &str =
-    "{\"version\":1,\"machine\":{\"width\":16,\"height\":16},\"graph\":{\"vertices\":[{\"name\":\"a\",\"at\":[0,0]},{\"name\":\"b\",\"at\":[1,0]}],\"nets\":[{\"name\":\"n\",\"source\":\"a\",\"targets\":[\"b\"]}]},\"run\":{\"packets\":[{\"net\":\"n\",\"index\":0},{\"net\":\"n\",\"index\":0},{\"net\":\"n\",\"index\":0}],\"queue\":3}}";
 
 // The job of a text. What else is made here and below is forgotten, so that the tests owe no proof of taking it apart.
 fn job_in(alloc: Global, text: &str) -> Option<Job>
@@ -223,74 +219,4 @@ fn a_round_ends_with_its_turns(rt: HostRuntime) {
             &[]
         )
     );
-}
-
-// As many turns as can be asked for. Room for the dump records of 256 chips would then be more than a processor can address.
-fn endless() -> Pace {
-    Pace {
-        patience: 1,
-        workers: 2,
-        turns: 4_294_967_295,
-    }
-}
-
-// The mesh that a round hands back which memory was refused.
-fn handed_back<R: Threads + Wait + Sync>(rt: &R, alloc: Global) -> Option<Mesh>
-    ensures { IfSome result HasNoHand }
-{
-    let mesh = opened(rt, alloc, MANY_CHIPS)?;
-    match round(rt, alloc, mesh, endless(), 1, &FreeGate) {
-        Ok(mesh) => {
-            mem::forget(mesh);
-            None
-        }
-        Err((mesh, _)) => Some(mesh),
-    }
-}
-
-// Whether these copies are unsent, and nothing is anywhere else on their way.
-fn is_untouched(mesh: &Mesh, unsent: &[McCopy]) -> bool {
-    let (left, right) = (Chip { x: 0, y: 0 }, Chip { x: 1, y: 0 });
-    mesh.spots().len() == 2
-        && mesh.machine().is_inside(left)
-        && mesh.machine().is_inside(right)
-        && mesh.unsent(0) == unsent
-        && mesh.queue(left, Port::Local).is_empty()
-        && mesh.queue(right, Port::Link(Dir::West)).is_empty()
-        && mesh.core_queue(1).is_empty()
-        && mesh.delivered().is_empty()
-        && mesh.dumped().is_empty()
-}
-
-// Whether rounds of four turns then deliver the packets.
-fn goes_on<R: Threads + Wait + Sync>(rt: &R, alloc: Global, mesh: Mesh) -> bool
-    requires { HasNoHand mesh }
-{
-    match run_out(rt, alloc, mesh, pace(), &FreeGate) {
-        Ok(mesh) => {
-            let count = mesh.delivered().len();
-            mem::forget(mesh);
-            count == 3
-        }
-        Err(refused) => {
-            mem::forget(refused);
-            false
-        }
-    }
-}
-
-// Whether the mesh that is handed back is as it was, and goes on from there.
-fn is_unchanged<R: Threads + Wait + Sync>(rt: &R, alloc: Global) -> bool {
-    match handed_back(rt, alloc) {
-        Some(mesh) => {
-            let kept = is_untouched(&mesh, &[copy(0, 0), copy(1, 0), copy(2, 0)]);
-            goes_on(rt, alloc, mesh) && kept
-        }
-        None => false,
-    }
-}
-
-#[test]
-fn a_round_that_is_refused_memory_changes_nothing(rt: HostRuntime) {
-    assert!(rt; is_unchanged(&rt, rt.alloc()));
 }

@@ -11,17 +11,16 @@ use crate::planned_jobs::PlannedJob;
 use crate::runs::{open_job, run_job, take_events};
 use mesh_core::laws::deliveries_are_as_many_as_expected;
 use mesh_core::{Did, Mesh};
-use mesh_round::RoundGate;
 use par_compile::{image_of, images_fill_their_tables};
 use run_report::{PlannedGraph, Report, plan_text, report_of, summary_text, text_of};
-use spin_base::{Memory, Seq};
+use spin_base::{Gate, Memory, Seq};
 use std::alloc::Global;
 use std::sync::Wait;
 use std::thread::Threads;
 use table_load::encode;
 
 // A run of the job of a number, and its summary.
-pub(crate) fn generated<R: Threads + Wait + Sync, G: RoundGate>(
+pub(crate) fn generated<R: Threads + Wait + Sync, G: Gate>(
     rt: &R,
     alloc: Global,
     number: u64,

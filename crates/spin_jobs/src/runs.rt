@@ -20,16 +20,16 @@ use mesh_round::flow_laws::{
     roomy_rounds_deliver_all, rounds_keep_the_ledger, rounds_lead_to_a_mesh,
 };
 use mesh_round::laws::{a_quiet_mesh_is_ready, passes_keep_the_ledger};
-use mesh_round::{RoundGate, reinject, run_out};
+use mesh_round::{reinject, run_out};
 use mesh_run::Pace;
 use par_compile::memories_of;
-use spin_base::{Event, Memory, Seq};
+use spin_base::{Event, Gate, Memory, Seq};
 use std::alloc::Global;
 use std::sync::Wait;
 use std::thread::Threads;
 
 // The mesh of a job after all its packets: by rounds from the opened one, until nothing waits and nothing is unsent.
-pub(crate) fn run_job<R: Threads + Wait + Sync, G: RoundGate>(
+pub(crate) fn run_job<R: Threads + Wait + Sync, G: Gate>(
     rt: &R,
     alloc: Global,
     planned: &PlannedJob<'_>,
@@ -49,7 +49,7 @@ pub(crate) fn run_job<R: Threads + Wait + Sync, G: RoundGate>(
 }
 
 // The mesh of a job after all its packets, with dumped copies put back between rounds until none is left.
-pub(crate) fn reinject_job<R: Threads + Wait + Sync, G: RoundGate>(
+pub(crate) fn reinject_job<R: Threads + Wait + Sync, G: Gate>(
     rt: &R,
     alloc: Global,
     planned: &PlannedJob<'_>,

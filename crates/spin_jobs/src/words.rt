@@ -15,10 +15,9 @@ use crate::planned_jobs::PlannedJob;
 use crate::plans::plan_of;
 use crate::runs::{reinject_job, run_job};
 use job_readers::Job;
-use mesh_round::RoundGate;
 use par_compile::Plan;
 use run_report::Refusal;
-use spin_base::Memory;
+use spin_base::{Gate, Memory};
 use spin_words::JobWord;
 use std::alloc::Global;
 use std::sync::Wait;
@@ -30,7 +29,7 @@ use std::thread::Threads;
 /// # Errors
 ///
 /// `NoRoom`, `KeysOut`, `CutOff` or `TableLong`, with what it names, where the job has no plan. `Memory` where memory runs out.
-pub fn made_of_job<R: Threads + Wait + Sync, G: RoundGate>(
+pub fn made_of_job<R: Threads + Wait + Sync, G: Gate>(
     rt: &R,
     alloc: Global,
     word: JobWord,
@@ -48,7 +47,7 @@ pub fn made_of_job<R: Threads + Wait + Sync, G: RoundGate>(
 }
 
 // The plan of a job, and what a word makes of it.
-fn planned<R: Threads + Wait + Sync, G: RoundGate>(
+fn planned<R: Threads + Wait + Sync, G: Gate>(
     rt: &R,
     alloc: Global,
     word: JobWord,
@@ -89,7 +88,7 @@ fn made(job: Job, planned: Result<(Plan, WordOutput), Refusal>) -> Result<Made, 
 }
 
 // What a word makes of a planned job.
-fn make<R: Threads + Wait + Sync, G: RoundGate>(
+fn make<R: Threads + Wait + Sync, G: Gate>(
     rt: &R,
     alloc: Global,
     word: JobWord,

@@ -8,9 +8,8 @@ ghost use Rattle.spin_top.specs.Made.{IsMade};
 
 use crate::inputs::job_for;
 use crate::outcomes::{Output, no_parts};
-use mesh_round::RoundGate;
 use run_report::Refusal;
-use spin_base::{Memory, Source};
+use spin_base::{Gate, Memory, Source};
 use spin_input::{read_request, read_steps};
 use spin_jobs::made_of_job;
 use spin_words::JobWord;
@@ -19,7 +18,7 @@ use std::sync::Wait;
 use std::thread::Threads;
 
 // What a word makes of its job.
-pub(crate) fn from_job<R: Threads + Wait + Sync, S: Source, G: RoundGate>(
+pub(crate) fn from_job<R: Threads + Wait + Sync, S: Source, G: Gate>(
     rt: &R,
     alloc: Global,
     word: JobWord,

@@ -20,9 +20,8 @@ ghost use Rattle.spin_top.specs.Writing.{IsWritten, TakesMemory, writing_of};
 
 use crate::answers::{checked, done, from_job};
 use crate::outcomes::{Outcome, Output, no_parts};
-use mesh_round::RoundGate;
 use run_report::{OUT_OF_MEMORY, Refusal, line_of};
-use spin_base::{Memory, Seq, Sink, Source, write_all};
+use spin_base::{Gate, Memory, Seq, Sink, Source, write_all};
 use spin_words::{Command, command_of};
 use std::alloc::Global;
 use std::sync::Wait;
@@ -51,7 +50,7 @@ const READ_FAULT: &str = "read fault\n";
 /// out. `gen N` ends with 0, 3 or 9, `check` with none of 7 and 8, and `apps` with none of 5 to 8.
 ///
 /// It may wait for the gate and for threads; it keeps its promises if it returns.
-pub fn spin<Rt: Threads + Wait + Sync, S: Source, K: Sink, G: RoundGate>(
+pub fn spin<Rt: Threads + Wait + Sync, S: Source, K: Sink, G: Gate>(
     rt: &Rt,
     alloc: Global,
     words: &[String],
@@ -89,7 +88,7 @@ pub fn spin<Rt: Threads + Wait + Sync, S: Source, K: Sink, G: RoundGate>(
 }
 
 // What `spin` does, and how it ends.
-fn answered<R: Threads + Wait + Sync, S: Source, K: Sink, G: RoundGate>(
+fn answered<R: Threads + Wait + Sync, S: Source, K: Sink, G: Gate>(
     rt: &R,
     alloc: Global,
     words: &[String],
@@ -110,7 +109,7 @@ fn answered<R: Threads + Wait + Sync, S: Source, K: Sink, G: RoundGate>(
 }
 
 // What the words and the source's bytes give, or why they give nothing.
-fn made_of<R: Threads + Wait + Sync, S: Source, G: RoundGate>(
+fn made_of<R: Threads + Wait + Sync, S: Source, G: Gate>(
     rt: &R,
     alloc: Global,
     words: &[String],

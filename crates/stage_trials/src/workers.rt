@@ -1,5 +1,4 @@
 // Two workers of a job compile a net over a line of four chips, each waiting at the gate for the other.
-use mesh_round::RoundGate;
 use spin_base::{Gate, MemSink, MemSource, Room, Seq};
 use spin_top::spin;
 use std::alloc::Global;
@@ -42,8 +41,6 @@ impl Meeting {
             && self.entries.load(Ordering::SeqCst) == 2
     }
 }
-
-impl RoundGate for Meeting {}
 
 impl Gate for Meeting {
     fn enter(&self, phase: u32, worker: u32, _step: u32) {

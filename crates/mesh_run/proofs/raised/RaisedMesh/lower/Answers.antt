@@ -1,15 +1,62 @@
-use Rattle.std.proofs.Common.{arith}
-use Rattle.mesh_run.proofs.WholeRound.{all_ends, lowered, same_state}
+use Rattle.std.proofs.Common.{◌+◌, ◌<◌, ◌≤◌, List, [], ◌++◌, length, refl, sym, ap, ◌∙◌, subst, arith}
+use Rattle.std.proofs.lemmas.List.{get_or_default}
+use Rattle.mesh_core.specs.State.{State}
+use Rattle.mesh_run.specs.declared.homes.Home.{Home}
+use Rattle.mesh_run.specs.Split.{cut_queues}
+use Rattle.mesh_run.specs.Splitting.{FitHomes, MovesOut}
+use Rattle.mesh_run.proofs.Lowering.{all_are_ends, cut_at, cut_inside, cuts_more, cuts_none, fits_raised, lowered, no_more_links}
 use Rattle.mesh_run.proofs.raised.RaisedMesh.lower.Goals as goal
+
+pub move_out-requires : goal.move_out-requires
+move_out-requires g c =
+    let r = c.requires in
+    subst (λ (homes : List Home). FitHomes c.args.self.parts homes c.args.self.shares.items) (sym c.deref.ensures.value) (fits_raised r.0 0 c.args.self r.1 r.2)
 
 pub bring_down-requires : goal.bring_down-requires
 bring_down-requires g c =
     let r = c.requires in
-    let many = r.queues in
-    record { ends = (r.ends, r.holds, all_ends _ _ _ r.ends r.up, omega (arith, many)) }
+    let queues = cut_queues (r.0.inputs ++ r.0.cores) c.args.self.cuts.items in
+    record { ends = (r.2.ends, r.2.holds, all_are_ends r.0.setup.capacity 0 queues r.2.ends r.2.up, no_more_links r.0 0 c.args.self r.2) }
+
+pub loop-number-init : goal.loop-number-init
+loop-number-init g c = cuts_none c.move_out.new.parts c.args.self.cuts.items c.bring_down.new.queues.items
+
+pub swap_queue-requires : goal.swap_queue-requires
+swap_queue-requires g c =
+    let r = c.requires in
+    let cuts = c.args.self.cuts.items in
+    let end = c.len-number-end.ensures ∙ c.args.self.cuts.ok.0 in
+    let test = c.loop-number-test.true in
+    let below : c.loop-number.number < length cuts = omega (arith, end, test) in
+    cut_inside r.0 0 c.loop-number.number c.args.self c.move_out.new.parts c.loop-number.parts c.bring_down.new.queues.items c.loop-number.crossing.items c.index.result.now r.1 r.2 c.move_out.ensures.same
+    c.loop-number.invariant (cut_at cuts c.loop-number.number c.index.result.now below c.index.ensures)
+
+pub loop-number-preserved : goal.loop-number-preserved
+loop-number-preserved g c =
+    let r = c.requires in
+    let n = c.loop-number.number in
+    let cuts = c.args.self.cuts.items in
+    let left = c.loop-number.crossing.items in
+    let end = c.len-number-end.ensures ∙ c.args.self.cuts.ok.0 in
+    let test = c.loop-number-test.true in
+    let below : n < length cuts = omega (arith, end, test) in
+    let at = cut_at cuts n c.index.result.now below c.index.ensures in
+    let inside = cut_inside r.0 0 n c.args.self c.move_out.new.parts c.loop-number.parts c.bring_down.new.queues.items left c.index.result.now r.1 r.2 c.move_out.ensures.same c.loop-number.invariant at in
+    let long = c.loop-number.invariant.long ∙ (c.bring_down.ensures.long ∙ r.2.crossing) in
+    let here : n < length left = subst (λ k. n < k) (sym long) below in
+    let read = c.replace-copies.ensures.value ∙ (c.index_mut.ensures.value ∙ get_or_default left n _ [] here) in
+    cuts_more c.move_out.new.parts cuts c.bring_down.new.queues.items n c.loop-number.parts c.swap_queue.new.parts left _ c.index.result.now c.replace-copies.result c.replace-copies.new.dest
+    r.2.shared.apart c.loop-number.invariant at inside read c.swap_queue.ensures.stands refl
 
 pub returns : goal.returns
-returns g c =
-    let cut = lowered c.args.self c.bring_down.new.queues.items c.scatter.new.queues.items c.scatter.new.cores.items c.requires c.bring_down.ensures.long (c.bring_down.ensures.down c.requires.ends c.requires.holds)
-    c.scatter.ensures.all c.scatter.ensures.long in
-    same_state _ _ _ _ _ _ _ _ _ cut.0 cut.1
+returns g c = λ m mesh raised.
+    let self = c.args.self in
+    let opened = c.parts.view_is in
+    let moves = subst (λ (homes : List Home). MovesOut homes self.shares.items self.parts c.move_out.new.parts) c.deref.ensures.value c.move_out.ensures in
+    let end = c.len-number-end.ensures ∙ self.cuts.ok.0 in
+    let test = c.loop-number-test.false in
+    let past : length self.cuts.items ≤ c.loop-number.number = omega (arith, end, test) in
+    lowered m 0 c.loop-number.number self c.move_out.new.parts c.loop-number.parts _ c.bring_down.new.queues.items c.loop-number.crossing.items mesh raised moves
+    (c.bring_down.ensures.down raised.ends raised.holds) c.loop-number.invariant past
+    (ap (λ (s : State). s.setup) opened) (ap (λ (s : State). s.unsent) opened) (ap (λ (s : State). s.inputs) opened) (ap (λ (s : State). s.hands) opened) (ap (λ (s : State). s.cores) opened)
+    c.into_list.ensures (c.from_seq.ensures ∙ c.into_list-2.ensures)

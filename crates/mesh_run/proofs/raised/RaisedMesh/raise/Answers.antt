@@ -1,34 +1,17 @@
-use Rattle.std.proofs.Common.{◌+◌, ◌++◌, refl, ◌∙◌, subst, arith}
-use Rattle.std.proofs.lemmas.List.{length-append}
-use Rattle.mesh_run.specs.Queues.{RestAll}
-use Rattle.mesh_run.specs.Raised.{queues_of}
-use Rattle.mesh_run.proofs.WholeRound.{is_raised, raised_inputs, raised_queues, same_state, were_up}
+use Rattle.std.proofs.Common.{◌+◌, List, ap, ◌∙◌, subst}
+use Rattle.mesh_core.specs.State.{State}
+use Rattle.mesh_run.specs.declared.homes.Home.{Home}
+use Rattle.mesh_run.specs.Splitting.{MovesIn}
+use Rattle.mesh_run.proofs.Raising.{raised_in}
 use Rattle.mesh_run.proofs.raised.RaisedMesh.raise.Goals as goal
-
-pub rest_all-rested-requires : goal.rest_all-rested-requires
-rest_all-rested-requires g c =
-    let up = c.in-Ok.ensures.up in
-    (up.0, up.1, were_up c.capacity-cap.result (c.args.turns + 1) (c.parts.inside.inputs.items ++ c.parts.inside.cores.items) up.0 up.2)
 
 pub returns-in-Ok-clause-raised : goal.returns-in-Ok-clause-raised
 returns-in-Ok-clause-raised g c =
-    let up = c.in-Ok.ensures.up in
-    let all = c.rest_all-rested.ensures up.0 up.1 in
-    let many = up.2.long in
-    let both = length-append c.parts.inside.inputs.items c.parts.inside.cores.items in
-    let long = c.in-Ok.ensures.long in
-    let cores = c.in-Ok.ensures.cores_long in
-    is_raised _ up.0 c.rest_all-rested.result (subst (λ n. RestAll n up.0 c.rest_all-rested.new.standing c.rest_all-rested.result) c.capacity-cap.ensures all) refl refl
-    (omega (arith, many, both, long)) (omega (arith, long, cores))
-
-pub returns-in-Ok-clause-same : goal.returns-in-Ok-clause-same
-returns-in-Ok-clause-same g c =
-    let up = c.in-Ok.ensures.up in
-    let all = c.rest_all-rested.ensures up.0 up.1 in
-    let inputs = c.parts.inside.inputs.items in
-    let cores = c.parts.inside.cores.items in
-    let long = c.in-Ok.ensures.long in
-    let cores_long = c.in-Ok.ensures.cores_long in
-    let is = raised_queues c.capacity-cap.result (c.args.turns + 1) inputs cores up.0 c.rest_all-rested.new.standing c.rest_all-rested.result up.2 all in
-    let cut = raised_inputs (queues_of c.rest_all-rested.new.standing) inputs cores _ is (omega (arith, long, cores_long)) in
-    same_state _ _ _ _ _ _ _ _ _ cut.0 cut.1 ∙ c.parts.view_is
+    let plan = c.in-Ok.plan in
+    let is = c.in-Ok.ensures in
+    let opened = c.parts.view_is in
+    let moves = subst (λ (homes : List Home). MovesIn c.args.parts homes plan.shares.items c.move_in.new.parts c.move_in.new.shares.items) c.deref.ensures.value c.move_in.ensures in
+    raised_in c.args.parts c.move_in.new.parts (c.args.pace.turns + 1) plan.shares.items is.ends _ c.requires is.floor is.shared is.holds is.up is.crossing moves
+    (ap (λ (s : State). s.setup) opened) (ap (λ (s : State). s.hands) opened) (ap (λ (s : State). s.inputs) opened) (ap (λ (s : State). s.cores) opened) (ap (λ (s : State). s.unsent) opened)
+    (c.of_list.ensures ∙ (c.replace-delivered.ensures.value ∙ ap (λ (s : State). s.delivered) opened))
+    (c.of_list-in-Ok.ensures ∙ (c.into_seq.ensures ∙ (c.replace-dumped.ensures.value ∙ ap (λ (s : State). s.dumped) opened)))

@@ -1,0 +1,78 @@
+-- What a router sees at a port, and that there is room for what its turn needs.
+use Rattle.std.proofs.Common.{◌≡◌, ◌≢◌, ℕ, ◌<◌, ◌≤◌, Bool, true, false, cond, ◌==◌, List, [], ◌∷◌, length, get_or, Some, refl, sym, ap, subst, ◌∙◌, arith}
+use Rattle.std.specs.List.{slice_get}
+use Rattle.std.proofs.lemmas.List.Elements.{All-filter, All-nil, All-weaker}
+use Rattle.std.proofs.lemmas.Option.{slice_get_read, slice_get_within}
+use Rattle.spin_base.specs.declared.blocks.Entry.{Entry}
+use Rattle.spin_base.specs.declared.chips.Port.{Port}
+use Rattle.spin_base.specs.declared.copies.DumpRec.{DumpRec}
+use Rattle.spin_base.specs.declared.copies.McCopy.{McCopy}
+use Rattle.spin_base.specs.declared.routes.Out.{Out}
+use Rattle.spin_base.specs.WithRoom.{WithRoom}
+use Rattle.spin_base.specs.Hops.{last_hop}
+use Rattle.spin_base.specs.Lookup.{lookup}
+use Rattle.spin_base.specs.Outputs.{all_outs, has, outs_of}
+use Rattle.spin_base.proofs.Places.{one_item_at, slice_get-set_other}
+use Rattle.link_queue.specs.declared.links.Link.{Link}
+use Rattle.chip_node.specs.declared.ends.End.{End}
+use Rattle.chip_node.specs.declared.ends.End.TheVariants.{Away, Own, Sends, Takes}
+use Rattle.chip_node.specs.declared.ends.Seen.TheVariants.{Front}
+use Rattle.chip_node.specs.declared.holdings.Holdings.{Holdings}
+use Rattle.chip_node.specs.declared.nodes.RouterNode.{RouterNode}
+use Rattle.chip_node.specs.Acting.{IsReadyRouter}
+use Rattle.chip_node.specs.Going.{IsIdle, IsIdleAt}
+use Rattle.chip_node.specs.Items.{port_place}
+use Rattle.chip_node.specs.Passing.{EndTakes, IsSeen}
+use Rattle.chip_node.specs.Routing.{outputs_at}
+use Rattle.chip_node.specs.Taking.{HasRoomBehind, HasRoomFor}
+use Rattle.chip_node.proofs.Outputs.{few_pass}
+use Rattle.chip_node.proofs.Placing.{Writes}
+
+-- ---- nothing to take
+
+-- nothing can be taken at a place where an end stands from which nothing can
+pub idle_at : (ends : List End) (q : ℕ) (x : End) → slice_get ends q ≡ Some x → IsIdle x → IsIdleAt ends q
+idle_at ends q x at idle = λ y also. subst IsIdle (one_item_at ends q q x y refl at also) idle
+
+-- nor where none stands
+pub idle_past : (ends xs : List End) (n q : ℕ) → xs ≡ ends → n ≡ q → length xs ≤ n → IsIdleAt ends q
+idle_past ends xs n q same at past = λ y also.
+    (let within = slice_get_within ends q y also in let long = ap length same in absurd (omega arith))
+
+-- what is read at a place stands there
+pub read_stands : (ends xs : List End) (n q : ℕ) (x : End) → xs ≡ ends → n ≡ q → n < length xs → x ≡ get_or xs n x → slice_get ends q ≡ Some x
+read_stands ends xs n q x same at below read =
+    ap (slice_get ends) (sym at) ∙ (ap (λ (l : List End). slice_get l n) (sym same) ∙ slice_get_read xs (length xs) n x refl below read)
+
+-- ---- room
+
+-- Where there is room for a copy at each of the 24 outputs, and for as many records, there is room for those that lookup gives.
+pub room_for_all : (cap : ℕ) (entries : List Entry) (r : RouterNode) (port : Port) (k : McCopy) (h : Holdings) → HasRoomFor cap r all_outs h → HasRoomFor cap r (outputs_at entries port k) h
+room_for_all cap entries r port k h room = by (k.hop == last_hop)
+  where
+    outs : List Out
+    outs = outs_of (lookup entries k.key port)
+
+    by : (b : Bool) → HasRoomFor cap r (cond b [] outs) h
+    by true = record { behind = All-nil (HasRoomBehind cap r h); records = omega arith }
+    by false = record {
+      behind = All-filter (has (lookup entries k.key port)) (HasRoomBehind cap r h) all_outs room.behind;
+      records = (let few = few_pass (has (lookup entries k.key port)) all_outs in let records = room.records in omega arith);
+    }
+
+-- what is taken of a queue whose front copy is seen is that copy
+pub seen_first : (f k : McCopy) (x y : End) → IsSeen (Front f) x → EndTakes k x y → f ≡ k
+seen_first f k Away y sees takes = absurd sees
+seen_first f k (Sends a) y sees takes = absurd sees
+seen_first f k (Takes a) y sees takes = absurd sees
+seen_first f k (Own a) y (rest, items) (b, is, taken) = let both : f ∷ rest ≡ k ∷ b.items = sym items ∙ taken in cc
+
+-- what is taken at a port leaves the room behind the outputs
+pub room_kept : (cap : ℕ) (links : List Link) (r : RouterNode) (port : Port) (outs : List Out) (a b : Holdings) (old new : End) → IsReadyRouter links r a → Writes a.ends.items b.ends.items (port_place r.index port) old new → b.dumps ≡ a.dumps
+    → HasRoomFor cap r outs a → HasRoomFor cap r outs b
+room_kept cap links r port outs a b old new ready w dumps room = record {
+  behind = All-weaker (HasRoomBehind cap r a) (HasRoomBehind cap r b) (λ o before q e behind stands.
+      (let other : q ≢ port_place r.index port = λ same. ready.apart o port (behind ∙ ap Some same) in
+      before q e behind (sym (slice_get-set_other a.ends.items (port_place r.index port) q new other) ∙ (sym (ap (λ (l : List End). slice_get l q) w.stands) ∙ stands)))) outs room.behind;
+  records = subst (λ (l : WithRoom DumpRec). length outs ≤ l.spare) (sym dumps) room.records;
+}

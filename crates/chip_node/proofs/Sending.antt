@@ -1,0 +1,64 @@
+-- The queue behind an output of a router: where it stands, and that its end is one by which copies are sent.
+use Rattle.std.proofs.Common.{◌≡◌, ℕ, ◌+◌, ◌<◌, List, [], ◌∷◌, ◌++◌, length, get_or, Option, Some, None, refl, sym, ap, subst, ◌∙◌, append-nil, arith}
+use Rattle.std.specs.List.{slice_get}
+use Rattle.std.proofs.lemmas.Option.{slice_get-get_or, slice_get_read, slice_get_within}
+use Rattle.spin_base.specs.declared.chips.Chip.{Chip}
+use Rattle.spin_base.specs.declared.copies.DumpRec.{DumpRec}
+use Rattle.spin_base.specs.declared.copies.McCopy.{McCopy}
+use Rattle.spin_base.specs.declared.routes.Out.{Out}
+use Rattle.spin_base.specs.WithRoom.{WithRoom}
+use Rattle.spin_base.specs.Outputs.{IsOutput, out_number}
+use Rattle.spin_base.proofs.Outputs.{out_number_below}
+use Rattle.spin_base.proofs.Places.{one_item_at}
+use Rattle.chip_node.specs.declared.ends.End.{End}
+use Rattle.chip_node.specs.declared.ends.Served.{Served}
+use Rattle.chip_node.specs.declared.ends.Served.TheVariants.{Sent, Dumped}
+use Rattle.chip_node.specs.declared.nodes.Behind.{Behind}
+use Rattle.chip_node.specs.Acting.{place_behind, place_in}
+use Rattle.chip_node.specs.Going.{HoldsSender, IsSending}
+use Rattle.chip_node.specs.Items.{recorded}
+use Rattle.chip_node.specs.Passing.{SendsBehind}
+
+-- ---- the place behind an output
+
+pub place_there : (behind : List (Option Behind)) (o : Out) (n : ℕ) (d : Option Behind) (b : Behind) → n ≡ out_number o → length behind ≡ 24 → IsOutput o → get_or behind n d ≡ Some b → place_behind behind o ≡ Some b.place
+place_there behind o n d b number long numbered is =
+    let below = out_number_below o numbered in
+    let stands : slice_get behind (out_number o) ≡ Some (get_or behind n d) = ap (slice_get behind) (sym number) ∙ slice_get-get_or behind n d (omega arith) in
+    ap place_in (stands ∙ ap {B = Option (Option Behind)} (λ x. Some x) is)
+
+-- ---- ends by which copies are sent
+
+sender_below : (ends : List End) (q : ℕ) → HoldsSender ends q → q < length ends
+sender_below ends q s = slice_get_within ends q s.end s.stands
+
+module _ {ends : List End} {q : ℕ} (s : HoldsSender ends q) (x : End) (read : x ≡ get_or ends q x) where
+  -- what is read at its place stands there, and sends
+  pub sender_stands : slice_get ends q ≡ Some x
+  sender_stands = slice_get_read ends (length ends) q x refl (sender_below ends q s) read
+
+  pub sender_sends : IsSending x
+  sender_sends = subst IsSending (one_item_at ends q q s.end x refl s.stands sender_stands) s.sends
+
+-- ---- records
+
+pub sent_recorded : (c : Chip) (o : Out) (k : McCopy) (fate : Served) (a b : WithRoom DumpRec) → fate ≡ Sent → b ≡ a → b.items ≡ a.items ++ recorded c (record { out = o; copy = k; fate = fate }) fate
+sent_recorded c o k fate a b is same =
+    subst (λ (f : Served). b.items ≡ a.items ++ recorded c (record { out = o; copy = k; fate = f }) f) (sym is) (ap (λ (l : WithRoom DumpRec). l.items) same ∙ sym (append-nil a.items))
+
+pub dumped_recorded : (c : Chip) (o : Out) (k : McCopy) (fate : Served) (a b : List DumpRec) → fate ≡ Dumped → b ≡ a ++ record { chip = c; out = o; copy = k } ∷ [] → b ≡ a ++ recorded c (record { out = o; copy = k; fate = fate }) fate
+dumped_recorded c o k fate a b is more = subst (λ (f : Served). b ≡ a ++ recorded c (record { out = o; copy = k; fate = f }) f) (sym is) more
+
+-- A record takes as much room as it says, and a copy that was sent none.
+pub sent_room : (c : Chip) (o : Out) (k : McCopy) (fate : Served) (a b : WithRoom DumpRec) → fate ≡ Sent → b ≡ a → b.spare + length (recorded c (record { out = o; copy = k; fate = fate }) fate) ≡ a.spare
+sent_room c o k fate a b is same =
+    let spare = ap (λ (l : WithRoom DumpRec). l.spare) same in
+    subst (λ (f : Served). b.spare + length (recorded c (record { out = o; copy = k; fate = f }) f) ≡ a.spare) (sym is) (omega (arith, spare))
+
+pub dumped_room : (c : Chip) (o : Out) (k : McCopy) (fate : Served) (a b : ℕ) → fate ≡ Dumped → b + 1 ≡ a → b + length (recorded c (record { out = o; copy = k; fate = fate }) fate) ≡ a
+dumped_room c o k fate a b is more = subst (λ (f : Served). b + length (recorded c (record { out = o; copy = k; fate = f }) f) ≡ a) (sym is) more
+
+-- behind an output without a queue a copy is dumped
+pub sent_nowhere : (cap patience : ℕ) (place : Option ℕ) (k : McCopy) (fate : Served) (before after : List End) → SendsBehind cap patience place k fate before after → place ≡ None → fate ≡ Dumped
+sent_nowhere cap patience None k fate before after h is = h.0
+sent_nowhere cap patience (Some q) k fate before after h is = cc

@@ -1,0 +1,152 @@
+-- What stays where nothing was done: what is not there to take, what is full, and room.
+use Rattle.std.proofs.Common.{◌≡◌, ℕ, ◌+◌, ◌*◌, ◌≤◌, List, [], ◌++◌, length, get_or, Some, refl, sym, ap, subst, ◌∙◌, append-nil, append_assoc, length-append, arith}
+use Rattle.std.specs.List.{slice_get}
+use Rattle.std.proofs.lemmas.Option.{slice_get_within, slice_get-get_or, same_Some}
+use Rattle.spin_base.specs.declared.copies.McCopy.{McCopy}
+use Rattle.spin_base.specs.declared.copies.Delivery.{Delivery}
+use Rattle.spin_base.specs.declared.copies.DumpRec.{DumpRec}
+use Rattle.spin_base.specs.WithRoom.{WithRoom}
+use Rattle.spin_base.proofs.Places.{All-at, slice_get_there}
+use Rattle.link_queue.specs.declared.links.Link.{Link}
+use Rattle.link_queue.specs.Ends.{cap_of, sending, taking}
+use Rattle.link_queue.specs.TheRule.{StartsWith}
+use Rattle.chip_node.specs.declared.ends.End.{End}
+use Rattle.chip_node.specs.declared.ends.End.TheVariants.{Away, Own, Sends, Takes}
+use Rattle.chip_node.specs.declared.ends.InEnd.{InEnd}
+use Rattle.chip_node.specs.declared.ends.OutEnd.{OutEnd}
+use Rattle.chip_node.specs.declared.holdings.Holdings.{Holdings}
+use Rattle.chip_node.specs.Ends.{IsOutEndOf}
+use Rattle.chip_node.specs.Going.{AreEndsOf, EndStays, HasRoom, IsEndOf, IsFullAt, IsFullEnd, IsIdle, IsIdleAt, IsRoomy, SenderGoes, Stays, TakerGoes}
+
+-- ---- ends of links, one step after the other
+
+pub patient_on : (p d e m n : ℕ) → p * d ≤ m → p * e ≤ n → p * (d + e) ≤ m + n
+patient_on p d e m n h k = omega (arith, h, k)
+
+pub sender_on : (patience : ℕ) (c d : List McCopy) (e f : List McCopy) (x y z : OutEnd) → SenderGoes patience c d x y → SenderGoes patience e f y z → SenderGoes patience (c ++ e) (d ++ f) x z
+sender_on patience c d e f x y z h k = record {
+  link = k.link ∙ h.link;
+  first = k.first ∙ h.first;
+  sent = k.sent ∙ (ap (λ l. l ++ e) h.sent ∙ append_assoc (sending x.tx).sent c e);
+  notes = h.notes ++ k.notes;
+  fulls = k.fulls ∙ (ap (λ l. l ++ k.notes) h.fulls ∙ append_assoc (sending x.tx).fulls h.notes k.notes);
+  patient =
+      let both = patient_on patience (length d) (length f) (length h.notes) (length k.notes) h.patient k.patient in
+      let dropped = length-append d f in
+      let noted = length-append h.notes k.notes in
+      subst (λ n. patience * n ≤ length (h.notes ++ k.notes)) (sym dropped) (subst (λ n. patience * (length d + length f) ≤ n) (sym noted) both);
+}
+
+pub taker_on : (w v : List McCopy) (x y z : InEnd) → TakerGoes w x y → TakerGoes v y z → TakerGoes (w ++ v) x z
+taker_on w v x y z h k = record {
+  link = k.link ∙ h.link;
+  first = k.first ∙ h.first;
+  took = k.took ∙ (ap (λ l. l ++ v) h.took ∙ append_assoc (taking x.rx).took w v);
+}
+
+-- an end that is as it was
+pub sender_same : (x : OutEnd) → SenderGoes 0 [] [] x x
+sender_same x = record {
+  link = refl;
+  first = refl;
+  sent = sym (append-nil (sending x.tx).sent);
+  notes = [];
+  fulls = sym (append-nil (sending x.tx).fulls);
+  patient = omega arith;
+}
+
+pub taker_same : (x : InEnd) → TakerGoes [] x x
+taker_same x = record { link = refl; first = refl; took = sym (append-nil (taking x.rx).took) }
+
+-- ---- ends
+
+pub end_stays_same : (e : End) → EndStays e e
+end_stays_same Away = refl
+end_stays_same (Own a) = refl
+end_stays_same (Sends a) = (a, refl, sender_same a)
+end_stays_same (Takes a) = (a, refl, taker_same a)
+
+pub end_stays_on : (x y z : End) → EndStays x y → EndStays y z → EndStays x z
+end_stays_on Away y z h k = subst (λ (e : End). EndStays e z) h k
+end_stays_on (Own a) y z h k = subst (λ (e : End). EndStays e z) h k
+end_stays_on (Sends a) y z (b, is, h) k = (let then : EndStays (Sends b) z = subst (λ (e : End). EndStays e z) is k in (then.0, then.1, sender_on 0 [] [] [] [] a b then.0 h then.2))
+end_stays_on (Takes a) y z (b, is, h) k = (let then : EndStays (Takes b) z = subst (λ (e : End). EndStays e z) is k in (then.0, then.1, taker_on [] [] a b then.0 h then.2))
+
+end_idle_before : (x y : End) → EndStays x y → IsIdle y → IsIdle x
+end_idle_before Away y h idle = tt
+end_idle_before (Own a) y h idle = subst IsIdle h idle
+end_idle_before (Sends a) y h idle = tt
+end_idle_before (Takes a) y (b, is, h) idle =
+    let whole : StartsWith (taking b.rx).took (taking b.rx).first = subst IsIdle is idle in
+    (whole.0, ap (λ l. l ++ whole.0) (sym h.first) ∙ (whole.1 ∙ (h.took ∙ append-nil (taking a.rx).took)))
+
+end_roomy_on : (cap : ℕ) (x y : End) → EndStays x y → HasRoom cap x → HasRoom cap y
+end_roomy_on cap Away y h room = subst (HasRoom cap) (sym h) tt
+end_roomy_on cap (Own a) y h room = subst (HasRoom cap) (sym h) room
+end_roomy_on cap (Sends a) y (b, is, h) room = subst (HasRoom cap) (sym is) tt
+end_roomy_on cap (Takes a) y (b, is, h) room = subst (HasRoom cap) (sym is) tt
+
+-- two ends of one link have its capacity
+same_cap : (links : List Link) (x y : OutEnd) → IsOutEndOf links x → IsOutEndOf links y → y.link ≡ x.link → (sending y.tx).cap ≡ (sending x.tx).cap
+same_cap links x y h k same =
+    let of : k.of ≡ h.of = same_Some k.of h.of (sym k.stands ∙ (ap (slice_get links) same ∙ h.stands)) in
+    k.is_end.cap ∙ (ap (λ (l : Link). cap_of l) of ∙ sym h.is_end.cap)
+
+end_full_before : (links : List Link) (cap : ℕ) (x y : End) → IsEndOf links x → IsEndOf links y → EndStays x y → IsFullEnd cap y → IsFullEnd cap x
+end_full_before links cap Away y ex ey h full = subst (IsFullEnd cap) h full
+end_full_before links cap (Own a) y ex ey h full = subst (IsFullEnd cap) h full
+end_full_before links cap (Sends a) y ex ey (b, is, h) full =
+    let then : (sending b.tx).cap ≤ length ((sending b.tx).first ++ (sending b.tx).sent) = subst (IsFullEnd cap) is full in
+    let of : IsOutEndOf links b = subst (IsEndOf links) is ey in
+    let caps = same_cap links a b ex of h.link in
+    let put : (sending b.tx).first ++ (sending b.tx).sent ≡ (sending a.tx).first ++ (sending a.tx).sent =
+    ap (λ l. l ++ (sending b.tx).sent) h.first ∙ ap (λ l. (sending a.tx).first ++ l) (h.sent ∙ append-nil (sending a.tx).sent) in
+    subst (λ n. n ≤ length ((sending a.tx).first ++ (sending a.tx).sent)) caps (subst (λ (l : List McCopy). (sending b.tx).cap ≤ length l) put then)
+end_full_before links cap (Takes a) y ex ey (b, is, h) full = subst (IsFullEnd cap) is full
+
+-- ---- all that is held
+
+pub stays_same : (a : Holdings) → Stays a a
+stays_same a = record {
+  ends_long = refl;
+  ends = λ q x y at also. subst (EndStays x) (same_Some x y (sym at ∙ also)) (end_stays_same x);
+  unsent = refl;
+  deliveries = refl;
+  dumps = refl;
+}
+
+-- the end that stands at a place before where one stands there after
+pub end_before : (a b : List End) (q : ℕ) (y : End) → length b ≡ length a → slice_get b q ≡ Some y → (x : End) × (slice_get a q ≡ Some x)
+end_before a b q y long at = slice_get_there a q (let within = slice_get_within b q y at in omega arith)
+
+-- nothing was done, and again nothing
+pub stays_on : (a b c : Holdings) → Stays a b → Stays b c → Stays a c
+stays_on a b c h k = record {
+  ends_long = k.ends_long ∙ h.ends_long;
+  ends = λ q x z at also. (let y = end_before b.ends.items c.ends.items q z k.ends_long also in end_stays_on x y.0 z (h.ends q x y.0 at y.1) (k.ends q y.0 z y.1 also));
+  unsent = k.unsent ∙ h.unsent;
+  deliveries = k.deliveries ∙ h.deliveries;
+  dumps = k.dumps ∙ h.dumps;
+}
+
+-- where nothing was done and nothing is there to take, nothing was there before
+pub idle_before : (a b : Holdings) (q : ℕ) → Stays a b → IsIdleAt b.ends.items q → IsIdleAt a.ends.items q
+idle_before a b q h idle = λ x at. (let y = end_before b.ends.items a.ends.items q x (sym h.ends_long) at in end_idle_before x y.0 (h.ends q x y.0 at y.1) (idle y.0 y.1))
+
+-- where nothing was done, what is full was full before
+pub full_before : (links : List Link) (cap : ℕ) (a b : Holdings) (q : ℕ) → AreEndsOf links a.ends.items → AreEndsOf links b.ends.items → Stays a b → IsFullAt cap b.ends.items q → IsFullAt cap a.ends.items q
+full_before links cap a b q of_a of_b h (y, at, full) =
+    let x = end_before a.ends.items b.ends.items q y h.ends_long at in
+    (x.0, x.1, end_full_before links cap x.0 y (All-at (IsEndOf links) a.ends.items q x.0 of_a x.1) (All-at (IsEndOf links) b.ends.items q y of_b at) (h.ends q x.0 y x.1 at) full)
+
+-- where nothing was done, there is as much room as before
+pub roomy_on : (cap : ℕ) (a b : Holdings) → Stays a b → IsRoomy cap a → IsRoomy cap b
+roomy_on cap a b h room = record {
+  lanes = λ q d below.
+      (let at = slice_get-get_or b.ends.items q d below in
+      let y = get_or b.ends.items q d in
+      let x = end_before a.ends.items b.ends.items q y h.ends_long at in
+      end_roomy_on cap x.0 y (h.ends q x.0 y x.1 at) (All-at (HasRoom cap) a.ends.items q x.0 room.lanes x.1));
+  dumps = subst (λ (l : WithRoom DumpRec). 24 ≤ l.spare) (sym h.dumps) room.dumps;
+  deliveries = subst (λ (l : WithRoom Delivery). 1 ≤ l.spare) (sym h.deliveries) room.deliveries;
+}

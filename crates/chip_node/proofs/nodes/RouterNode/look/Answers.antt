@@ -1,0 +1,142 @@
+use Rattle.std.proofs.Common.{◌≡◌, ◌+◌, ◌*◌, ◌<◌, List, length, set, refl, sym, ap, subst, ◌∙◌, arith}
+use Rattle.std.proofs.lemmas.Bool.{false≢true}
+use Rattle.std.proofs.lemmas.List.Elements.{All-set}
+use Rattle.spin_base.proofs.Places.{one_item_at}
+use Rattle.spin_base.specs.declared.routes.Out.{Out}
+use Rattle.spin_base.specs.Outputs.{core_outs, link_outs}
+use Rattle.chip_node.specs.declared.ends.Seen.TheVariants.{Front}
+use Rattle.chip_node.specs.Going.{IsEndOf}
+use Rattle.chip_node.specs.Items.{port_place}
+use Rattle.chip_node.specs.Passing.{IsSeen}
+use Rattle.chip_node.specs.Routing.{outputs_at}
+use Rattle.chip_node.specs.Taking.{HasRoomFor}
+use Rattle.chip_node.proofs.EndSteps.{end_lacks_idle, end_stays_lacks}
+use Rattle.chip_node.proofs.Flows.{goes_none, ready_router_on}
+use Rattle.chip_node.proofs.Looking.{idle_at, idle_past, read_stands, room_for_all, room_kept, seen_first}
+use Rattle.chip_node.proofs.Placing.{stays_at, took_goes, Writes}
+use Rattle.chip_node.proofs.Stays.{stays_same}
+use Rattle.chip_node.proofs.nodes.RouterNode.look.Goals as goal
+
+pub returns-in_default-clause-looks : goal.returns-in_default-clause-looks
+returns-in_default-clause-looks g c =
+    let at : 7 * c.args.self.index + c.from.result ≡ port_place c.args.self.index c.args.port = ap (λ n. 7 * c.args.self.index + n) (c.from.ensures ∙ c.number.ensures.number) in
+    (stays_same c.args.hold.now, idle_past c.args.hold.now.ends.items c.deref.result.now _ _ c.deref.ensures.value at c.in_default.ensures.lookup.3)
+
+pub returns-in-Nothing-clause-looks : goal.returns-in-Nothing-clause-looks
+returns-in-Nothing-clause-looks g c =
+    let at : 7 * c.args.self.index + c.from.result ≡ port_place c.args.self.index c.args.port = ap (λ n. 7 * c.args.self.index + n) (c.from.ensures ∙ c.number.ensures.number) in
+    let x = c.in-Some.end.now in
+    let stands = read_stands c.args.hold.now.ends.items c.deref.result.now _ _ x c.deref.ensures.value at c.in-Some.ensures.lookup.3.0 c.in-Some.ensures.lookup.1 in
+    (stays_same c.args.hold.now, idle_at c.args.hold.now.ends.items _ x stands (end_lacks_idle x x c.in-Nothing.ensures))
+
+pub returns-then-not-has_room-clause-looks : goal.returns-then-not-has_room-clause-looks
+returns-then-not-has_room-clause-looks g c = (stays_same c.args.hold.now, λ roomy. false≢true (c.if-not-has_room.ensures.no roomy))
+
+pub returns-then-not-has_room-2-clause-looks : goal.returns-then-not-has_room-2-clause-looks
+returns-then-not-has_room-2-clause-looks g c = (stays_same c.args.hold.now, λ roomy. false≢true (c.if-not-has_room-2.ensures.no roomy))
+
+pub returns-in-Some-take-clause-looks : goal.returns-in-Some-take-clause-looks
+returns-in-Some-take-clause-looks g c =
+    let r = c.args.self in
+    let a = c.args.hold.now in
+    let at : 7 * r.index + c.from.result ≡ port_place r.index c.args.port = ap (λ n. 7 * r.index + n) (c.from.ensures ∙ c.number.ensures.number) in
+    let old = c.index_mut.result.now in
+    let new = c.take.new.self in
+    let long = ap length c.deref.ensures.value in
+    let inside = c.in-Some.ensures.lookup.3.0 in
+    let below : 7 * r.index + c.from.result < length a.ends.items = omega arith in
+    let stood = read_stands a.ends.items a.ends.items _ _ old refl at below c.index_mut.ensures.value in
+    let w : Writes a.ends.items (set a.ends.items (7 * r.index + c.from.result) new) (port_place r.index c.args.port) old new = record { stood = stood; stands = ap (λ n. set a.ends.items n new) at } in
+    let x = c.in-Some.end.now in
+    let stands = read_stands a.ends.items c.deref.result.now _ _ x c.deref.ensures.value at inside c.in-Some.ensures.lookup.1 in
+    let f = c.in-Front.copy in
+    let sees : IsSeen (Front f) old = subst (IsSeen (Front f)) (one_item_at a.ends.items (port_place r.index c.args.port) _ x old refl stands stood) c.in-Front.ensures in
+    let given = c.outputs_of-outs.ensures.given ∙ ap (outputs_at r.table.now c.args.port) (seen_first f c.in-Some-take.copy old new sees c.in-Some-take.ensures.some) in
+    record {
+      goes = took_goes c.args.around.capacity c.args.around.patience r.index c.args.port c.in-Some-take.copy a _ old new w c.in-Some-take.ensures.some refl refl refl;
+      given = given;
+      numbered = c.outputs_of-outs.ensures.numbered;
+      differ = c.outputs_of-outs.ensures.differ;
+      room = room_kept c.args.around.capacity c.args.around.links.now r c.args.port _ a _ old new c.requires w refl
+          (subst (λ (l : List Out). HasRoomFor c.args.around.capacity r l a) c.as_slice.ensures.value (c.if-not-has_room.ensures.yes refl));
+    }
+
+pub returns-in-Some-take-clause-ready : goal.returns-in-Some-take-clause-ready
+returns-in-Some-take-clause-ready g c =
+    ready_router_on c.args.around.capacity c.args.around.patience c.args.around.links.now c.args.self c.args.hold.now _ _ (returns-in-Some-take-clause-looks g c).goes
+    (All-set (IsEndOf c.args.around.links.now) c.args.hold.now.ends.items _ c.take.new.self c.in-Some-take.ensures.end c.requires.ends) c.requires
+
+pub returns-in-None-clause-looks : goal.returns-in-None-clause-looks
+returns-in-None-clause-looks g c =
+    let r = c.args.self in
+    let a = c.args.hold.now in
+    let at : 7 * r.index + c.from.result ≡ port_place r.index c.args.port = ap (λ n. 7 * r.index + n) (c.from.ensures ∙ c.number.ensures.number) in
+    let old = c.index_mut.result.now in
+    let new = c.take.new.self in
+    let long = ap length c.deref.ensures.value in
+    let inside = c.in-Some.ensures.lookup.3.0 in
+    let below : 7 * r.index + c.from.result < length a.ends.items = omega arith in
+    let stood = read_stands a.ends.items a.ends.items _ _ old refl at below c.index_mut.ensures.value in
+    let w : Writes a.ends.items (set a.ends.items (7 * r.index + c.from.result) new) (port_place r.index c.args.port) old new = record { stood = stood; stands = ap (λ n. set a.ends.items n new) at } in
+    let lacks = c.in-None.ensures.none in (
+      stays_at a _ (port_place r.index c.args.port) old new w (end_stays_lacks old new lacks) refl refl refl,
+      idle_at a.ends.items (port_place r.index c.args.port) old stood (end_lacks_idle old new lacks),
+    )
+
+pub returns-in-None-clause-ready : goal.returns-in-None-clause-ready
+returns-in-None-clause-ready g c =
+    ready_router_on c.args.around.capacity c.args.around.patience c.args.around.links.now c.args.self c.args.hold.now _ _
+    (goes_none c.args.around.capacity c.args.around.patience c.args.hold.now _ (returns-in-None-clause-looks g c).0)
+    (All-set (IsEndOf c.args.around.links.now) c.args.hold.now.ends.items _ c.take.new.self c.in-None.ensures.end c.requires.ends) c.requires
+
+pub returns-in-Some-take-2-clause-looks : goal.returns-in-Some-take-2-clause-looks
+unfolding link_outs core_outs
+returns-in-Some-take-2-clause-looks g c =
+    let r = c.args.self in
+    let a = c.args.hold.now in
+    let at : 7 * r.index + c.from.result ≡ port_place r.index c.args.port = ap (λ n. 7 * r.index + n) (c.from.ensures ∙ c.number.ensures.number) in
+    let old = c.index_mut-in-Unknown.result.now in
+    let new = c.take-in-Unknown.new.self in
+    let long = ap length c.deref.ensures.value in
+    let inside = c.in-Some.ensures.lookup.3.0 in
+    let below : 7 * r.index + c.from.result < length a.ends.items = omega arith in
+    let stood = read_stands a.ends.items a.ends.items _ _ old refl at below c.index_mut-in-Unknown.ensures.value in
+    let w : Writes a.ends.items (set a.ends.items (7 * r.index + c.from.result) new) (port_place r.index c.args.port) old new = record { stood = stood; stands = ap (λ n. set a.ends.items n new) at } in
+    let given = c.outputs_of-outs-in-Some-take-2.ensures.given in
+    record {
+      goes = took_goes c.args.around.capacity c.args.around.patience r.index c.args.port c.in-Some-take-2.copy a _ old new w c.in-Some-take-2.ensures.some refl refl refl;
+      given = given;
+      numbered = c.outputs_of-outs-in-Some-take-2.ensures.numbered;
+      differ = c.outputs_of-outs-in-Some-take-2.ensures.differ;
+      room = room_kept c.args.around.capacity c.args.around.links.now r c.args.port _ a _ old new c.requires w refl
+          (subst (λ (l : List Out). HasRoomFor c.args.around.capacity r l a) (sym given)
+          (room_for_all c.args.around.capacity r.table.now r c.args.port c.in-Some-take-2.copy a (c.if-not-has_room-2.ensures.yes refl)));
+    }
+
+pub returns-in-Some-take-2-clause-ready : goal.returns-in-Some-take-2-clause-ready
+returns-in-Some-take-2-clause-ready g c =
+    ready_router_on c.args.around.capacity c.args.around.patience c.args.around.links.now c.args.self c.args.hold.now _ _ (returns-in-Some-take-2-clause-looks g c).goes
+    (All-set (IsEndOf c.args.around.links.now) c.args.hold.now.ends.items _ c.take-in-Unknown.new.self c.in-Some-take-2.ensures.end c.requires.ends) c.requires
+
+pub returns-in-None-take-clause-looks : goal.returns-in-None-take-clause-looks
+returns-in-None-take-clause-looks g c =
+    let r = c.args.self in
+    let a = c.args.hold.now in
+    let at : 7 * r.index + c.from.result ≡ port_place r.index c.args.port = ap (λ n. 7 * r.index + n) (c.from.ensures ∙ c.number.ensures.number) in
+    let old = c.index_mut-in-Unknown.result.now in
+    let new = c.take-in-Unknown.new.self in
+    let long = ap length c.deref.ensures.value in
+    let inside = c.in-Some.ensures.lookup.3.0 in
+    let below : 7 * r.index + c.from.result < length a.ends.items = omega arith in
+    let stood = read_stands a.ends.items a.ends.items _ _ old refl at below c.index_mut-in-Unknown.ensures.value in
+    let w : Writes a.ends.items (set a.ends.items (7 * r.index + c.from.result) new) (port_place r.index c.args.port) old new = record { stood = stood; stands = ap (λ n. set a.ends.items n new) at } in
+    let lacks = c.in-None-take.ensures.none in (
+      stays_at a _ (port_place r.index c.args.port) old new w (end_stays_lacks old new lacks) refl refl refl,
+      idle_at a.ends.items (port_place r.index c.args.port) old stood (end_lacks_idle old new lacks),
+    )
+
+pub returns-in-None-take-clause-ready : goal.returns-in-None-take-clause-ready
+returns-in-None-take-clause-ready g c =
+    ready_router_on c.args.around.capacity c.args.around.patience c.args.around.links.now c.args.self c.args.hold.now _ _
+    (goes_none c.args.around.capacity c.args.around.patience c.args.hold.now _ (returns-in-None-take-clause-looks g c).0)
+    (All-set (IsEndOf c.args.around.links.now) c.args.hold.now.ends.items _ c.take-in-Unknown.new.self c.in-None-take.ensures.end c.requires.ends) c.requires

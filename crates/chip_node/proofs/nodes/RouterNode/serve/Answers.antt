@@ -1,0 +1,63 @@
+use Rattle.std.proofs.Common.{List, [], ◌∷◌, ◌++◌, ap, subst, ◌∙◌}
+use Rattle.spin_base.specs.declared.copies.DumpRec.{DumpRec}
+use Rattle.spin_base.specs.WithRoom.{WithRoom}
+use Rattle.chip_node.specs.declared.holdings.Holdings.{Holdings}
+use Rattle.spin_base.specs.declared.copies.McCopy.{McCopy}
+use Rattle.chip_node.specs.Acting.{place_behind}
+use Rattle.chip_node.specs.Passing.{SendsBehind}
+use Rattle.chip_node.proofs.Sending.{dumped_recorded, dumped_room, sent_nowhere, sent_recorded, sent_room}
+use Rattle.chip_node.proofs.Flows.{ready_router_on}
+use Rattle.chip_node.proofs.Placing.{served_elsewhere, served_goes, unsent_items}
+use Rattle.chip_node.proofs.nodes.RouterNode.serve.Goals as goal
+
+pub returns-in-Sent-clause-goes : goal.returns-in-Sent-clause-goes
+returns-in-Sent-clause-goes g c =
+    let s = c.args.self in
+    let place = place_behind s.behind.now c.args.out in
+    let fate = c.send-served.result in
+    let a = c.args.hold.now in
+    let b = c.send-served.new.hold in
+    served_goes c.args.around.capacity c.args.around.patience s.index s.chip place c.args.out c.args.copy fate a b
+    (subst (λ (k : McCopy). SendsBehind c.args.around.capacity c.args.around.patience place k fate a.ends.items b.ends.items) c.onward.ensures c.send-served.ensures.sends)
+    (unsent_items a b c.send-served.ensures.unsent) c.send-served.ensures.deliveries
+    (sent_recorded s.chip c.args.out c.args.copy fate a.dumps b.dumps c.in-Sent.is c.send-served.ensures.dumps)
+    (sent_room s.chip c.args.out c.args.copy fate a.dumps b.dumps c.in-Sent.is c.send-served.ensures.dumps)
+
+pub returns-in-Sent-clause-elsewhere : goal.returns-in-Sent-clause-elsewhere
+returns-in-Sent-clause-elsewhere g c = λ q other.
+    served_elsewhere c.args.around.capacity c.args.around.patience (place_behind c.args.self.behind.now c.args.out) c.onward.result c.send-served.result c.args.hold.now.ends.items c.send-served.new.hold.ends.items q c.send-served.ensures.sends other
+
+pub returns-in-Sent-clause-ready : goal.returns-in-Sent-clause-ready
+returns-in-Sent-clause-ready g c =
+    ready_router_on c.args.around.capacity c.args.around.patience c.args.around.links.now c.args.self c.args.hold.now c.send-served.new.hold _ (returns-in-Sent-clause-goes g c) c.send-served.ensures.ends c.requires.ready
+
+pub returns-in-Dumped-clause-goes : goal.returns-in-Dumped-clause-goes
+returns-in-Dumped-clause-goes g c =
+    let s = c.args.self in
+    let place = place_behind s.behind.now c.args.out in
+    let fate = c.send-served.result in
+    let a = c.args.hold.now in
+    let sent = c.send-served.new.hold in
+    let b : Holdings = record { ends = sent.ends; unsent = sent.unsent; dumps = c.put.new.self; deliveries = sent.deliveries } in
+    let more : List DumpRec = record { chip = s.chip; out = c.args.out; copy = c.args.copy } ∷ [] in
+    served_goes c.args.around.capacity c.args.around.patience s.index s.chip place c.args.out c.args.copy fate a b
+    (subst (λ (k : McCopy). SendsBehind c.args.around.capacity c.args.around.patience place k fate a.ends.items b.ends.items) c.onward.ensures c.send-served.ensures.sends)
+    (unsent_items a sent c.send-served.ensures.unsent) c.send-served.ensures.deliveries
+    (dumped_recorded s.chip c.args.out c.args.copy fate a.dumps.items b.dumps.items c.in-Dumped.is (c.put.ensures.items ∙ ap (λ (l : WithRoom DumpRec). l.items ++ more) c.send-served.ensures.dumps))
+    (dumped_room s.chip c.args.out c.args.copy fate a.dumps.spare b.dumps.spare c.in-Dumped.is (c.put.ensures.spare ∙ ap (λ (l : WithRoom DumpRec). l.spare) c.send-served.ensures.dumps))
+
+pub returns-in-Dumped-clause-elsewhere : goal.returns-in-Dumped-clause-elsewhere
+returns-in-Dumped-clause-elsewhere g c = λ q other.
+    served_elsewhere c.args.around.capacity c.args.around.patience (place_behind c.args.self.behind.now c.args.out) c.onward.result c.send-served.result c.args.hold.now.ends.items c.send-served.new.hold.ends.items q c.send-served.ensures.sends other
+
+pub returns-in-Dumped-clause-ready : goal.returns-in-Dumped-clause-ready
+returns-in-Dumped-clause-ready g c =
+    ready_router_on c.args.around.capacity c.args.around.patience c.args.around.links.now c.args.self c.args.hold.now _ _ (returns-in-Dumped-clause-goes g c) c.send-served.ensures.ends c.requires.ready
+
+pub returns-in-Sent-clause-nowhere : goal.returns-in-Sent-clause-nowhere
+returns-in-Sent-clause-nowhere g c = λ none.
+    sent_nowhere c.args.around.capacity c.args.around.patience (place_behind c.args.self.behind.now c.args.out) c.onward.result c.send-served.result c.args.hold.now.ends.items c.send-served.new.hold.ends.items c.send-served.ensures.sends none
+
+pub returns-in-Dumped-clause-nowhere : goal.returns-in-Dumped-clause-nowhere
+returns-in-Dumped-clause-nowhere g c = λ none.
+    sent_nowhere c.args.around.capacity c.args.around.patience (place_behind c.args.self.behind.now c.args.out) c.onward.result c.send-served.result c.args.hold.now.ends.items c.send-served.new.hold.ends.items c.send-served.ensures.sends none

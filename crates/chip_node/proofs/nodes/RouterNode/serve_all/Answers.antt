@@ -1,0 +1,33 @@
+use Rattle.std.proofs.Common.{◌≡◌, ◌<◌, length, get_or, refl, arith}
+use Rattle.std.proofs.lemmas.List.{get_or_default}
+use Rattle.spin_base.specs.declared.chips.Dir.TheVariants.{East}
+use Rattle.spin_base.specs.declared.routes.Out.{Out}
+use Rattle.spin_base.specs.declared.routes.Out.TheVariants.{Link}
+use Rattle.chip_node.specs.Items.{Service}
+use Rattle.chip_node.proofs.Serving.{room_left, serves_more, serves_none}
+use Rattle.chip_node.proofs.nodes.RouterNode.serve_all.Goals as goal
+
+pub loop-out-init : goal.loop-out-init
+loop-out-init g c = record {
+  serves = serves_none c.args.around.capacity c.args.around.patience c.args.self c.args.copy c.args.hold.now;
+  ready = c.requires.ready;
+  behind = λ k d from inside. c.requires.room.behind k d inside;
+  records = (let records = c.requires.room.records in omega arith);
+}
+
+pub loop-out-preserved : goal.loop-out-preserved
+loop-out-preserved g c =
+    let r = c.args.self in
+    let outs = c.args.outs.now in
+    let i = c.loop-out.out-index in
+    let o : Out = get_or outs i (Link East) in
+    let s : Service = record { out = o; copy = c.args.copy; fate = c.serve.result } in
+    let before = c.loop-out.invariant in
+    let below : i < length outs = omega arith in
+    let read : o ≡ get_or outs i o = get_or_default outs i (Link East) o below in
+    record {
+      serves = serves_more c.args.around.capacity c.args.around.patience r c.args.copy c.args.hold.now c.loop-out.hold c.serve.new.hold outs i s below read refl c.serve.ensures.nowhere before.serves c.serve.ensures.goes;
+      ready = c.serve.ensures.ready;
+      behind = room_left c.args.around.capacity c.args.around.links.now r c.loop-out.hold c.serve.new.hold outs i o before.ready c.requires.numbered c.requires.differ below read before.behind c.serve.ensures.elsewhere;
+      records = (let records = before.records in let spare = c.serve.ensures.spare in omega arith);
+    }

@@ -1,0 +1,209 @@
+-- What a round on threads does with each queue.
+use Rattle.std.proofs.Common.{◌≡◌, ℕ, ◌+◌, ◌*◌, ◌<◌, ◌≤◌, ◌==◌, min, List, [], ◌∷◌, ◌++◌, length, Option, Some, None, refl, sym, ap, ◌∙◌, subst, arith, inl, inr}
+use Rattle.std.specs.List.{All, Contains, slice_index_or}
+use Rattle.std.proofs.lemmas.Bool.{cases_lt, cond_both}
+use Rattle.std.proofs.lemmas.List.{get_or_past, length-append}
+use Rattle.std.proofs.lemmas.List.Elements.{All-nil, All-append, All-cons, All-contains, All-head, All-replicate}
+use Rattle.std.proofs.lemmas.Option.{slice_get_within}
+use Rattle.spin_base.proofs.Members.{Among, among_contains}
+use Rattle.spin_base.proofs.Pairs.{All-flat_map, All-from_flat_map, All-left, All-right}
+use Rattle.spin_base.proofs.Places.{All-each}
+use Rattle.spin_base.specs.declared.chips.Chip.{Chip}
+use Rattle.spin_base.specs.declared.chips.Port.{Port}
+use Rattle.spin_base.specs.declared.copies.McCopy.{McCopy}
+use Rattle.spin_base.specs.declared.copies.Delivery.{Delivery}
+use Rattle.spin_base.specs.declared.copies.DumpRec.{DumpRec}
+use Rattle.spin_base.specs.Hops.{last_hop, onward}
+use Rattle.spin_base.specs.Outputs.{IsOutput}
+use Rattle.machine_desc.specs.Live.{chip_of, IsLiveChip}
+use Rattle.chip_node.specs.declared.ends.Served.{Served}
+use Rattle.chip_node.specs.declared.ends.Served.TheVariants.{Sent, Dumped}
+use Rattle.chip_node.specs.Items.{Item, Service, took, served, sent, got, brought, recorded, where_same, where_there, port_place, entered, left, entered_by, left_by, sent_of, taking_of, service_of, delivered_of, dumped_of, records, sent_by, services, takings}
+use Rattle.mesh_core.specs.State.{Setup, FitsQueue, Queue}
+use Rattle.mesh_core.proofs.Changes.{queue_at-below}
+use Rattle.mesh_run.specs.Played.{held_at, port_count, IsDone, IsLiveIndex}
+use Rattle.mesh_round.specs.RoundFlow.{IsFullAt, capacity_of, held_in}
+use Rattle.mesh_round.proofs.Apart.{first_here, here}
+use Rattle.mesh_round.proofs.Done.{inside_of, place_is}
+use Rattle.mesh_round.proofs.Joined.{among_into}
+use Rattle.mesh_round.proofs.Serving.{served_fits}
+use Rattle.mesh_round.proofs.TheFlow.{Round, Stands, found, beyond, dark, stands, by_place, goes, flow_of, nowhere_fulls}
+
+abbrev IsSmall : McCopy → Type 0
+IsSmall k = k.hop ≤ last_hop
+
+abbrev IsNew : McCopy → Type 0
+IsNew k = k.hop ≡ 0
+
+-- what holds of items holds of them where two places are the same
+fits_same : {X : Type 0} (P : X → Type 0) (p q : ℕ) (xs : List X) → All P xs → All P (where_same p q xs)
+fits_same P p q xs all = cond_both (p == q) xs [] (All P) (λ same. all) (λ apart. All-nil P)
+
+fits_there : {X : Type 0} (P : X → Type 0) (place : Option ℕ) (q : ℕ) (xs : List X) → All P xs → All P (where_there place q xs)
+fits_there P None q xs all = All-nil P
+fits_there P (Some p) q xs all = fits_same P p q xs all
+
+-- one item, of which it is known what holds where the places are the same
+one_here : {X : Type 0} (P : X → Type 0) (p : ℕ) (x : X) → All P (where_same p p (x ∷ [])) → P x
+one_here P p x all = All-head P x [] (subst (All P) (here p p (x ∷ []) refl) all)
+
+module _ (r : Round) where
+  abbrev u : Setup
+  u = r.m.setup
+
+  pub done_of : (x : Item) → Contains r.items x → IsDone u x
+  done_of x has = All-contains (IsDone u) r.items x r.played.turns_are.each has
+
+  -- ---- the balance of each queue
+
+  -- each queue gives its copies in the order in which it got them
+  pub in_order : (q : Queue) → held_in r.m q ++ (flow_of r).entered q ≡ (flow_of r).left q ++ held_in r.n q
+  in_order q = by (stands r q)
+    where
+      by : (x : Stands r q) → held_in r.m q ++ by_place r q (λ p. entered p.at r.items) [] x ≡ by_place r q (λ p. left p.at r.items) [] x ++ held_in r.n q
+      by (found p) =
+          ap (λ (l : List McCopy). l ++ entered p.at r.items) p.before ∙ ((goes r q p).in_order ∙ ap (λ (l : List McCopy). left p.at r.items ++ l) (sym p.after))
+      by (beyond out some before after) = ap (λ (l : List McCopy). l ++ []) before ∙ sym after
+      by (dark is) = ap (λ (l : List McCopy). l ++ []) (ap (held_in r.m) is) ∙ sym (ap (held_in r.n) is)
+
+  pub full : (q : Queue) → All (IsFullAt r.m (flow_of r) q) ((flow_of r).fulls q)
+  full q = by (stands r q)
+    where
+      IsMoment : List McCopy → List McCopy → ℕ × ℕ → Type 0
+      IsMoment came went e = (e.0 ≤ length came) × (e.1 ≤ length went) × (length (held_in r.m q) + e.0 ≡ e.1 + capacity_of u q)
+
+      by : (x : Stands r q) → All (IsMoment (by_place r q (λ p. entered p.at r.items) [] x) (by_place r q (λ p. left p.at r.items) [] x)) (by_place r q (λ p. (goes r q p).fulls) (nowhere_fulls r) x)
+      by (found p) = λ i d below.
+          let moment = (goes r q p).full i d below in
+          let held = ap length p.before in
+          let room = p.room in
+          let is = moment.full in
+          (moment.entered_by_then, moment.left_by_then, omega (arith, is, held, room))
+      by (beyond out some before after) = All-nil (IsMoment [] [])
+      by (dark is) =
+          let none = ap length (ap (held_in r.m) is) in
+          let no_room = ap (capacity_of u) is in
+          All-replicate (IsMoment [] []) (r.patience * length (records r.items)) (0, 0) (omega arith, omega arith, omega (arith, none, no_room))
+
+  -- ---- hop numbers
+
+  new_sent : (v : ℕ) → All IsNew (sent_by v r.items)
+  new_sent v = All-left IsNew (sent_by v r.items) (slice_index_or r.n.unsent v []) (subst (All IsNew) (r.played.unsent v) was)
+    where
+      was : All IsNew (slice_index_or r.m.unsent v [])
+      was = elim (cases_lt v (length r.m.unsent)) [
+        | inl below ↦ r.mesh.unsent_at_start v [] below
+        | inr past ↦ subst (All IsNew) (sym (get_or_past r.m.unsent v [] past)) (All-nil IsNew)
+      ]
+
+  small_entered : (q : ℕ) → All IsSmall (entered q r.items)
+  small_entered q = All-flat_map IsSmall (entered_by q) r.items (All-each (λ x. All IsSmall (entered_by q x)) r.items by)
+    where
+      fits : (h : ℕ) → min (h + 1) last_hop ≤ last_hop
+      fits h = omega arith
+
+      small : (s : Service) (f : Served) → All IsSmall (brought s f)
+      small s Sent = All-cons IsSmall (onward s.copy) [] (fits s.copy.hop) (All-nil IsSmall)
+      small s Dumped = All-nil IsSmall
+
+      by : (x : Item) → Contains r.items x → All IsSmall (entered_by q x)
+      by (took i p k) has = All-nil IsSmall
+      by (served i c place s) has = fits_there IsSmall place q (brought s s.fate) (small s s.fate)
+      by (sent i v k) has =
+          let new : k.hop ≡ 0 = one_here IsNew v k (All-contains (λ x. All IsNew (sent_of v x)) r.items (sent i v k) (All-from_flat_map IsNew (sent_of v) r.items (new_sent v)) has) in
+          fits_same IsSmall _ q (k ∷ []) (All-cons IsSmall k [] (omega (arith, new)) (All-nil IsSmall))
+      by (got i v place k) has = All-nil IsSmall
+
+  small_held : (q : ℕ) → q < port_count u + length u.spots → All IsSmall (held_at r.m q)
+  small_held q below =
+      let fits = All-append (FitsQueue u.capacity) r.m.inputs r.m.cores r.mesh.inputs_within r.mesh.cores_within in
+      let long = length-append r.m.inputs r.m.cores in
+      let inputs = r.mesh.input_lists in
+      let cores = r.mesh.core_lists in
+      let queue = fits q [] (omega (arith, below, long, inputs, cores)) in
+      λ i d within. let hop = queue.hops i d within in omega (arith, hop)
+
+  small_at : (q : ℕ) → q < port_count u + length u.spots → All IsSmall (left q r.items ++ held_at r.n q)
+  small_at q below =
+      subst (All IsSmall) (r.played.queues q below).in_order (All-append IsSmall (held_at r.m q) (entered q r.items) (small_held q below) (small_entered q))
+
+  small_left : (q : ℕ) → q < port_count u + length u.spots → All IsSmall (left q r.items)
+  small_left q below = All-left IsSmall (left q r.items) (held_at r.n q) (small_at q below)
+
+  -- what a queue holds afterwards fits into it
+  pub fits_after : (q : ℕ) → q < port_count u + length u.spots → FitsQueue u.capacity (held_at r.n q)
+  fits_after q below =
+      let all = All-right IsSmall (left q r.items) (held_at r.n q) (small_at q below) in
+      record {
+        within = (r.played.queues q below).within;
+        hops = λ i d within. let hop = all i d within in omega (arith, hop);
+      }
+
+  pub hops_left : (q : Queue) → All (λ (k : McCopy). k.hop ≤ last_hop) ((flow_of r).left q)
+  hops_left q = by (stands r q)
+    where
+      by : (x : Stands r q) → All IsSmall (by_place r q (λ p. left p.at r.items) [] x)
+      by (found p) = small_left p.at p.below
+      by (beyond out some before after) = All-nil IsSmall
+      by (dark is) = All-nil IsSmall
+
+  -- ---- records and deliveries
+
+  small_taken : (i : ℕ) → All (λ (t : Port × McCopy). t.1.hop ≤ last_hop) (takings i r.items)
+  small_taken i = All-flat_map P (taking_of i) r.items (All-each (λ x. All P (taking_of i x)) r.items by)
+    where
+      P : Port × McCopy → Type 0
+      P t = t.1.hop ≤ last_hop
+
+      by : (x : Item) → Contains r.items x → All P (taking_of i x)
+      by (took j p k) has =
+          let live : IsLiveIndex u j = done_of (took j p k) has in
+          let place = place_is u j p in
+          let low = queue_at-below u.machine (chip_of u.machine j) p (inside_of u j (chip_of u.machine j) live refl) in
+          let q = port_place j p in
+          let small : k.hop ≤ last_hop = one_here IsSmall q k (All-contains (λ x. All IsSmall (left_by q x)) r.items (took j p k) (All-from_flat_map IsSmall (left_by q) r.items (small_left q (omega (arith, place, low)))) has) in
+          fits_same P j i ((p, k) ∷ []) (All-cons P (p, k) [] small (All-nil P))
+      by (served j c place s) has = All-nil P
+      by (sent j v k) has = All-nil P
+      by (got j v place k) has = All-nil P
+
+  -- what was served had been taken
+  pub from_taken : (i : ℕ) (c : Chip) (place : Option ℕ) (s : Service) → Contains r.items (served i c place s) →
+      (t : Port × McCopy) × Among t (takings i r.items) × (s.copy ≡ t.1) × (t.1.hop ≤ last_hop → s.copy.hop < last_hop)
+  from_taken i c place s has =
+      let among = among_into (service_of i) (served i c place s) s r.items has (first_here i i s refl) in
+      served_fits u (chip_of u.machine i) (takings i r.items) (services i r.items) (r.played.turns_are.each_once i) s among
+
+  pub at_outputs : All (λ (d : DumpRec). IsLiveChip u.machine d.chip × IsOutput d.out × (d.copy.hop < last_hop)) (flow_of r).dumped
+  at_outputs = All-flat_map Fits dumped_of r.items (All-each (λ x. All Fits (dumped_of x)) r.items by)
+    where
+      Fits : DumpRec → Type 0
+      Fits d = IsLiveChip u.machine d.chip × IsOutput d.out × (d.copy.hop < last_hop)
+
+      of : (c : Chip) (s : Service) (f : Served) → IsLiveChip u.machine c → IsOutput s.out → s.copy.hop < last_hop → All Fits (recorded c s f)
+      of c s Sent live is small = All-nil Fits
+      of c s Dumped live is small = All-cons Fits (record { chip = c; out = s.out; copy = s.copy }) [] (live, is, small) (All-nil Fits)
+
+      by : (x : Item) → Contains r.items x → All Fits (dumped_of x)
+      by (took i p k) has = All-nil Fits
+      by (served i c place s) has =
+          let done = done_of (served i c place s) has in
+          let from = from_taken i c place s has in
+          let small = All-contains (λ (t : Port × McCopy). t.1.hop ≤ last_hop) (takings i r.items) from.0 (small_taken i) (among_contains from.0 (takings i r.items) from.1) in
+          of c s s.fate (subst (IsLiveChip u.machine) (sym done.1) done.0.live) done.3 (from.3 small)
+      by (sent i v k) has = All-nil Fits
+      by (got i v place k) has = All-nil Fits
+
+  pub to_vertices : All (λ (d : Delivery). d.vertex < length u.spots) (flow_of r).delivered
+  to_vertices = All-flat_map Fits delivered_of r.items (All-each (λ x. All Fits (delivered_of x)) r.items by)
+    where
+      Fits : Delivery → Type 0
+      Fits d = d.vertex < length u.spots
+
+      by : (x : Item) → Contains r.items x → All Fits (delivered_of x)
+      by (took i p k) has = All-nil Fits
+      by (served i c place s) has = All-nil Fits
+      by (sent i v k) has = All-nil Fits
+      by (got i v place k) has =
+          let on = (done_of (got i v place k) has).1 in
+          All-cons Fits (record { vertex = v; copy = k }) [] (slice_get_within u.spots v on.spot on.stands) (All-nil Fits)

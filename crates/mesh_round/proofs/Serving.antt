@@ -1,0 +1,156 @@
+-- What was served at an output of a chip: each copy went on or was dumped.
+use Rattle.std.proofs.Common.{◌≡◌, ℕ, ◌+◌, ◌<◌, ◌≤◌, Bool, true, false, cond, if◌then◌else◌, ◌||◌, ◌==◌, List, [], ◌∷◌, ◌++◌, map, refl, sym, ap, ◌∙◌, subst, arith, inl, inr, count_by}
+use Rattle.std.specs.List.{filter, flat_map, list_any}
+use Rattle.std.specs.List.Sorted.{IsPermutation}
+use Rattle.std.proofs.lemmas.Bool.{cases_Bool}
+use Rattle.std.proofs.lemmas.List.Sorted.{IsPermutation-refl, IsPermutation-sym, IsPermutation-cons, IsPermutation-trans, IsPermutation-middle}
+use Rattle.spin_base.proofs.Counts.{count_by-cons}
+use Rattle.spin_base.proofs.Members.{Among, among_map, map_among}
+use Rattle.spin_base.specs.declared.chips.Chip.{Chip}
+use Rattle.spin_base.specs.declared.chips.Port.{Port}
+use Rattle.spin_base.specs.declared.routes.Out.{Out}
+use Rattle.spin_base.specs.declared.copies.McCopy.{McCopy}
+use Rattle.spin_base.specs.Equality.{out_eq}
+use Rattle.spin_base.specs.Hops.{last_hop, onward}
+use Rattle.spin_base.specs.Lookup.{lookup}
+use Rattle.spin_base.specs.Outputs.{IsOutput, has, outs_of}
+use Rattle.spin_base.proofs.Once.{outs_once}
+use Rattle.machine_desc.specs.RightTables.{table_at}
+use Rattle.chip_node.specs.declared.ends.Served.{Served}
+use Rattle.chip_node.specs.declared.ends.Served.TheVariants.{Sent, Dumped}
+use Rattle.chip_node.specs.Items.{Service, brought, lost}
+use Rattle.mesh_core.specs.State.{Setup}
+use Rattle.mesh_core.specs.Step.{outputs}
+use Rattle.mesh_core.proofs.MarkTests.{below_last}
+use Rattle.mesh_run.specs.Played.{owed_on}
+use Rattle.mesh_round.specs.RoundFlow.{leaves_by}
+use Rattle.mesh_round.proofs.Joined.{among_flat, filter-flat, flat_same, map-flat}
+
+-- ---- what became of it
+
+abbrev pub went_on : List Service → List McCopy
+went_on ss = flat_map (λ s. brought s s.fate) ss
+
+abbrev pub fell : List Service → List McCopy
+fell ss = flat_map (λ s. lost s s.fate) ss
+
+abbrev pub copies_of : List Service → List McCopy
+copies_of ss = map (λ (s : Service). s.copy) ss
+
+-- each copy went on or was dumped
+pub sent_or_dumped : (ss : List Service) → IsPermutation (map onward (copies_of ss)) (went_on ss ++ map onward (fell ss))
+sent_or_dumped [] = IsPermutation-refl []
+sent_or_dumped (s ∷ ss) = by (sent_or_dumped ss) s.fate
+  where
+    all : List McCopy
+    all = map onward (copies_of ss)
+
+    fallen : List McCopy
+    fallen = map onward (fell ss)
+
+    by : IsPermutation all (went_on ss ++ fallen) → (fate : Served) → IsPermutation (onward s.copy ∷ all) ((brought s fate ++ went_on ss) ++ map onward (lost s fate ++ fell ss))
+    by rest Sent = IsPermutation-cons (onward s.copy) all (went_on ss ++ fallen) rest
+    by rest Dumped =
+        IsPermutation-trans (onward s.copy ∷ all) (onward s.copy ∷ (went_on ss ++ fallen)) (went_on ss ++ onward s.copy ∷ fallen)
+        (IsPermutation-cons (onward s.copy) all (went_on ss ++ fallen) rest)
+        (IsPermutation-sym (went_on ss ++ onward s.copy ∷ fallen) (onward s.copy ∷ (went_on ss ++ fallen)) (IsPermutation-middle (went_on ss) (onward s.copy) fallen))
+
+-- ---- what lookup gives an output
+
+abbrev given : Bool → ℕ
+given b = cond b 1 0
+
+module _ (o : Out) where
+  -- of copies with outputs, those of the output
+  abbrev pub at_out : List (Out × McCopy) → List McCopy
+  at_out xs = map (λ (x : Out × McCopy). x.1) (filter (λ (x : Out × McCopy). out_eq o x.0) xs)
+
+  abbrev with_each : McCopy → List Out → List (Out × McCopy)
+  with_each k os = map (λ p. (p, k)) os
+
+  -- where a test passes the first output
+  first_of : Bool → Out → McCopy → List Out → List McCopy
+  first_of b p k ps = map (λ (x : Out × McCopy). x.1) (cond b ((p, k) ∷ filter (λ (x : Out × McCopy). out_eq o x.0) (with_each k ps)) (filter (λ (x : Out × McCopy). out_eq o x.0) (with_each k ps)))
+
+  none_at : (k : McCopy) (os : List Out) → count_by (out_eq o) os ≡ 0 → at_out (with_each k os) ≡ []
+  unfolding first_of
+  none_at k [] none = refl
+  none_at k (p ∷ ps) none =
+      let head : count_by (out_eq o) (p ∷ ps) ≡ given (out_eq o p) + count_by (out_eq o) ps = count_by-cons (out_eq o) p ps in
+      elim (cases_Bool (out_eq o p)) [
+        | inl own ↦ let one : given (out_eq o p) ≡ 1 = ap given own in absurd (omega (arith, head, one, none))
+        | inr other ↦ ap (λ b. first_of b p k ps) other ∙ none_at k ps (omega (arith, head, none))
+      ]
+
+  -- a copy stands at the output at most once
+  once_at : (k : McCopy) (os : List Out) → count_by (out_eq o) os ≤ 1 → at_out (with_each k os) ≡ cond (list_any (out_eq o) os) (k ∷ []) []
+  unfolding first_of
+  once_at k [] few = refl
+  once_at k (p ∷ ps) few =
+      let head : count_by (out_eq o) (p ∷ ps) ≡ given (out_eq o p) + count_by (out_eq o) ps = count_by-cons (out_eq o) p ps in
+      let any : Bool → List McCopy = λ b. cond (b || list_any (out_eq o) ps) (k ∷ []) [] in
+      elim (cases_Bool (out_eq o p)) [
+        | inl own ↦
+            let one : given (out_eq o p) ≡ 1 = ap given own in
+            ap (λ b. first_of b p k ps) own ∙ (ap (λ (l : List McCopy). k ∷ l) (none_at k ps (omega (arith, head, one, few))) ∙ sym (ap any own))
+        | inr other ↦ ap (λ b. first_of b p k ps) other ∙ (once_at k ps (omega (arith, head, few)) ∙ sym (ap any other))
+      ]
+
+  few_outputs : IsOutput o → (u : Setup) (c : Chip) (port : Port) (k : McCopy) → count_by (out_eq o) (outputs u c port k) ≤ 1
+  few_outputs is u c port k = by (k.hop == last_hop) refl
+    where
+      at_most_one : (b : Bool) (n : ℕ) → n ≡ (if b then 1 else 0) → n ≤ 1
+      at_most_one true n same = omega arith
+      at_most_one false n same = omega arith
+
+      outs : Bool → List Out
+      outs b = if b then [] else outs_of (lookup (table_at u.machine u.tables c) k.key port)
+
+      by : (b : Bool) → (k.hop == last_hop) ≡ b → count_by (out_eq o) (outs (k.hop == last_hop)) ≤ 1
+      by true last = subst (λ b. count_by (out_eq o) (outs b) ≤ 1) (sym last) (omega arith)
+      by false more =
+          let route = lookup (table_at u.machine u.tables c) k.key port in
+          subst (λ b. count_by (out_eq o) (outs b) ≤ 1) (sym more) (at_most_one (has route o) (count_by (out_eq o) (outs_of route)) (outs_once route o is))
+
+  -- what is owed at the output is what lookup gives it
+  pub owed_at : IsOutput o → (u : Setup) (c : Chip) (taken : List (Port × McCopy)) → at_out (owed_on u c taken) ≡ flat_map (λ t. filter (leaves_by u c o t.0) (t.1 ∷ [])) taken
+  owed_at is u c taken =
+      let owes : Port × McCopy → List (Out × McCopy) = λ t. with_each t.1 (outputs u c t.0 t.1) in
+      let own : Out × McCopy → Bool = λ x. out_eq o x.0 in
+      ap (map (λ (x : Out × McCopy). x.1)) (filter-flat own owes taken)
+      ∙ (map-flat (λ (x : Out × McCopy). x.1) (λ t. filter own (owes t)) taken
+      ∙ flat_same (λ t. at_out (owes t)) (λ t. filter (leaves_by u c o t.0) (t.1 ∷ [])) (λ t. once_at t.1 (outputs u c t.0 t.1) (few_outputs is u c t.0 t.1)) taken)
+
+  -- what was served at the output
+  pub served_at : (ss : List Service) → at_out (map {B = Out × McCopy} (λ s. (s.out, s.copy)) ss) ≡ copies_of (filter (λ (s : Service). out_eq o s.out) ss)
+  served_at [] = refl
+  served_at (s ∷ ss) = by (served_at ss) (out_eq o s.out)
+    where
+      pairs : List (Out × McCopy)
+      pairs = filter (λ (x : Out × McCopy). out_eq o x.0) (map {B = Out × McCopy} (λ s. (s.out, s.copy)) ss)
+
+      own : List Service
+      own = filter (λ (r : Service). out_eq o r.out) ss
+
+      by : map (λ (x : Out × McCopy). x.1) pairs ≡ copies_of own → (b : Bool) → map (λ (x : Out × McCopy). x.1) (cond b ((s.out, s.copy) ∷ pairs) pairs) ≡ copies_of (cond b (s ∷ own) own)
+      by rest true = ap (λ (l : List McCopy). s.copy ∷ l) rest
+      by rest false = rest
+
+-- What was served was taken, and had not the greatest hop number.
+pub served_fits : (u : Setup) (c : Chip) (taken : List (Port × McCopy)) (ss : List Service) → map {B = Out × McCopy} (λ s. (s.out, s.copy)) ss ≡ owed_on u c taken →
+    (s : Service) → Among s ss → (t : Port × McCopy) × Among t taken × (s.copy ≡ t.1) × (t.1.hop ≤ last_hop → s.copy.hop < last_hop)
+served_fits u c taken ss each s a =
+    let owes : Port × McCopy → List (Out × McCopy) = λ t. map {B = Out × McCopy} (λ o. (o, t.1)) (outputs u c t.0 t.1) in
+    let there : Among (s.out, s.copy) (owed_on u c taken) = subst (λ (l : List (Out × McCopy)). Among (s.out, s.copy) l) each (map_among {Y = Out × McCopy} (λ (x : Service). (x.out, x.copy)) s ss a) in
+    let of = among_flat owes (s.out, s.copy) taken there in
+    let out = among_map {Y = Out × McCopy} (λ (o : Out). (o, of.0.1)) (s.out, s.copy) (outputs u c of.0.0 of.0.1) of.2 in
+    let same : s.copy ≡ of.0.1 = ap (λ (x : Out × McCopy). x.1) out.2 in
+    (of.0, of.1, same, λ small. subst (λ (k : McCopy). k.hop < last_hop) (sym same) (below of.0.0 of.0.1 out.0 out.1 small))
+  where
+    below : (port : Port) (k : McCopy) (o : Out) → Among o (outputs u c port k) → k.hop ≤ last_hop → k.hop < last_hop
+    below port k o among small = elim (cases_Bool (k.hop == last_hop)) [
+      | inl last ↦
+          let none : outputs u c port k ≡ [] = ap (λ b. if b then [] else outs_of (lookup (table_at u.machine u.tables c) k.key port)) last in
+          absurd (subst (λ (l : List Out). Among o l) none among)
+      | inr more ↦ below_last k.hop small more
+    ]

@@ -1,0 +1,7 @@
+use Rattle.mesh_round.proofs.Played.{IsReached}
+use Rattle.std.proofs.Common.{◌≡◌}
+use Rattle.mesh_round.proofs.rounds.run_parts.Given as goal
+
+-- the mesh was reached by rounds in each of which a copy moved, at the pace that was asked for
+abbrev pub invariant-loop : goal.invariant-loop
+invariant-loop g l = IsReached l.fn.pace.patience l.fn.pace.turns l.fn.parts l.raised × (l.raised.pace ≡ l.fn.pace)

@@ -1,0 +1,133 @@
+-- What a whole round logged is what its items tell, and the mesh to which it leads is split as it was.
+use Rattle.std.proofs.Common.{◌≡◌, ℕ, ◌<◌, Bool, false, ◌||◌, List, [], ◌∷◌, ◌++◌, length, get_or, refl, sym, ap, ap₂, ◌∙◌, subst, arith, suc}
+use Rattle.std.specs.List.{flat_map, list_any}
+use Rattle.std.specs.Global.{Vec}
+use Rattle.std.proofs.lemmas.List.{get_or_default}
+use Rattle.std.proofs.lemmas.Option.{slice_get-get_or}
+use Rattle.chip_node.specs.Going.{Goes}
+use Rattle.chip_node.specs.Items.{Item, deliveries, delivered_of, dumped_of, records}
+use Rattle.mesh_run.specs.declared.gathering.MeshLogs.{MeshLogs}
+use Rattle.mesh_run.specs.declared.raised.RaisedMesh.{RaisedMesh}
+use Rattle.mesh_run.specs.declared.shares.Share.{Share}
+use Rattle.mesh_run.specs.Gathering.{IsAnyMoved}
+use Rattle.mesh_run.specs.Raised.{IsRaisedFrom, PlaysTo}
+use Rattle.mesh_run.specs.Shares.{IsNoted}
+use Rattle.mesh_run.specs.Split.{AreShared, HaveNoLogs, HoldLanes, HoldUnsent}
+use Rattle.mesh_run.proofs.AfterLinks.{whole_no_logs, whole_up}
+use Rattle.mesh_run.proofs.AfterLogs.{flat_same}
+use Rattle.mesh_run.proofs.AfterMesh.{mesh, whole_played}
+use Rattle.mesh_run.proofs.AfterRuns.{whole_shared}
+use Rattle.mesh_run.proofs.AfterSplit.{whole_lanes, whole_unsent}
+use Rattle.mesh_run.proofs.Together.{flat_map_joined, joined}
+use Rattle.mesh_run.proofs.WholeRound.{Whole, dealt_long, parts, played_parts, whole_noted}
+
+-- a test that is the same at each place has the same answer
+any_same : {X Y : Type 0} (f : X → Bool) (g : Y → Bool) (xs : List X) (ys : List Y) → length xs ≡ length ys →
+    ((i : ℕ) (x : X) (y : Y) → i < length xs → f (get_or xs i x) ≡ g (get_or ys i y)) → list_any f xs ≡ list_any g ys
+any_same f g [] [] long each = refl
+any_same f g [] (y ∷ ys) long each = absurd (omega (arith, long))
+any_same f g (x ∷ xs) [] long each = absurd (omega (arith, long))
+any_same f g (x ∷ xs) (y ∷ ys) long each =
+    ap₂ (λ a b. a || b) (each 0 x y (omega arith)) (any_same f g xs ys (omega (arith, long)) (λ i a b below. each (suc i) a b (omega (arith, below))))
+
+-- what one share logged
+share_logged : (cap patience : ℕ) (s d p c : Share) (items : List Item) → (d.hold.deliveries ≡ s.hold.deliveries) × (d.hold.dumps ≡ s.hold.dumps) →
+    (s.hold.dumps.items ≡ []) × (s.hold.deliveries.items ≡ []) → Goes cap patience d.hold items p.hold →
+    (c.hold.deliveries ≡ p.hold.deliveries) × (c.hold.dumps ≡ p.hold.dumps) → (c.hold.deliveries.items ≡ deliveries items) × (c.hold.dumps.items ≡ records items)
+share_logged cap patience s d p c items first empty goes last = (
+  ap (λ v. v.items) last.0 ∙ (goes.delivered ∙ ap (λ l. l ++ deliveries items) (ap (λ v. v.items) first.0 ∙ empty.1)),
+  ap (λ v. v.items) last.1 ∙ (goes.dumped ∙ ap (λ l. l ++ records items) (ap (λ v. v.items) first.1 ∙ empty.0)),
+)
+
+module _ (w : Whole) where
+  collected_long : length w.collected ≡ length w.dealt
+  collected_long = w.collects.collects.same.0 ∙ w.played_long
+
+  parts_many : length (parts w) ≡ length w.dealt
+  parts_many = (played_parts w).parts_long
+
+  logged : (i : ℕ) (x : Share) (z : List Item) → i < length w.collected →
+      ((get_or w.collected i x).hold.deliveries.items ≡ deliveries (get_or (parts w) i z))
+      × ((get_or w.collected i x).hold.dumps.items ≡ records (get_or (parts w) i z))
+  logged i x z below =
+      let as_dealt = dealt_long w in
+      let as_collected = collected_long in
+      let as_played = w.played_long in
+      let many = parts_many in
+      let s = slice_get-get_or w.r.shares.items i x (omega (arith, below, as_collected, as_dealt)) in
+      let d = slice_get-get_or w.dealt i x (omega (arith, below, as_collected)) in
+      let p = slice_get-get_or w.played i x (omega (arith, below, as_collected, as_played)) in
+      let c = slice_get-get_or w.collected i x below in
+      let first = w.deals.same.1 i (get_or w.r.shares.items i x) (get_or w.dealt i x) s d in
+      let last = w.collects.collects.same.1 i (get_or w.played i x) (get_or w.collected i x) p c in
+      let one = share_logged w.m.setup.capacity w.patience
+      (get_or w.r.shares.items i x) (get_or w.dealt i x) (get_or w.played i x) (get_or w.collected i x) (get_or (parts w) i [])
+      (first.deliveries, first.dumps) (w.roomy.raised.no_logs i x (omega (arith, below, as_collected, as_dealt)))
+      ((played_parts w).goes i x (omega (arith, below, as_collected))) (last.deliveries, last.dumps) in
+      let same : get_or (parts w) i [] ≡ get_or (parts w) i z = get_or_default (parts w) i [] z (omega (arith, below, as_collected, many)) in
+      (one.0 ∙ ap (λ (l : List Item). deliveries l) same, one.1 ∙ ap (λ (l : List Item). records l) same)
+
+  -- what all shares logged
+  pub whole_delivered : flat_map (λ (s : Share). s.hold.deliveries.items) w.collected ≡ deliveries (joined (parts w))
+  whole_delivered =
+      let many = parts_many in
+      let long = collected_long in
+      flat_same (λ (s : Share). s.hold.deliveries.items) (λ (p : List Item). flat_map delivered_of p) w.collected (parts w)
+      (omega (arith, many, long)) (λ i x z below. (logged i x z below).0)
+      ∙ sym (flat_map_joined delivered_of (parts w))
+
+  pub whole_dumped : flat_map (λ (s : Share). s.hold.dumps.items) w.collected ≡ records (joined (parts w))
+  whole_dumped =
+      let many = parts_many in
+      let long = collected_long in
+      flat_same (λ (s : Share). s.hold.dumps.items) (λ (p : List Item). flat_map dumped_of p) w.collected (parts w)
+      (omega (arith, many, long)) (λ i x z below. (logged i x z below).1)
+      ∙ sym (flat_map_joined dumped_of (parts w))
+
+  -- whether a copy moved is noted after ends are collected as it was before
+  moved_same : list_any (λ (s : Share). s.moved) w.played ≡ list_any (λ (s : Share). s.moved) w.collected
+  moved_same = any_same (λ (s : Share). s.moved) (λ (s : Share). s.moved) w.played w.collected (sym w.collects.collects.same.0) (λ i x y below.
+      let same = w.collects.collects.same in
+      let long = same.0 in
+      let p = slice_get-get_or w.played i x below in
+      sym (same.1 i (get_or w.played i x) (get_or w.collected i y) p (slice_get-get_or w.collected i y (omega (arith, below, long)))).moved)
+
+  -- the mesh after a round: its shares, its links and its logs are those that the round left, and the rest is as it was
+  module _ (shares : Vec Share) (logs : MeshLogs) (left : shares.items ≡ w.cleared) where
+    abbrev pub stands : RaisedMesh
+    stands = record w.r { standing = w.standing; shares = shares; logs = logs }
+
+    pub record GathersLogs : Type 0 where
+      pub delivered : logs.delivered.items ≡ w.r.logs.delivered.items ++ flat_map (λ s. s.hold.deliveries.items) w.collected
+      pub dumped : logs.dumped.items ≡ w.r.logs.dumped.items ++ flat_map (λ s. s.hold.dumps.items) w.collected
+
+    whole_raised : GathersLogs → IsRaisedFrom (mesh w) 0 stands
+    whole_raised logged_are =
+        let raised = w.roomy.raised in
+        record {
+          setup = raised.setup;
+          hands = raised.hands;
+          inputs_long = raised.inputs_long ∙ sym (whole_played w).inputs_long;
+          cores_long = raised.cores_long ∙ sym (whole_played w).cores_long;
+          unsent_long = raised.unsent_long ∙ sym (whole_played w).unsent_long;
+          floor = raised.floor;
+          shared = subst (AreShared w.m.setup w.r.homes.items w.r.cuts.items) (sym left) (whole_shared w);
+          lanes = subst (HoldLanes ((mesh w).inputs ++ (mesh w).cores) w.r.homes.items) (sym left) (whole_lanes w);
+          unsent = subst (HoldUnsent w.m.setup (mesh w).unsent w.r.homes.items) (sym left) (whole_unsent w);
+          ends = w.rests.now;
+          holds = w.rests.holds;
+          up = whole_up w;
+          crossing = raised.crossing;
+          no_logs = subst HaveNoLogs (sym left) (whole_no_logs w);
+          delivered = logged_are.delivered ∙ ap₂ (λ a b. a ++ b) raised.delivered whole_delivered;
+          dumped = logged_are.dumped ∙ ap₂ (λ a b. a ++ b) raised.dumped whole_dumped;
+        }
+
+    pub whole_plays : (moved : Bool) → GathersLogs → IsAnyMoved w.collected moved → PlaysTo w.patience w.turns w.m moved stands
+    whole_plays moved logged_are moved_are = record {
+      mesh = mesh w;
+      items = joined (parts w);
+      raised = whole_raised logged_are;
+      played = whole_played w;
+      noted = subst (IsNoted false (joined (parts w))) (moved_same ∙ sym moved_are) (whole_noted w);
+    }

@@ -1,0 +1,190 @@
+-- What a whole round makes of each queue: a lane goes on in its share, and a link rests with what is left of its queue.
+use Rattle.std.proofs.Common.{◌≡◌, ◌≢◌, ℕ, ◌+◌, ◌<◌, ◌≤◌, min, List, [], ◌++◌, length, map, get_or, Option, Some, refl, sym, ap, ◌∙◌, subst, arith, inl, inr}
+use Rattle.std.specs.List.{slice_get}
+use Rattle.std.proofs.lemmas.Bool.{cases_eq}
+use Rattle.std.proofs.lemmas.List.{length-map}
+use Rattle.std.proofs.lemmas.List.Elements.{All-append}
+use Rattle.std.proofs.lemmas.Option.{get_or_from_slice_get, slice_get_within, same_Some}
+use Rattle.spin_base.proofs.Places.{slice_get-mapped, slice_get_there}
+use Rattle.spin_base.specs.declared.copies.McCopy.{McCopy}
+use Rattle.spin_base.specs.WithRoom.{WithRoom}
+use Rattle.link_queue.specs.declared.links.Link.{Link}
+use Rattle.link_queue.specs.declared.links.LinkEnds.{LinkEnds}
+use Rattle.link_queue.specs.Ends.{cap_of}
+use Rattle.chip_node.specs.declared.ends.End.{End}
+use Rattle.chip_node.specs.declared.ends.End.TheVariants.{Own, Sends, Takes}
+use Rattle.chip_node.specs.declared.ends.InEnd.{InEnd}
+use Rattle.chip_node.specs.declared.ends.OutEnd.{OutEnd}
+use Rattle.mesh_core.specs.State.{FitsQueue}
+use Rattle.mesh_run.specs.declared.homes.Cut.{Cut}
+use Rattle.mesh_run.specs.declared.homes.Home.{Home}
+use Rattle.mesh_run.specs.declared.shares.Share.{Share}
+use Rattle.mesh_run.specs.Crossing.{IsUncut}
+use Rattle.mesh_run.specs.Played.{held_at, QueueGoes}
+use Rattle.mesh_run.specs.Queues.{queue_of_link, IsDown, IsUp}
+use Rattle.mesh_run.specs.Split.{cut_queues, end_at, end_in}
+use Rattle.mesh_run.proofs.AfterDeal.{homes_below, no_end_of_cut}
+use Rattle.mesh_run.proofs.Filling.{few_entered}
+use Rattle.mesh_run.proofs.Passing.{lane_queue, link_queue}
+use Rattle.mesh_run.proofs.PlanLaws.{fits_at}
+use Rattle.mesh_run.proofs.Together.{joined, lane_passes, sender_passes, stood, taker_passes}
+use Rattle.mesh_run.proofs.WholeRound.{Whole, collected_same, dealt_long, dealt_same, parts, played_parts, uncut, whole_turns}
+
+same_sends : (a b : OutEnd) → Some (Sends a) ≡ Some (Sends b) → a ≡ b
+same_sends a b same = cc
+
+same_takes : (a b : InEnd) → Some (Takes a) ≡ Some (Takes b) → a ≡ b
+same_takes a b same = cc
+
+same_end : (s t : Share) (q : ℕ) → t.hold.ends ≡ s.hold.ends → slice_get t.hold.ends.items q ≡ slice_get s.hold.ends.items q
+same_end s t q same = cc
+
+module _ (w : Whole) where
+  -- what holds of the queue at a place after a round, with what it holds then
+  pub record AfterRound (q : ℕ) (after : List McCopy) : Type 0 where
+    pub goes : QueueGoes w.m.setup.capacity w.patience (joined (parts w)) q (held_at w.m q) after
+    pub lane : (h : Home) → slice_get w.r.homes.items q ≡ Some h → h.sender ≡ h.receiver → (a : WithRoom McCopy) × (end_at w.cleared h.sender q ≡ Some (Own a)) × (a.items ≡ after)
+    pub link : (l : ℕ) (c : Cut) → slice_get w.r.cuts.items l ≡ Some c → c.queue ≡ q → get_or (map queue_of_link w.rests.now) l [] ≡ after
+
+  pub home_below : (q : ℕ) (h : Home) → slice_get w.r.homes.items q ≡ Some h → (h.sender < length w.dealt) × (h.receiver < length w.dealt)
+  home_below q h at =
+      let below = homes_below w.m w.is_mesh (w.turns + 1) w.r w.roomy.raised q h at in
+      let sender = below.0 in
+      let receiver = below.1 in
+      let as_dealt = dealt_long w in
+      (omega (arith, sender, as_dealt), omega (arith, receiver, as_dealt))
+
+  held_fits : (q : ℕ) → length (held_at w.m q) ≤ w.m.setup.capacity
+  held_fits q = fits_at w.m.setup.capacity (w.m.inputs ++ w.m.cores) q (All-append (FitsQueue w.m.setup.capacity) w.m.inputs w.m.cores w.is_mesh.inputs_within w.is_mesh.cores_within)
+
+  -- clearing of logs leaves all ends
+  pub cleared_end : (s q : ℕ) (b : End) → end_at w.collected s q ≡ Some b → end_at w.cleared s q ≡ Some b
+  cleared_end s q b at =
+      let was = stood (slice_get w.collected s) q b at in
+      let below = slice_get_within w.collected s was.0 was.1 in
+      let is = slice_get_there w.cleared s (let long = w.clears.0 in omega (arith, below, long)) in
+      let same = w.clears.1 s was.0 is.0 was.1 is.1 in
+      ap (λ (x : Option Share). end_in x q) is.1 ∙ (same_end was.0 is.0 q same.ends ∙ was.2)
+
+  -- a queue that is a lane of one share
+  lane_after : (q : ℕ) (h : Home) → slice_get w.r.homes.items q ≡ Some h → h.sender ≡ h.receiver → (after : List McCopy) × AfterRound q after
+  lane_after q h at same =
+      let cap = w.m.setup.capacity in
+      let lanes = w.roomy.raised.lanes in
+      let was = lanes.lanes q h at same in
+      let dealt = dealt_same w q h at same h.sender ∙ was.1 in
+      let p = lane_passes cap w.patience w.dealt w.played (parts w) (played_parts w) h.sender q was.0 dealt in
+      let as_dealt = dealt_long w in
+      let now : end_at w.cleared h.sender q ≡ Some (Own p.lane) = cleared_end h.sender q (Own p.lane) (collected_same w q h at same h.sender ∙ p.stays) in (
+        p.lane.items,
+        record {
+          goes = lane_queue cap w.patience w.dealt w.played (parts w) (played_parts w) q h.sender was.0 (held_at w.m q) (home_below q h at).0 was.2 (held_fits q)
+              (λ k below other. dealt_same w q h at same k ∙ lanes.away q h k at (omega (arith, below, as_dealt)) (inl other)) p;
+          lane = λ g stands one. (p.lane, subst (λ (x : Home). end_at w.cleared x.sender q ≡ Some (Own p.lane)) (same_Some h g (sym at ∙ stands)) now, refl);
+          link = λ l c stands is. absurd (uncut w q h at same c.sender l c stands (sym is, inl refl));
+        },
+      )
+
+  -- a queue that is a link between two shares
+  module _ (l : ℕ) (c : Cut) (stands : slice_get w.r.cuts.items l ≡ Some c) where
+    home : Home
+    home = record { sender = c.sender; receiver = c.receiver }
+
+    between : slice_get w.r.homes.items c.queue ≡ Some (record { sender = c.sender; receiver = c.receiver })
+    between = (w.roomy.raised.shared.cut l c stands).0
+
+    two : c.sender ≢ c.receiver
+    two = (w.roomy.raised.shared.cut l c stands).1
+
+    pub elsewhere : (k : ℕ) → k ≢ c.sender → k ≢ c.receiver → IsUncut w.r.cuts.items k c.queue
+    elsewhere = no_end_of_cut w.m w.is_mesh (w.turns + 1) w.r w.roomy.raised l c stands
+
+    queues : List (List McCopy)
+    queues = cut_queues (w.m.inputs ++ w.m.cores) w.r.cuts.items
+
+    -- the link as it was dealt
+    old : (e : LinkEnds) × (slice_get w.roomy.raised.ends l ≡ Some e) × IsUp w.m.setup.capacity (w.turns + 1) (held_at w.m c.queue) e
+    old =
+        let up = w.roomy.raised.up in
+        let many = length-map w.r.cuts.items (λ (d : Cut). held_at w.m d.queue) in
+        let below = slice_get_within w.r.cuts.items l c stands in
+        let long = up.long in
+        let is = slice_get_there w.roomy.raised.ends l (omega (arith, many, below, long)) in
+        let queue : get_or (cut_queues (w.m.inputs ++ w.m.cores) w.r.cuts.items) l [] ≡ held_at w.m c.queue =
+        get_or_from_slice_get (cut_queues (w.m.inputs ++ w.m.cores) w.r.cuts.items) l (held_at w.m c.queue) [] (slice_get-mapped (λ (d : Cut). held_at w.m d.queue) w.r.cuts.items l c stands) in (
+          is.0,
+          is.1,
+          subst (λ (x : List McCopy). IsUp w.m.setup.capacity (w.turns + 1) x is.0) queue
+              (subst (λ (x : LinkEnds). IsUp w.m.setup.capacity (w.turns + 1) (get_or (cut_queues (w.m.inputs ++ w.m.cores) w.r.cuts.items) l []) x)
+              (get_or_from_slice_get w.roomy.raised.ends l is.0 is.0 is.1) (up.each l [] is.0 (omega (arith, many, below)))),
+        )
+
+    -- the link as it was collected
+    now : (e : LinkEnds) × (slice_get w.collects.ends l ≡ Some e) × (e.link ≡ old.0.link) × IsDown e (get_or (map queue_of_link w.rests.now) l [])
+    now =
+        let was = slice_get_within w.roomy.raised.ends l old.0 old.1 in
+        let long = w.collects.long in
+        let below : l < length w.collects.ends = omega (arith, was, long) in
+        let is = slice_get_there w.collects.ends l below in
+        let link = slice_get-mapped (λ (x : LinkEnds). x.link) w.collects.ends l is.0 is.1 in
+        let linked = slice_get-mapped (λ (x : LinkEnds). x.link) w.roomy.raised.ends l old.0 old.1 in (
+          is.0,
+          is.1,
+          same_Some is.0.link old.0.link (sym link ∙ (ap (λ (x : List Link). slice_get x l) w.collects.links ∙ linked)),
+          subst (λ (x : LinkEnds). IsDown x (get_or (map queue_of_link w.rests.now) l [])) (get_or_from_slice_get w.collects.ends l is.0 is.0 is.1) (w.rests.down l is.0 [] below),
+        )
+
+    pub link_after : AfterRound c.queue (get_or (map queue_of_link w.rests.now) l [])
+    link_after =
+        let cap = w.m.setup.capacity in
+        let before = old.0 in
+        let after = now.0 in
+        let dealt = w.deals.dealt l c before stands old.1 in
+        let collected = w.collects.collects.dealt l c after stands now.1 in
+        let a : OutEnd = record { link = l; tx = before.tx } in
+        let b : InEnd = record { link = l; rx = before.rx } in
+        let sends = sender_passes cap w.patience w.dealt w.played (parts w) (played_parts w) c.sender c.queue a dealt.0 in
+        let takes = taker_passes cap w.patience w.dealt w.played (parts w) (played_parts w) c.receiver c.queue b dealt.1 in
+        let below = home_below c.queue (record { sender = c.sender; receiver = c.receiver }) between in
+        let as_dealt = dealt_long w in
+        record {
+          goes = link_queue cap w.patience w.dealt w.played (parts w) (played_parts w) c.queue c.sender c.receiver a b (held_at w.m c.queue) after
+              (get_or (map queue_of_link w.rests.now) l []) w.turns (record {
+                sender_in = below.0;
+                receiver_in = below.1;
+                two = two;
+                others = λ k inside no_sender no_receiver. w.deals.others k c.queue (elsewhere k no_sender no_receiver)
+                    ∙ w.roomy.raised.lanes.away c.queue (record { sender = c.sender; receiver = c.receiver }) k between (omega (arith, inside, as_dealt)) (inr two);
+                sender_new = old.2.tx_new;
+                receiver_new = old.2.rx_new;
+                sends = sends;
+                takes = takes;
+                tx = ap (λ (x : OutEnd). x.tx) (same_sends sends.sender (record { link = l; tx = after.tx }) (sym sends.stays ∙ collected.0));
+                rx = ap (λ (x : InEnd). x.rx) (same_takes takes.taker (record { link = l; rx = after.rx }) (sym takes.stays ∙ collected.1));
+                down = now.3;
+                fits = held_fits c.queue;
+                few = subst (λ (x : Link). cap_of x ≤ cap) (sym now.2) old.2.holds.few;
+                enough = subst (λ (x : Link). min cap (length (held_at w.m c.queue) + (w.turns + 1)) ≤ cap_of x) (sym now.2) old.2.holds.enough;
+                filled = few_entered w.m.setup w.turns c.queue (joined (parts w)) (whole_turns w);
+              });
+          lane = λ h at same. absurd (two (both_ends h at same));
+          link = λ j d at is. ap (λ i. get_or (map queue_of_link w.rests.now) i []) (w.roomy.raised.shared.apart j l d c at stands is);
+        }
+      where
+        both_ends : (h : Home) → slice_get w.r.homes.items c.queue ≡ Some h → h.sender ≡ h.receiver → c.sender ≡ c.receiver
+        both_ends h at same =
+            let is = same_Some h (record { sender = c.sender; receiver = c.receiver }) (sym at ∙ between) in
+            ap (λ (x : Home). x.sender) (sym is) ∙ (same ∙ ap (λ (x : Home). x.receiver) is)
+
+  -- any queue
+  pub queue_after : (q : ℕ) → q < length w.r.homes.items → (after : List McCopy) × AfterRound q after
+  queue_after q below =
+      let home = slice_get_there w.r.homes.items q below in
+      elim (cases_eq home.0.sender home.0.receiver) [
+        | inl same ↦ lane_after q home.0 home.1 same
+        | inr other ↦
+            let cut = w.roomy.raised.shared.all_cut q home.0 home.1 other in (
+              get_or (map queue_of_link w.rests.now) cut.0 [],
+              subst (λ (n : ℕ). AfterRound n (get_or (map queue_of_link w.rests.now) cut.0 [])) cut.3 (link_after cut.0 cut.1 cut.2),
+            )
+      ]

@@ -1,0 +1,254 @@
+-- Floors chip by chip: the vertices on a chip, the queues behind its outputs, and that there are few vertices.
+use Rattle.std.proofs.Common.{◌≡◌, ◌≢◌, Bool, true, false, ℕ, ◌+◌, ◌*◌, ◌<◌, ◌≤◌, List, [], ◌∷◌, ◌++◌, map, length, get_or, Option, Some, None, refl, sym, ap, ◌∙◌, subst, arith, suc, zero, append_assoc, length-append, inl, inr}
+use Rattle.std.specs.List.{All, AllPairs, Contains, slice_get}
+use Rattle.std.specs.Option.{option_to_list}
+use Rattle.std.proofs.lemmas.Bool.{cases_eq, cases_lt}
+use Rattle.std.proofs.lemmas.Option.{get_or_from_slice_get, none-some, same_Some, slice_get_within}
+use Rattle.std.proofs.lemmas.List.{get_or-map, length-map, length_push}
+use Rattle.std.proofs.Math.Nat.{mul-le-mul_left}
+use Rattle.spin_base.specs.declared.chips.Chip.{Chip}
+use Rattle.spin_base.specs.declared.chips.Spot.{Spot}
+use Rattle.spin_base.specs.declared.routes.Out.{Out}
+use Rattle.spin_base.specs.Outputs.{out_number, IsOutput}
+use Rattle.spin_base.proofs.Members.{Among, Contains-at, among_contains, among_either, among_left, among_only, among_right, contains_among}
+use Rattle.spin_base.proofs.Places.{All-at, slice_get_there, slice_get-append_left, slice_get-push_cases, slice_get-pushed}
+use Rattle.spin_base.proofs.Outputs.{out_number_below, out_number_injective}
+use Rattle.machine_desc.specs.Description.{Description, HasSize}
+use Rattle.machine_desc.specs.Live.{chip_of, is_live_chip, IsInside, IsSite}
+use Rattle.machine_desc.specs.NetsOn.{vertex_at}
+use Rattle.machine_desc.proofs.Branches.{length_le_from_apart}
+use Rattle.mesh_core.specs.State.{Setup}
+use Rattle.mesh_core.specs.VertexTable.{spot_place}
+use Rattle.mesh_core.proofs.VertexTableLaws.{same_spot_place, site_inside, spot_place-below}
+use Rattle.mesh_core.proofs.Ways.{vertex_at_stands, vertex_there}
+use Rattle.chip_node.specs.Acting.{place_in}
+use Rattle.chip_node.specs.declared.nodes.Behind.{Behind}
+use Rattle.chip_node.specs.declared.nodes.CoreBank.{CoreBank}
+use Rattle.mesh_run.specs.declared.floors.Floor.{Floor}
+use Rattle.mesh_run.specs.Floors.{AddsBehind, AreVerticesOn, AreVerticesOf, IsBankOf, IsFloorOf, IsFloorSoFar, chip_count, live_if, live_one, place_of}
+use Rattle.mesh_run.specs.Played.{place_behind, port_count, IsVertexOn}
+
+-- ---- few vertices
+
+-- vertices on different sites are at different places of the table of spots
+pub few_chips : (m : Description) → HasSize m → m.width * m.height ≤ 4096
+few_chips m size =
+    let w = size.width_to_64 in
+    let h = size.height_to_64 in
+    let area : m.width * m.height ≤ m.width * 64 = mul-le-mul_left m.width h in
+    omega (arith, w, area)
+
+pub few_vertices : (m : Description) (spots : List Spot) → AllPairs (λ a b. a ≢ b) spots → All (IsSite m) spots → HasSize m → length spots ≤ 98304
+few_vertices m spots different sites size =
+    let few = length_le_from_apart (map (spot_place m) spots) (24 * (m.width * m.height)) apart below in
+    let long = length-map spots (spot_place m) in
+    let area = few_chips m size in
+    omega (arith, few, long, area)
+  where
+    nothing : Spot
+    nothing = record { chip = record { x = 0; y = 0 }; core = 0 }
+
+    in_spots : (k : ℕ) → k < length (map (spot_place m) spots) → k < length spots
+    in_spots k low = subst (λ n. k < n) (length-map spots (spot_place m)) low
+
+    read : (k d : ℕ) → k < length (map (spot_place m) spots) → get_or (map (spot_place m) spots) k d ≡ spot_place m (get_or spots k nothing)
+    read k d low = get_or-map (spot_place m) spots k nothing d (in_spots k low)
+
+    on_grid : (k : ℕ) → k < length spots → IsInside m (get_or spots k nothing).chip × ((get_or spots k nothing).core < 24)
+    on_grid k low = site_inside m (get_or spots k nothing) (sites k nothing low)
+
+    below : (k d : ℕ) → k < length (map (spot_place m) spots) → get_or (map (spot_place m) spots) k d < 24 * (m.width * m.height)
+    below k d low =
+        let at = on_grid k (in_spots k low) in
+        subst (λ n. n < 24 * (m.width * m.height)) (sym (read k d low)) (spot_place-below m (get_or spots k nothing) at.0 at.1)
+
+    apart : (i j d : ℕ) → i < j → j < length (map (spot_place m) spots) → get_or (map (spot_place m) spots) i d ≢ get_or (map (spot_place m) spots) j d
+    apart i j d before low e =
+        let low_i : i < length (map (spot_place m) spots) = omega (arith, before, low) in
+        let one = on_grid i (in_spots i low_i) in
+        let other = on_grid j (in_spots j low) in
+        different i j nothing before (in_spots j low)
+        (same_spot_place m (get_or spots i nothing) (get_or spots j nothing) one.0 other.0 one.1 other.1 (sym (read i d low_i) ∙ (e ∙ read j d low)))
+
+-- ---- lists
+
+pub slice_get-first : {X : Type 0} (xs ys : List X) (i : ℕ) → i < length xs → slice_get (xs ++ ys) i ≡ slice_get xs i
+slice_get-first xs ys i below = let x = slice_get_there xs i below in slice_get-append_left xs ys i x.0 x.1 ∙ sym x.1
+
+pub slice_get-second : {X : Type 0} (xs ys : List X) (n : ℕ) → slice_get (xs ++ ys) (length xs + n) ≡ slice_get ys n
+slice_get-second [] ys n = let e : 0 + n ≡ n = omega arith in ap (slice_get ys) e
+slice_get-second (x ∷ xs) ys n = let e : suc (length xs) + n ≡ suc (length xs + n) = omega arith in ap (slice_get (x ∷ (xs ++ ys))) e ∙ slice_get-second xs ys n
+
+-- an item stands once in a list whose items differ
+pub one_place : {X : Type 0} (xs : List X) (x : X) (v w : ℕ) → AllPairs (λ a b. a ≢ b) xs → slice_get xs v ≡ Some x → slice_get xs w ≡ Some x → v ≡ w
+one_place {X} xs x v w differ first second = elim (cases_lt v w) [
+  | inl before ↦ absurd (later v w before first second)
+  | inr not_before ↦ elim (cases_lt w v) [
+    | inl after ↦ absurd (later w v after second first)
+    | inr not_after ↦ omega (arith, not_before, not_after)
+  ]
+]
+  where
+    later : (i j : ℕ) → i < j → slice_get xs i ≡ Some x → slice_get xs j ≡ Some x → ⊥
+    later i j less a b = differ i j x less (slice_get_within xs j x b) (get_or_from_slice_get xs i x x a ∙ sym (get_or_from_slice_get xs j x x b))
+
+-- ---- the vertices on a chip
+
+spot_is : (spot : Spot) (chip : Chip) (n : ℕ) → spot.chip ≡ chip → spot.core ≡ n → spot ≡ record { chip = chip; core = n }
+spot_is spot chip n here number = ap (λ (x : Chip). let t : Spot = record { chip = x; core = spot.core } in t) here ∙ ap (λ (k : ℕ). let t : Spot = record { chip = chip; core = k } in t) number
+
+module _ (u : Setup) (i : ℕ) where
+  pub vertices_none : (vs : List ℕ) → vs ≡ [] → AreVerticesOn u i 0 vs
+  vertices_none vs none = record {
+    each = λ v has. absurd (subst (λ (l : List ℕ). Among v l) none (contains_among v vs has));
+    all = λ v spot stands here below. absurd (omega (arith, below));
+  }
+
+  more_by : (n : ℕ) (old new : List ℕ) (found : Option ℕ) → AllPairs (λ a b. a ≢ b) u.spots → AreVerticesOn u i n old → vertex_at u.spots (record { chip = chip_of u.machine i; core = n }) ≡ found →
+      new ≡ old ++ option_to_list found → AreVerticesOn u i (n + 1) new
+  more_by n old new None differ so_far none is = record {
+    each = λ v has. elim (among_either v old [] (subst (λ (l : List ℕ). Among v l) is (contains_among v new has))) [
+      | inl before ↦ so_far.each v (among_contains v old before)
+      | inr nowhere ↦ absurd nowhere
+    ];
+    all = λ v spot stands here below. elim (cases_eq spot.core n) [
+      | inl same ↦
+          let t : Spot = record { chip = chip_of u.machine i; core = n } in
+          let is_t : spot ≡ t = spot_is spot (chip_of u.machine i) n here same in
+          let there = vertex_there u.spots t (Contains-at u.spots v t (stands ∙ ap Some is_t)) in
+          absurd (none-some there.0 (sym none ∙ there.1))
+      | inr other ↦ among_contains v new (subst (λ (l : List ℕ). Among v l) (sym is) (among_left v old [] (contains_among v old (so_far.all v spot stands here (omega (arith, below, other))))))
+    ];
+  }
+  more_by n old new (Some w) differ so_far found is = record {
+    each = λ v has. elim (among_either v old (w ∷ []) (subst (λ (l : List ℕ). Among v l) is (contains_among v new has))) [
+      | inl before ↦ so_far.each v (among_contains v old before)
+      | inr last ↦
+          let t : Spot = record { chip = chip_of u.machine i; core = n } in
+          subst (λ (k : ℕ). IsVertexOn u i k) (sym (among_only w v (w ∷ []) refl last)) (record { spot = t; stands = vertex_at_stands u.spots t w found; here = refl })
+    ];
+    all = λ v spot stands here below. elim (cases_eq spot.core n) [
+      | inl same ↦
+          let t : Spot = record { chip = chip_of u.machine i; core = n } in
+          let is_t : spot ≡ t = spot_is spot (chip_of u.machine i) n here same in
+          among_contains v new (subst (λ (l : List ℕ). Among v l) (sym is) (among_right v old (w ∷ []) (inl (one_place u.spots t v w differ (stands ∙ ap Some is_t) (vertex_at_stands u.spots t w found)))))
+      | inr other ↦ among_contains v new (subst (λ (l : List ℕ). Among v l) (sym is) (among_left v old (w ∷ []) (contains_among v old (so_far.all v spot stands here (omega (arith, below, other))))))
+    ];
+  }
+
+  pub vertices_more : (n : ℕ) (old new : List ℕ) → AllPairs (λ a b. a ≢ b) u.spots → AreVerticesOn u i n old →
+      new ≡ old ++ option_to_list (vertex_at u.spots (record { chip = chip_of u.machine i; core = n })) → AreVerticesOn u i (n + 1) new
+  vertices_more n old new differ so_far is = more_by n old new (vertex_at u.spots (record { chip = chip_of u.machine i; core = n })) differ so_far refl is
+
+  pub vertices_all : (n : ℕ) (vs : List ℕ) → All (IsSite u.machine) u.spots → 24 ≤ n → AreVerticesOn u i n vs → AreVerticesOf u i vs
+  vertices_all n vs sites past so_far = record {
+    each = so_far.each;
+    all = λ v on.
+        let site = site_inside u.machine on.spot (All-at (IsSite u.machine) u.spots v on.spot sites on.stands) in
+        so_far.all v on.spot on.stands on.here (omega (arith, site.1, past));
+  }
+
+-- ---- the queues behind outputs
+
+pub placed : (b : Option Behind) → place_in (Some b) ≡ place_of b
+placed None = refl
+placed (Some b) = refl
+
+pub behind_none : (u : Setup) (c : Chip) (list : List (Option Behind)) → AddsBehind u c 0 list list
+behind_none u c list = record { more = []; are = sym (nil list); long = refl; places = λ o out below. absurd (omega (arith, below)) }
+  where
+    nil : {X : Type 0} (xs : List X) → xs ++ [] ≡ xs
+    nil [] = refl
+    nil (x ∷ xs) = ap (λ l. x ∷ l) (nil xs)
+
+pub behind_more : (u : Setup) (c : Chip) (n : ℕ) (before now new : List (Option Behind)) (b : Option Behind) (o : Out) → AddsBehind u c n before now → new ≡ now ++ b ∷ [] → IsOutput o → out_number o ≡ n →
+    place_of b ≡ place_behind u c o → AddsBehind u c (n + 1) before new
+behind_more u c n before now new b o so_far is output number place = record {
+  more = so_far.more ++ b ∷ [];
+  are = is ∙ (ap (λ l. l ++ b ∷ []) so_far.are ∙ append_assoc before so_far.more (b ∷ []));
+  long = length_push so_far.more b ∙ ap (λ k. k + 1) so_far.long;
+  places = λ p out below. elim (cases_eq (out_number p) n) [
+    | inl same ↦
+        ap place_in (slice_get-pushed so_far.more b (out_number p) (same ∙ sym so_far.long))
+        ∙ (placed b ∙ (place ∙ ap (place_behind u c) (sym (out_number_injective p o (same ∙ sym number)))))
+    | inr other ↦
+        let long = so_far.long in
+        ap place_in (slice_get-first so_far.more (b ∷ []) (out_number p) (omega (arith, below, other, long))) ∙ so_far.places p out (omega (arith, below, other))
+  ];
+}
+
+-- ---- floors
+
+pub floor_none : (u : Setup) (f : Floor) → f.chips.items ≡ [] → f.behind.items ≡ [] → f.banks.items ≡ [] → IsFloorSoFar u 0 f
+floor_none u f chips behind banks = record {
+  chips_long = ap length chips;
+  behind_long = ap length behind;
+  banks_long = ap length banks;
+  chips = λ i below. absurd (omega (arith, below));
+  behind = λ i o below live out. absurd (omega (arith, below));
+  banks = λ i b at. absurd (none-some b (sym (ap (λ (l : List CoreBank). slice_get l i) banks) ∙ at));
+}
+
+pub floor_all : (u : Setup) (n : ℕ) (f : Floor) → length u.tables ≡ chip_count u → n ≡ chip_count u → IsFloorSoFar u n f → IsFloorOf u f
+floor_all u n f tables all so_far =
+    let g = subst (λ k. IsFloorSoFar u k f) all so_far in
+    record { tables_long = tables; chips_long = g.chips_long; behind_long = g.behind_long; banks_long = g.banks_long; chips = g.chips; behind = g.behind; banks = g.banks }
+
+pub bank_of : (u : Setup) (i : ℕ) (b : CoreBank) → b.index ≡ i → b.cores ≡ port_count u → AreVerticesOf u i b.vertices.items → IsBankOf u i b
+bank_of u i b index cores vertices = record { index = index; cores = cores; vertices = vertices.each; all = λ live v on. vertices.all v on }
+
+pub floor_more : (u : Setup) (n : ℕ) (f g : Floor) (chip : Option Chip) (bank : CoreBank) → IsFloorSoFar u n f → g.chips.items ≡ f.chips.items ++ chip ∷ [] → chip ≡ live_one u n →
+    AddsBehind u (chip_of u.machine n) 24 f.behind.items g.behind.items → g.banks.items ≡ f.banks.items ++ bank ∷ [] → IsBankOf u n bank → IsFloorSoFar u (n + 1) g
+floor_more u n f g chip bank so_far chips is_chip adds banks is_bank =
+    let chips_were = so_far.chips_long in
+    let behind_were = so_far.behind_long in
+    let banks_were = so_far.banks_long in
+    let added = adds.long in
+    let all_chips = ap length chips ∙ length_push f.chips.items chip in
+    let all_behind = ap length adds.are ∙ length-append f.behind.items adds.more in
+    let all_banks = ap length banks ∙ length_push f.banks.items bank in
+    record {
+      chips_long = omega (arith, all_chips, chips_were);
+      behind_long = omega (arith, all_behind, behind_were, added);
+      banks_long = omega (arith, all_banks, banks_were);
+      chips = λ i below. elim (cases_eq i n) [
+        | inl same ↦ subst (λ k. slice_get g.chips.items k ≡ Some (live_one u k)) (sym same)
+            (ap (λ l. slice_get l n) chips ∙ (slice_get-pushed f.chips.items chip n (sym so_far.chips_long) ∙ ap Some is_chip))
+        | inr other ↦ ap (λ l. slice_get l i) chips ∙ slice_get-append_left f.chips.items (chip ∷ []) i (live_one u i) (so_far.chips i (omega (arith, below, other)))
+      ];
+      behind = λ i o below live output.
+          let few = out_number_below o output in
+          elim (cases_eq i n) [
+            | inl same ↦ subst (λ k. place_in (slice_get g.behind.items (24 * k + out_number o)) ≡ place_behind u (chip_of u.machine k) o) (sym same)
+                (ap (λ l. place_in (slice_get l (24 * n + out_number o))) adds.are
+                ∙ (ap (λ k. place_in (slice_get (f.behind.items ++ adds.more) (k + out_number o))) (sym so_far.behind_long)
+                ∙ (ap place_in (slice_get-second f.behind.items adds.more (out_number o)) ∙ adds.places o output few)))
+            | inr other ↦
+                ap (λ l. place_in (slice_get l (24 * i + out_number o))) adds.are
+                ∙ (ap place_in (slice_get-first f.behind.items adds.more (24 * i + out_number o) (omega (arith, below, other, few, behind_were)))
+                ∙ so_far.behind i o (omega (arith, below, other)) live output)
+          ];
+      banks = λ i b at. elim (slice_get-push_cases f.banks.items bank b i (ap (λ l. slice_get l i) (sym banks) ∙ at)) [
+        | inl before ↦ so_far.banks i b before.1
+        | inr last ↦ subst (λ (x : CoreBank). IsBankOf u i x) last.1 (subst (λ k. IsBankOf u k bank) (sym (last.0 ∙ so_far.banks_long)) is_bank)
+      ];
+    }
+
+-- what stands at a chip's place tells whether it is live
+pub live_there : (u : Setup) (i : ℕ) (chip : Chip) → Some chip ≡ live_one u i → (is_live_chip u.machine (chip_of u.machine i) ≡ true) × (chip ≡ chip_of u.machine i)
+live_there u i chip is = by (is_live_chip u.machine (chip_of u.machine i)) is
+  where
+    by : (b : Bool) → Some chip ≡ live_if b (chip_of u.machine i) → (b ≡ true) × (chip ≡ chip_of u.machine i)
+    by true e = (refl, same_Some chip (chip_of u.machine i) e)
+    by false e = absurd (none-some chip (sym e))
+
+pub dead_there : (u : Setup) (i : ℕ) → None ≡ live_one u i → is_live_chip u.machine (chip_of u.machine i) ≡ false
+dead_there u i is = by (is_live_chip u.machine (chip_of u.machine i)) is
+  where
+    by : (b : Bool) → None ≡ live_if b (chip_of u.machine i) → b ≡ false
+    by true e = absurd (none-some (chip_of u.machine i) e)
+    by false e = refl
+
+-- the chip that is read at a place
+pub chip_read : (u : Setup) (f : Floor) (i : ℕ) (d : Option Chip) → IsFloorOf u f → i < chip_count u → get_or f.chips.items i d ≡ live_one u i
+chip_read u f i d floor below = get_or_from_slice_get f.chips.items i (live_one u i) d (floor.chips i below)

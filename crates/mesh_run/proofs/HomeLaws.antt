@@ -1,0 +1,413 @@
+-- Runs of actors, the numbers of their shares, homes of queues, and cuts.
+use Rattle.std.proofs.Common.{◌≡◌, ◌≢◌, ◌⊎◌, Bool, true, false, ℕ, ◌+◌, ◌*◌, ◌<◌, ◌≤◌, List, [], ◌∷◌, ◌++◌, replicate, length, get_or, set, Option, Some, None, refl, sym, ap, ◌∙◌, subst, arith, suc, zero, append_assoc, length-append, inl, inr}
+use Rattle.std.specs.List.{All, slice_get}
+use Rattle.std.proofs.lemmas.Bool.{cases_eq, cases_lt}
+use Rattle.std.proofs.lemmas.Option.{none-some, same_Some, slice_get_within, slice_get-get_or}
+use Rattle.std.proofs.lemmas.List.{get_or_append_left, get_or_push, length_push, length-set}
+use Rattle.std.proofs.lemmas.List.Elements.{All-append, All-nil, All-push}
+use Rattle.spin_base.specs.declared.chips.Chip.{Chip}
+use Rattle.spin_base.specs.declared.routes.Out.{Out}
+use Rattle.spin_base.specs.Outputs.{out_number, IsOutput}
+use Rattle.spin_base.proofs.Places.{All-at, slice_get_there, slice_get-append_left, slice_get-push_cases, slice_get-pushed, slice_get-set_same, slice_get-set_other}
+use Rattle.spin_base.proofs.Outputs.{out_number_below, out_number_injective}
+use Rattle.machine_desc.specs.Live.{chip_of, index_of, IsInside}
+use Rattle.machine_desc.proofs.Far.{live_inside, index_below}
+use Rattle.machine_desc.proofs.Live.{chip_of-inside, index_of-chip_of}
+use Rattle.mesh_core.specs.State.{Setup}
+use Rattle.chip_node.specs.Items.{injection_place}
+use Rattle.mesh_run.specs.declared.homes.Cut.{Cut}
+use Rattle.mesh_run.specs.declared.homes.Home.{Home}
+use Rattle.mesh_run.specs.Floors.{chip_count}
+use Rattle.mesh_run.specs.Homes.{AreCutsOf, AreHomesOf, AreHomesTo, AreRuns, HaveSenders, IsBefore, IsInTable, IsShareTable, MayCut, MayGrow, SetsSender, homes_of_ports, run_start}
+use Rattle.mesh_run.specs.Played.{IsLiveIndex, place_behind, port_count}
+use Rattle.mesh_run.specs.Shares.{IsIn, bank_place, router_place}
+use Rattle.mesh_run.proofs.FloorLaws.{slice_get-first, slice_get-second}
+use Rattle.mesh_run.proofs.Feeding.{leads, no_injection, one_output, place_below}
+
+-- ---- runs
+
+-- ends so far, none beyond a place
+pub record RiseTo (place : ℕ) (ends : List ℕ) : Type 0 where
+  pub rising : (a b : ℕ) → a < b → b < length ends → get_or ends a 0 ≤ get_or ends b 0
+  pub most : (a : ℕ) → a < length ends → get_or ends a 0 ≤ place
+  pub few : length ends ≤ place
+
+pub rise_none : (ends : List ℕ) → ends ≡ [] → RiseTo 0 ends
+rise_none ends none =
+    let long = ap length none in
+    record { rising = λ a b less below. absurd (omega (arith, below, long)); most = λ a below. absurd (omega (arith, below, long)); few = omega (arith, long) }
+
+rise_on : (p : ℕ) (ends : List ℕ) → RiseTo p ends → RiseTo (p + 1) ends
+rise_on p ends so_far =
+    let few = so_far.few in
+    record { rising = so_far.rising; most = λ a below. let m = so_far.most a below in omega (arith, m); few = omega (arith, few) }
+
+pushed_rises : (p : ℕ) (ends : List ℕ) → RiseTo p ends → (a b : ℕ) → a < b → b < length (ends ++ p ∷ []) → get_or (ends ++ p ∷ []) a 0 ≤ get_or (ends ++ p ∷ []) b 0
+pushed_rises p ends so_far a b less below =
+    let long = length_push ends p in
+    let first : get_or (ends ++ p ∷ []) a 0 ≡ get_or ends a 0 = get_or_append_left ends (p ∷ []) 0 a (omega (arith, less, below, long)) in
+    elim (cases_lt b (length ends)) [
+      | inl inside ↦
+          let second : get_or (ends ++ p ∷ []) b 0 ≡ get_or ends b 0 = get_or_append_left ends (p ∷ []) 0 b inside in
+          let was = so_far.rising a b less inside in
+          omega (arith, first, second, was)
+      | inr last ↦
+          let second : get_or (ends ++ p ∷ []) b 0 ≡ p = get_or_push ends p 0 b (omega (arith, last, below, long)) in
+          let was = so_far.most a (omega (arith, less, below, long)) in
+          omega (arith, first, second, was)
+    ]
+
+pub rise_more : (p : ℕ) (before after : List ℕ) → RiseTo p before → MayGrow p before after → RiseTo (p + 1) after
+rise_more p before after so_far (inl same) = subst (RiseTo (p + 1)) (sym same) (rise_on p before so_far)
+rise_more p before after so_far (inr grown) = subst (RiseTo (p + 1)) (sym grown) (
+    let long = length_push before p in
+    let few = so_far.few in
+    record {
+      rising = pushed_rises p before so_far;
+      most = λ a below. elim (cases_lt a (length before)) [
+        | inl inside ↦
+            let at : get_or (before ++ p ∷ []) a 0 ≡ get_or before a 0 = get_or_append_left before (p ∷ []) 0 a inside in
+            let was = so_far.most a inside in
+            omega (arith, at, was)
+        | inr last ↦ let at : get_or (before ++ p ∷ []) a 0 ≡ p = get_or_push before p 0 a (omega (arith, last, below, long)) in omega (arith, at)
+      ];
+      few = omega (arith, long, few);
+    })
+
+pub runs_all : (p count : ℕ) (before after : List ℕ) → p ≡ count → RiseTo p before → after ≡ before ++ count ∷ [] → AreRuns count after
+runs_all p count before after all so_far grown = subst (AreRuns count) (sym grown) (
+    let so_far : RiseTo count before = subst (λ (q : ℕ). RiseTo q before) all so_far in
+    let long = length_push before count in
+    record {
+      rising = pushed_rises count before so_far;
+      last = λ n is. get_or_push before count 0 n (omega (arith, is, long));
+      some = omega (arith, long);
+    })
+
+-- ---- the numbers of shares
+
+pub record TableTo (ends : List ℕ) (n : ℕ) (table : List ℕ) : Type 0 where
+  pub long : length table ≡ run_start ends n
+  pub done : (a k : ℕ) → k < n → IsIn (run_start ends k) (get_or ends k 0) a → slice_get table a ≡ Some k
+  pub below : (a k : ℕ) → slice_get table a ≡ Some k → k < n
+
+-- the run at hand, up to a place
+pub record RunTo (ends : List ℕ) (n p : ℕ) (table : List ℕ) : Type 0 where
+  pub long : length table ≡ p
+  pub done : (a k : ℕ) → k < n → IsIn (run_start ends k) (get_or ends k 0) a → slice_get table a ≡ Some k
+  pub here : (a : ℕ) → run_start ends n ≤ a → a < p → slice_get table a ≡ Some n
+  pub below : (a k : ℕ) → slice_get table a ≡ Some k → k < n + 1
+
+pub start_more : (ends : List ℕ) (k : ℕ) → run_start ends (k + 1) ≡ get_or ends k 0
+start_more ends k = let e : k + 1 ≡ suc k = omega arith in ap (run_start ends) e
+
+-- the run of a number is no shorter than nothing
+pub run_from : (count : ℕ) (ends : List ℕ) (n : ℕ) → AreRuns count ends → n < length ends → run_start ends n ≤ get_or ends n 0
+run_from count ends zero runs below = omega arith
+run_from count ends (suc k) runs below = runs.rising k (suc k) (omega arith) below
+
+pub table_none : (ends table : List ℕ) → table ≡ [] → TableTo ends 0 table
+table_none ends table none = record {
+  long = ap length none;
+  done = λ a k less in_run. absurd (omega (arith, less));
+  below = λ a k at. absurd (none-some k (ap (λ (l : List ℕ). slice_get l a) (sym none) ∙ at));
+}
+
+pub run_none : (ends : List ℕ) (n : ℕ) (table : List ℕ) → TableTo ends n table → RunTo ends n (length table) table
+run_none ends n table so_far =
+    let long = so_far.long in
+    record {
+      long = refl;
+      done = so_far.done;
+      here = λ a from to. absurd (omega (arith, from, to, long));
+      below = λ a k at. let was = so_far.below a k at in omega (arith, was);
+    }
+
+pub run_more : (ends : List ℕ) (n p : ℕ) (table new : List ℕ) → RunTo ends n p table → new ≡ table ++ n ∷ [] → RunTo ends n (p + 1) new
+run_more ends n p table new so_far is = subst (RunTo ends n (p + 1)) (sym is) (record {
+  long = length_push table n ∙ ap (λ k. k + 1) so_far.long;
+  done = λ a k less in_run. slice_get-append_left table (n ∷ []) a k (so_far.done a k less in_run);
+  here = λ a from to. elim (cases_eq a p) [
+    | inl same ↦ slice_get-pushed table n a (same ∙ sym so_far.long)
+    | inr other ↦ slice_get-append_left table (n ∷ []) a n (so_far.here a from (omega (arith, to, other)))
+  ];
+  below = λ a k at. elim (slice_get-push_cases table n k a at) [
+    | inl before ↦ so_far.below a k before.1
+    | inr last ↦ let same = last.1 in omega (arith, same)
+  ];
+})
+
+pub run_all : (ends : List ℕ) (n p : ℕ) (table : List ℕ) → RunTo ends n p table → p ≡ get_or ends n 0 → TableTo ends (n + 1) table
+run_all ends n p table so_far all = record {
+  long = so_far.long ∙ (all ∙ sym (start_more ends n));
+  done = λ a k less in_run. elim (cases_eq k n) [
+    | inl same ↦
+        let from : run_start ends n ≤ a = subst (λ (j : ℕ). run_start ends j ≤ a) same in_run.above in
+        let to : a < get_or ends n 0 = subst (λ (j : ℕ). a < get_or ends j 0) same in_run.below in
+        so_far.here a from (omega (arith, to, all)) ∙ ap Some (sym same)
+    | inr other ↦ so_far.done a k (omega (arith, less, other)) in_run
+  ];
+  below = so_far.below;
+}
+
+pub table_all : (count : ℕ) (ends : List ℕ) (n : ℕ) (table : List ℕ) → AreRuns count ends → n ≡ length ends → TableTo ends n table → IsShareTable count ends table
+table_all count ends n table runs all so_far = record {
+  long = so_far.long ∙ (ap (run_start ends) all ∙ last (length ends) refl);
+  number = λ a k below in_run. so_far.done a k (omega (arith, below, all)) in_run;
+  below = λ a k at. let was = so_far.below a k at in omega (arith, was, all);
+}
+  where
+    last : (m : ℕ) → length ends ≡ m → run_start ends m ≡ count
+    last zero none = let some = runs.some in absurd (omega (arith, none, some))
+    last (suc m) is = runs.last m (omega (arith, is))
+
+-- ---- homes
+
+pub homes_none : (table : List ℕ) (homes : List Home) → homes ≡ [] → AreHomesTo table 0 0 homes
+homes_none table homes none = subst (AreHomesTo table 0 0) (sym none) (record {
+  long = refl;
+  listed = All-nil (IsInTable table);
+  banks = λ i k h below. absurd (omega (arith, below));
+})
+
+pub ports_more : (table : List ℕ) (n router bank : ℕ) (homes new : List Home) → AreHomesTo table n 0 homes → slice_get table (router_place n) ≡ Some router → slice_get table (bank_place n) ≡ Some bank →
+    new ≡ homes ++ homes_of_ports router bank → AreHomesTo table (n + 1) 0 new
+ports_more table n router bank homes new so_far at_router at_bank is = subst (AreHomesTo table (n + 1) 0) (sym is) (
+    let long = so_far.long in
+    let added = length-append homes (homes_of_ports router bank) in
+    let one : IsInTable table (record { sender = router; receiver = router }) = record { sender_at = router_place n; sender = at_router; receiver_at = router_place n; receiver = at_router } in
+    let other : IsInTable table (record { sender = bank; receiver = router }) = record { sender_at = bank_place n; sender = at_bank; receiver_at = router_place n; receiver = at_router } in
+    record {
+      long = omega (arith, long, added);
+      listed = All-append (IsInTable table) homes (homes_of_ports router bank) so_far.listed (All-append (IsInTable table) (replicate 6 (record { sender = router; receiver = router })) (record { sender = bank; receiver = router } ∷ [])
+          (All-append (IsInTable table) (replicate 3 (record { sender = router; receiver = router })) (replicate 3 (record { sender = router; receiver = router })) (three one) (three one))
+          (All-push (IsInTable table) [] (record { sender = bank; receiver = router }) (All-nil (IsInTable table)) other));
+      banks = λ i k h below at_k at_h. elim (cases_eq i n) [
+        | inl same ↦
+            let place : injection_place i ≡ length homes + 6 = omega (arith, same, long) in
+            let stands : slice_get (homes ++ homes_of_ports router bank) (injection_place i) ≡ Some (record { sender = bank; receiver = router }) =
+            ap (slice_get (homes ++ homes_of_ports router bank)) place ∙ slice_get-second homes (homes_of_ports router bank) 6 in
+            let is_h : record { sender = bank; receiver = router } ≡ h = same_Some (record { sender = bank; receiver = router }) h (sym stands ∙ at_h) in
+            let is_k : bank ≡ k = same_Some bank k (sym at_bank ∙ (ap (λ (j : ℕ). slice_get table (bank_place j)) (sym same) ∙ at_k)) in
+            sym (ap (λ (x : Home). x.sender) is_h) ∙ is_k
+        | inr differs ↦
+            so_far.banks i k h (omega (arith, below, differs)) at_k (sym (slice_get-first homes (homes_of_ports router bank) (injection_place i) (omega (arith, below, differs, long))) ∙ at_h)
+      ];
+    })
+  where
+    three : {h : Home} → IsInTable table h → All (IsInTable table) (replicate 3 h)
+    three {h} one = All-push (IsInTable table) (h ∷ (h ∷ [])) h (All-push (IsInTable table) (h ∷ []) h (All-push (IsInTable table) [] h (All-nil (IsInTable table)) one) one) one
+
+pub vertex_more : (table : List ℕ) (chips m : ℕ) (home : Home) (homes new : List Home) → AreHomesTo table chips m homes → IsInTable table home → new ≡ homes ++ home ∷ [] → AreHomesTo table chips (m + 1) new
+vertex_more table chips m home homes new so_far listed is = subst (AreHomesTo table chips (m + 1)) (sym is) (
+    let long = so_far.long in
+    let added = length_push homes home in
+    record {
+      long = omega (arith, long, added);
+      listed = All-push (IsInTable table) homes home so_far.listed listed;
+      banks = λ i k h below at_k at_h.
+          so_far.banks i k h below at_k (sym (slice_get-first homes (home ∷ []) (injection_place i) (omega (arith, below, long))) ∙ at_h);
+    })
+
+-- ---- senders
+
+-- the indices of live chips on the same chip are the same
+pub same_chip : (u : Setup) (i j : ℕ) → IsLiveIndex u i → IsLiveIndex u j → chip_of u.machine i ≡ chip_of u.machine j → i ≡ j
+same_chip u i j first second same = sym first.is ∙ (ap (index_of u.machine) same ∙ second.is)
+
+pub senders_none : (u : Setup) (table : List ℕ) (homes : List Home) → AreHomesTo table (chip_count u) (length u.spots) homes → HaveSenders u table 0 0 homes
+senders_none u table homes are = record {
+  homes_are = are;
+  routers = λ i o q k h before. absurd (nothing i o before);
+}
+  where
+    nothing : (i : ℕ) (o : Out) → IsBefore 0 0 i o → ⊥
+    nothing i o (inl less) = omega (arith, less)
+    nothing i o (inr same) = let less = same.1 in omega (arith, less)
+
+-- an output more
+pub senders_more : (u : Setup) (table : List ℕ) (n m sender : ℕ) (place : Option ℕ) (p : Out) (homes new : List Home) → HaveSenders u table n m homes → IsLiveIndex u n → n < chip_count u → IsOutput p → out_number p ≡ m →
+    place ≡ place_behind u (chip_of u.machine n) p → slice_get table (router_place n) ≡ Some sender → SetsSender place sender homes new → HaveSenders u table n (m + 1) new
+senders_more u table n m sender place p homes new so_far live below_n output number is_place at_sender sets = record {
+  homes_are = record {
+    long = sets.long ∙ so_far.homes_are.long;
+    listed = λ j d inside. listed (get_or new j d) j (slice_get-get_or new j d inside);
+    banks = λ i k h below at_k at_h. so_far.homes_are.banks i k h below at_k (sets.others (injection_place i) h (λ e. never i below (sym is_place ∙ e)) at_h);
+  };
+  routers = λ i o q k h before on out behind at_k at_h. elim (same_place q) [
+    | inl here ↦
+        let one = one_output u (chip_of u.machine i) (chip_of u.machine n) o p q (live_inside u.machine (chip_of u.machine i) on.live) (live_inside u.machine (chip_of u.machine n) live.live)
+        (leads u (chip_of u.machine i) o q behind) (leads u (chip_of u.machine n) p q (sym is_place ∙ here)) in
+        let index : i ≡ n = same_chip u i n on live one.0 in
+        sets.here q h here at_h ∙ same_Some sender k (sym at_sender ∙ (ap (λ (j : ℕ). slice_get table (router_place j)) (sym index) ∙ at_k))
+    | inr elsewhere ↦ so_far.routers i o q k h (earlier i o q before behind elsewhere) on out behind at_k (sets.others q h elsewhere at_h)
+  ];
+}
+  where
+    same_place : (q : ℕ) → (place ≡ Some q) ⊎ (place ≡ Some q → ⊥)
+    same_place q = by_place place q refl
+      where
+        by_place : (x : Option ℕ) (q : ℕ) → place ≡ x → (place ≡ Some q) ⊎ (place ≡ Some q → ⊥)
+        by_place None q is = inr (λ e. none-some q (sym is ∙ e))
+        by_place (Some w) q is = elim (cases_eq w q) [
+          | inl same ↦ inl (is ∙ ap Some same)
+          | inr other ↦ inr (λ e. other (same_Some w q (sym is ∙ e)))
+        ]
+
+    earlier : (i : ℕ) (o : Out) (q : ℕ) → IsBefore n (m + 1) i o → place_behind u (chip_of u.machine i) o ≡ Some q → (place ≡ Some q → ⊥) → IsBefore n m i o
+    earlier i o q (inl less) behind elsewhere = inl less
+    earlier i o q (inr same) behind elsewhere = elim (cases_eq (out_number o) m) [
+      | inl here ↦
+          let is_p : p ≡ o = out_number_injective p o (number ∙ sym here) in
+          absurd (elsewhere (is_place ∙ (ap (place_behind u (chip_of u.machine n)) is_p ∙ (ap (λ (j : ℕ). place_behind u (chip_of u.machine j) o) (sym same.0) ∙ behind))))
+      | inr other ↦ let less = same.1 in inr (same.0, omega (arith, less, other))
+    ]
+
+    never : (i : ℕ) → i < chip_count u → place_behind u (chip_of u.machine n) p ≡ Some (injection_place i) → ⊥
+    never i below e =
+        no_injection u (chip_of u.machine n) (chip_of u.machine i) p (injection_place i) (live_inside u.machine (chip_of u.machine n) live.live) (chip_of-inside u.machine i below)
+        (leads u (chip_of u.machine n) p (injection_place i) e) (ap (λ (k : ℕ). 7 * k + 6) (sym (index_of-chip_of u.machine i)))
+
+    listed : (h : Home) (q : ℕ) → slice_get new q ≡ Some h → IsInTable table h
+    listed h q at =
+        let old = sets.receivers q h at in
+        let was = All-at (IsInTable table) homes q old.0 so_far.homes_are.listed old.1 in
+        elim (same_place q) [
+          | inl here ↦ record { sender_at = router_place n; sender = at_sender ∙ ap Some (sym (sets.here q h here at)); receiver_at = was.receiver_at; receiver = was.receiver ∙ ap Some (sym old.2) }
+          | inr elsewhere ↦ All-at (IsInTable table) homes q h so_far.homes_are.listed (sets.others q h elsewhere at)
+        ]
+
+-- all outputs of a live chip, or none of one that isn't
+pub senders_live : (u : Setup) (table : List ℕ) (n : ℕ) (homes : List Home) → HaveSenders u table n 24 homes → HaveSenders u table (n + 1) 0 homes
+senders_live u table n homes so_far = record {
+  homes_are = so_far.homes_are;
+  routers = λ i o q k h before on out. so_far.routers i o q k h (all i o out before) on out;
+}
+  where
+    all : (i : ℕ) (o : Out) → IsOutput o → IsBefore (n + 1) 0 i o → IsBefore n 24 i o
+    all i o out (inl less) = elim (cases_eq i n) [
+      | inl same ↦ inr (same, out_number_below o out)
+      | inr other ↦ inl (omega (arith, less, other))
+    ]
+    all i o out (inr same) = let less = same.1 in absurd (omega (arith, less))
+
+pub senders_dead : (u : Setup) (table : List ℕ) (n : ℕ) (homes : List Home) → HaveSenders u table n 0 homes → (IsLiveIndex u n → ⊥) → HaveSenders u table (n + 1) 0 homes
+senders_dead u table n homes so_far dead = record {
+  homes_are = so_far.homes_are;
+  routers = λ i o q k h before on out. so_far.routers i o q k h (less i o on before) on out;
+}
+  where
+    less : (i : ℕ) (o : Out) → IsLiveIndex u i → IsBefore (n + 1) 0 i o → IsBefore n 0 i o
+    less i o on (inl below) = elim (cases_eq i n) [
+      | inl same ↦ absurd (dead (subst (IsLiveIndex u) same on))
+      | inr other ↦ inl (omega (arith, below, other))
+    ]
+    less i o on (inr same) = let none = same.1 in absurd (omega (arith, none))
+
+-- a live chip's index is below the number of chips
+pub live_below : (u : Setup) (i : ℕ) → IsLiveIndex u i → i < chip_count u
+live_below u i on = subst (λ (n : ℕ). n < chip_count u) on.is (index_below u.machine (chip_of u.machine i) (live_inside u.machine (chip_of u.machine i) on.live))
+
+pub homes_all : (u : Setup) (table : List ℕ) (n : ℕ) (homes : List Home) → chip_count u ≤ n → HaveSenders u table n 0 homes → AreHomesOf u table homes
+homes_all u table n homes past so_far = record {
+  long = so_far.homes_are.long;
+  routers = λ i o q k h on out. let below = live_below u i on in so_far.routers i o q k h (inl (omega (arith, below, past))) on out;
+  banks = λ i k h on. so_far.homes_are.banks i k h (live_below u i on);
+  below = λ q h n at all. let listed = All-at (IsInTable table) homes q h so_far.homes_are.listed at in (all listed.sender_at h.sender listed.sender, all listed.receiver_at h.receiver listed.receiver);
+}
+
+pub sets_none : (sender : ℕ) (homes : List Home) → SetsSender None sender homes homes
+sets_none sender homes = record {
+  long = refl;
+  here = λ q h e. absurd (none-some q e);
+  others = λ q h elsewhere at. at;
+  receivers = λ q h at. (h, at, refl);
+}
+
+pub sets_one : (place sender : ℕ) (homes : List Home) (old : Home) → slice_get homes place ≡ Some old → SetsSender (Some place) sender homes (set homes place (record old { sender = sender }))
+sets_one place sender homes old stands = record {
+  long = length-set homes place (record old { sender = sender });
+  here = λ q h e at. sym (ap (λ (x : Home). x.sender) (is q h (same_Some place q e) at));
+  others = λ q h elsewhere at. sym (slice_get-set_other homes place q (record old { sender = sender }) (λ same. elsewhere (ap Some (sym same)))) ∙ at;
+  receivers = λ q h at. elim (cases_eq place q) [
+    | inl same ↦ (old, ap (slice_get homes) (sym same) ∙ stands, sym (ap (λ (x : Home). x.receiver) (is q h same at)))
+    | inr other ↦ (h, sym (slice_get-set_other homes place q (record old { sender = sender }) (λ same. other (sym same))) ∙ at, refl)
+  ];
+}
+  where
+    is : (q : ℕ) (h : Home) → place ≡ q → slice_get (set homes place (record old { sender = sender })) q ≡ Some h → record old { sender = sender } ≡ h
+    is q h same at = same_Some (record old { sender = sender }) h (sym (slice_get-set_same homes place old (record old { sender = sender }) stands) ∙ (ap (slice_get (set homes place (record old { sender = sender }))) same ∙ at))
+
+-- ---- cuts
+
+pub record CutsTo (homes : List Home) (n : ℕ) (cuts : List Cut) : Type 0 where
+  pub cut : (l : ℕ) (c : Cut) → slice_get cuts l ≡ Some c → (slice_get homes c.queue ≡ Some (record { sender = c.sender; receiver = c.receiver })) × (c.sender ≢ c.receiver)
+  pub all_cut : (q : ℕ) (h : Home) → q < n → slice_get homes q ≡ Some h → h.sender ≢ h.receiver → (l : ℕ) × (c : Cut) × (slice_get cuts l ≡ Some c) × (c.queue ≡ q)
+  pub apart : (k l : ℕ) (a b : Cut) → slice_get cuts k ≡ Some a → slice_get cuts l ≡ Some b → a.queue ≡ b.queue → k ≡ l
+  pub below : (l : ℕ) (c : Cut) → slice_get cuts l ≡ Some c → c.queue < n
+
+pub cuts_none : (homes : List Home) (cuts : List Cut) → cuts ≡ [] → CutsTo homes 0 cuts
+cuts_none homes cuts none = subst (CutsTo homes 0) (sym none) (record {
+  cut = λ l c at. absurd (none-some c at);
+  all_cut = λ q h less. absurd (omega (arith, less));
+  apart = λ k l a b at. absurd (none-some a at);
+  below = λ l c at. absurd (none-some c at);
+})
+
+pub cuts_more : (homes : List Home) (n : ℕ) (home : Home) (cuts new : List Cut) → slice_get homes n ≡ Some home → CutsTo homes n cuts → MayCut n home cuts new → CutsTo homes (n + 1) new
+cuts_more homes n home cuts new at_n so_far (inl same) = subst (CutsTo homes (n + 1)) (sym same.1) (record {
+  cut = so_far.cut;
+  all_cut = λ q h less at two. elim (cases_eq q n) [
+    | inl here ↦
+        let is : home ≡ h = same_Some home h (sym at_n ∙ (ap (slice_get homes) (sym here) ∙ at)) in
+        absurd (two (subst (λ (x : Home). x.sender ≡ x.receiver) is same.0))
+    | inr other ↦ so_far.all_cut q h (omega (arith, less, other)) at two
+  ];
+  apart = so_far.apart;
+  below = λ l c at. let was = so_far.below l c at in omega (arith, was);
+})
+cuts_more homes n home cuts new at_n so_far (inr other) = subst (CutsTo homes (n + 1)) (sym other.1) (
+    let last : Cut = record { queue = n; sender = home.sender; receiver = home.receiver } in
+    record {
+      cut = λ l c at. elim (slice_get-push_cases cuts last c l at) [
+        | inl before ↦ so_far.cut l c before.1
+        | inr here ↦
+            subst (λ (x : Cut). (slice_get homes x.queue ≡ Some (record { sender = x.sender; receiver = x.receiver })) × (x.sender ≢ x.receiver)) here.1 (at_n, other.0)
+      ];
+      all_cut = λ q h less at two. elim (cases_eq q n) [
+        | inl here ↦ (length cuts, last, slice_get-pushed cuts last (length cuts) refl, sym here)
+        | inr differs ↦
+            let was = so_far.all_cut q h (omega (arith, less, differs)) at two in
+            (was.0, was.1, slice_get-append_left cuts (last ∷ []) was.0 was.1 was.2, was.3)
+      ];
+      apart = λ k l a b at_k at_l same. elim (slice_get-push_cases cuts last a k at_k) [
+        | inl one ↦ elim (slice_get-push_cases cuts last b l at_l) [
+          | inl two ↦ so_far.apart k l a b one.1 two.1 same
+          | inr two ↦
+              let less = so_far.below k a one.1 in
+              let queue : n ≡ b.queue = ap (λ (x : Cut). x.queue) two.1 in
+              absurd (omega (arith, less, queue, same))
+        ]
+        | inr one ↦ elim (slice_get-push_cases cuts last b l at_l) [
+          | inl two ↦
+              let less = so_far.below l b two.1 in
+              let queue : n ≡ a.queue = ap (λ (x : Cut). x.queue) one.1 in
+              absurd (omega (arith, less, queue, same))
+          | inr two ↦ one.0 ∙ sym two.0
+        ]
+      ];
+      below = λ l c at. elim (slice_get-push_cases cuts last c l at) [
+        | inl before ↦ let was = so_far.below l c before.1 in omega (arith, was)
+        | inr here ↦ let queue : n ≡ c.queue = ap (λ (x : Cut). x.queue) here.1 in omega (arith, queue)
+      ];
+    })
+
+pub cuts_all : (homes : List Home) (n : ℕ) (cuts : List Cut) → length homes ≤ n → CutsTo homes n cuts → AreCutsOf homes cuts
+cuts_all homes n cuts past so_far = record {
+  cut = so_far.cut;
+  all_cut = λ q h at. let inside = slice_get_within homes q h at in so_far.all_cut q h (omega (arith, inside, past)) at;
+  apart = so_far.apart;
+}
+
+pub apart_tests : (b : Bool) → b ≡ true → b ≡ false → ⊥
+apart_tests b yes_it no_it = let t : true ≡ false = sym yes_it ∙ no_it in cc

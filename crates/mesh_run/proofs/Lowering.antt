@@ -1,0 +1,235 @@
+-- A split mesh put together again.
+use Rattle.std.proofs.Common.{◌≡◌, ◌≢◌, ℕ, ◌+◌, ◌<◌, ◌≤◌, List, [], ◌∷◌, ◌++◌, length, get_or, set, Some, refl, sym, ap, ◌∙◌, subst, arith, inl, inr, length-append}
+use Rattle.std.specs.List.{All, slice_get}
+use Rattle.std.proofs.lemmas.Bool.{cases_eq}
+use Rattle.std.proofs.lemmas.Option.{get_or_from_slice_get, same_Some, slice_get_within, slice_get-get_or}
+use Rattle.std.proofs.lemmas.List.{get_or-map, get_or-set_other, get_or-set_same, length-map, length-set, same_lists}
+use Rattle.spin_base.proofs.Places.{slice_get_there}
+use Rattle.spin_base.specs.declared.copies.McCopy.{McCopy}
+use Rattle.link_queue.specs.declared.links.LinkEnds.{LinkEnds}
+use Rattle.link_queue.specs.Ends.{sending}
+use Rattle.mesh_core.specs.State.{IsMesh, State}
+use Rattle.mesh_run.specs.declared.homes.Cut.{Cut}
+use Rattle.mesh_run.specs.declared.homes.Home.{Home}
+use Rattle.mesh_run.specs.declared.raised.RaisedMesh.{RaisedMesh}
+use Rattle.mesh_run.specs.Played.{port_count}
+use Rattle.mesh_run.specs.Queues.{AreEnds, AreUp, DownTo, IsDown, IsUp}
+use Rattle.mesh_run.specs.Raised.{IsRaisedFrom}
+use Rattle.mesh_run.specs.Split.{cut_queues}
+use Rattle.mesh_run.specs.Splitting.{FitHomes, HoldVertices, MovesOut, SameButCopies, SetsQueue}
+use Rattle.mesh_run.proofs.SplitLaws.{same_state, state_on}
+
+-- ---- what the calls ask for
+
+-- each queue has its homes, and each share its places
+pub fits_raised : (m : State) (more : ℕ) (r : RaisedMesh) → IsMesh m → IsRaisedFrom m more r → FitHomes r.parts r.homes.items r.shares.items
+fits_raised m more r mesh raised =
+    let shared = raised.shared in
+    let long = shared.homes_are.long in
+    let inputs = mesh.input_lists in
+    let cores = mesh.core_lists in
+    let unsent = mesh.unsent_lists in
+    let inputs_long = raised.inputs_long in
+    let cores_long = raised.cores_long in
+    let unsent_long = raised.unsent_long in
+    record {
+      long = omega (arith, long, inputs, cores, inputs_long, cores_long);
+      vertices = omega (arith, cores, unsent, cores_long, unsent_long);
+      senders = λ i d below. (both i d below).0;
+      receivers = λ i d below. (both i d below).1;
+      ends_long = λ k d below. shared.ends_long k (get_or r.shares.items k d) (slice_get-get_or r.shares.items k d below) ∙ sym long;
+      unsent_long = λ k d below.
+          let here = shared.unsent_long k (get_or r.shares.items k d) (slice_get-get_or r.shares.items k d below) in
+          omega (arith, here, unsent, unsent_long);
+    }
+  where
+    both : (i : ℕ) (d : Home) → i < length r.homes.items → ((get_or r.homes.items i d).sender < length r.shares.items) × ((get_or r.homes.items i d).receiver < length r.shares.items)
+    both i d below =
+        raised.shared.homes_are.below i (get_or r.homes.items i d) (length r.shares.items) (slice_get-get_or r.homes.items i d below)
+        (λ a k at. subst (λ (n : ℕ). k < n) (sym raised.shared.long) (raised.shared.numbers.below a k at))
+
+-- links that are up have their ends
+pub all_are_ends : (cap more : ℕ) (queues : List (List McCopy)) (ends : List LinkEnds) → AreUp cap more queues ends → All AreEnds ends
+all_are_ends cap more queues ends up = λ i e below. let long = up.long in (up.each i [] e (omega (arith, below, long))).ends
+
+pub no_more_links : (m : State) (more : ℕ) (r : RaisedMesh) → (raised : IsRaisedFrom m more r) → length raised.ends ≤ length r.crossing.items
+no_more_links m more r raised =
+    let long = raised.up.long in
+    let mapped = length-map r.cuts.items (λ (c : Cut). get_or (m.inputs ++ m.cores) c.queue []) in
+    let crossing = raised.crossing in
+    omega (arith, long, mapped, crossing)
+
+-- ---- a link that is down
+
+none_behind : (copies : List McCopy) → copies ++ [] ≡ copies
+none_behind [] = refl
+none_behind (c ∷ copies) = ap (λ l. c ∷ l) (none_behind copies)
+
+-- a link that is up and then down gives its queue back
+pub same_queue : (cap more : ℕ) (queue after : List McCopy) (e : LinkEnds) → IsUp cap more queue e → IsDown e after → after ≡ queue
+same_queue cap more queue after e up down =
+    ap (λ l. l ++ after) (sym up.rx_new.took) ∙ (sym down.all ∙ (ap (λ l. l ++ (sending e.tx).sent) up.tx_new.first ∙ (ap (λ l. queue ++ l) up.tx_new.sent ∙ none_behind queue)))
+
+pub down_at : (m : State) (more : ℕ) (r : RaisedMesh) (down : List (List McCopy)) → (raised : IsRaisedFrom m more r) → DownTo raised.ends down → (l : ℕ) (c : Cut) → slice_get r.cuts.items l ≡ Some c →
+    get_or down l [] ≡ get_or (m.inputs ++ m.cores) c.queue []
+down_at m more r down raised are l c at =
+    let queues : List (List McCopy) = cut_queues (m.inputs ++ m.cores) r.cuts.items in
+    let below = slice_get_within r.cuts.items l c at in
+    let mapped = length-map r.cuts.items (λ (d : Cut). get_or (m.inputs ++ m.cores) d.queue []) in
+    let long = raised.up.long in
+    let e = slice_get_there raised.ends l (omega (arith, below, mapped, long)) in
+    let queue : get_or queues l [] ≡ get_or (m.inputs ++ m.cores) c.queue [] =
+    get_or-map (λ (d : Cut). get_or (m.inputs ++ m.cores) d.queue []) r.cuts.items l c [] below ∙ ap (λ (d : Cut). get_or (m.inputs ++ m.cores) d.queue []) (get_or_from_slice_get r.cuts.items l c c at) in
+    same_queue m.setup.capacity more (get_or queues l []) (get_or down l []) (get_or raised.ends l e.0) (raised.up.each l [] e.0 (omega (arith, below, mapped))) (are l e.0 [] (omega (arith, below, mapped, long))) ∙ queue
+
+-- ---- links' queues put back one after the other
+
+-- the queues of the cuts before a place stand in the mesh again
+pub record QueuesBackTo (mid : State) (cuts : List Cut) (down : List (List McCopy)) (n : ℕ) (now : State) (left : List (List McCopy)) : Type 0 where
+  pub same : SameButCopies mid now
+  pub unsent : now.unsent ≡ mid.unsent
+  pub done : (l : ℕ) (c : Cut) → l < n → slice_get cuts l ≡ Some c → get_or (now.inputs ++ now.cores) c.queue [] ≡ get_or down l []
+  pub others : (q : ℕ) → ((l : ℕ) (c : Cut) → slice_get cuts l ≡ Some c → c.queue ≢ q) → get_or (now.inputs ++ now.cores) q [] ≡ get_or (mid.inputs ++ mid.cores) q []
+  pub left_down : (l : ℕ) → n ≤ l → get_or left l [] ≡ get_or down l []
+  pub long : length left ≡ length down
+
+pub cuts_none : (mid : State) (cuts : List Cut) (down : List (List McCopy)) → QueuesBackTo mid cuts down 0 mid down
+cuts_none mid cuts down = record {
+  same = same_state mid;
+  unsent = refl;
+  done = λ l c less. absurd (omega (arith, less));
+  others = λ q not. refl;
+  left_down = λ l from. refl;
+  long = refl;
+}
+
+-- each queue is of one cut at most
+abbrev pub AreOfOneCut : List Cut → Type 0
+AreOfOneCut cuts = (k l : ℕ) (a b : Cut) → slice_get cuts k ≡ Some a → slice_get cuts l ≡ Some b → a.queue ≡ b.queue → k ≡ l
+
+pub cuts_more : (mid : State) (cuts : List Cut) (down : List (List McCopy)) (n : ℕ) (now next : State) (left new : List (List McCopy)) (c : Cut) (copies gone : List McCopy) → AreOfOneCut cuts → QueuesBackTo mid cuts down n now left →
+    slice_get cuts n ≡ Some c → c.queue < length now.inputs + length now.cores → copies ≡ get_or left n [] → SetsQueue c.queue copies now next → new ≡ set left n gone → QueuesBackTo mid cuts down (n + 1) next new
+cuts_more mid cuts down n now next left new c copies gone apart so_far at below read sets is = record {
+  same = state_on mid now next so_far.same sets.same;
+  unsent = sets.unsent ∙ so_far.unsent;
+  done = λ l d less stands. elim (cases_eq l n) [
+    | inl here ↦
+        let is_d : c ≡ d = same_Some c d (sym at ∙ (ap (slice_get cuts) (sym here) ∙ stands)) in
+        let long : length (now.inputs ++ now.cores) ≡ length now.inputs + length now.cores = length-append now.inputs now.cores in
+        ap (λ (x : Cut). get_or (next.inputs ++ next.cores) x.queue []) (sym is_d) ∙ (ap (λ l. get_or l c.queue []) sets.queues
+        ∙ (get_or-set_same (now.inputs ++ now.cores) c.queue copies [] (omega (arith, below, long)) ∙ (read ∙ (so_far.left_down n (omega arith) ∙ ap (λ (j : ℕ). get_or down j []) (sym here)))))
+    | inr other ↦
+        ap (λ qs. get_or qs d.queue []) sets.queues
+        ∙ (get_or-set_other (now.inputs ++ now.cores) c.queue d.queue copies [] (λ same. other (apart l n d c stands at same)) ∙ so_far.done l d (omega (arith, less, other)) stands)
+  ];
+  others = λ q not. ap (λ qs. get_or qs q []) sets.queues ∙ (get_or-set_other (now.inputs ++ now.cores) c.queue q copies [] (λ same. not n c at (sym same)) ∙ so_far.others q not);
+  left_down = λ l from. ap (λ qs. get_or qs l []) is ∙ (get_or-set_other left n l gone [] (λ same. omega (arith, same, from)) ∙ so_far.left_down l (omega (arith, from)));
+  long = ap length is ∙ (length-set left n gone ∙ so_far.long);
+}
+
+pub cut_at : (cuts : List Cut) (n : ℕ) (c : Cut) → n < length cuts → c ≡ get_or cuts n c → slice_get cuts n ≡ Some c
+cut_at cuts n c below read = slice_get-get_or cuts n c below ∙ ap Some (sym read)
+
+-- the queue of the next cut is there
+pub cut_inside : (m : State) (more n : ℕ) (r : RaisedMesh) (mid now : State) (down left : List (List McCopy)) (c : Cut) → IsMesh m → IsRaisedFrom m more r → SameButCopies r.parts mid → QueuesBackTo mid r.cuts.items down n now left →
+    slice_get r.cuts.items n ≡ Some c → c.queue < length now.inputs + length now.cores
+cut_inside m more n r mid now down left c mesh raised same so_far at =
+    let below = slice_get_within r.homes.items c.queue (record { sender = c.sender; receiver = c.receiver }) (raised.shared.cut n c at).0 in
+    let homes = raised.shared.homes_are.long in
+    let ports = mesh.input_lists in
+    let spots = mesh.core_lists in
+    let inputs : length now.inputs ≡ length m.inputs = so_far.same.inputs_long ∙ (same.inputs_long ∙ raised.inputs_long) in
+    let cores : length now.cores ≡ length m.cores = so_far.same.cores_long ∙ (same.cores_long ∙ raised.cores_long) in
+    omega (arith, below, homes, ports, spots, inputs, cores)
+
+-- ---- the whole mesh
+
+-- two lists in a row, of which the first are as long
+two_lists : {X : Type 0} (a c b d : List X) → a ++ b ≡ c ++ d → length a ≡ length c → (a ≡ c) × (b ≡ d)
+two_lists [] [] b d e long = (refl, e)
+two_lists [] (y ∷ c) b d e long = absurd (omega (arith, long))
+two_lists (x ∷ a) [] b d e long = absurd (omega (arith, long))
+two_lists (x ∷ a) (y ∷ c) b d e long =
+    let rest = two_lists a c b d (rest_same x y (a ++ b) (c ++ d) e) (omega (arith, long)) in
+    (both_same x y a c (first_same x y (a ++ b) (c ++ d) e) rest.0, rest.1)
+  where
+    first_same : {X : Type 0} (x y : X) (xs ys : List X) → x ∷ xs ≡ y ∷ ys → x ≡ y
+    first_same x y xs ys e = cc
+
+    rest_same : {X : Type 0} (x y : X) (xs ys : List X) → x ∷ xs ≡ y ∷ ys → xs ≡ ys
+    rest_same x y xs ys e = cc
+
+    both_same : {X : Type 0} (x y : X) (xs ys : List X) → x ≡ y → xs ≡ ys → x ∷ xs ≡ y ∷ ys
+    both_same x y xs ys first rest = cc
+
+equal_states : (s t : State) → s.setup ≡ t.setup → s.unsent ≡ t.unsent → s.inputs ≡ t.inputs → s.hands ≡ t.hands → s.cores ≡ t.cores → s.delivered ≡ t.delivered → s.dumped ≡ t.dumped → s ≡ t
+equal_states s t setup unsent inputs hands cores delivered dumped = λ i. record {
+  setup = setup i;
+  unsent = unsent i;
+  inputs = inputs i;
+  hands = hands i;
+  cores = cores i;
+  delivered = delivered i;
+  dumped = dumped i;
+}
+
+-- all that was split stands again where it stood
+pub lowered : (m : State) (more n : ℕ) (r : RaisedMesh) (mid now back : State) (down left : List (List McCopy)) → IsMesh m → (raised : IsRaisedFrom m more r) → MovesOut r.homes.items r.shares.items r.parts mid → DownTo raised.ends down →
+    QueuesBackTo mid r.cuts.items down n now left → length r.cuts.items ≤ n →
+    back.setup ≡ now.setup → back.unsent ≡ now.unsent → back.inputs ≡ now.inputs → back.hands ≡ now.hands → back.cores ≡ now.cores → back.delivered ≡ r.logs.delivered.items → back.dumped ≡ r.logs.dumped.items → back ≡ m
+lowered m more n r mid now back down left mesh raised moves are so_far past setup unsent inputs hands cores delivered dumped =
+    equal_states back m
+    (setup ∙ (so_far.same.setup ∙ (moves.same.setup ∙ raised.setup)))
+    (unsent ∙ (so_far.unsent ∙ moves.vertices m.unsent (sym raised.unsent_long) vertices))
+    (inputs ∙ halves.0)
+    (hands ∙ (so_far.same.hands ∙ (moves.same.hands ∙ raised.hands)))
+    (cores ∙ halves.1)
+    (delivered ∙ raised.delivered)
+    (dumped ∙ raised.dumped)
+  where
+    inputs_long : length now.inputs ≡ length m.inputs
+    inputs_long = so_far.same.inputs_long ∙ (moves.same.inputs_long ∙ raised.inputs_long)
+
+    cores_long : length now.cores ≡ length m.cores
+    cores_long = so_far.same.cores_long ∙ (moves.same.cores_long ∙ raised.cores_long)
+
+    vertices : HoldVertices (length r.parts.inputs) m.unsent r.homes.items r.shares.items
+    vertices =
+        let held : HoldVertices (port_count m.setup) m.unsent r.homes.items r.shares.items = record { here = raised.unsent.here; nowhere_else = raised.unsent.nowhere_else } in
+        subst (λ (k : ℕ). HoldVertices k m.unsent r.homes.items r.shares.items) (sym (raised.inputs_long ∙ mesh.input_lists)) held
+
+    -- a queue that is in one share is of no cut
+    uncut : (q : ℕ) (h : Home) → slice_get r.homes.items q ≡ Some h → h.sender ≡ h.receiver → (l : ℕ) (c : Cut) → slice_get r.cuts.items l ≡ Some c → c.queue ≢ q
+    uncut q h at one l c stands here =
+        let cut = raised.shared.cut l c stands in
+        let is : h ≡ record { sender = c.sender; receiver = c.receiver } = same_Some h (record { sender = c.sender; receiver = c.receiver }) (sym at ∙ (ap (slice_get r.homes.items) (sym here) ∙ cut.0)) in
+        cut.1 (subst (λ (x : Home). x.sender ≡ x.receiver) is one)
+
+    each : (q : ℕ) (h : Home) → slice_get r.homes.items q ≡ Some h → get_or (now.inputs ++ now.cores) q [] ≡ get_or (m.inputs ++ m.cores) q []
+    each q h at = elim (cases_eq h.sender h.receiver) [
+      | inl one ↦ so_far.others q (uncut q h at one) ∙ moves.lanes (m.inputs ++ m.cores) q h raised.lanes at one
+      | inr two ↦
+          let cut = raised.shared.all_cut q h at two in
+          let below = slice_get_within r.cuts.items cut.0 cut.1 cut.2 in
+          let here = so_far.done cut.0 cut.1 (omega (arith, below, past)) cut.2 ∙ down_at m more r down raised are cut.0 cut.1 cut.2 in
+          subst (λ (k : ℕ). get_or (now.inputs ++ now.cores) k [] ≡ get_or (m.inputs ++ m.cores) k []) cut.3 here
+    ]
+
+    default : (xs : List (List McCopy)) (v : ℕ) (d : List McCopy) → v < length xs → get_or xs v d ≡ get_or xs v []
+    default xs v d below = let x = slice_get_there xs v below in get_or_from_slice_get xs v x.0 d x.1 ∙ sym (get_or_from_slice_get xs v x.0 [] x.1)
+
+    joined : now.inputs ++ now.cores ≡ m.inputs ++ m.cores
+    joined =
+        let long_now : length (now.inputs ++ now.cores) ≡ length now.inputs + length now.cores = length-append now.inputs now.cores in
+        let long_m : length (m.inputs ++ m.cores) ≡ length m.inputs + length m.cores = length-append m.inputs m.cores in
+        let a = inputs_long in
+        let b = cores_long in
+        let homes = raised.shared.homes_are.long in
+        let ports = mesh.input_lists in
+        let spots = mesh.core_lists in
+        same_lists (now.inputs ++ now.cores) (m.inputs ++ m.cores) (omega (arith, long_now, long_m, a, b)) (λ q d below.
+        let h = slice_get_there r.homes.items q (omega (arith, below, long_now, a, b, homes, ports, spots)) in
+        default (now.inputs ++ now.cores) q d below ∙ (each q h.0 h.1 ∙ sym (default (m.inputs ++ m.cores) q d (omega (arith, below, long_now, long_m, a, b)))))
+
+    halves : (now.inputs ≡ m.inputs) × (now.cores ≡ m.cores)
+    halves = two_lists now.inputs m.inputs now.cores m.cores joined inputs_long

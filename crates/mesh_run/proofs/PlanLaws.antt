@@ -1,0 +1,118 @@
+-- How a mesh is split.
+use Rattle.std.proofs.Common.{◌≡◌, ◌≢◌, ℕ, ◌+◌, ◌*◌, ◌<◌, ◌≤◌, List, [], ◌++◌, map, length, replicate, get_or, Some, refl, sym, ap, ◌∙◌, subst, arith, inl, inr, length-append}
+use Rattle.std.specs.List.{All, slice_get}
+use Rattle.std.proofs.lemmas.Bool.{cases_lt}
+use Rattle.std.proofs.lemmas.Option.{slice_get_within, slice_get-get_or}
+use Rattle.std.proofs.lemmas.List.{get_or-map, get_or_past, length-map, length-replicate}
+use Rattle.std.proofs.lemmas.List.Elements.{All-append}
+use Rattle.spin_base.specs.declared.copies.McCopy.{McCopy}
+use Rattle.spin_base.proofs.Places.{All-at}
+use Rattle.chip_node.specs.declared.ends.End.TheVariants.{Away}
+use Rattle.machine_desc.proofs.Branches.{length_le_from_apart}
+use Rattle.mesh_core.specs.State.{FitsQueue, IsMesh, Setup, State}
+use Rattle.mesh_run.specs.declared.homes.Cut.{Cut}
+use Rattle.mesh_run.specs.declared.homes.Home.{Home}
+use Rattle.mesh_run.specs.declared.shares.Share.{Share}
+use Rattle.mesh_run.specs.Floors.{chip_count}
+use Rattle.mesh_run.specs.Homes.{AreCutsOf, AreHomesOf, AreRuns, IsShareTable}
+use Rattle.mesh_run.specs.Played.{port_count}
+use Rattle.mesh_run.specs.Split.{AreShared, cut_queues}
+use Rattle.mesh_run.specs.Splitting.{AreInside, FitHomes, HoldNothing, IsEmptyHand}
+use Rattle.mesh_run.proofs.FloorLaws.{few_chips, few_vertices}
+
+-- each share has a place for each queue, and for each vertex
+hand_at : (runs : List ℕ) (queues vertices : ℕ) (shares : List Share) (k : ℕ) (s : Share) → HoldNothing runs queues vertices shares → slice_get shares k ≡ Some s → IsEmptyHand queues vertices s.hold
+hand_at runs queues vertices shares k s nothing at = All-at (λ (x : Share). IsEmptyHand queues vertices x.hold) shares k s nothing.hands at
+
+ends_many : (runs : List ℕ) (queues vertices : ℕ) (shares : List Share) (k : ℕ) (s : Share) → HoldNothing runs queues vertices shares → slice_get shares k ≡ Some s → length s.hold.ends.items ≡ queues
+ends_many runs queues vertices shares k s nothing at = ap length (hand_at runs queues vertices shares k s nothing at).ends ∙ length-replicate queues Away
+
+unsent_many : (runs : List ℕ) (queues vertices : ℕ) (shares : List Share) (k : ℕ) (s : Share) → HoldNothing runs queues vertices shares → slice_get shares k ≡ Some s → length s.hold.unsent.items ≡ vertices
+unsent_many runs queues vertices shares k s nothing at = ap length (hand_at runs queues vertices shares k s nothing at).unsent ∙ length-replicate vertices []
+
+pub plan_shared : (u : Setup) (ends table : List ℕ) (homes : List Home) (cuts : List Cut) (vertices : ℕ) (shares : List Share) → AreRuns (2 * chip_count u) ends → IsShareTable (2 * chip_count u) ends table → AreHomesOf u table homes → AreCutsOf homes cuts →
+    HoldNothing ends (length homes) vertices shares → vertices ≡ length u.spots → AreShared u homes cuts shares
+plan_shared u ends table homes cuts vertices shares runs numbers homes_are cuts_are nothing all = record {
+  ends = ends;
+  table = table;
+  runs = runs;
+  numbers = numbers;
+  homes_are = homes_are;
+  long = nothing.long;
+  from = nothing.from;
+  to = nothing.to;
+  ends_long = λ k s at. ends_many ends (length homes) vertices shares k s nothing at ∙ homes_are.long;
+  unsent_long = λ k s at. unsent_many ends (length homes) vertices shares k s nothing at ∙ all;
+  cut = cuts_are.cut;
+  all_cut = cuts_are.all_cut;
+  apart = cuts_are.apart;
+}
+
+pub plan_fits : (m : State) (ends table : List ℕ) (homes : List Home) (shares : List Share) → IsMesh m → IsShareTable (2 * chip_count m.setup) ends table → AreHomesOf m.setup table homes → HoldNothing ends (length homes) (length m.unsent) shares → FitHomes m homes shares
+plan_fits m ends table homes shares mesh numbers homes_are nothing =
+    let inputs = mesh.input_lists in
+    let cores = mesh.core_lists in
+    let long = homes_are.long in
+    record {
+      long = omega (arith, long, inputs, cores);
+      vertices = mesh.unsent_lists ∙ sym mesh.core_lists;
+      senders = λ i d below. (both i d below).0;
+      receivers = λ i d below. (both i d below).1;
+      ends_long = λ i d below. ends_many ends (length homes) (length m.unsent) shares i (get_or shares i d) nothing (slice_get-get_or shares i d below);
+      unsent_long = λ i d below. unsent_many ends (length homes) (length m.unsent) shares i (get_or shares i d) nothing (slice_get-get_or shares i d below);
+    }
+  where
+    both : (i : ℕ) (d : Home) → i < length homes → ((get_or homes i d).sender < length shares) × ((get_or homes i d).receiver < length shares)
+    both i d below = homes_are.below i (get_or homes i d) (length shares) (slice_get-get_or homes i d below) (λ a k at. subst (λ (n : ℕ). k < n) (sym nothing.long) (numbers.below a k at))
+
+pub cuts_inside : (homes : List Home) (cuts : List Cut) (n : ℕ) → AreCutsOf homes cuts → length homes ≡ n → AreInside n cuts
+cuts_inside homes cuts n are long = λ i d below.
+    let cut = are.cut i (get_or cuts i d) (slice_get-get_or cuts i d below) in
+    subst (λ (k : ℕ). (get_or cuts i d).queue < k) long (slice_get_within homes (get_or cuts i d).queue (record { sender = (get_or cuts i d).sender; receiver = (get_or cuts i d).receiver }) cut.0)
+
+pub fits_at : (cap : ℕ) (queues : List (List McCopy)) (i : ℕ) → All (FitsQueue cap) queues → length (get_or queues i []) ≤ cap
+fits_at cap queues i all = elim (cases_lt i (length queues)) [
+  | inl inside ↦ (all i [] inside).within
+  | inr past ↦ let none : length (get_or queues i []) ≡ 0 = ap length (get_or_past queues i [] past) in omega (arith, none)
+]
+
+pub cuts_fit : (m : State) (cuts : List Cut) → IsMesh m → All (λ q. length q ≤ m.setup.capacity) (cut_queues (m.inputs ++ m.cores) cuts)
+cuts_fit m cuts mesh = λ i d below.
+    let inside : i < length cuts = subst (λ (n : ℕ). i < n) (length-map cuts (λ (c : Cut). get_or (m.inputs ++ m.cores) c.queue [])) below in
+    let nothing : Cut = record { queue = 0; sender = 0; receiver = 0 } in
+    subst (λ (q : List McCopy). length q ≤ m.setup.capacity) (sym (get_or-map (λ (c : Cut). get_or (m.inputs ++ m.cores) c.queue []) cuts i nothing d inside))
+    (fits_at m.setup.capacity (m.inputs ++ m.cores) (get_or cuts i nothing).queue (All-append (FitsQueue m.setup.capacity) m.inputs m.cores mesh.inputs_within mesh.cores_within))
+
+-- there are fewer queues than numbers of a word
+pub few_homes : (m : State) (table : List ℕ) (homes : List Home) → IsMesh m → AreHomesOf m.setup table homes → length homes ≤ 200000
+few_homes m table homes mesh are =
+    let chips = few_chips m.setup.machine mesh.size in
+    let vertices = few_vertices m.setup.machine m.setup.spots mesh.different mesh.sites mesh.size in
+    let long = are.long in
+    omega (arith, chips, vertices, long)
+
+-- there are no more cuts than queues
+pub few_cuts : (u : Setup) (homes : List Home) (cuts : List Cut) (shares : List Share) → AreShared u homes cuts shares → length cuts ≤ length homes
+few_cuts u homes cuts shares shared =
+    subst (λ n. n ≤ length homes) (length-map cuts (λ (c : Cut). c.queue)) (length_le_from_apart (map (λ (c : Cut). c.queue) cuts) (length homes) apart below)
+  where
+    nothing : Cut
+    nothing = record { queue = 0; sender = 0; receiver = 0 }
+
+    in_cuts : (k : ℕ) → k < length (map (λ (c : Cut). c.queue) cuts) → k < length cuts
+    in_cuts k low = subst (λ n. k < n) (length-map cuts (λ (c : Cut). c.queue)) low
+
+    read : (k d : ℕ) → k < length (map (λ (c : Cut). c.queue) cuts) → get_or (map (λ (c : Cut). c.queue) cuts) k d ≡ (get_or cuts k nothing).queue
+    read k d low = get_or-map (λ (c : Cut). c.queue) cuts k nothing d (in_cuts k low)
+
+    below : (k d : ℕ) → k < length (map (λ (c : Cut). c.queue) cuts) → get_or (map (λ (c : Cut). c.queue) cuts) k d < length homes
+    below k d low =
+        let cut = get_or cuts k nothing in
+        let at = shared.cut k cut (slice_get-get_or cuts k nothing (in_cuts k low)) in
+        subst (λ n. n < length homes) (sym (read k d low)) (slice_get_within homes cut.queue (record { sender = cut.sender; receiver = cut.receiver }) at.0)
+
+    apart : (i j d : ℕ) → i < j → j < length (map (λ (c : Cut). c.queue) cuts) → get_or (map (λ (c : Cut). c.queue) cuts) i d ≢ get_or (map (λ (c : Cut). c.queue) cuts) j d
+    apart i j d before low e =
+        let low_i : i < length (map (λ (c : Cut). c.queue) cuts) = omega (arith, before, low) in
+        let same = shared.apart i j (get_or cuts i nothing) (get_or cuts j nothing) (slice_get-get_or cuts i nothing (in_cuts i low_i)) (slice_get-get_or cuts j nothing (in_cuts j low)) (sym (read i d low_i) ∙ (e ∙ read j d low)) in
+        omega (arith, before, same)

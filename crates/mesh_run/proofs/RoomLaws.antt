@@ -1,0 +1,85 @@
+-- Shares with the same copies.
+use Rattle.std.proofs.Common.{◌≡◌, ℕ, List, length, set, Option, Some, refl, sym, ap, ◌∙◌, subst, arith, inl, inr}
+use Rattle.std.specs.List.{slice_get}
+use Rattle.std.proofs.lemmas.Bool.{cases_eq}
+use Rattle.std.proofs.lemmas.Option.{same_Some, slice_get_within}
+use Rattle.std.proofs.lemmas.List.{length-set}
+use Rattle.spin_base.specs.WithRoom.{WithRoom}
+use Rattle.spin_base.specs.declared.copies.McCopy.{McCopy}
+use Rattle.spin_base.proofs.Places.{slice_get_there, slice_get-set_same, slice_get-set_other}
+use Rattle.chip_node.specs.declared.ends.End.{End}
+use Rattle.chip_node.specs.declared.ends.End.TheVariants.{Away, Own, Sends, Takes}
+use Rattle.mesh_run.specs.declared.shares.Share.{Share}
+use Rattle.mesh_run.specs.Rooms.{SameCopies, SameEnd}
+
+pub end_same : (e : End) → SameEnd e e
+end_same Away = refl
+end_same (Own a) = (a, refl, refl)
+end_same (Sends a) = refl
+end_same (Takes a) = refl
+
+pub end_on : (x y z : End) → SameEnd x y → SameEnd y z → SameEnd x z
+end_on Away y z first second = subst (λ (e : End). SameEnd e z) first second
+end_on (Own a) y z first second = let s = subst (λ (e : End). SameEnd e z) first.1 second in (s.0, s.1, s.2 ∙ first.2)
+end_on (Sends a) y z first second = subst (λ (e : End). SameEnd e z) first second
+end_on (Takes a) y z first second = subst (λ (e : End). SameEnd e z) first second
+
+pub copies_same : (s : Share) → SameCopies s s
+copies_same s = record {
+  from = refl;
+  to = refl;
+  ends_long = refl;
+  ends = λ q a b at also. subst (SameEnd a) (same_Some a b (sym at ∙ also)) (end_same a);
+  unsent = refl;
+  dumps = refl;
+  deliveries = refl;
+}
+
+pub copies_on : (a b c : Share) → SameCopies a b → SameCopies b c → SameCopies a c
+copies_on a b c first second = record {
+  from = second.from ∙ first.from;
+  to = second.to ∙ first.to;
+  ends_long = second.ends_long ∙ first.ends_long;
+  ends = λ q x z at also.
+      let within = slice_get_within a.hold.ends.items q x at in
+      let long = first.ends_long in
+      let y = slice_get_there b.hold.ends.items q (omega (arith, within, long)) in
+      end_on x y.0 z (first.ends q x y.0 at y.1) (second.ends q y.0 z y.1 also);
+  unsent = second.unsent ∙ first.unsent;
+  dumps = second.dumps ∙ first.dumps;
+  deliveries = second.deliveries ∙ first.deliveries;
+}
+
+-- room is made in logs, and nothing else changes that is seen
+pub logs_made : (a b c : Share) → SameCopies a b → c.from ≡ b.from → c.to ≡ b.to → c.hold.ends ≡ b.hold.ends → c.hold.unsent ≡ b.hold.unsent → c.hold.dumps.items ≡ b.hold.dumps.items →
+    c.hold.deliveries.items ≡ b.hold.deliveries.items → SameCopies a c
+logs_made a b c first from to ends unsent dumps deliveries = copies_on a b c first (record {
+  from = from;
+  to = to;
+  ends_long = ap (λ v. length v.items) ends;
+  ends = λ q x y at also. subst (SameEnd x) (same_Some x y (sym at ∙ (ap (λ v. slice_get v.items q) (sym ends) ∙ also))) (end_same x);
+  unsent = unsent;
+  dumps = dumps;
+  deliveries = deliveries;
+})
+
+-- one end has more room
+pub end_widened : (s t : Share) (place : ℕ) (old new : End) → slice_get s.hold.ends.items place ≡ Some old → SameEnd old new → t.from ≡ s.from → t.to ≡ s.to → t.hold.ends.items ≡ set s.hold.ends.items place new → t.hold.unsent ≡ s.hold.unsent →
+    t.hold.dumps ≡ s.hold.dumps → t.hold.deliveries ≡ s.hold.deliveries → SameCopies s t
+end_widened s t place old new stands same from to ends unsent dumps deliveries = record {
+  from = from;
+  to = to;
+  ends_long = ap length ends ∙ length-set s.hold.ends.items place new;
+  ends = λ q x y at also. elim (cases_eq q place) [
+    | inl here ↦
+        let is_x : old ≡ x = same_Some old x (sym stands ∙ (ap (slice_get s.hold.ends.items) (sym here) ∙ at)) in
+        let is_y : new ≡ y = same_Some new y (sym (slice_get-set_same s.hold.ends.items place old new stands) ∙ (ap (λ l. slice_get l place) (sym ends) ∙ (ap (slice_get t.hold.ends.items) (sym here) ∙ also))) in
+        subst (λ (e : End). SameEnd x e) is_y (subst (λ (e : End). SameEnd e new) is_x same)
+    | inr other ↦
+        let is : x ≡ y = same_Some x y (sym at ∙ (sym (slice_get-set_other s.hold.ends.items place q new other) ∙ (ap (λ l. slice_get l q) (sym ends) ∙ also))) in
+        subst (SameEnd x) is (end_same x)
+  ];
+  unsent = unsent;
+  dumps = ap (λ l. l.items) dumps;
+  deliveries = ap (λ l. l.items) deliveries;
+}

@@ -1,0 +1,655 @@
+-- Queues and unsent copies that move between a mesh and shares.
+use Rattle.std.proofs.Common.{◌≡◌, ◌≢◌, ◌⊎◌, ℕ, ◌+◌, ◌-◌, ◌<◌, ◌≤◌, List, [], ◌∷◌, ◌++◌, map, length, replicate, take, get_or, set, Option, None, Some, refl, sym, ap, ◌∙◌, subst, arith, suc, zero, length-append, inl, inr}
+use Rattle.std.specs.List.{All, slice_get}
+use Rattle.std.proofs.lemmas.Bool.{cases_eq, cases_lt}
+use Rattle.std.proofs.lemmas.Option.{get_or_from_slice_get, none-some, same_Some, slice_get_within, slice_get-get_or}
+use Rattle.std.proofs.lemmas.List.{get_or_append_left, get_or-append_right, get_or-replicate, get_or_past, get_or-set_other, get_or-set_same, length-set, length-replicate, length_push, same_lists, set-append_left, set-append_right}
+use Rattle.std.proofs.lemmas.List.Elements.{All-nil, All-push}
+use Rattle.spin_base.specs.WithRoom.{WithRoom}
+use Rattle.spin_base.specs.declared.copies.McCopy.{McCopy}
+use Rattle.spin_base.proofs.Places.{All-at, slice_get_there, slice_get-push_cases, slice_get-set_same, slice_get-set_other}
+use Rattle.chip_node.specs.declared.ends.End.{End}
+use Rattle.chip_node.specs.declared.ends.End.TheVariants.{Away, Own, Sends, Takes}
+use Rattle.mesh_core.specs.State.{State}
+use Rattle.mesh_run.specs.declared.homes.Home.{Home}
+use Rattle.mesh_run.specs.declared.shares.Share.{Share}
+use Rattle.mesh_run.specs.Crossing.{AreSameButEnds, PutsEnd, SameButEnds}
+use Rattle.mesh_run.specs.Homes.{run_start}
+use Rattle.mesh_run.specs.Split.{HaveNoLogs, HoldLanes, end_at, end_in, unsent_at, unsent_in}
+use Rattle.mesh_run.specs.Splitting.{AreSameButUnsent, AreSameHolds, AreSameRuns, FitHomes, HoldNothing, HoldVertices, IsEmptyHand, MayPutLane, MayTakeLane, MovesIn, MovesOut, PutsUnsent, SameButCopies, SameButUnsent, SetsQueue, SetsUnsent}
+use Rattle.mesh_run.proofs.CrossingLaws.{end_there, same_on, same_self}
+use Rattle.mesh_run.proofs.HomeLaws.{start_more}
+
+-- ---- one queue of a mesh
+
+pub queues_of : State → List (List McCopy)
+queues_of m = m.inputs ++ m.cores
+
+pub same_state : (m : State) → SameButCopies m m
+same_state m = record { setup = refl; hands = refl; inputs_long = refl; cores_long = refl; unsent_long = refl; delivered = refl; dumped = refl }
+
+pub state_on : (a b c : State) → SameButCopies a b → SameButCopies b c → SameButCopies a c
+state_on a b c p q = record {
+  setup = q.setup ∙ p.setup;
+  hands = q.hands ∙ p.hands;
+  inputs_long = q.inputs_long ∙ p.inputs_long;
+  cores_long = q.cores_long ∙ p.cores_long;
+  unsent_long = q.unsent_long ∙ p.unsent_long;
+  delivered = q.delivered ∙ p.delivered;
+  dumped = q.dumped ∙ p.dumped;
+}
+
+pub sets_input : (m n : State) (place : ℕ) (q : List McCopy) → place < length m.inputs → n.inputs ≡ set m.inputs place q → n.cores ≡ m.cores → n.unsent ≡ m.unsent → n.setup ≡ m.setup → n.hands ≡ m.hands →
+    n.delivered ≡ m.delivered → n.dumped ≡ m.dumped → SetsQueue place q m n
+sets_input m n place q below inputs cores unsent setup hands delivered dumped = record {
+  same = record {
+    setup = setup;
+    hands = hands;
+    inputs_long = ap length inputs ∙ length-set m.inputs place q;
+    cores_long = ap length cores;
+    unsent_long = ap length unsent;
+    delivered = delivered;
+    dumped = dumped;
+  };
+  unsent = unsent;
+  queues = ap (λ l. l ++ n.cores) inputs ∙ (ap (λ l. set m.inputs place q ++ l) cores ∙ sym (set-append_left m.inputs m.cores place q below));
+}
+
+pub sets_core : (m n : State) (place : ℕ) (q : List McCopy) → length m.inputs ≤ place → n.cores ≡ set m.cores (place - length m.inputs) q → n.inputs ≡ m.inputs → n.unsent ≡ m.unsent → n.setup ≡ m.setup → n.hands ≡ m.hands →
+    n.delivered ≡ m.delivered → n.dumped ≡ m.dumped → SetsQueue place q m n
+sets_core m n place q past cores inputs unsent setup hands delivered dumped = record {
+  same = record {
+    setup = setup;
+    hands = hands;
+    inputs_long = ap length inputs;
+    cores_long = ap length cores ∙ length-set m.cores (place - length m.inputs) q;
+    unsent_long = ap length unsent;
+    delivered = delivered;
+    dumped = dumped;
+  };
+  unsent = unsent;
+  queues = ap (λ l. l ++ n.cores) inputs ∙ (ap (λ l. m.inputs ++ l) cores ∙ sym (set-append_right m.inputs m.cores (length m.inputs) place q refl past));
+}
+
+pub read_input : (m : State) (place : ℕ) (q : List McCopy) → place < length m.inputs → q ≡ get_or m.inputs place [] → q ≡ get_or (m.inputs ++ m.cores) place []
+read_input m place q below read = read ∙ sym (get_or_append_left m.inputs m.cores [] place below)
+
+pub read_core : (m : State) (place : ℕ) (q : List McCopy) → length m.inputs ≤ place → q ≡ get_or m.cores (place - length m.inputs) [] → q ≡ get_or (m.inputs ++ m.cores) place []
+read_core m place q past read = read ∙ sym (get_or-append_right m.inputs m.cores (length m.inputs) place [] refl past)
+
+pub sets_unsent : (m n : State) (vertex : ℕ) (q : List McCopy) → n.unsent ≡ set m.unsent vertex q → n.inputs ≡ m.inputs → n.cores ≡ m.cores → n.setup ≡ m.setup → n.hands ≡ m.hands → n.delivered ≡ m.delivered → n.dumped ≡ m.dumped →
+    SetsUnsent vertex q m n
+sets_unsent m n vertex q unsent inputs cores setup hands delivered dumped = record {
+  same = record {
+    setup = setup;
+    hands = hands;
+    inputs_long = ap length inputs;
+    cores_long = ap length cores;
+    unsent_long = ap length unsent ∙ length-set m.unsent vertex q;
+    delivered = delivered;
+    dumped = dumped;
+  };
+  inputs = inputs;
+  cores = cores;
+  unsent = unsent;
+}
+
+-- ---- unsent copies of one vertex in a share
+
+pub unsent_set : (before after : List Share) (share vertex : ℕ) (s t : Share) (copies : List McCopy) → slice_get before share ≡ Some s → vertex < length s.hold.unsent.items → after ≡ set before share t →
+    t.from ≡ s.from → t.to ≡ s.to → t.hold.ends ≡ s.hold.ends → t.hold.dumps ≡ s.hold.dumps → t.hold.deliveries ≡ s.hold.deliveries →
+    t.hold.unsent.items ≡ set s.hold.unsent.items vertex copies → PutsUnsent share vertex copies before after
+unsent_set before after share vertex s t copies stands below is from to ends dumps deliveries unsent = subst (PutsUnsent share vertex copies before) (sym is) (record {
+  same = (
+    length-set before share t,
+    λ k x y at also. elim (cases_eq k share) [
+      | inl here ↦
+          let is_x : s ≡ x = same_Some s x (sym stands ∙ (ap (slice_get before) (sym here) ∙ at)) in
+          let is_y : t ≡ y = same_Some t y (sym (slice_get-set_same before share s t stands) ∙ (ap (slice_get (set before share t)) (sym here) ∙ also)) in
+          subst (λ (z : Share). SameButUnsent x z) is_y (subst (λ (z : Share). SameButUnsent z t) is_x (record {
+            from = from;
+            to = to;
+            ends = ends;
+            unsent_long = ap length unsent ∙ length-set s.hold.unsent.items vertex copies;
+            dumps = dumps;
+            deliveries = deliveries;
+          }))
+      | inr other ↦
+          let is_y : x ≡ y = same_Some x y (sym at ∙ (sym (slice_get-set_other before share k t other) ∙ also)) in
+          subst (SameButUnsent x) is_y (record { from = refl; to = refl; ends = refl; unsent_long = refl; dumps = refl; deliveries = refl })
+    ],
+  );
+  here = ap (λ (o : Option Share). unsent_in o vertex) (slice_get-set_same before share s t stands) ∙ (ap (λ l. get_or l vertex []) unsent ∙ get_or-set_same s.hold.unsent.items vertex copies [] below);
+  others = λ k v differs. elim (cases_eq k share) [
+    | inl here ↦
+        ap (λ (j : ℕ). unsent_at (set before share t) j v) here
+        ∙ (ap (λ (o : Option Share). unsent_in o v) (slice_get-set_same before share s t stands)
+        ∙ (ap (λ l. get_or l v []) unsent
+        ∙ (get_or-set_other s.hold.unsent.items vertex v copies [] (λ same. differs (here, same))
+        ∙ (ap (λ (o : Option Share). unsent_in o v) (sym stands) ∙ ap (λ (j : ℕ). unsent_at before j v) (sym here)))))
+    | inr other ↦ ap (λ (o : Option Share). unsent_in o v) (slice_get-set_other before share k t other)
+  ];
+})
+
+pub unsent_read : (shares : List Share) (share vertex : ℕ) (s : Share) (copies : List McCopy) → slice_get shares share ≡ Some s → copies ≡ get_or s.hold.unsent.items vertex [] → copies ≡ unsent_at shares share vertex
+unsent_read shares share vertex s copies stands read = read ∙ ap (λ (o : Option Share). unsent_in o vertex) (sym stands)
+
+pub unsent_self : (shares : List Share) → AreSameButUnsent shares shares
+unsent_self shares = (refl, λ k s t at also. subst (SameButUnsent s) (same_Some s t (sym at ∙ also)) (record { from = refl; to = refl; ends = refl; unsent_long = refl; dumps = refl; deliveries = refl }))
+
+pub unsent_on : (a b c : List Share) → AreSameButUnsent a b → AreSameButUnsent b c → AreSameButUnsent a c
+unsent_on a b c first second = (
+  second.0 ∙ first.0,
+  λ k x z at also.
+      let within = slice_get_within a k x at in
+      let long = first.0 in
+      let y = slice_get_there b k (omega (arith, within, long)) in
+      let p = first.1 k x y.0 at y.1 in
+      let q = second.1 k y.0 z y.1 also in
+      record { from = q.from ∙ p.from; to = q.to ∙ p.to; ends = q.ends ∙ p.ends; unsent_long = q.unsent_long ∙ p.unsent_long; dumps = q.dumps ∙ p.dumps; deliveries = q.deliveries ∙ p.deliveries },
+)
+
+pub holds_self : (shares : List Share) → AreSameHolds shares shares
+holds_self shares = (refl, λ k s t at also. let is : s ≡ t = same_Some s t (sym at ∙ also) in (ap (λ (x : Share). x.from) (sym is), ap (λ (x : Share). x.to) (sym is), ap (λ (x : Share). x.hold) (sym is)))
+
+pub holds_on : (a b c : List Share) → AreSameHolds a b → AreSameHolds b c → AreSameHolds a c
+holds_on a b c first second = (
+  second.0 ∙ first.0,
+  λ k x z at also.
+      let within = slice_get_within a k x at in
+      let long = first.0 in
+      let y = slice_get_there b k (omega (arith, within, long)) in
+      let p = first.1 k x y.0 at y.1 in
+      let q = second.1 k y.0 z y.1 also in
+      (q.0 ∙ p.0, q.1 ∙ p.1, q.2 ∙ p.2),
+)
+
+pub holds_set : (shares : List Share) (share : ℕ) (s t : Share) → slice_get shares share ≡ Some s → t.from ≡ s.from → t.to ≡ s.to → t.hold ≡ s.hold → AreSameHolds shares (set shares share t)
+holds_set shares share s t stands from to hold = (
+  length-set shares share t,
+  λ k x y at also. elim (cases_eq k share) [
+    | inl here ↦
+        let is_x : s ≡ x = same_Some s x (sym stands ∙ (ap (slice_get shares) (sym here) ∙ at)) in
+        let is_y : t ≡ y = same_Some t y (sym (slice_get-set_same shares share s t stands) ∙ (ap (slice_get (set shares share t)) (sym here) ∙ also)) in (
+          ap (λ (z : Share). z.from) (sym is_y) ∙ (from ∙ ap (λ (z : Share). z.from) is_x),
+          ap (λ (z : Share). z.to) (sym is_y) ∙ (to ∙ ap (λ (z : Share). z.to) is_x),
+          ap (λ (z : Share). z.hold) (sym is_y) ∙ (hold ∙ ap (λ (z : Share). z.hold) is_x),
+        )
+    | inr other ↦
+        let is : x ≡ y = same_Some x y (sym at ∙ (sym (slice_get-set_other shares share k t other) ∙ also)) in
+        (ap (λ (z : Share). z.from) (sym is), ap (λ (z : Share). z.to) (sym is), ap (λ (z : Share). z.hold) (sym is))
+  ],
+)
+
+-- ---- moving in
+
+-- the queues before a place moved in
+pub record LanesTo (m : State) (homes : List Home) (start : List Share) (n : ℕ) (now : State) (shares : List Share) : Type 0 where
+  pub same : SameButCopies m now
+  pub unsent : now.unsent ≡ m.unsent
+  pub left : (q : ℕ) → n ≤ q → get_or (now.inputs ++ now.cores) q [] ≡ get_or (m.inputs ++ m.cores) q []
+  pub shares_same : AreSameButEnds start shares
+  pub lanes : (q : ℕ) (h : Home) → q < n → slice_get homes q ≡ Some h → h.sender ≡ h.receiver → (a : WithRoom McCopy) × (end_at shares h.sender q ≡ Some (Own a)) × (a.items ≡ get_or (m.inputs ++ m.cores) q [])
+  pub others : (s q : ℕ) → ((h : Home) → q < n → slice_get homes q ≡ Some h → h.sender ≡ h.receiver → s ≡ h.sender → ⊥) → end_at shares s q ≡ end_at start s q
+
+pub lanes_none : (m : State) (homes : List Home) (start : List Share) → LanesTo m homes start 0 m start
+lanes_none m homes start = record {
+  same = same_state m;
+  unsent = refl;
+  left = λ q from. refl;
+  shares_same = same_self start;
+  lanes = λ q h less. absurd (omega (arith, less));
+  others = λ s q not. refl;
+}
+
+-- the queue at the next place
+pub lanes_more : (m : State) (homes : List Home) (start : List Share) (n : ℕ) (now next : State) (shares new : List Share) (home : Home) (copies gone : List McCopy) → LanesTo m homes start n now shares → slice_get homes n ≡ Some home →
+    copies ≡ get_or (now.inputs ++ now.cores) n [] → SetsQueue n gone now next → MayPutLane home n copies shares new → LanesTo m homes start (n + 1) next new
+lanes_more m homes start n now next shares new home copies gone so_far at read sets (inl apart) = record {
+  same = state_on m now next so_far.same sets.same;
+  unsent = sets.unsent ∙ so_far.unsent;
+  left = λ q from. ap (λ l. get_or l q []) sets.queues ∙ (get_or-set_other (now.inputs ++ now.cores) n q gone [] (λ same. omega (arith, same, from)) ∙ so_far.left q (omega (arith, from)));
+  shares_same = subst (AreSameButEnds start) (sym apart.1) so_far.shares_same;
+  lanes = λ q h less at_q one. elim (cases_eq q n) [
+    | inl here ↦
+        let is : home ≡ h = same_Some home h (sym at ∙ (ap (slice_get homes) (sym here) ∙ at_q)) in
+        absurd (apart.0 (ap (λ (x : Home). x.sender) is ∙ (one ∙ ap (λ (x : Home). x.receiver) (sym is))))
+    | inr other ↦
+        let was = so_far.lanes q h (omega (arith, less, other)) at_q one in
+        (was.0, ap (λ (l : List Share). end_at l h.sender q) apart.1 ∙ was.1, was.2)
+  ];
+  others = λ s q not. ap (λ (l : List Share). end_at l s q) apart.1 ∙ so_far.others s q (λ h less. not h (omega (arith, less)));
+}
+lanes_more m homes start n now next shares new home copies gone so_far at read sets (inr put) = record {
+  same = state_on m now next so_far.same sets.same;
+  unsent = sets.unsent ∙ so_far.unsent;
+  left = λ q from. ap (λ l. get_or l q []) sets.queues ∙ (get_or-set_other (now.inputs ++ now.cores) n q gone [] (λ same. omega (arith, same, from)) ∙ so_far.left q (omega (arith, from)));
+  shares_same = same_on start shares new so_far.shares_same put.3.same;
+  lanes = λ q h less at_q one. elim (cases_eq q n) [
+    | inl here ↦
+        let is : home ≡ h = same_Some home h (sym at ∙ (ap (slice_get homes) (sym here) ∙ at_q)) in (
+          put.1,
+          ap (λ (j : ℕ). end_at new h.sender j) here ∙ (ap (λ (x : Home). end_at new x.sender n) (sym is) ∙ put.3.here),
+          put.2 ∙ (read ∙ (so_far.left n (omega arith) ∙ ap (λ (j : ℕ). get_or (m.inputs ++ m.cores) j []) (sym here))),
+        )
+    | inr other ↦
+        let was = so_far.lanes q h (omega (arith, less, other)) at_q one in
+        (was.0, put.3.others h.sender q (λ same. other same.1) ∙ was.1, was.2)
+  ];
+  others = λ s q not. put.3.others s q (λ same. not home (omega (arith, same.1)) (ap (slice_get homes) same.1 ∙ at) put.0 same.0) ∙ so_far.others s q (λ h less. not h (omega (arith, less)));
+}
+
+-- what the vertices before a place did not send moved in
+pub record VerticesTo (ports : ℕ) (m : State) (homes : List Home) (start : List Share) (n : ℕ) (now : State) (shares : List Share) : Type 0 where
+  pub same : SameButCopies m now
+  pub left : (v : ℕ) → n ≤ v → get_or now.unsent v [] ≡ get_or m.unsent v []
+  pub shares_same : AreSameButUnsent start shares
+  pub here : (v : ℕ) (h : Home) → v < n → slice_get homes (ports + v) ≡ Some h → unsent_at shares h.receiver v ≡ get_or m.unsent v []
+  pub others : (s v : ℕ) → ((h : Home) → v < n → slice_get homes (ports + v) ≡ Some h → s ≡ h.receiver → ⊥) → unsent_at shares s v ≡ unsent_at start s v
+
+pub vertices_to_none : (ports : ℕ) (m now : State) (homes : List Home) (start : List Share) → SameButCopies m now → now.unsent ≡ m.unsent → VerticesTo ports m homes start 0 now start
+vertices_to_none ports m now homes start same unsent = record {
+  same = same;
+  left = λ v from. ap (λ l. get_or l v []) unsent;
+  shares_same = unsent_self start;
+  here = λ v h less. absurd (omega (arith, less));
+  others = λ s v not. refl;
+}
+
+pub vertices_to_more : (ports : ℕ) (m : State) (homes : List Home) (start : List Share) (n : ℕ) (now next : State) (shares new : List Share) (home : Home) (copies gone : List McCopy) → VerticesTo ports m homes start n now shares →
+    slice_get homes (ports + n) ≡ Some home → copies ≡ get_or now.unsent n [] → SameButCopies now next → next.unsent ≡ set now.unsent n gone → PutsUnsent home.receiver n copies shares new → VerticesTo ports m homes start (n + 1) next new
+vertices_to_more ports m homes start n now next shares new home copies gone so_far at read same unsent put = record {
+  same = state_on m now next so_far.same same;
+  left = λ v from. ap (λ l. get_or l v []) unsent ∙ (get_or-set_other now.unsent n v gone [] (λ e. omega (arith, e, from)) ∙ so_far.left v (omega (arith, from)));
+  shares_same = unsent_on start shares new so_far.shares_same put.same;
+  here = λ v h less at_v. elim (cases_eq v n) [
+    | inl here ↦
+        let is : home ≡ h = same_Some home h (sym at ∙ (ap (λ (j : ℕ). slice_get homes (ports + j)) (sym here) ∙ at_v)) in
+        ap (λ (j : ℕ). unsent_at new h.receiver j) here ∙ (ap (λ (x : Home). unsent_at new x.receiver n) (sym is) ∙ (put.here ∙ (read ∙ (so_far.left n (omega arith) ∙ ap (λ (j : ℕ). get_or m.unsent j []) (sym here)))))
+    | inr other ↦ put.others h.receiver v (λ e. other e.1) ∙ so_far.here v h (omega (arith, less, other)) at_v
+  ];
+  others = λ s v not. put.others s v (λ e. not home (omega (arith, e.1)) (ap (λ (j : ℕ). slice_get homes (ports + j)) e.1 ∙ at) e.0) ∙ so_far.others s v (λ h less. not h (omega (arith, less)));
+}
+
+-- ---- a share that holds nothing
+
+pub no_end : (runs : List ℕ) (queues vertices : ℕ) (shares : List Share) (s q : ℕ) → HoldNothing runs queues vertices shares → s < length shares → q < queues → end_at shares s q ≡ Some Away
+no_end runs queues vertices shares s q nothing below inside =
+    let x = slice_get_there shares s below in
+    let hand = All-at (λ (k : Share). IsEmptyHand queues vertices k.hold) shares s x.0 nothing.hands x.1 in
+    let long : length (replicate queues Away) ≡ queues = length-replicate queues Away in
+    ap (λ (o : Option Share). end_in o q) x.1
+    ∙ (ap (λ l. slice_get l q) hand.ends ∙ (slice_get-get_or (replicate queues Away) q Away (omega (arith, inside, long)) ∙ ap Some (get_or-replicate queues q Away Away inside)))
+
+pub no_unsent : (runs : List ℕ) (queues vertices : ℕ) (shares : List Share) (s v : ℕ) → HoldNothing runs queues vertices shares → unsent_at shares s v ≡ []
+no_unsent runs queues vertices shares s v nothing = by (slice_get shares s) refl
+  where
+    all_empty : (n v : ℕ) → get_or (replicate {A = List McCopy} n []) v [] ≡ []
+    all_empty n v = elim (cases_lt v n) [
+      | inl inside ↦ get_or-replicate n v [] [] inside
+      | inr past ↦ let long : length (replicate {A = List McCopy} n []) ≡ n = length-replicate n [] in get_or_past (replicate n []) v [] (omega (arith, past, long))
+    ]
+
+    by : (o : Option Share) → slice_get shares s ≡ o → unsent_at shares s v ≡ []
+    by None at = ap (λ (x : Option Share). unsent_in x v) at
+    by (Some k) at =
+        let hand = All-at (λ (x : Share). IsEmptyHand queues vertices x.hold) shares s k nothing.hands at in
+        ap (λ (x : Option Share). unsent_in x v) at ∙ (ap (λ l. get_or l v []) hand.unsent ∙ all_empty vertices v)
+
+-- each share has a place for each queue
+pub place_there : (m : State) (homes : List Home) (shares : List Share) (s q : ℕ) → FitHomes m homes shares → s < length shares → q < length homes → (e : End) × (end_at shares s q ≡ Some e)
+place_there m homes shares s q fits below inside =
+    let x = slice_get_there shares s below in
+    let long : length x.0.hold.ends.items ≡ length homes = All-at (λ (k : Share). length k.hold.ends.items ≡ length homes) shares s x.0 fits.ends_long x.1 in
+    let e = slice_get_there x.0.hold.ends.items q (omega (arith, inside, long)) in
+    (e.0, ap (λ (o : Option Share). end_in o q) x.1 ∙ e.1)
+
+-- the home of a vertex's queue
+home_inside : (m : State) (homes : List Home) (shares : List Share) (ports v : ℕ) → FitHomes m homes shares → ports ≡ length m.inputs → v < length m.unsent → ports + v < length homes
+home_inside m homes shares ports v fits is below = let long = fits.long in let vertices = fits.vertices in omega (arith, long, vertices, is, below)
+
+pub vertex_home : (m : State) (homes : List Home) (shares : List Share) (ports v : ℕ) → FitHomes m homes shares → ports ≡ length m.inputs → v < length m.unsent →
+    slice_get homes (length m.inputs + v) ≡ Some (get_or homes (ports + v) (record { sender = 0; receiver = 0 }))
+vertex_home m homes shares ports v fits is below =
+    ap (λ (p : ℕ). slice_get homes (p + v)) (sym is) ∙ slice_get-get_or homes (ports + v) (record { sender = 0; receiver = 0 }) (home_inside m homes shares ports v fits is below)
+
+-- the share of its receiver is there
+pub receiver_there : (m : State) (homes : List Home) (start second now : List Share) (ports v : ℕ) → FitHomes m homes start → AreSameButEnds start second → AreSameButUnsent second now → ports ≡ length m.inputs → v < length m.unsent →
+    (get_or homes (ports + v) (record { sender = 0; receiver = 0 })).receiver < length now
+receiver_there m homes start second now ports v fits ends unsent is below =
+    subst (λ (k : ℕ). (get_or homes (ports + v) (record { sender = 0; receiver = 0 })).receiver < k) (sym (unsent.0 ∙ ends.0))
+    (fits.receivers (ports + v) (record { sender = 0; receiver = 0 }) (home_inside m homes start ports v fits is below))
+
+-- a share has a place for each vertex
+pub unsent_wide : (m : State) (homes : List Home) (start second now : List Share) (k : ℕ) (t : Share) → FitHomes m homes start → AreSameButEnds start second → AreSameButUnsent second now → slice_get now k ≡ Some t →
+    length t.hold.unsent.items ≡ length m.unsent
+unsent_wide m homes start second now k t fits ends unsent at =
+    let within = slice_get_within now k t at in
+    let long_b = unsent.0 in
+    let long_c = ends.0 in
+    let s = slice_get_there start k (omega (arith, within, long_b, long_c)) in
+    let x = slice_get_there second k (omega (arith, within, long_b)) in
+    (unsent.1 k x.0 t x.1 at).unsent_long ∙ (ap (λ e. length e.items) (ends.1 k s.0 x.0 s.1 x.1).unsent ∙ All-at (λ (y : Share). length y.hold.unsent.items ≡ length m.unsent) start k s.0 fits.unsent_long s.1)
+
+-- a share with the same actors, logs and places
+record Parts (s t : Share) : Type 0 where
+  from : t.from ≡ s.from
+  to : t.to ≡ s.to
+  ends_long : length t.hold.ends.items ≡ length s.hold.ends.items
+  unsent_long : length t.hold.unsent.items ≡ length s.hold.unsent.items
+  dumps : t.hold.dumps ≡ s.hold.dumps
+  deliveries : t.hold.deliveries ≡ s.hold.deliveries
+
+-- all that moved in
+pub moved_in : (m mid left : State) (homes : List Home) (runs : List ℕ) (queues vertices n k : ℕ) (start second third after : List Share) → HoldNothing runs queues vertices start → FitHomes m homes start → length homes ≤ n → length m.unsent ≤ k →
+    LanesTo m homes start n mid second → VerticesTo (length m.inputs) m homes second k left third → AreSameHolds third after → MovesIn m homes start left after
+moved_in m mid left homes runs queues vertices n k start second third after nothing fits past past_k lanes unsent same = record {
+  same = unsent.same;
+  runs = record {
+    long = same.0 ∙ (unsent.shares_same.0 ∙ lanes.shares_same.0);
+    from = λ j s t at also. let x = all j s t at also in x.from;
+    to = λ j s t at also. let x = all j s t at also in x.to;
+    ends_long = λ j s t at also. let x = all j s t at also in x.ends_long;
+    unsent_long = λ j s t at also. let x = all j s t at also in x.unsent_long;
+  };
+  no_logs = λ j d below. no_logs j (get_or after j d) (slice_get-get_or after j d below);
+  lanes = record {
+    lanes = λ q h at one.
+        let inside = slice_get_within homes q h at in
+        let was = lanes.lanes q h (omega (arith, inside, past)) at one in
+        (was.0, ends_still h.sender q ∙ was.1, was.2);
+    away = λ q h s at below other.
+        let inside = slice_get_within homes q h at in
+        let long = same.0 in
+        let long_b = unsent.shares_same.0 in
+        let long_c = lanes.shares_same.0 in
+        ends_still s q ∙ (lanes.others s q (λ g less at_g one here. not_there q h g s at at_g one here other) ∙ nothing_there s q (omega (arith, below, long, long_b, long_c)) inside);
+  };
+  vertices = record {
+    here = λ v h at. unsent_still h.receiver v ∙ elim (cases_lt v k) [
+      | inl less ↦ unsent.here v h less at
+      | inr more ↦
+          unsent.others h.receiver v (λ g less. absurd (omega (arith, less, more))) ∙ (unsent_before h.receiver v ∙ (no_unsent runs queues vertices start h.receiver v nothing ∙ sym (get_or_past m.unsent v [] (omega (arith, more, past_k)))))
+    ];
+    nowhere_else = λ v h s at differs.
+        unsent_still s v ∙ (unsent.others s v (λ g less at_g here. differs (here ∙ ap (λ (x : Home). x.receiver) (same_Some g h (sym at_g ∙ at)))) ∙ (unsent_before s v ∙ no_unsent runs queues vertices start s v nothing));
+  };
+}
+  where
+    all : (j : ℕ) (s t : Share) → slice_get start j ≡ Some s → slice_get after j ≡ Some t → Parts s t
+    all j s t at also =
+        let within = slice_get_within start j s at in
+        let long_c = lanes.shares_same.0 in
+        let long_b = unsent.shares_same.0 in
+        let x = slice_get_there second j (omega (arith, within, long_c)) in
+        let y = slice_get_there third j (omega (arith, within, long_c, long_b)) in
+        let p = lanes.shares_same.1 j s x.0 at x.1 in
+        let q = unsent.shares_same.1 j x.0 y.0 x.1 y.1 in
+        let r = same.1 j y.0 t y.1 also in
+        record {
+          from = r.0 ∙ (q.from ∙ p.from);
+          to = r.1 ∙ (q.to ∙ p.to);
+          ends_long = ap (λ h. length h.ends.items) r.2 ∙ (ap (λ e. length e.items) q.ends ∙ p.ends_long);
+          unsent_long = ap (λ h. length h.unsent.items) r.2 ∙ (q.unsent_long ∙ ap (λ e. length e.items) p.unsent);
+          dumps = ap (λ h. h.dumps) r.2 ∙ (q.dumps ∙ p.dumps);
+          deliveries = ap (λ h. h.deliveries) r.2 ∙ (q.deliveries ∙ p.deliveries);
+        }
+
+    no_logs : (j : ℕ) (t : Share) → slice_get after j ≡ Some t → (t.hold.dumps.items ≡ []) × (t.hold.deliveries.items ≡ [])
+    no_logs j t also =
+        let within = slice_get_within after j t also in
+        let long_a = same.0 in
+        let long_b = unsent.shares_same.0 in
+        let long_c = lanes.shares_same.0 in
+        let s = slice_get_there start j (omega (arith, within, long_a, long_b, long_c)) in
+        let hand = All-at (λ (x : Share). IsEmptyHand queues vertices x.hold) start j s.0 nothing.hands s.1 in
+        let p = all j s.0 t s.1 also in
+        (ap (λ l. l.items) p.dumps ∙ hand.dumps, ap (λ l. l.items) p.deliveries ∙ hand.deliveries)
+
+    by_ends : (a b : List Share) (s q : ℕ) → length b ≡ length a → ((k : ℕ) (x y : Share) → slice_get a k ≡ Some x → slice_get b k ≡ Some y → y.hold.ends ≡ x.hold.ends) → end_at b s q ≡ end_at a s q
+    by_ends a b s q long each = by (slice_get b s) refl
+      where
+        by : (o : Option Share) → slice_get b s ≡ o → end_at b s q ≡ end_at a s q
+        by (Some y) at =
+            let within = slice_get_within b s y at in
+            let x = slice_get_there a s (omega (arith, within, long)) in
+            ap (λ (z : Option Share). end_in z q) at ∙ (ap (λ e. slice_get e.items q) (each s x.0 y x.1 at) ∙ ap (λ (z : Option Share). end_in z q) (sym x.1))
+        by None at = none_too (slice_get a s) refl
+          where
+            none_too : (o : Option Share) → slice_get a s ≡ o → end_at b s q ≡ end_at a s q
+            none_too None also = ap (λ (z : Option Share). end_in z q) (at ∙ sym also)
+            none_too (Some x) also =
+                let within = slice_get_within a s x also in
+                let y = slice_get_there b s (omega (arith, within, long)) in
+                absurd (none-some y.0 (sym at ∙ y.1))
+
+    by_unsent : (a b : List Share) (s v : ℕ) → length b ≡ length a → ((k : ℕ) (x y : Share) → slice_get a k ≡ Some x → slice_get b k ≡ Some y → y.hold.unsent ≡ x.hold.unsent) → unsent_at b s v ≡ unsent_at a s v
+    by_unsent a b s v long each = by (slice_get b s) refl
+      where
+        by : (o : Option Share) → slice_get b s ≡ o → unsent_at b s v ≡ unsent_at a s v
+        by (Some y) at =
+            let within = slice_get_within b s y at in
+            let x = slice_get_there a s (omega (arith, within, long)) in
+            ap (λ (z : Option Share). unsent_in z v) at ∙ (ap (λ e. get_or e.items v []) (each s x.0 y x.1 at) ∙ ap (λ (z : Option Share). unsent_in z v) (sym x.1))
+        by None at = none_too (slice_get a s) refl
+          where
+            none_too : (o : Option Share) → slice_get a s ≡ o → unsent_at b s v ≡ unsent_at a s v
+            none_too None also = ap (λ (z : Option Share). unsent_in z v) (at ∙ sym also)
+            none_too (Some x) also =
+                let within = slice_get_within a s x also in
+                let y = slice_get_there b s (omega (arith, within, long)) in
+                absurd (none-some y.0 (sym at ∙ y.1))
+
+    ends_still : (s q : ℕ) → end_at after s q ≡ end_at second s q
+    ends_still s q =
+        by_ends third after s q same.0 (λ k x y at also. ap (λ h. h.ends) (same.1 k x y at also).2)
+        ∙ by_ends second third s q unsent.shares_same.0 (λ k x y at also. (unsent.shares_same.1 k x y at also).ends)
+
+    unsent_still : (s v : ℕ) → unsent_at after s v ≡ unsent_at third s v
+    unsent_still s v = by_unsent third after s v same.0 (λ k x y at also. ap (λ h. h.unsent) (same.1 k x y at also).2)
+
+    unsent_before : (s v : ℕ) → unsent_at second s v ≡ unsent_at start s v
+    unsent_before s v = by_unsent start second s v lanes.shares_same.0 (λ k x y at also. (lanes.shares_same.1 k x y at also).unsent)
+
+    not_there : (q : ℕ) (h g : Home) (s : ℕ) → slice_get homes q ≡ Some h → slice_get homes q ≡ Some g → g.sender ≡ g.receiver → s ≡ g.sender → (s ≢ h.sender) ⊎ (h.sender ≢ h.receiver) → ⊥
+    not_there q h g s at at_g one here (inl differs) = differs (here ∙ ap (λ (x : Home). x.sender) (same_Some g h (sym at_g ∙ at)))
+    not_there q h g s at at_g one here (inr apart) = apart (subst (λ (x : Home). x.sender ≡ x.receiver) (same_Some g h (sym at_g ∙ at)) one)
+
+    nothing_there : (s q : ℕ) → s < length start → q < length homes → end_at start s q ≡ Some Away
+    nothing_there s q below inside =
+        let x = slice_get_there start s below in
+        let hand = All-at (λ (k : Share). IsEmptyHand queues vertices k.hold) start s x.0 nothing.hands x.1 in
+        let long : length x.0.hold.ends.items ≡ length homes = All-at (λ (k : Share). length k.hold.ends.items ≡ length homes) start s x.0 fits.ends_long x.1 in
+        let empty = ap length hand.ends in
+        let many : length (replicate queues Away) ≡ queues = length-replicate queues Away in
+        no_end runs queues vertices start s q nothing below (omega (arith, inside, long, empty, many))
+
+-- ---- moving out
+
+pub record OutTo (left : State) (homes : List Home) (start : List Share) (n : ℕ) (now : State) (shares : List Share) : Type 0 where
+  pub same : SameButCopies left now
+  pub unsent : now.unsent ≡ left.unsent
+  pub lanes : (q : ℕ) (h : Home) (a : WithRoom McCopy) → q < n → slice_get homes q ≡ Some h → h.sender ≡ h.receiver → end_at start h.sender q ≡ Some (Own a) → get_or (now.inputs ++ now.cores) q [] ≡ a.items
+  pub others : (q : ℕ) (h : Home) → slice_get homes q ≡ Some h → h.sender ≢ h.receiver → get_or (now.inputs ++ now.cores) q [] ≡ get_or (left.inputs ++ left.cores) q []
+  pub ends : (s q : ℕ) → n ≤ q → end_at shares s q ≡ end_at start s q
+  pub shares_same : AreSameButEnds start shares
+
+pub out_none : (left : State) (homes : List Home) (start : List Share) → OutTo left homes start 0 left start
+out_none left homes start = record {
+  same = same_state left;
+  unsent = refl;
+  lanes = λ q h a less. absurd (omega (arith, less));
+  others = λ q h at apart. refl;
+  ends = λ s q from. refl;
+  shares_same = same_self start;
+}
+
+-- a queue between two shares stays
+pub out_apart : (left : State) (homes : List Home) (start : List Share) (n : ℕ) (now : State) (shares : List Share) (home : Home) → OutTo left homes start n now shares → slice_get homes n ≡ Some home → home.sender ≢ home.receiver →
+    OutTo left homes start (n + 1) now shares
+out_apart left homes start n now shares home so_far at apart = record {
+  same = so_far.same;
+  unsent = so_far.unsent;
+  lanes = λ q h a less at_q one stands. elim (cases_eq q n) [
+    | inl here ↦
+        let is : home ≡ h = same_Some home h (sym at ∙ (ap (slice_get homes) (sym here) ∙ at_q)) in
+        absurd (apart (ap (λ (x : Home). x.sender) is ∙ (one ∙ ap (λ (x : Home). x.receiver) (sym is))))
+    | inr other ↦ so_far.lanes q h a (omega (arith, less, other)) at_q one stands
+  ];
+  others = so_far.others;
+  ends = λ s q from. so_far.ends s q (omega (arith, from));
+  shares_same = so_far.shares_same;
+}
+
+-- a lane moves out
+pub out_lane : (left : State) (homes : List Home) (start : List Share) (n : ℕ) (now next : State) (shares new : List Share) (home : Home) (end : End) (copies : List McCopy) → OutTo left homes start n now shares → slice_get homes n ≡ Some home →
+    home.sender ≡ home.receiver → n < length (now.inputs ++ now.cores) → end_at shares home.sender n ≡ Some end → PutsEnd home.sender n Away shares new → ((a : WithRoom McCopy) → end ≡ Own a → copies ≡ a.items) → SetsQueue n copies now next →
+    OutTo left homes start (n + 1) next new
+out_lane left homes start n now next shares new home end copies so_far at together below stood put is sets = record {
+  same = state_on left now next so_far.same sets.same;
+  unsent = sets.unsent ∙ so_far.unsent;
+  lanes = λ q h a less at_q one stands. elim (cases_eq q n) [
+    | inl here ↦
+        let is_h : home ≡ h = same_Some home h (sym at ∙ (ap (slice_get homes) (sym here) ∙ at_q)) in
+        let own : end ≡ Own a = same_Some end (Own a)
+        (sym stood ∙ (so_far.ends home.sender n (omega arith) ∙ (ap (λ (x : Home). end_at start x.sender n) is_h ∙ (ap (end_at start h.sender) (sym here) ∙ stands)))) in
+        ap (λ l. get_or l q []) sets.queues ∙ (ap (λ (j : ℕ). get_or (set (now.inputs ++ now.cores) n copies) j []) here ∙ (get_or-set_same (now.inputs ++ now.cores) n copies [] below ∙ is a own))
+    | inr other ↦ ap (λ l. get_or l q []) sets.queues ∙ (get_or-set_other (now.inputs ++ now.cores) n q copies [] other ∙ so_far.lanes q h a (omega (arith, less, other)) at_q one stands)
+  ];
+  others = λ q h at_q apart. elim (cases_eq q n) [
+    | inl here ↦ absurd (apart (subst (λ (x : Home). x.sender ≡ x.receiver) (same_Some home h (sym at ∙ (ap (slice_get homes) (sym here) ∙ at_q))) together))
+    | inr other ↦ ap (λ l. get_or l q []) sets.queues ∙ (get_or-set_other (now.inputs ++ now.cores) n q copies [] other ∙ so_far.others q h at_q apart)
+  ];
+  ends = λ s q from. put.others s q (λ same. omega (arith, same.1, from)) ∙ so_far.ends s q (omega (arith, from));
+  shares_same = same_on start shares new so_far.shares_same put.same;
+}
+
+-- a queue stays, or moves out
+pub out_more : (left : State) (homes : List Home) (start : List Share) (n : ℕ) (now next : State) (shares new : List Share) (home : Home) → OutTo left homes start n now shares → slice_get homes n ≡ Some home → n < length now.inputs + length now.cores →
+    MayTakeLane home n now shares next new → OutTo left homes start (n + 1) next new
+out_more left homes start n now next shares new home so_far at below (inl apart) =
+    subst (λ (m : State). OutTo left homes start (n + 1) m new) (sym apart.1)
+    (subst (λ (l : List Share). OutTo left homes start (n + 1) now l) (sym apart.2) (out_apart left homes start n now shares home so_far at apart.0))
+out_more left homes start n now next shares new home so_far at below (inr lane) =
+    let long : length (now.inputs ++ now.cores) ≡ length now.inputs + length now.cores = length-append now.inputs now.cores in
+    out_lane left homes start n now next shares new home lane.1 lane.2 so_far at lane.0 (omega (arith, below, long)) lane.3 lane.4 lane.5 lane.6
+
+pub record UnsentOutTo (ports : ℕ) (mid : State) (homes : List Home) (start : List Share) (n : ℕ) (now : State) (shares : List Share) : Type 0 where
+  pub same : SameButCopies mid now
+  pub inputs : now.inputs ≡ mid.inputs
+  pub cores : now.cores ≡ mid.cores
+  pub done : (v : ℕ) (h : Home) → v < n → slice_get homes (ports + v) ≡ Some h → get_or now.unsent v [] ≡ unsent_at start h.receiver v
+  pub left : (s v : ℕ) → n ≤ v → unsent_at shares s v ≡ unsent_at start s v
+  pub shares_same : AreSameButUnsent start shares
+
+pub unsent_out_none : (ports : ℕ) (mid : State) (homes : List Home) (start : List Share) → UnsentOutTo ports mid homes start 0 mid start
+unsent_out_none ports mid homes start = record {
+  same = same_state mid;
+  inputs = refl;
+  cores = refl;
+  done = λ v h less. absurd (omega (arith, less));
+  left = λ s v from. refl;
+  shares_same = unsent_self start;
+}
+
+pub unsent_out_more : (ports : ℕ) (mid : State) (homes : List Home) (start : List Share) (n : ℕ) (now next : State) (shares new : List Share) (home : Home) (copies gone : List McCopy) → UnsentOutTo ports mid homes start n now shares →
+    slice_get homes (ports + n) ≡ Some home → n < length now.unsent → copies ≡ unsent_at shares home.receiver n → PutsUnsent home.receiver n gone shares new → SameButCopies now next → next.inputs ≡ now.inputs → next.cores ≡ now.cores →
+    next.unsent ≡ set now.unsent n copies → UnsentOutTo ports mid homes start (n + 1) next new
+unsent_out_more ports mid homes start n now next shares new home copies gone so_far at below read put same inputs cores unsent = record {
+  same = state_on mid now next so_far.same same;
+  inputs = inputs ∙ so_far.inputs;
+  cores = cores ∙ so_far.cores;
+  done = λ v h less at_v. elim (cases_eq v n) [
+    | inl here ↦
+        let is : home ≡ h = same_Some home h (sym at ∙ (ap (λ (j : ℕ). slice_get homes (ports + j)) (sym here) ∙ at_v)) in
+        ap (λ l. get_or l v []) unsent ∙ (ap (λ (j : ℕ). get_or (set now.unsent n copies) j []) here ∙ (get_or-set_same now.unsent n copies [] below
+        ∙ (read ∙ (so_far.left home.receiver n (omega arith) ∙ (ap (λ (x : Home). unsent_at start x.receiver n) is ∙ ap (unsent_at start h.receiver) (sym here))))))
+    | inr other ↦ ap (λ l. get_or l v []) unsent ∙ (get_or-set_other now.unsent n v copies [] other ∙ so_far.done v h (omega (arith, less, other)) at_v)
+  ];
+  left = λ s v from. put.others s v (λ e. omega (arith, e.1, from)) ∙ so_far.left s v (omega (arith, from));
+  shares_same = unsent_on start shares new so_far.shares_same put.same;
+}
+
+pub moved_out : (left mid m : State) (homes : List Home) (n k : ℕ) (start second third : List Share) → FitHomes left homes start → length homes ≤ n → length left.unsent ≤ k → OutTo left homes start n mid second →
+    UnsentOutTo (length left.inputs) mid homes second k m third → MovesOut homes start left m
+moved_out left mid m homes n k start second third fits past past_k lanes unsent = record {
+  same = state_on left mid m lanes.same unsent.same;
+  lanes = λ queues q h held at one.
+      let inside = slice_get_within homes q h at in
+      let lane = held.lanes q h at one in
+      queues_still q ∙ (lanes.lanes q h lane.0 (omega (arith, inside, past)) at one lane.1 ∙ lane.2);
+  others = λ q h at apart. queues_still q ∙ lanes.others q h at apart;
+  vertices = λ sent long held.
+      let m_long = unsent.same.unsent_long ∙ lanes.same.unsent_long in
+      same_lists m.unsent sent (m_long ∙ sym long) (λ v d below.
+      let many = fits.long in
+      let few = fits.vertices in
+      let h = slice_get_there homes (length left.inputs + v) (omega (arith, below, m_long, many, few)) in
+      default m.unsent v d below ∙ (unsent.done v h.0 (omega (arith, below, m_long, past_k)) h.1
+      ∙ (unsent_before h.0.receiver v ∙ (held.here v h.0 h.1 ∙ default_back sent v d (omega (arith, below, m_long, long))))));
+}
+  where
+    default : (xs : List (List McCopy)) (v : ℕ) (d : List McCopy) → v < length xs → get_or xs v d ≡ get_or xs v []
+    default xs v d below = let x = slice_get_there xs v below in get_or_from_slice_get xs v x.0 d x.1 ∙ sym (get_or_from_slice_get xs v x.0 [] x.1)
+
+    default_back : (xs : List (List McCopy)) (v : ℕ) (d : List McCopy) → v < length xs → get_or xs v [] ≡ get_or xs v d
+    default_back xs v d below = sym (default xs v d below)
+
+    queues_still : (q : ℕ) → get_or (m.inputs ++ m.cores) q [] ≡ get_or (mid.inputs ++ mid.cores) q []
+    queues_still q = ap (λ l. get_or (l ++ m.cores) q []) unsent.inputs ∙ ap (λ l. get_or (mid.inputs ++ l) q []) unsent.cores
+
+    unsent_before : (s v : ℕ) → unsent_at second s v ≡ unsent_at start s v
+    unsent_before s v = by (slice_get second s) refl
+      where
+        by : (o : Option Share) → slice_get second s ≡ o → unsent_at second s v ≡ unsent_at start s v
+        by (Some y) at =
+            let within = slice_get_within second s y at in
+            let long = lanes.shares_same.0 in
+            let x = slice_get_there start s (omega (arith, within, long)) in
+            ap (λ (z : Option Share). unsent_in z v) at ∙ (ap (λ e. get_or e.items v []) (lanes.shares_same.1 s x.0 y x.1 at).unsent ∙ ap (λ (z : Option Share). unsent_in z v) (sym x.1))
+        by None at = none_too (slice_get start s) refl
+          where
+            none_too : (o : Option Share) → slice_get start s ≡ o → unsent_at second s v ≡ unsent_at start s v
+            none_too None also = ap (λ (z : Option Share). unsent_in z v) (at ∙ sym also)
+            none_too (Some x) also =
+                let within = slice_get_within start s x also in
+                let long = lanes.shares_same.0 in
+                let y = slice_get_there second s (omega (arith, within, long)) in
+                absurd (none-some y.0 (sym at ∙ y.1))
+
+-- ---- shares of the runs so far
+
+pub record NothingTo (runs : List ℕ) (queues vertices n from : ℕ) (shares : List Share) : Type 0 where
+  pub long : length shares ≡ n
+  pub next : from ≡ run_start runs n
+  pub from_are : (k : ℕ) (s : Share) → slice_get shares k ≡ Some s → s.from ≡ run_start runs k
+  pub to_are : (k : ℕ) (s : Share) → slice_get shares k ≡ Some s → s.to ≡ get_or runs k 0
+  pub hands : All (λ s. IsEmptyHand queues vertices s.hold) shares
+
+pub nothing_none : (runs : List ℕ) (queues vertices : ℕ) (shares : List Share) → shares ≡ [] → NothingTo runs queues vertices 0 0 shares
+nothing_none runs queues vertices shares none = subst (NothingTo runs queues vertices 0 0) (sym none) (record {
+  long = refl;
+  next = refl;
+  from_are = λ k s at. absurd (none-some s at);
+  to_are = λ k s at. absurd (none-some s at);
+  hands = All-nil (λ s. IsEmptyHand queues vertices s.hold);
+})
+
+pub nothing_more : (runs : List ℕ) (queues vertices n from to : ℕ) (share : Share) (shares new : List Share) → NothingTo runs queues vertices n from shares → to ≡ get_or runs n 0 → share.from ≡ from → share.to ≡ to → IsEmptyHand queues vertices share.hold →
+    new ≡ shares ++ share ∷ [] → NothingTo runs queues vertices (n + 1) to new
+nothing_more runs queues vertices n from to share shares new so_far at from_is to_is empty is = subst (NothingTo runs queues vertices (n + 1) to) (sym is) (record {
+  long = length_push shares share ∙ ap (λ k. k + 1) so_far.long;
+  next = at ∙ sym (start_more runs n);
+  from_are = λ k s there. elim (slice_get-push_cases shares share s k there) [
+    | inl before ↦ so_far.from_are k s before.1
+    | inr last ↦ ap (λ (x : Share). x.from) (sym last.1) ∙ (from_is ∙ (so_far.next ∙ ap (run_start runs) (sym (last.0 ∙ so_far.long))))
+  ];
+  to_are = λ k s there. elim (slice_get-push_cases shares share s k there) [
+    | inl before ↦ so_far.to_are k s before.1
+    | inr last ↦ ap (λ (x : Share). x.to) (sym last.1) ∙ (to_is ∙ (at ∙ ap (λ (j : ℕ). get_or runs j 0) (sym (last.0 ∙ so_far.long))))
+  ];
+  hands = All-push (λ s. IsEmptyHand queues vertices s.hold) shares share so_far.hands empty;
+})
+
+pub nothing_all : (runs : List ℕ) (queues vertices n from : ℕ) (shares : List Share) → NothingTo runs queues vertices n from shares → n ≡ length runs → HoldNothing runs queues vertices shares
+nothing_all runs queues vertices n from shares so_far all = record { long = so_far.long ∙ all; from = so_far.from_are; to = so_far.to_are; hands = so_far.hands }

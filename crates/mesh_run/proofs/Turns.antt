@@ -1,0 +1,354 @@
+-- Turns, as a list of what was done: one list after the other, of one actor or of several.
+use Rattle.std.proofs.Common.{◌≡◌, ◌≢◌, ◌⊎◌, ℕ, zero, suc, ◌+◌, ◌*◌, ◌<◌, ◌≤◌, ◌==◌, Bool, List, [], ◌∷◌, ◌++◌, length, map, Option, None, Some, refl, sym, ap, ap₂, ◌∙◌, subst, arith, inl, inr, append-nil}
+use Rattle.std.specs.List.{All, Contains, filter, flat_map, slice_get, slice_index_or}
+use Rattle.std.proofs.lemmas.Bool.{cases_eq, cond_both}
+use Rattle.std.proofs.lemmas.List.{map-append, length-append}
+use Rattle.std.proofs.lemmas.List.Elements.{All-append, All-contains, All-cons, All-filter, All-head, All-map, All-nil, All-tail, All-weaker}
+use Rattle.std.proofs.lemmas.Grind.{flat_map-append}
+use Rattle.spin_base.proofs.Members.{Among, among_either, among_map, contains_among}
+use Rattle.spin_base.proofs.Pairs.{All-from_map}
+use Rattle.spin_base.proofs.Places.{All-each}
+use Rattle.std.specs.List.{range_with_len}
+use Rattle.spin_base.specs.declared.chips.Chip.{Chip}
+use Rattle.spin_base.specs.declared.chips.Port.{Port}
+use Rattle.spin_base.specs.declared.routes.Out.{Out}
+use Rattle.spin_base.specs.declared.routes.Out.TheVariants.{Link, Core}
+use Rattle.spin_base.specs.declared.routes.Route.{Route}
+use Rattle.spin_base.specs.declared.blocks.Entry.{Entry}
+use Rattle.spin_base.specs.declared.copies.McCopy.{McCopy}
+use Rattle.spin_base.specs.Hops.{last_hop}
+use Rattle.spin_base.specs.Links.{all_dirs}
+use Rattle.spin_base.specs.Lookup.{lookup}
+use Rattle.spin_base.specs.Outputs.{all_outs, core_outs, has, link_outs, out_number, outs_of, IsOutput}
+use Rattle.machine_desc.specs.Live.{chip_of, index_of}
+use Rattle.chip_node.specs.declared.ends.Served.TheVariants.{Dumped}
+use Rattle.chip_node.specs.declared.nodes.CoreBank.{CoreBank}
+use Rattle.chip_node.specs.declared.nodes.RouterNode.{RouterNode}
+use Rattle.chip_node.specs.Acting.{place_in, service_items, BankMoves, GetsOne, RoutesOne, SendsOne}
+use Rattle.chip_node.specs.Acting.{place_behind as place_at_router}
+use Rattle.chip_node.specs.Items.{Item, Service, took, served, sent, got, where_same, getting_of, gettings, sending_of, sendings, service_of, services, taking_of, takings}
+use Rattle.chip_node.specs.Routing.{outputs_at}
+use Rattle.mesh_core.specs.State.{Setup}
+use Rattle.mesh_core.specs.Step.{outputs}
+use Rattle.mesh_run.specs.Played.{owed_on, place_behind, port_count, vertex_place, AreTurns, IsDone, IsLiveIndex, IsVertexOn}
+use Rattle.mesh_run.specs.Floors.{IsBankOf}
+use Rattle.mesh_run.specs.Shares.{actor_of, bank_place, router_place}
+use Rattle.mesh_run.proofs.Apart.{elsewhere, here}
+
+-- ---- lists
+
+pub flat_map_none : {X Y : Type 0} (f : X → List Y) (xs : List X) → All (λ x. f x ≡ []) xs → flat_map f xs ≡ []
+flat_map_none f [] none = refl
+flat_map_none f (x ∷ xs) none =
+    ap (λ l. l ++ flat_map f xs) (All-head (λ y. f y ≡ []) x xs none) ∙ flat_map_none f xs (All-tail (λ y. f y ≡ []) x xs none)
+
+flat_map_map_none : {X Z Y : Type 0} (f : Z → List Y) (g : X → Z) → ((x : X) → f (g x) ≡ []) → (xs : List X) → flat_map f (map g xs) ≡ []
+flat_map_map_none f g none [] = refl
+flat_map_map_none f g none (x ∷ xs) = ap (λ l. l ++ flat_map f (map g xs)) (none x) ∙ flat_map_map_none f g none xs
+
+few_same : {X : Type 0} (p q : ℕ) (x : X) → length (where_same p q (x ∷ [])) ≤ 1
+few_same {X} p q x = cond_both (p == q) (x ∷ []) [] (λ (l : List X). length l ≤ 1) (λ same. omega arith) (λ apart. omega arith)
+
+pub few_more : {X : Type 0} (p q : ℕ) (x : X) → length (where_same p q (x ∷ []) ++ []) ≤ 1
+few_more {X} p q x = subst (λ (l : List X). length l ≤ 1) (sym (append-nil (where_same p q (x ∷ [])))) (few_same p q x)
+
+-- ---- outputs
+
+-- what stands in a range is within it
+range_parts : (a n j : ℕ) → Among j (range_with_len a n) → (a ≤ j) × (j < a + n)
+range_parts a zero j none = absurd none
+range_parts a (suc n) j (inl here) = (omega (arith, here), omega (arith, here))
+range_parts a (suc n) j (inr there) =
+    let parts = range_parts (a + 1) n j there in
+    (omega (arith, parts.0), omega (arith, parts.1))
+
+link_bit : (o : Out) → Among o link_outs → IsOutput o
+unfolding link_outs
+link_bit (Link d) a = tt
+link_bit (Core c) a = let of = among_map Link (Core c) all_dirs a in cc
+
+core_bit : (o : Out) → Among o core_outs → IsOutput o
+unfolding core_outs
+core_bit (Link d) a = tt
+core_bit (Core c) a =
+    let of = among_map Core (Core c) (range_with_len 0 18) a in
+    let same : c ≡ of.0 = cc in
+    omega (arith, same, (range_parts 0 18 of.0 of.1).1)
+
+has_bit : (o : Out) → Among o all_outs → IsOutput o
+has_bit o a = elim (among_either o link_outs core_outs a) [
+  | inl links ↦ link_bit o links
+  | inr cores ↦ core_bit o cores
+]
+
+pub outputs_have_bits : (entries : List Entry) (port : Port) (k : McCopy) → All IsOutput (outputs_at entries port k)
+outputs_have_bits entries port k =
+    let all : All IsOutput all_outs = All-each IsOutput all_outs (λ o in_all. has_bit o (contains_among o all_outs in_all)) in
+    let route = lookup entries k.key port in
+    cond_both (k.hop == last_hop) [] (outs_of route) (All IsOutput) (λ last. All-nil IsOutput) (λ more. All-filter (has route) IsOutput all_outs all)
+
+-- ---- counts of turns
+
+abbrev told : Service → Out × McCopy
+told s = (s.out, s.copy)
+
+-- so many copies were taken by each router, sent by each bank, and taken by each
+pub record AreCounted (u : Setup) (takes sends gets : ℕ) (items : List Item) : Type 0 where
+  pub each : All (IsDone u) items
+  pub each_once : (i : ℕ) → map {B = Out × McCopy} (λ s. (s.out, s.copy)) (services i items) ≡ owed_on u (chip_of u.machine i) (takings i items)
+  pub takings_few : (i : ℕ) → length (takings i items) ≤ takes
+  pub sendings_few : (i : ℕ) → length (sendings i items) ≤ sends
+  pub gettings_few : (i : ℕ) → length (gettings i items) ≤ gets
+
+module _ (u : Setup) where
+  pub counted_of : (n : ℕ) (items : List Item) → AreTurns u n items → AreCounted u n n n items
+  counted_of n items h = record { each = h.each; each_once = h.each_once; takings_few = h.takes; sendings_few = h.sends; gettings_few = h.gets }
+
+  pub turns_of : (t s g n : ℕ) (items : List Item) → t ≤ n → s ≤ n → g ≤ n → AreCounted u t s g items → AreTurns u n items
+  turns_of t s g n items t_few s_few g_few h = record {
+    each = h.each;
+    each_once = h.each_once;
+    takes = λ i. omega (arith, t_few, h.takings_few i);
+    sends = λ i. omega (arith, s_few, h.sendings_few i);
+    gets = λ i. omega (arith, g_few, h.gettings_few i);
+  }
+
+  each_once_on : (xs ys : List Item) (i : ℕ) → map told (services i xs) ≡ owed_on u (chip_of u.machine i) (takings i xs) →
+      map told (services i ys) ≡ owed_on u (chip_of u.machine i) (takings i ys) → map told (services i (xs ++ ys)) ≡ owed_on u (chip_of u.machine i) (takings i (xs ++ ys))
+  each_once_on xs ys i h k =
+      ap (map told) (flat_map-append (service_of i) xs ys) ∙ (map-append told (services i xs) (services i ys)
+      ∙ (ap₂ (λ (a b : List (Out × McCopy)). a ++ b) h k
+      ∙ (sym (flat_map-append (λ (t : Port × McCopy). map (λ o. (o, t.1)) (outputs u (chip_of u.machine i) t.0 t.1)) (takings i xs) (takings i ys))
+      ∙ ap (owed_on u (chip_of u.machine i)) (sym (flat_map-append (taking_of i) xs ys)))))
+
+  length_on : {Y : Type 0} (f : Item → List Y) (xs ys : List Item) (m n : ℕ) → length (flat_map f xs) ≤ m → length (flat_map f ys) ≤ n → length (flat_map f (xs ++ ys)) ≤ m + n
+  length_on f xs ys m n h k =
+      let both = ap length (flat_map-append f xs ys) in
+      let long = length-append (flat_map f xs) (flat_map f ys) in
+      omega (arith, both, long, h, k)
+
+  pub counted_on : (t s g a b c : ℕ) (xs ys : List Item) → AreCounted u t s g xs → AreCounted u a b c ys → AreCounted u (t + a) (s + b) (g + c) (xs ++ ys)
+  counted_on t s g a b c xs ys h k = record {
+    each = All-append (IsDone u) xs ys h.each k.each;
+    each_once = λ i. each_once_on xs ys i (h.each_once i) (k.each_once i);
+    takings_few = λ i. length_on (taking_of i) xs ys t a (h.takings_few i) (k.takings_few i);
+    sendings_few = λ i. length_on (sending_of i) xs ys s b (h.sendings_few i) (k.sendings_few i);
+    gettings_few = λ i. length_on (getting_of i) xs ys g c (h.gettings_few i) (k.gettings_few i);
+  }
+
+  -- no turns
+  pub counted_none : AreCounted u 0 0 0 []
+  counted_none = record {
+    each = All-nil (IsDone u);
+    each_once = λ i. refl;
+    takings_few = λ i. omega arith;
+    sendings_few = λ i. omega arith;
+    gettings_few = λ i. omega arith;
+  }
+
+  pub turns_none : (n : ℕ) → AreTurns u n []
+  turns_none n = turns_of 0 0 0 n [] (omega arith) (omega arith) (omega arith) counted_none
+
+  -- turns after turns
+  pub turns_on : (m n : ℕ) (xs ys : List Item) → AreTurns u m xs → AreTurns u n ys → AreTurns u (m + n) (xs ++ ys)
+  turns_on m n xs ys h k = turns_of (m + n) (m + n) (m + n) (m + n) (xs ++ ys) (omega arith) (omega arith) (omega arith) (counted_on m m m n n n xs ys (counted_of m xs h) (counted_of n ys k))
+
+  -- ---- of several actors
+
+  abbrev pub IsNotOf : ℕ → List Item → Type 0
+  IsNotOf a items = All (λ x. actor_of x ≢ a) items
+
+  untaken : (i : ℕ) (x : Item) → actor_of x ≢ router_place i → taking_of i x ≡ []
+  untaken i (took j port k) other = elsewhere j i ((port, k) ∷ []) (λ same. other (ap router_place same))
+  untaken i (served j c place s) other = refl
+  untaken i (sent j v k) other = refl
+  untaken i (got j v place k) other = refl
+
+  unsent : (i : ℕ) (x : Item) → actor_of x ≢ bank_place i → sending_of i x ≡ []
+  unsent i (took j port k) other = refl
+  unsent i (served j c place s) other = refl
+  unsent i (sent j v k) other = elsewhere j i (k ∷ []) (λ same. other (ap bank_place same))
+  unsent i (got j v place k) other = refl
+
+  ungot : (i : ℕ) (x : Item) → actor_of x ≢ bank_place i → getting_of i x ≡ []
+  ungot i (took j port k) other = refl
+  ungot i (served j c place s) other = refl
+  ungot i (sent j v k) other = refl
+  ungot i (got j v place k) other = elsewhere j i (k ∷ []) (λ same. other (ap bank_place same))
+
+  -- where one of two lists has none of an actor, both have no more than one has
+  length_beside : {Y : Type 0} (f : Item → List Y) (a n : ℕ) → ((x : Item) → actor_of x ≢ a → f x ≡ []) → (xs ys : List Item) → IsNotOf a xs ⊎ IsNotOf a ys →
+      length (flat_map f xs) ≤ n → length (flat_map f ys) ≤ n → length (flat_map f (xs ++ ys)) ≤ n
+  length_beside f a n none xs ys (inl apart) h k =
+      let empty = ap length (flat_map_none f xs (All-weaker (λ x. actor_of x ≢ a) (λ x. f x ≡ []) none xs apart)) in
+      let both = ap length (flat_map-append f xs ys) in
+      let long = length-append (flat_map f xs) (flat_map f ys) in
+      omega (arith, both, long, empty, k)
+  length_beside f a n none xs ys (inr apart) h k =
+      let empty = ap length (flat_map_none f ys (All-weaker (λ x. actor_of x ≢ a) (λ x. f x ≡ []) none ys apart)) in
+      let both = ap length (flat_map-append f xs ys) in
+      let long = length-append (flat_map f xs) (flat_map f ys) in
+      omega (arith, both, long, empty, h)
+
+  -- turns of other actors, beside turns
+  pub turns_beside : (n : ℕ) (xs ys : List Item) → ((a : ℕ) → IsNotOf a xs ⊎ IsNotOf a ys) → AreTurns u n xs → AreTurns u n ys → AreTurns u n (xs ++ ys)
+  turns_beside n xs ys apart h k = record {
+    each = All-append (IsDone u) xs ys h.each k.each;
+    each_once = λ i. each_once_on xs ys i (h.each_once i) (k.each_once i);
+    takes = λ i. length_beside (taking_of i) (router_place i) n (untaken i) xs ys (apart (router_place i)) (h.takes i) (k.takes i);
+    sends = λ i. length_beside (sending_of i) (bank_place i) n (unsent i) xs ys (apart (bank_place i)) (h.sends i) (k.sends i);
+    gets = λ i. length_beside (getting_of i) (bank_place i) n (ungot i) xs ys (apart (bank_place i)) (h.gets i) (k.gets i);
+  }
+
+  -- ---- one turn of a router
+
+  -- a router with the chip, the table and the outputs of a live chip
+  pub record IsRouterOf (i : ℕ) (r : RouterNode) : Type 0 where
+    pub live : IsLiveIndex u i
+    pub index : r.index ≡ i
+    pub chip : r.chip ≡ chip_of u.machine i
+    pub table : r.table.now ≡ slice_index_or u.tables i []
+    pub behind : (o : Out) → IsOutput o → place_at_router r.behind.now o ≡ place_behind u (chip_of u.machine i) o
+
+  services_here : (j i : ℕ) (c : Chip) (place : Service → Option ℕ) → j ≡ i → (done : List Service) → services i (map (λ s. served j c (place s) s) done) ≡ done
+  services_here j i c place same [] = refl
+  services_here j i c place same (s ∷ done) = ap₂ (λ (a b : List Service). a ++ b) (here j i (s ∷ []) same) (services_here j i c place same done)
+
+  services_elsewhere : (j i : ℕ) (c : Chip) (place : Service → Option ℕ) → j ≢ i → (done : List Service) → services i (map (λ s. served j c (place s) s) done) ≡ []
+  services_elsewhere j i c place other done = flat_map_map_none (service_of i) (λ s. served j c (place s) s) (λ s. elsewhere j i (s ∷ []) other) done
+
+  routed_each_once : (r : RouterNode) (a : ℕ) → IsRouterOf a r → (items : List Item) → (h : RoutesOne r.table.now r items) → (i : ℕ) → (r.index ≡ i) ⊎ (r.index ≢ i) →
+      map told (services i items) ≡ owed_on u (chip_of u.machine i) (takings i items)
+  routed_each_once r a of items h i (inl same) =
+      let place : Service → Option ℕ = λ s. place_at_router r.behind.now s.out in
+      let done : services i items ≡ h.done = ap (services i) h.are ∙ services_here r.index i r.chip place same h.done in
+      let none : takings i (service_items r h.done) ≡ [] = flat_map_map_none (taking_of i) (λ s. served r.index r.chip (place s) s) (λ s. refl) h.done in
+      let taken : takings i items ≡ (h.port, h.copy) ∷ [] =
+      ap (takings i) h.are ∙ ap₂ (λ (x y : List (Port × McCopy)). x ++ y) (here r.index i ((h.port, h.copy) ∷ []) same) none in
+      let at : i ≡ a = sym same ∙ of.index in
+      let table : r.table.now ≡ slice_index_or u.tables (index_of u.machine (chip_of u.machine i)) [] =
+      of.table ∙ ap (λ n. slice_index_or u.tables n []) (sym of.live.is ∙ ap (λ n. index_of u.machine (chip_of u.machine n)) (sym at)) in
+      let outs : outputs_at r.table.now h.port h.copy ≡ outputs u (chip_of u.machine i) h.port h.copy = ap (λ (t : List Entry). outputs_at t h.port h.copy) table in
+      ap (map told) done ∙ (h.each_once ∙ (ap (λ (l : List Out). map {B = Out × McCopy} (λ o. (o, h.copy)) l) outs
+      ∙ (sym (append-nil (map (λ o. (o, h.copy)) (outputs u (chip_of u.machine i) h.port h.copy))) ∙ ap (owed_on u (chip_of u.machine i)) (sym taken))))
+  routed_each_once r a of items h i (inr other) =
+      let place : Service → Option ℕ = λ s. place_at_router r.behind.now s.out in
+      let done : services i items ≡ [] = ap (services i) h.are ∙ services_elsewhere r.index i r.chip place other h.done in
+      let none : takings i (service_items r h.done) ≡ [] = flat_map_map_none (taking_of i) (λ s. served r.index r.chip (place s) s) (λ s. refl) h.done in
+      let taken : takings i items ≡ [] =
+      ap (takings i) h.are ∙ ap₂ (λ (x y : List (Port × McCopy)). x ++ y) (elsewhere r.index i ((h.port, h.copy) ∷ []) other) none in
+      ap (map told) done ∙ ap (owed_on u (chip_of u.machine i)) (sym taken)
+
+  served_outputs : (r : RouterNode) (items : List Item) → (h : RoutesOne r.table.now r items) → All (λ (s : Service). IsOutput s.out) h.done
+  served_outputs r items h =
+      All-from_map (λ (p : Out × McCopy). IsOutput p.0) told h.done
+      (subst (All (λ (p : Out × McCopy). IsOutput p.0)) (sym h.each_once)
+      (All-map (λ (p : Out × McCopy). IsOutput p.0) (λ o. (o, h.copy)) (outputs_at r.table.now h.port h.copy) (outputs_have_bits r.table.now h.port h.copy)))
+
+  routed_each : (r : RouterNode) (a : ℕ) → IsRouterOf a r → (items : List Item) → RoutesOne r.table.now r items → All (IsDone u) items
+  routed_each r a of items h =
+      let live : IsLiveIndex u r.index = subst (IsLiveIndex u) (sym of.index) of.live in
+      let outs = served_outputs r items h in
+      subst (All (IsDone u)) (sym h.are)
+      (All-cons (IsDone u) (took r.index h.port h.copy) (service_items r h.done) live
+      (All-map (IsDone u) (λ s. served r.index r.chip (place_at_router r.behind.now s.out) s) h.done
+      (All-each (λ s. IsDone u (served r.index r.chip (place_at_router r.behind.now s.out) s)) h.done (λ s in_done.
+      let output : IsOutput s.out = All-contains (λ (t : Service). IsOutput t.out) h.done s outs in_done in (
+        live,
+        of.chip ∙ ap (chip_of u.machine) (sym of.index),
+        of.behind s.out output ∙ ap (λ (c : Chip). place_behind u c s.out) (sym of.chip),
+        output,
+        All-contains (λ (t : Service). place_at_router r.behind.now t.out ≡ None → t.fate ≡ Dumped) h.done s h.nowhere in_done,
+      )))))
+
+  pub routed_turns : (r : RouterNode) (a : ℕ) → IsRouterOf a r → (items : List Item) → RoutesOne r.table.now r items → AreTurns u 1 items
+  routed_turns r a of items h = record {
+    each = routed_each r a of items h;
+    each_once = λ i. routed_each_once r a of items h i (same_or_not r.index i);
+    takes = λ i.
+        let none = flat_map_map_none (taking_of i) (λ s. served r.index r.chip (place_at_router r.behind.now s.out) s) (λ s. refl) h.done in
+        let is = ap length (ap (takings i) h.are ∙ ap (λ (y : List (Port × McCopy)). where_same r.index i ((h.port, h.copy) ∷ []) ++ y) none) in
+        let few = few_more {X = Port × McCopy} r.index i (h.port, h.copy) in
+        omega (arith, is, few);
+    sends = λ i.
+        let none = flat_map_map_none (sending_of i) (λ s. served r.index r.chip (place_at_router r.behind.now s.out) s) (λ s. refl) h.done in
+        let is = ap length (ap (sendings i) h.are ∙ none) in
+        omega (arith, is);
+    gets = λ i.
+        let none = flat_map_map_none (getting_of i) (λ s. served r.index r.chip (place_at_router r.behind.now s.out) s) (λ s. refl) h.done in
+        let is = ap length (ap (gettings i) h.are ∙ none) in
+        omega (arith, is);
+  }
+    where
+      same_or_not : (p q : ℕ) → (p ≡ q) ⊎ (p ≢ q)
+      same_or_not p q = cases_eq p q
+
+  pub routed_by : (r : RouterNode) (items : List Item) → RoutesOne r.table.now r items → All (λ x. actor_of x ≡ router_place r.index) items
+  routed_by r items h =
+      subst (All (λ x. actor_of x ≡ router_place r.index)) (sym h.are)
+      (All-cons (λ x. actor_of x ≡ router_place r.index) (took r.index h.port h.copy) (service_items r h.done) refl
+      (All-map (λ x. actor_of x ≡ router_place r.index) (λ s. served r.index r.chip (place_at_router r.behind.now s.out) s) h.done
+      (All-each (λ s. actor_of (served r.index r.chip (place_at_router r.behind.now s.out) s) ≡ router_place r.index) h.done (λ s in_done. refl))))
+
+  pub routed_some : (r : RouterNode) (items : List Item) → RoutesOne r.table.now r items → items ≢ []
+  routed_some r items h none = let is : took r.index h.port h.copy ∷ service_items r h.done ≡ [] = sym h.are ∙ none in cc
+
+  -- ---- one turn of a bank
+
+  sends_counted : (i : ℕ) (b : CoreBank) (items : List Item) → IsLiveIndex u i → IsBankOf u i b → SendsOne b items → AreCounted u 0 1 0 items
+  sends_counted i b items live of h = subst (AreCounted u 0 1 0) (sym h.are) (record {
+    each = All-cons (IsDone u) (sent b.index h.vertex h.copy) []
+        (subst (IsLiveIndex u) (sym of.index) live, subst (λ n. IsVertexOn u n h.vertex) (sym of.index) (of.vertices h.vertex h.has)) (All-nil (IsDone u));
+    each_once = λ j. refl;
+    takings_few = λ j. omega arith;
+    sendings_few = λ j. few_more b.index j h.copy;
+    gettings_few = λ j. omega arith;
+  })
+
+  gets_counted : (i : ℕ) (b : CoreBank) (items : List Item) → IsLiveIndex u i → IsBankOf u i b → GetsOne b items → AreCounted u 0 0 1 items
+  gets_counted i b items live of h = subst (AreCounted u 0 0 1) (sym h.are) (record {
+    each = All-cons (IsDone u) (got b.index h.vertex (b.cores + h.vertex) h.copy) [] (
+      subst (IsLiveIndex u) (sym of.index) live,
+      subst (λ n. IsVertexOn u n h.vertex) (sym of.index) (of.vertices h.vertex h.has),
+      ap (λ n. n + h.vertex) of.cores,
+    ) (All-nil (IsDone u));
+    each_once = λ j. refl;
+    takings_few = λ j. omega arith;
+    sendings_few = λ j. omega arith;
+    gettings_few = λ j. few_more b.index j h.copy;
+  })
+
+  more_counted : (s g a b : ℕ) (items : List Item) → s ≤ a → g ≤ b → AreCounted u 0 s g items → AreCounted u 0 a b items
+  more_counted s g a b items few less h = record {
+    each = h.each;
+    each_once = h.each_once;
+    takings_few = h.takings_few;
+    sendings_few = λ j. omega (arith, few, h.sendings_few j);
+    gettings_few = λ j. omega (arith, less, h.gettings_few j);
+  }
+
+  pub bank_turns : (i : ℕ) (b : CoreBank) (items : List Item) → IsLiveIndex u i → IsBankOf u i b → BankMoves b items → AreTurns u 1 items
+  bank_turns i b items live of h = subst (AreTurns u 1) (sym h.are) (
+      let first : AreCounted u 0 1 0 h.first = elim h.sends [
+        | inl none ↦ subst (AreCounted u 0 1 0) (sym none) (more_counted 0 0 1 0 [] (omega arith) (omega arith) counted_none)
+        | inr sends ↦ sends_counted i b h.first live of sends
+      ] in
+      let second : AreCounted u 0 0 1 h.second = elim h.gets [
+        | inl none ↦ subst (AreCounted u 0 0 1) (sym none) (more_counted 0 0 0 1 [] (omega arith) (omega arith) counted_none)
+        | inr gets ↦ gets_counted i b h.second live of gets
+      ] in
+      turns_of 0 1 1 1 (h.first ++ h.second) (omega arith) (omega arith) (omega arith) (counted_on 0 1 0 0 0 1 h.first h.second first second))
+
+  pub bank_by : (b : CoreBank) (items : List Item) → BankMoves b items → All (λ x. actor_of x ≡ bank_place b.index) items
+  bank_by b items h = subst (All Is) (sym h.are) (All-append Is h.first h.second
+      (elim h.sends [
+        | inl none ↦ subst (All Is) (sym none) (All-nil Is)
+        | inr sends ↦ subst (All Is) (sym sends.are) (All-cons Is (sent b.index sends.vertex sends.copy) [] refl (All-nil Is))
+      ])
+      (elim h.gets [
+        | inl none ↦ subst (All Is) (sym none) (All-nil Is)
+        | inr gets ↦ subst (All Is) (sym gets.are) (All-cons Is (got b.index gets.vertex (b.cores + gets.vertex) gets.copy) [] refl (All-nil Is))
+      ]))
+    where
+      Is : Item → Type 0
+      Is x = actor_of x ≡ bank_place b.index

@@ -1,0 +1,17 @@
+use Rattle.std.proofs.Common.{◌≡◌, ◌*◌, ℕ, refl, ap, ◌∙◌, subst}
+use Rattle.spin_base.specs.declared.chips.Chip.{Chip}
+use Rattle.machine_desc.specs.Description.{Description}
+use Rattle.machine_desc.specs.Live.{chip_of, is_live_chip}
+use Rattle.mesh_run.specs.Floors.{AddsBehind, live_if}
+use Rattle.mesh_run.proofs.FloorLaws.{bank_of, floor_more}
+use Rattle.mesh_run.proofs.floors.Floor.add.Goals as goal
+
+pub returns : goal.returns
+returns c =
+    let u = c.args.setup.now in
+    let chip = c.chip_at-chip.ensures.chip ∙ ap (λ (m : Description). chip_of m c.args.index) c.machine.ensures in
+    floor_more u c.args.index c.args.self.now _ c.live_chip.result _ c.requires.before c.in_ok-push.ensures.items
+    (c.live_chip.ensures ∙ ap (λ (x : Chip). live_if (is_live_chip u.machine x) x) chip)
+    (subst (λ (x : Chip). AddsBehind u x 24 c.args.self.now.behind.items c.push_behind.new.list.items) chip c.in_ok-push_behind.ensures)
+    c.in_ok-push-2.ensures.items
+    (bank_of u c.args.index _ refl (ap (λ (n : ℕ). 7 * n) (c.chips.ensures.total ∙ ap (λ (m : Description). m.width * m.height) c.machine-2.ensures)) c.in_ok-vertices.ensures)

@@ -1,0 +1,44 @@
+use Rattle.std.proofs.Common.{◌≡◌, ◌+◌, ◌*◌, ◌<◌, ◌≤◌, ℕ, length, refl, sym, subst, arith}
+use Rattle.std.proofs.lemmas.Option.{slice_get-get_or}
+use Rattle.mesh_run.specs.Floors.{chip_count}
+use Rattle.mesh_run.specs.Homes.{AreHomesTo}
+use Rattle.mesh_run.proofs.HomeLaws.{homes_all, homes_none, ports_more, senders_none, vertex_more}
+use Rattle.mesh_run.proofs.homes.homes_of.Goals as goal
+
+pub loop-index-init : goal.loop-index-init
+loop-index-init c = homes_none c.args.table.now c.new-homes.result.items c.new-homes.ensures.items
+
+pub loop-index-preserved : goal.loop-index-preserved
+loop-index-preserved c =
+    let long = c.requires.long in
+    let chips = c.chips_of-chips.ensures.value in
+    let below = c.loop-index-test.true in
+    let router : 2 * c.loop-index.index < length c.args.table.now = omega (arith, long, chips, below) in
+    let bank : 2 * c.loop-index.index + 1 < length c.args.table.now = omega (arith, long, chips, below) in
+    ports_more c.args.table.now c.loop-index.index _ _ c.loop-index.homes.items c.push_ports.new.homes.items c.loop-index.invariant (slice_get-get_or c.args.table.now (2 * c.loop-index.index) 0 router)
+    (slice_get-get_or c.args.table.now (2 * c.loop-index.index + 1) 0 bank) c.in_ok-push_ports.ensures
+
+pub loop-vertex-init : goal.loop-vertex-init
+loop-vertex-init c =
+    let chips = c.chips_of-chips.ensures.value in
+    let all : c.loop-index.index ≡ chip_count c.args.setup.now = omega (arith, chips) in
+    subst (λ (n : ℕ). AreHomesTo c.args.table.now n 0 c.loop-index.homes.items) all c.loop-index.invariant
+
+pub loop-vertex-preserved : goal.loop-vertex-preserved
+loop-vertex-preserved c =
+    let long = c.requires.long in
+    let home = c.home_index-index.ensures in
+    let sender : 2 * c.home_index-index.result < length c.args.table.now = omega (arith, long, home) in
+    let receiver : 2 * c.home_index-index.result + 1 < length c.args.table.now = omega (arith, long, home) in
+    vertex_more c.args.table.now (chip_count c.args.setup.now) c.loop-vertex.vertex _ c.loop-vertex.homes.items c.push.new.self.items c.loop-vertex.invariant
+    (record {
+      sender_at = 2 * c.home_index-index.result;
+      sender = slice_get-get_or c.args.table.now (2 * c.home_index-index.result) 0 sender;
+      receiver_at = 2 * c.home_index-index.result + 1;
+      receiver = slice_get-get_or c.args.table.now (2 * c.home_index-index.result + 1) 0 receiver;
+    }) c.in_ok-push.ensures.items
+
+pub returns : goal.returns
+returns c =
+    let chips = c.chips_of-chips.ensures.value in
+    homes_all c.args.setup.now c.args.table.now c.loop-at.at c.loop-at.homes.items (omega (arith, chips)) c.loop-at.invariant

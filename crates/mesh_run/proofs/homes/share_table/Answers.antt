@@ -1,0 +1,21 @@
+use Rattle.std.proofs.Common.{◌≡◌, ◌≤◌, length, get_or, ap, sym, ◌∙◌, arith}
+use Rattle.mesh_run.specs.Homes.{run_start}
+use Rattle.mesh_run.proofs.HomeLaws.{run_all, run_from, run_more, run_none, table_all, table_none}
+use Rattle.mesh_run.proofs.homes.share_table.Goals as goal
+
+pub loop-number-init : goal.loop-number-init
+loop-number-init c = table_none c.args.ends.now c.new-table.result.items c.new-table.ensures.items
+
+pub loop-number-preserved : goal.loop-number-preserved
+loop-number-preserved c =
+    let ends = c.args.ends.now in
+    let n = c.loop-number.number in
+    let from = run_from c.args.count ends n c.requires.runs c.loop-number-test.true in
+    let long = c.loop-number.invariant.long in
+    run_all ends n c.loop-place._place c.loop-place.table.items c.loop-place.invariant (omega (arith, from, long))
+
+pub loop-place-preserved : goal.loop-place-preserved
+loop-place-preserved c = run_more c.args.ends.now c.loop-number.number c.loop-place._place c.loop-place.table.items c.push.new.self.items c.loop-place.invariant c.in_ok-push.ensures.items
+
+pub returns : goal.returns
+returns c = table_all c.args.count c.args.ends.now c.loop-number.number c.loop-number.table.items c.requires.runs (omega arith) c.loop-number.invariant

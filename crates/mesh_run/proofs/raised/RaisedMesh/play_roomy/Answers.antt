@@ -1,0 +1,128 @@
+use Rattle.std.proofs.Common.{ℕ, ◌+◌, ◌<◌, List, ◌++◌, length, sym, ap, ◌∙◌, subst}
+use Rattle.std.specs.List.{All, flat_map}
+use Rattle.std.specs.Vec.{with_items}
+use Rattle.std.proofs.lemmas.List.{with_items_is}
+use Rattle.link_queue.specs.declared.links.Link.{Link}
+use Rattle.link_queue.specs.declared.links.LinkEnds.{LinkEnds}
+use Rattle.mesh_core.specs.State.{IsMesh, State}
+use Rattle.mesh_run.specs.declared.homes.Cut.{Cut}
+use Rattle.mesh_run.specs.declared.raised.RaisedMesh.{RaisedMesh}
+use Rattle.mesh_run.specs.declared.shares.Share.{Share}
+use Rattle.mesh_run.specs.Crossing.{AreCuts, AreLaid, Deals, HoldsNoEnds}
+use Rattle.mesh_run.specs.Gathering.{AreCleared, FitsLogs, IsAnyMoved}
+use Rattle.mesh_run.specs.Queues.{RestAll, WasUp}
+use Rattle.mesh_run.specs.Raised.{IsRoomyFrom, PlaysTo}
+use Rattle.mesh_run.specs.Shares.{IsShareOf}
+use Rattle.mesh_run.specs.Standing.{HoldsAll}
+use Rattle.mesh_run.proofs.AfterDeal.{cuts_apart, few_links}
+use Rattle.mesh_run.proofs.RoundSteps.{IsCollected, IsDealt, IsTurned, PlayAndStay, can_rest, cuts_laid, is_collected, is_dealt, is_turned, no_ends, room_for_logs, round_plays, shares_of_mesh, still_cuts}
+use Rattle.mesh_run.proofs.raised.RaisedMesh.play_roomy.Given.{Over}
+use Rattle.mesh_run.proofs.raised.RaisedMesh.play_roomy.Goals.{After-collect, After-deal, After-play_all}
+use Rattle.mesh_run.proofs.raised.RaisedMesh.play_roomy.Goals as goal
+
+pub deal-requires-clause-cuts : goal.deal-requires-clause-cuts
+deal-requires-clause-cuts g c =
+    let q = c.requires in
+    subst (λ (x : RaisedMesh). AreCuts c.deref.result.now x.shares.items) (sym c.self.view_is)
+    (subst (λ (l : List Cut). AreCuts l c.args.self.now.shares.items) (sym (c.deref.ensures.value ∙ ap (λ (x : RaisedMesh). x.cuts.items) c.self.view_is))
+    (cuts_apart q.0 q.1 (c.args.self.now.pace.turns + 1) c.args.self.now q.2.raised))
+
+pub deal-requires-clause-few : goal.deal-requires-clause-few
+deal-requires-clause-few g c =
+    let q = c.requires in
+    subst (λ (l : List Cut). length l < 4294967296) (sym (c.deref.ensures.value ∙ ap (λ (x : RaisedMesh). x.cuts.items) c.self.view_is))
+    (few_links q.0 q.1 (c.args.self.now.pace.turns + 1) c.args.self.now q.2.raised)
+
+-- what was dealt to the shares
+dealt : (g : Over) (c : After-deal g) (m : State) → IsMesh m → IsRoomyFrom m (c.args.self.now.pace.turns + 1) c.args.self.now →
+    IsDealt m c.args.self.now c.deal.new.standing c.deal.new.shares.items
+dealt g c m is_mesh roomy =
+    is_dealt is_mesh roomy (c.deref.ensures.value ∙ ap (λ (x : RaisedMesh). x.cuts.items) c.self.view_is)
+    (subst (λ (x : RaisedMesh). (ends : List LinkEnds) → HoldsAll ends x.standing → Deals ends c.deref.result.now x.shares.items c.deal.new.shares.items)
+    c.self.view_is c.deal.ensures.deals)
+    (subst (λ (x : RaisedMesh). (ends : List LinkEnds) → HoldsAll ends x.standing → HoldsNoEnds ends c.deal.new.standing)
+    c.self.view_is c.deal.ensures.none_left)
+
+-- what turns made of them
+turned : (g : Over) (c : After-play_all g) (m : State) → IsDealt m c.args.self.now c.deal.new.standing c.deal.new.shares.items →
+    IsTurned m c.args.self.now c.deal.new.standing c.deal.new.shares.items c.play_all.new.shares.items
+turned g c m before =
+    let r = c.args.self.now in
+    is_turned before c.play_all.ensures.long
+    (subst (λ (l : List Link). PlayAndStay r l c.deal.new.shares.items c.play_all.new.shares.items) c.deref-2.ensures.value
+    (subst (λ (x : RaisedMesh). PlayAndStay x c.deref-2.result.now c.deal.new.shares.items c.play_all.new.shares.items) c.self.view_is c.play_all.ensures.each))
+
+-- the ends that were collected
+collected : (g : Over) (c : After-collect g) (m : State) → IsTurned m c.args.self.now c.deal.new.standing c.deal.new.shares.items c.play_all.new.shares.items →
+    IsCollected m c.args.self.now c.deal.new.standing c.deal.new.shares.items c.play_all.new.shares.items c.collect.new.standing c.collect.new.shares.items
+collected g c m before = is_collected before (c.deref-3.ensures.value ∙ ap (λ (x : RaisedMesh). x.cuts.items) c.self.view_is) c.collect.ensures
+
+pub play_all-requires-clause-shares : goal.play_all-requires-clause-shares
+play_all-requires-clause-shares g c κs within =
+    let q = c.requires in
+    subst (λ (x : RaisedMesh). All (IsShareOf x.parts.setup c.deref-2.result.now) c.deal.new.shares.items) (sym c.self.view_is)
+    (subst (λ (l : List Link). All (IsShareOf c.args.self.now.parts.setup l) c.deal.new.shares.items) (sym c.deref-2.ensures.value)
+    (shares_of_mesh (dealt g (goal.at.play_all-requires-clause-shares g c).After-deal q.0 q.1 q.2)))
+
+pub collect-requires-clause-cuts : goal.collect-requires-clause-cuts
+collect-requires-clause-cuts g c =
+    let q = c.requires in
+    let turn = turned g (goal.at.collect-requires-clause-cuts g c).After-play_all q.0
+    (dealt g (goal.at.collect-requires-clause-cuts g c).After-deal q.0 q.1 q.2) in
+    subst (λ (l : List Cut). AreCuts l c.play_all.new.shares.items) (sym (c.deref-3.ensures.value ∙ ap (λ (x : RaisedMesh). x.cuts.items) c.self.view_is))
+    (still_cuts turn)
+
+pub collect-requires-clause-laid : goal.collect-requires-clause-laid
+collect-requires-clause-laid g c =
+    let q = c.requires in
+    let turn = turned g (goal.at.collect-requires-clause-laid g c).After-play_all q.0
+    (dealt g (goal.at.collect-requires-clause-laid g c).After-deal q.0 q.1 q.2) in
+    subst (AreLaid c.deal.new.standing.links.items c.play_all.new.shares.items) (sym (c.deref-3.ensures.value ∙ ap (λ (x : RaisedMesh). x.cuts.items) c.self.view_is))
+    (cuts_laid turn)
+
+pub collect-requires-clause-none : goal.collect-requires-clause-none
+collect-requires-clause-none g c =
+    let q = c.requires in
+    let turn = turned g (goal.at.collect-requires-clause-none g c).After-play_all q.0
+    (dealt g (goal.at.collect-requires-clause-none g c).After-deal q.0 q.1 q.2) in
+    let none = no_ends turn in
+    (none.0, none.1, none.2 ∙ ap length (sym (c.deref-3.ensures.value ∙ ap (λ (x : RaisedMesh). x.cuts.items) c.self.view_is)))
+
+pub rest_all-requires : goal.rest_all-requires
+rest_all-requires g c =
+    let q = c.requires in
+    let turn = turned g (goal.at.rest_all-requires g c).After-play_all q.0 (dealt g (goal.at.rest_all-requires g c).After-deal q.0 q.1 q.2) in
+    let rest = can_rest (collected g (goal.at.rest_all-requires g c).After-collect q.0 turn) in
+    (rest.0, rest.1, subst (λ (n : ℕ). All (WasUp n) rest.0) (sym (c.capacity-2.ensures ∙ ap (λ (x : RaisedMesh). x.parts.setup.capacity) c.self.view_is)) rest.2)
+
+pub gather-requires : goal.gather-requires
+gather-requires g c =
+    let q = c.requires in
+    let turn = turned g (goal.at.gather-requires g c).After-play_all q.0 (dealt g (goal.at.gather-requires g c).After-deal q.0 q.1 q.2) in
+    subst (λ (x : RaisedMesh). FitsLogs c.deref_mut.result.now x.logs) (sym c.self.view_is)
+    (subst (λ (l : List Share). FitsLogs l c.args.self.now.logs) (sym c.deref_mut.ensures.value)
+    (room_for_logs (collected g (goal.at.gather-requires g c).After-collect q.0 turn)))
+
+pub returns-clause-played : goal.returns-clause-played
+returns-clause-played g c = λ m is_mesh roomy.
+    let r = c.args.self.now in
+    let standing = c.rest_all.new.standing in
+    let shares = with_items c.collect.new.shares c.gather.new.shares in
+    let logs = c.gather.new.self in
+    let turn = turned g (goal.at.returns-clause-played g c).After-play_all m (dealt g (goal.at.returns-clause-played g c).After-deal m is_mesh roomy) in
+    let all = collected g (goal.at.returns-clause-played g c).After-collect m turn in
+    let value = c.deref_mut.ensures.value in
+    subst (λ (x : RaisedMesh). PlaysTo r.pace.patience r.pace.turns m c.gather.result (record x { standing = standing; shares = shares; logs = logs }))
+    (sym c.self.view_is)
+    (round_plays standing shares logs c.gather.result all
+    (subst (λ (n : ℕ). (ends : List LinkEnds) → HoldsAll ends c.collect.new.standing → RestAll n ends standing c.rest_all.result)
+    (c.capacity-2.ensures ∙ ap (λ (x : RaisedMesh). x.parts.setup.capacity) c.self.view_is) c.rest_all.ensures)
+    (subst (AreCleared c.collect.new.shares.items) (sym (with_items_is c.collect.new.shares c.gather.new.shares (c.gather.ensures.cleared.0 ∙ c.deref_mut.ensures.len)))
+    (subst (λ (l : List Share). AreCleared l c.gather.new.shares) value c.gather.ensures.cleared))
+    (c.gather.ensures.delivered
+    ∙ (ap (λ (x : RaisedMesh). x.logs.delivered.items ++ flat_map (λ (s : Share). s.hold.deliveries.items) c.deref_mut.result.now) c.self.view_is
+    ∙ ap (λ (l : List Share). r.logs.delivered.items ++ flat_map (λ (s : Share). s.hold.deliveries.items) l) value))
+    (c.gather.ensures.dumped
+    ∙ (ap (λ (x : RaisedMesh). x.logs.dumped.items ++ flat_map (λ (s : Share). s.hold.dumps.items) c.deref_mut.result.now) c.self.view_is
+    ∙ ap (λ (l : List Share). r.logs.dumped.items ++ flat_map (λ (s : Share). s.hold.dumps.items) l) value))
+    (subst (λ (l : List Share). IsAnyMoved l c.gather.result) value c.gather.ensures.moved))

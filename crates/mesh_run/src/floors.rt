@@ -1,0 +1,270 @@
+// What actors stand on, made once for a run: who is behind each output, and which vertices are on each chip.
+ghost use Rattle.std.specs.Prelude.{◌≡◌, ◌+◌, ◌*◌, ◌<◌, ◌≤◌, ◌++◌, IfOk, IfSome, OnOk, IsNone, ◌↔◌, ℕ, Some, false, length, option_to_list, slice_get, take, drop, slice_index_or, []};
+ghost use Rattle.spin_base.specs.Outputs.{IsOutput, out_number};
+ghost use Rattle.machine_desc.specs.Live.{chip_of, is_live_chip, IsInside};
+ghost use Rattle.machine_desc.specs.NetsOn.{vertex_at};
+ghost use Rattle.mesh_core.specs.State.{Setup};
+ghost use Rattle.mesh_run.specs.Floors.{AddsBehind, AreVerticesOf, IsFloorOf, IsFloorSoFar, chip_count, live_if, place_of};
+ghost use Rattle.mesh_run.specs.Played.{place_behind, IsLiveIndex};
+
+use chip_node::{Behind, CoreBank, RouterNode};
+use mesh_core::laws::every_setup_has_sites;
+use mesh_core::{MeshSetup, Queue};
+use spin_base::{Chip, Dir, Memory, Out, Port, Shared, Spot};
+use std::alloc::Global;
+
+/// How many outputs a chip has, and how many vertices at most: one on each core, and one device on each link.
+pub(crate) const OUT_COUNT: usize = 24;
+
+/// For each chip index: whether the chip is live, the queue behind each of its outputs, and the bank of its vertices.
+#[derive(Drop)]
+pub(crate) struct Floor {
+    chips: Vec<Option<Chip>>,
+    behind: Vec<Option<Behind>>,
+    banks: Vec<CoreBank>,
+}
+
+impl Shared for Floor {}
+
+impl Floor {
+    /// The floor of a mesh.
+    pub fn of(alloc: Global, setup: &MeshSetup) -> Result<Floor, Memory>
+        requires { length setup.now.tables ≡ chip_count setup.now }
+        ensures { IfOk result (IsFloorOf setup.now) }
+    {
+        let count = setup.machine().chips();
+        let mut floor = Floor {
+            chips: Vec::new(alloc),
+            behind: Vec::new(alloc),
+            banks: Vec::new(alloc),
+        };
+        floor.chips.reserve_exact(count)?;
+        floor.behind.reserve_exact(OUT_COUNT * count)?;
+        floor.banks.reserve_exact(count)?;
+        for index in 0..count {
+            floor.add(alloc, setup, index as u32)?;
+        }
+        Ok(floor)
+    }
+
+    // One chip more.
+    fn add(&mut self, alloc: Global, setup: &MeshSetup, index: u32) -> Result<(), Memory>
+        requires below { index < chip_count setup.now }
+        requires before { IsFloorSoFar setup.now index self.old }
+        ensures { OnOk result (IsFloorSoFar setup.now (index + 1) self.new) }
+    {
+        let chip = setup.machine().chip_at(index);
+        let cores = Port::COUNT * setup.machine().chips() as u32;
+        let vertices = vertices_on(alloc, setup, index)?;
+        push_behind(&mut self.behind, setup, chip)?;
+        self.chips.push(live_chip(setup, chip))?;
+        self.banks.push(CoreBank {
+            index,
+            cores,
+            vertices,
+        })?;
+        Ok(())
+    }
+
+    /// How many actors there are: two for each chip index.
+    pub fn actors(&self) -> usize
+        requires { length self.now.chips.items ≤ 4096 }
+        ensures { result ≡ 2 * length self.now.chips.items }
+    {
+        2 * self.chips.len()
+    }
+
+    /// How many of them are of live chips.
+    pub fn live_actors(&self) -> usize
+        requires { length self.now.chips.items ≤ 4096 }
+    {
+        2 * self.chips.iter().filter(|chip| chip.is_some()).count()
+    }
+
+    /// Whether the chip of an index is live.
+    pub fn is_live(&self, index: usize) -> bool
+        requires { index < length self.now.chips.items }
+        ensures { (u : Setup) → IsFloorOf u self.now
+            → result ≡ is_live_chip u.machine (chip_of u.machine index) }
+    {
+        self.chips[index].is_some()
+    }
+
+    /// The queues behind the outputs of a chip.
+    pub fn behind(&self, index: usize) -> &[Option<Behind>]
+        requires { 24 * index + 24 ≤ length self.now.behind.items }
+        ensures { result.now ≡ take 24 (drop (24 * index) self.now.behind.items) }
+    {
+        &self.behind[OUT_COUNT * index..OUT_COUNT * index + OUT_COUNT]
+    }
+
+    /// The place of the queue behind an output of a live chip, by the chip's index.
+    pub fn behind_output(&self, setup: &MeshSetup, index: usize, out: Out) -> Option<u32>
+        requires floor { IsFloorOf setup.now self.now }
+        requires below { index < chip_count setup.now }
+        requires live { IsLiveIndex setup.now index }
+        requires output { IsOutput out }
+        ensures { result ≡ place_behind setup.now (chip_of setup.now.machine index) out }
+    {
+        let number = number_of(out);
+        let _chips = setup.machine().chips();
+        match self.behind[OUT_COUNT * index + number] {
+            Some(behind) => Some(behind.place),
+            None => None,
+        }
+    }
+
+    /// The place of the queue behind an output of the chip of an index, where both are there.
+    pub fn place_behind(&self, index: usize, number: usize) -> Option<u32> {
+        match self
+            .behind
+            .get(index.saturating_mul(OUT_COUNT).saturating_add(number))
+        {
+            Some(Some(behind)) => Some(behind.place),
+            _ => None,
+        }
+    }
+
+    /// The router of the chip of an index, where it is live.
+    pub fn router<'a>(&'a self, setup: &'a MeshSetup, index: usize) -> Option<RouterNode<'a>>
+        requires floor { IsFloorOf setup.now self.now }
+        requires below { index < chip_count setup.now }
+        ensures none { IsNone result
+            ↔ (is_live_chip setup.now.machine (chip_of setup.now.machine index) ≡ false) }
+        ensures some { IfSome result (λ r. (r.chip ≡ chip_of setup.now.machine index)
+            × (r.index ≡ index) × (r.table.now ≡ slice_index_or setup.now.tables index [])
+            × (r.behind.now ≡ take 24 (drop (24 * index) self.now.behind.items))) }
+    {
+        few_vertices(setup);
+        match self.chips[index] {
+            Some(chip) => Some(RouterNode {
+                chip,
+                index: index as u32,
+                table: &setup.tables()[index],
+                behind: self.behind(index),
+            }),
+            None => None,
+        }
+    }
+
+    /// The bank of the chip of an index.
+    pub fn bank(&self, index: usize) -> &CoreBank
+        requires { index < length self.now.banks.items }
+        ensures { slice_get self.now.banks.items index ≡ Some result.now }
+    {
+        &self.banks[index]
+    }
+}
+
+// The chip, where it is live.
+fn live_chip(setup: &MeshSetup, chip: Chip) -> Option<Chip>
+    ensures { result ≡ live_if (is_live_chip setup.now.machine chip) chip }
+{
+    if setup.machine().live(chip) {
+        Some(chip)
+    } else {
+        None
+    }
+}
+
+// The vertices on the chip of an index.
+fn vertices_on(alloc: Global, setup: &MeshSetup, index: u32) -> Result<Vec<u32>, Memory>
+    requires { index < chip_count setup.now }
+    ensures { IfOk result (λ vertices. AreVerticesOf setup.now index vertices.items) }
+{
+    let chip = setup.machine().chip_at(index);
+    every_setup_has_sites(setup);
+    let mut vertices = Vec::new(alloc);
+    for core in 0..OUT_COUNT as u8 {
+        push_number(&mut vertices, number_at(setup, Spot { chip, core }))?;
+    }
+    Ok(vertices)
+}
+
+// The number of the vertex on a spot.
+fn number_at(setup: &MeshSetup, spot: Spot) -> Option<u32>
+    requires inside { IsInside setup.now.machine spot.chip }
+    requires numbered { spot.core < 24 }
+    ensures { result ≡ vertex_at setup.now.spots spot }
+{
+    few_vertices(setup);
+    match setup.vertex_at(spot) {
+        Some(vertex) => Some(vertex as u32),
+        None => None,
+    }
+}
+
+// One number more, where there is one.
+fn push_number(numbers: &mut Vec<u32>, number: Option<u32>) -> Result<(), Memory>
+    ensures { OnOk result (numbers.new.items ≡ numbers.old.items ++ option_to_list number) }
+{
+    if let Some(number) = number {
+        numbers.push(number)?;
+    }
+    Ok(())
+}
+
+// No two vertices are on one site, so there are few, and there are few chips.
+fn few_vertices(setup: &MeshSetup)
+    ensures vertices { length setup.now.spots ≤ 98304 }
+    ensures chips { chip_count setup.now ≤ 4096 }
+{
+    every_setup_has_sites(setup);
+    let _ = setup.machine().chips();
+}
+
+// The queues behind all outputs of a chip, at the end of a list.
+fn push_behind(list: &mut Vec<Option<Behind>>, setup: &MeshSetup, chip: Chip) -> Result<(), Memory>
+    ensures { OnOk result (AddsBehind setup.now chip 24 list.old.items list.new.items) }
+{
+    for number in 0..OUT_COUNT as u8 {
+        list.push(behind_of(setup, chip, out_at(number)))?;
+    }
+    Ok(())
+}
+
+// The bit number of an output.
+fn number_of(out: Out) -> usize
+    requires { IsOutput out }
+    ensures number { result ≡ out_number out }
+    ensures below { result < 24 }
+{
+    match out {
+        Out::Link(link) => usize::from(link.number()),
+        Out::Core(core) => 6 + usize::from(core),
+    }
+}
+
+/// The output of a bit number.
+pub(crate) fn out_at(number: u8) -> Out
+    requires { number < 24 }
+    ensures output { IsOutput result }
+    ensures number { out_number result ≡ number }
+{
+    match Dir::from_number(number) {
+        Some(link) => Out::Link(link),
+        None => Out::Core(number - 6),
+    }
+}
+
+// The queue behind an output, with who takes from it.
+fn behind_of(setup: &MeshSetup, chip: Chip, out: Out) -> Option<Behind>
+    ensures { place_of result ≡ place_behind setup.now chip out }
+{
+    few_vertices(setup);
+    every_setup_has_sites(setup);
+    match setup.behind(chip, out) {
+        Queue::Nowhere => None,
+        Queue::Input(place) => Some(Behind {
+            place: place as u32,
+            taker: 2 * (place as u32 / Port::COUNT),
+        }),
+        Queue::Core(vertex) => {
+            let home = setup.machine().index(setup.spots()[vertex].chip);
+            Some(Behind {
+                place: Port::COUNT * setup.machine().chips() as u32 + vertex as u32,
+                taker: 2 * home + 1,
+            })
+        }
+    }
+}
