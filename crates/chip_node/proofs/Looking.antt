@@ -1,6 +1,6 @@
 -- What a router sees at a port, and that there is room for what its turn needs.
-use Rattle.std.proofs.Common.{◌≡◌, ◌≢◌, ℕ, ◌<◌, ◌≤◌, Bool, true, false, cond, ◌==◌, List, [], ◌∷◌, length, get_or, Some, refl, sym, ap, subst, ◌∙◌, arith}
-use Rattle.std.specs.List.{slice_get}
+use Rattle.std.proofs.Common.{◌≡◌, ◌≢◌, ℕ, ◌<◌, ◌≤◌, Bool, true, false, cond, ◌==◌, List, [], ◌∷◌, length, get_or, Option, None, Some, refl, sym, ap, subst, ◌∙◌, arith}
+use Rattle.std.specs.List.{All, slice_get}
 use Rattle.std.proofs.lemmas.List.Elements.{All-filter, All-nil, All-weaker}
 use Rattle.std.proofs.lemmas.Option.{slice_get_read, slice_get_within}
 use Rattle.spin_base.specs.declared.blocks.Entry.{Entry}
@@ -11,20 +11,21 @@ use Rattle.spin_base.specs.declared.routes.Out.{Out}
 use Rattle.spin_base.specs.WithRoom.{WithRoom}
 use Rattle.spin_base.specs.Hops.{last_hop}
 use Rattle.spin_base.specs.Lookup.{lookup}
-use Rattle.spin_base.specs.Outputs.{all_outs, has, outs_of}
-use Rattle.spin_base.proofs.Places.{one_item_at, slice_get-set_other}
+use Rattle.spin_base.specs.Outputs.{all_outs, core_outs, has, link_outs, out_number, outs_of}
+use Rattle.spin_base.proofs.Places.{All-at, All-each, one_item_at, slice_get-set_other}
 use Rattle.link_queue.specs.declared.links.Link.{Link}
 use Rattle.chip_node.specs.declared.ends.End.{End}
 use Rattle.chip_node.specs.declared.ends.End.TheVariants.{Away, Own, Sends, Takes}
 use Rattle.chip_node.specs.declared.ends.Seen.TheVariants.{Front}
 use Rattle.chip_node.specs.declared.holdings.Holdings.{Holdings}
+use Rattle.chip_node.specs.declared.nodes.Behind.{Behind}
 use Rattle.chip_node.specs.declared.nodes.RouterNode.{RouterNode}
-use Rattle.chip_node.specs.Acting.{IsReadyRouter}
-use Rattle.chip_node.specs.Going.{IsIdle, IsIdleAt}
+use Rattle.chip_node.specs.Acting.{place_in, IsReadyRouter}
+use Rattle.chip_node.specs.Going.{HasRoom, IsIdle, IsIdleAt}
 use Rattle.chip_node.specs.Items.{port_place}
 use Rattle.chip_node.specs.Passing.{EndTakes, IsSeen}
 use Rattle.chip_node.specs.Routing.{outputs_at}
-use Rattle.chip_node.specs.Taking.{HasRoomBehind, HasRoomFor}
+use Rattle.chip_node.specs.Taking.{HasRoomBehind, HasRoomFor, HasRoomIn}
 use Rattle.chip_node.proofs.Outputs.{few_pass}
 use Rattle.chip_node.proofs.Placing.{Writes}
 
@@ -45,6 +46,19 @@ read_stands ends xs n q x same at below read =
     ap (slice_get ends) (sym at) ∙ (ap (λ (l : List End). slice_get l n) (sym same) ∙ slice_get_read xs (length xs) n x refl below read)
 
 -- ---- room
+
+-- where there is room in each queue behind an output, there is behind each output
+pub room_behind : (cap : ℕ) (r : RouterNode) (h : Holdings) → All (λ slot. HasRoomIn cap slot h) r.behind.now → (o : Out) → HasRoomBehind cap r h o
+room_behind cap r h all o = λ q e at stands. by (slice_get r.behind.now (out_number o)) refl q e at stands
+  where
+    by : (s : Option (Option Behind)) → slice_get r.behind.now (out_number o) ≡ s → (q : ℕ) (e : End) → place_in s ≡ Some q → slice_get h.ends.items q ≡ Some e → HasRoom cap e
+    by None is q e at stands = cc
+    by (Some slot) is q e at stands = All-at (λ slot. HasRoomIn cap slot h) r.behind.now (out_number o) slot all is q e at stands
+
+-- where there is room in each queue behind an output, and for 24 records, there is room at all outputs
+pub room_everywhere : (cap : ℕ) (r : RouterNode) (h : Holdings) → All (λ slot. HasRoomIn cap slot h) r.behind.now → 24 ≤ h.dumps.spare → HasRoomFor cap r all_outs h
+unfolding link_outs core_outs
+room_everywhere cap r h all spare = record { behind = All-each (HasRoomBehind cap r h) all_outs (λ o has. room_behind cap r h all o); records = spare }
 
 -- Where there is room for a copy at each of the 24 outputs, and for as many records, there is room for those that lookup gives.
 pub room_for_all : (cap : ℕ) (entries : List Entry) (r : RouterNode) (port : Port) (k : McCopy) (h : Holdings) → HasRoomFor cap r all_outs h → HasRoomFor cap r (outputs_at entries port k) h

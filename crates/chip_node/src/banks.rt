@@ -1,19 +1,19 @@
 // The bank of a chip's vertices between queues.
-ghost use Rattle.std.specs.Prelude.{◌≡◌, ◌≢◌, ◌+◌, ◌<◌, [], All, IfNone, IfSome, length, slice_index_or};
+ghost use Rattle.std.specs.Prelude.{◌≡◌, ◌≢◌, ◌+◌, ◌<◌, [], All, IfNone, IfSome, IsTrue, length, slice_index_or};
 ghost use Rattle.chip_node.specs.Acting.{BankActs, CannotGet, CannotSend, GetsOne, HalfActs, IsIdleBank, IsReadyBank, IsUnsentAt, SendsOne, turn_of_both};
 ghost use Rattle.chip_node.specs.Going.{AreEndsOf, IsRoomy};
 ghost use Rattle.chip_node.specs.declared.holdings.Turn.TheVariants.{Moved};
 
 use crate::ends::{Bounds, Served};
-use crate::flags::Flags;
+use crate::flags::{Flags, UNSENT};
 use crate::holdings::{Around, Holdings, Turn};
-use crate::nodes::CoreBank;
+use crate::nodes::{Behind, CoreBank};
 use crate::rings::Ring;
 use spin_base::{Delivery, McCopy, Port};
 use std::sync::Wait;
 
 impl CoreBank {
-    /// One turn: offers the first unsent copy of one vertex once to the chip's injection queue, where there is one, and looks at the queues
+    /// One turn: where the chip is marked for it, or all is looked at, offers the first unsent copy of one vertex once to the chip's injection queue, where there is one, and looks at the queues
     /// of its vertices, from a start that goes round with the turn's number, until one gives a copy, which is logged. A refused offer
     /// leaves the copy unsent, in its place. The chip's router is awake where a copy was sent. No clause says at which vertex it begins.
     pub fn turn<R: Wait>(
@@ -23,20 +23,51 @@ impl CoreBank {
         hold: &mut Holdings,
         awake: &mut Flags,
         number: u32,
+        all: bool,
     ) -> Turn
         requires { IsReadyBank around.links.now self.now hold.old }
         ensures acts { BankActs around.entry.capacity around.entry.patience self.now hold.old
             result hold.new }
-        ensures idle { result ≢ Moved → IsRoomy around.entry.capacity hold.old
+        ensures idle { IsTrue all → result ≢ Moved → IsRoomy around.entry.capacity hold.old
             → IsIdleBank around.entry.capacity self.now hold.old }
         ensures ends { AreEndsOf around.entry.links.now hold.new.ends.items }
     {
-        let sent = self.send(rt, around, hold, number);
-        if sent == Turn::Moved {
-            awake.set(2 * self.index as usize);
-        }
+        let sent = self.send_marked(rt, around, hold, awake, number, all);
         let got = self.collect(rt, around, hold, number);
         both(sent, got)
+    }
+
+    // Offers an unsent copy, where there may be one. Where there is none, none is marked any more. Where it was sent, the chip's router is
+    // awake, and its local port marked.
+    fn send_marked<R: Wait>(
+        &self,
+        rt: &R,
+        around: Around,
+        hold: &mut Holdings,
+        awake: &mut Flags,
+        number: u32,
+        all: bool,
+    ) -> Turn
+        requires { IsReadyBank around.links.now self.now hold.old }
+        ensures acts { HalfActs around.entry.capacity around.entry.patience (SendsOne self.now)
+            hold.old result hold.new }
+        ensures idle { IsTrue all → result ≢ Moved → IsRoomy around.entry.capacity hold.old
+            → CannotSend around.entry.capacity self.now hold.old }
+        ensures ready { IsReadyBank around.entry.links.now self.now hold.new }
+    {
+        if !all && !awake.has_mark(self.index, UNSENT) {
+            return Turn::Nothing;
+        }
+        let sent = self.send(rt, around, hold, number);
+        match sent {
+            Turn::Moved => awake.wake(Behind {
+                place: Port::COUNT * self.index + 6,
+                taker: 2 * self.index,
+            }),
+            Turn::Nothing => awake.unmark(self.index, UNSENT),
+            Turn::Waits => {}
+        }
+        sent
     }
 
     // Offers the first unsent copy of the first vertex that has one.

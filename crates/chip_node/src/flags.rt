@@ -1,28 +1,41 @@
-// A flag for each router and each bank that a mesh can have, a bit each.
+// A flag for each router and each bank that a mesh can have, and marks of where they may have something to do, a bit each.
 ghost use Rattle.std.specs.Prelude.{◌<◌, ◌≤◌, IfSome};
+
+use crate::nodes::Behind;
+use spin_base::Port;
 
 /// How many flags there are: two for each of 4,096 chips.
 pub(crate) const FLAGS: usize = 8192;
 
 const WORDS: usize = FLAGS / 64;
 
-/// 8,192 flags. At a place beyond them none stands, and none can be set.
+const CHIPS: usize = FLAGS / 2;
+
+/// The mark of a chip for copies that its vertices did not send. Those of its ports have the ports' numbers.
+pub(crate) const UNSENT: u8 = 7;
+
+/// 8,192 flags, and eight marks for each of 4,096 chips. At a place beyond them none stands, and none can be set.
 #[derive(Drop)]
 pub struct Flags {
     words: [u64; WORDS],
+    marks: [u8; CHIPS],
 }
 
 impl Flags {
-    /// Every flag stands.
+    /// Every flag stands, and every mark.
     pub fn all() -> Flags {
         Flags {
             words: [u64::MAX; WORDS],
+            marks: [u8::MAX; CHIPS],
         }
     }
 
-    /// No flag stands.
+    /// No flag stands, and no mark.
     pub fn none() -> Flags {
-        Flags { words: [0; WORDS] }
+        Flags {
+            words: [0; WORDS],
+            marks: [0; CHIPS],
+        }
     }
 
     /// Whether the flag at a place stands.
@@ -44,6 +57,38 @@ impl Flags {
         let word = place / 64;
         if word < WORDS {
             self.words[word] &= !(1 << (place % 64));
+        }
+    }
+
+    /// Whether a mark of the chip of an index stands.
+    pub(crate) fn has_mark(&self, index: u32, mark: u8) -> bool {
+        let index = index as usize;
+        index < CHIPS && self.marks[index] >> (mark % 8) & 1 == 1
+    }
+
+    /// From now on a mark of a chip stands.
+    pub(crate) fn mark(&mut self, index: u32, mark: u8) {
+        let index = index as usize;
+        if index < CHIPS {
+            self.marks[index] |= 1 << (mark % 8);
+        }
+    }
+
+    /// From now on a mark of a chip doesn't stand.
+    pub(crate) fn unmark(&mut self, index: u32, mark: u8) {
+        let index = index as usize;
+        if index < CHIPS {
+            self.marks[index] &= !(1 << (mark % 8));
+        }
+    }
+
+    /// From now on who takes from a queue is awake; where that is a router, the queue's port is marked.
+    pub(crate) fn wake(&mut self, behind: Behind) {
+        self.set(behind.taker as usize);
+        if behind.taker % 2 == 0 {
+            let index = behind.taker / 2;
+            let port = behind.place.wrapping_sub(index.wrapping_mul(Port::COUNT));
+            self.mark(index, (port % 8) as u8);
         }
     }
 

@@ -1,18 +1,18 @@
 // A chip's router between queues.
 ghost use Rattle.std.specs.Prelude.{◌≡◌, ◌≢◌, ◌≤◌, ◌<◌, ◌+◌, [], ◌∷◌, ℕ, None, Some, length, slice_get, All, AllPairs, IsTrue};
-ghost use Rattle.spin_base.specs.Outputs.{IsOutput};
+ghost use Rattle.spin_base.specs.Outputs.{IsOutput, all_outs};
 ghost use Rattle.chip_node.specs.Acting.{IsIdleRouter, IsReadyRouter, RouterActs, ServesOuts, place_behind, service_items};
 ghost use Rattle.chip_node.specs.Going.{AreEndsOf, Goes, IsRoomy};
 ghost use Rattle.chip_node.specs.Passing.{SendsBehind};
-ghost use Rattle.chip_node.specs.Taking.{HasRoomBehind, HasRoomFor, Looks};
+ghost use Rattle.chip_node.specs.Taking.{HasRoomBehind, HasRoomFor, HasRoomIn, Looks};
 ghost use Rattle.chip_node.specs.declared.ends.Served.TheVariants.{Dumped};
 ghost use Rattle.chip_node.specs.declared.holdings.Turn.TheVariants.{Moved};
 
 use crate::ends::{Bounds, Seen, Served};
 use crate::flags::Flags;
 use crate::holdings::{Around, Holdings, Turn};
-use crate::nodes::RouterNode;
-use crate::routing::{ALL_OUTS, onward, outputs_of};
+use crate::nodes::{Behind, RouterNode};
+use crate::routing::{onward, outputs_of};
 use spin_base::{DumpRec, McCopy, Out, Outs, Port};
 use std::sync::Wait;
 
@@ -30,14 +30,17 @@ enum Look {
     Took(Taken),
     /// The queue was found empty.
     Empty,
+    /// Nobody looked, since the port isn't marked.
+    Passed,
     /// There may be no room for what the copy's turn needs.
     NoRoom,
 }
 
 impl RouterNode<'_> {
-    /// One turn: looks at the queues of its ports, from a start that goes round with the turn's number, until one gives a copy, and serves
+    /// One turn: looks at the queues of its ports that are marked, or of all, from a start that goes round with the turn's number, until one gives a copy, and serves
     /// each output that the table gives the copy at its port once, in order; none where its hop number is 4,294,967,295. It takes nothing
-    /// where there may be no room for what it would do. Where there is room, it takes nothing only where each of its queues is found empty.
+    /// where there may be no room for what it would do. Where there is room and it looks at all its queues, it takes nothing only where each
+    /// of them is found empty.
     /// Whoever takes what it sends is awake. No clause says at which queue it begins.
     pub fn turn<R: Wait>(
         self,
@@ -46,11 +49,12 @@ impl RouterNode<'_> {
         hold: &mut Holdings,
         awake: &mut Flags,
         number: u32,
+        all: bool,
     ) -> Turn
         requires { IsReadyRouter around.links.now self hold.old }
         ensures acts { RouterActs around.entry.capacity around.entry.patience self.entry.table.now
             self.entry hold.old result hold.new }
-        ensures idle { result ≢ Moved → IsRoomy around.entry.capacity hold.old
+        ensures idle { IsTrue all → result ≢ Moved → IsRoomy around.entry.capacity hold.old
             → IsIdleRouter self.entry hold.old }
         ensures ends { AreEndsOf around.entry.links.now hold.new.ends.items }
     {
@@ -58,31 +62,48 @@ impl RouterNode<'_> {
         let mut found = Turn::Nothing;
         for step in 0..Port::COUNT {
             let port = Port::ALL[((start + step) % Port::COUNT) as usize];
-            match self.look(rt, around, hold, port) {
+            match self.look(rt, around, hold, awake, port, all) {
                 Look::Took(taken) => {
                     self.serve_all(rt, around, hold, awake, taken.outs.as_slice(), taken.copy);
                     return Turn::Moved;
                 }
                 Look::Empty => {}
+                Look::Passed => {}
                 Look::NoRoom => found = Turn::Waits,
             }
         }
         found
     }
 
-    // Looks at the queue of a port: its first copy leaves it, where there is one and room for its turn.
-    fn look<R: Wait>(self, rt: &R, around: Around, hold: &mut Holdings, port: Port) -> Look
+    // Looks at the queue of a port, where that is marked or all are to be looked at: its first copy leaves it, where there is one and room
+    // for its turn. A lane that is found empty isn't marked any more.
+    fn look<R: Wait>(
+        self,
+        rt: &R,
+        around: Around,
+        hold: &mut Holdings,
+        awake: &mut Flags,
+        port: Port,
+        all: bool,
+    ) -> Look
         requires { IsReadyRouter around.links.now self hold.old }
         ensures looks { Looks around.entry.capacity around.entry.patience self.entry.table.now
-            self.entry port hold.old result hold.new }
+            self.entry port all hold.old result hold.new }
         ensures ready { IsReadyRouter around.entry.links.now self.entry hold.new }
     {
-        let place = (Port::COUNT * self.index) as usize + usize::from(port.number());
+        let number = port.number();
+        if !all && !awake.has_mark(self.index, number) {
+            return Look::Passed;
+        }
+        let place = (Port::COUNT * self.index) as usize + usize::from(number);
         let Some(end) = hold.ends.get(place) else {
             return Look::Empty;
         };
         match end.front() {
-            Seen::Nothing => Look::Empty,
+            Seen::Nothing => {
+                awake.unmark(self.index, number);
+                Look::Empty
+            }
             Seen::Front(copy) => {
                 let outs = outputs_of(self.table, port, copy);
                 if !self.has_room(around, hold, outs.as_slice()) {
@@ -94,7 +115,7 @@ impl RouterNode<'_> {
                 }
             }
             Seen::Unknown => {
-                if !self.has_room(around, hold, &ALL_OUTS) {
+                if !self.has_room_everywhere(around, hold) {
                     return Look::NoRoom;
                 }
                 match hold.ends[place].take(rt, around.links) {
@@ -106,6 +127,24 @@ impl RouterNode<'_> {
                 }
             }
         }
+    }
+
+    // Whether there is room for a copy at each output, and for as many records.
+    fn has_room_everywhere(self, around: Around, hold: &Holdings) -> bool
+        requires { length self.behind.now ≡ 24 }
+        ensures yes { IsTrue result
+            → HasRoomFor around.entry.capacity self.entry all_outs hold.now }
+        ensures no { IsRoomy around.entry.capacity hold.now → IsTrue result }
+    {
+        if hold.dumps.spare() < self.behind.len() {
+            return false;
+        }
+        for slot in self.behind {
+            if !has_room_in(around, hold, *slot) {
+                return false;
+            }
+        }
+        true
     }
 
     // Whether there is room for a copy at each of these outputs, and for as many records.
@@ -135,13 +174,7 @@ impl RouterNode<'_> {
         ensures yes { IsTrue result → HasRoomBehind around.entry.capacity self.entry hold.now out }
         ensures no { IsRoomy around.entry.capacity hold.now → IsTrue result }
     {
-        let Some(behind) = self.behind[out.number() as usize] else {
-            return true;
-        };
-        match hold.ends.get(behind.place as usize) {
-            None => true,
-            Some(end) => end.has_room(around.capacity),
-        }
+        has_room_in(around, hold, self.behind[out.number() as usize])
     }
 
     // Serves a copy at these outputs.
@@ -228,11 +261,25 @@ impl RouterNode<'_> {
         let Some(behind) = self.behind[out.number() as usize] else {
             return Served::Dumped;
         };
-        awake.set(behind.taker as usize);
+        awake.wake(behind);
         let bounds = Bounds {
             capacity: around.capacity,
             patience: around.patience,
         };
         hold.ends[behind.place as usize].send(rt, around.links, copy, bounds)
+    }
+}
+
+// Whether the queue behind an output, where there is one, takes a copy without more room, or takes none.
+fn has_room_in(around: Around, hold: &Holdings, slot: Option<Behind>) -> bool
+    ensures yes { IsTrue result → HasRoomIn around.entry.capacity slot hold.now }
+    ensures no { IsRoomy around.entry.capacity hold.now → IsTrue result }
+{
+    let Some(behind) = slot else {
+        return true;
+    };
+    match hold.ends.get(behind.place as usize) {
+        None => true,
+        Some(end) => end.has_room(around.capacity),
     }
 }

@@ -4,36 +4,8 @@ ghost use Rattle.spin_base.specs.Outputs.{IsOutput};
 ghost use Rattle.spin_base.specs.Hops.{onward};
 ghost use Rattle.chip_node.specs.Routing.{outputs_at};
 
-use spin_base::{Dir, McCopy, Out, Outs, Port};
+use spin_base::{McCopy, Outs, Port};
 use tcam_find::Tcam;
-
-/// The 24 outputs of a chip.
-pub(crate) const ALL_OUTS: [Out; 24] = [
-    Out::Link(Dir::East),
-    Out::Link(Dir::NorthEast),
-    Out::Link(Dir::North),
-    Out::Link(Dir::West),
-    Out::Link(Dir::SouthWest),
-    Out::Link(Dir::South),
-    Out::Core(0),
-    Out::Core(1),
-    Out::Core(2),
-    Out::Core(3),
-    Out::Core(4),
-    Out::Core(5),
-    Out::Core(6),
-    Out::Core(7),
-    Out::Core(8),
-    Out::Core(9),
-    Out::Core(10),
-    Out::Core(11),
-    Out::Core(12),
-    Out::Core(13),
-    Out::Core(14),
-    Out::Core(15),
-    Out::Core(16),
-    Out::Core(17),
-];
 
 /// The outputs that a table gives a copy that came in at this port: none where it has the greatest hop number.
 pub fn outputs_of(table: &Tcam, port: Port, copy: McCopy) -> Outs

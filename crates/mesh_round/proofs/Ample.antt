@@ -35,7 +35,7 @@ use Rattle.mesh_core.proofs.Law.{move_counts, comes_parts}
 use Rattle.mesh_core.proofs.LedgerLaw.{Bag, one_net, stands}
 use Rattle.mesh_core.proofs.Moves.{mark}
 use Rattle.mesh_core.proofs.Ways.{Stands, one_place, vertex_at_stands}
-use Rattle.mesh_round.specs.RoundFlow.{Flow, Passes, IsRound, IsFullAt, HasRounds, none as no_rounds, more, held_in, capacity_of, dumped_at}
+use Rattle.mesh_round.specs.RoundFlow.{Flow, Passes, IsRound, WasFullAt, HasRounds, none as no_rounds, more, held_in, capacity_of, dumped_at}
 use Rattle.mesh_round.specs.Work.{moves_left, to_go}
 use Rattle.mesh_round.proofs.Arrivals.{Right, held_right, arrived_right, crossing_right, on_behind, somewhere}
 use Rattle.mesh_core.proofs.Counting.{counted}
@@ -337,7 +337,7 @@ module _ (m : State) (f : Flow) (n : State) (nets : List NetPlan) (packets : Lis
           below j (inr later) = number_below j (right_in j later)
 
       -- so the queue was never full, where it has room for them all
-      never_full : length packets ≤ u.capacity → (e : ℕ × ℕ) → IsFullAt m f (behind u c o) e → ⊥
+      never_full : length packets ≤ u.capacity → (e : ℕ × ℕ) → WasFullAt m f (behind u c o) e → ⊥
       never_full roomy e full =
           let few = few_in in
           let both = length-append (held_in m (behind u c o)) (f.entered (behind u c o)) in
@@ -370,9 +370,9 @@ no_dump patience turns m n f nets packets one_way patient mesh after round right
             let times = mul-le-mul_left patience some in
             omega (arith, patient, times, enough)
 
-        by_fulls : (es : List (ℕ × ℕ)) → All (IsFullAt m f (behind m.setup d.chip d.out)) es → 1 ≤ length es → ((e : ℕ × ℕ) → IsFullAt m f (behind m.setup d.chip d.out) e → ⊥) → ⊥
+        by_fulls : (es : List (ℕ × ℕ)) → All (WasFullAt m f (behind m.setup d.chip d.out)) es → 1 ≤ length es → ((e : ℕ × ℕ) → WasFullAt m f (behind m.setup d.chip d.out) e → ⊥) → ⊥
         by_fulls [] all some never = absurd (omega (arith, some))
-        by_fulls (e ∷ es) all some never = never e (All-head (IsFullAt m f (behind m.setup d.chip d.out)) e es all)
+        by_fulls (e ∷ es) all some never = never e (All-head (WasFullAt m f (behind m.setup d.chip d.out)) e es all)
 
     by_list : (ds : List DumpRec) → f.dumped ≡ ds → f.dumped ≡ []
     by_list [] none = none

@@ -22,7 +22,7 @@ use Rattle.chip_node.specs.Items.{Item, Service, took, served, sent, got, brough
 use Rattle.mesh_core.specs.State.{Setup, FitsQueue, Queue}
 use Rattle.mesh_core.proofs.Changes.{queue_at-below}
 use Rattle.mesh_run.specs.Played.{held_at, port_count, IsDone, IsLiveIndex}
-use Rattle.mesh_round.specs.RoundFlow.{IsFullAt, capacity_of, held_in}
+use Rattle.mesh_round.specs.RoundFlow.{WasFullAt, capacity_of, held_in}
 use Rattle.mesh_round.proofs.Apart.{first_here, here}
 use Rattle.mesh_round.proofs.Done.{inside_of, place_is}
 use Rattle.mesh_round.proofs.Joined.{among_into}
@@ -66,7 +66,7 @@ module _ (r : Round) where
       by (beyond out some before after) = ap (λ (l : List McCopy). l ++ []) before ∙ sym after
       by (dark is) = ap (λ (l : List McCopy). l ++ []) (ap (held_in r.m) is) ∙ sym (ap (held_in r.n) is)
 
-  pub full : (q : Queue) → All (IsFullAt r.m (flow_of r) q) ((flow_of r).fulls q)
+  pub full : (q : Queue) → All (WasFullAt r.m (flow_of r) q) ((flow_of r).fulls q)
   full q = by (stands r q)
     where
       IsMoment : List McCopy → List McCopy → ℕ × ℕ → Type 0

@@ -9,23 +9,23 @@ use Rattle.mesh_core.specs.State.{State, input, core, nowhere}
 use Rattle.mesh_core.specs.Expected.{IsAtRest}
 use Rattle.mesh_round.specs.RoundFlow.{HasNoHand}
 use Rattle.mesh_run.specs.Played.{HasNone}
-use Rattle.mesh_round.specs.OnThreads.{HasSome, is_empty, has_none}
+use Rattle.mesh_round.specs.OnThreads.{HasSome, holds_none, has_none}
 
-no_copies : (q : List McCopy) → is_empty q ≡ true → q ≡ []
+no_copies : (q : List McCopy) → holds_none q ≡ true → q ≡ []
 no_copies [] is = refl
 no_copies (k ∷ ks) is = let long = eqb-true (length (k ∷ ks)) 0 is in absurd (omega (arith, long))
 
-all_empty : (qs : List (List McCopy)) → list_all is_empty qs ≡ true → All (λ q. q ≡ []) qs
+all_empty : (qs : List (List McCopy)) → list_all holds_none qs ≡ true → All (λ q. q ≡ []) qs
 all_empty [] is = All-nil (λ q. q ≡ [])
 all_empty (q ∷ qs) is =
-    let parts = and_parts (is_empty q) (list_all is_empty qs) is in
+    let parts = and_parts (holds_none q) (list_all holds_none qs) is in
     All-cons (λ q'. q' ≡ []) q qs (no_copies q parts.0) (all_empty qs parts.1)
 
 -- a queue that holds a copy
 abbrev HoldsSome : List (List McCopy) → Type 0
 HoldsSome qs = (i : ℕ) × (slice_index_or qs i [] ≢ [])
 
-some_copy : (qs : List (List McCopy)) → list_all is_empty qs ≡ false → HoldsSome qs
+some_copy : (qs : List (List McCopy)) → list_all holds_none qs ≡ false → HoldsSome qs
 some_copy [] is = cc
 some_copy ([] ∷ qs) is = let rest = some_copy qs is in (suc rest.0, rest.1)
 some_copy ((k ∷ ks) ∷ qs) is = (0, apart)
@@ -35,17 +35,17 @@ some_copy ((k ∷ ks) ∷ qs) is = (0, apart)
 
 pub rests : (s : State) → has_none s ≡ true → HasNoHand s → IsAtRest s
 rests s is no_hand =
-    let a = and_parts (list_all is_empty s.inputs) (list_all is_empty s.cores && list_all is_empty s.unsent) is in
-    let b = and_parts (list_all is_empty s.cores) (list_all is_empty s.unsent) a.1 in
+    let a = and_parts (list_all holds_none s.inputs) (list_all holds_none s.cores && list_all holds_none s.unsent) is in
+    let b = and_parts (list_all holds_none s.cores) (list_all holds_none s.unsent) a.1 in
     record {
       waits = record { inputs_empty = all_empty s.inputs a.0; hands_empty = no_hand; cores_empty = all_empty s.cores b.0 };
       all_sent = all_empty s.unsent b.1;
     }
 
 pub has_some : (s : State) → has_none s ≡ false → HasSome s
-has_some s is = by_parts (list_all is_empty s.inputs) refl (list_all is_empty s.cores) refl (list_all is_empty s.unsent) refl is
+has_some s is = by_parts (list_all holds_none s.inputs) refl (list_all holds_none s.cores) refl (list_all holds_none s.unsent) refl is
   where
-    by_parts : (a : Bool) → list_all is_empty s.inputs ≡ a → (b : Bool) → list_all is_empty s.cores ≡ b → (d : Bool) → list_all is_empty s.unsent ≡ d →
+    by_parts : (a : Bool) → list_all holds_none s.inputs ≡ a → (b : Bool) → list_all holds_none s.cores ≡ b → (d : Bool) → list_all holds_none s.unsent ≡ d →
         (a && (b && d)) ≡ false → HasSome s
     by_parts false inputs b cores d unsent some = let of = some_copy s.inputs inputs in inl (input of.0, of.1)
     by_parts true inputs false cores d unsent some = let of = some_copy s.cores cores in inl (core of.0, of.1)

@@ -11,12 +11,12 @@ abbrev pub HasSome : State → Type 0
 HasSome s = ((q : Queue) × (held_in s q ≢ [])) ⊎ ((v : ℕ) × (slice_index_or s.unsent v [] ≢ []))
 
 -- whether a queue holds no copy
-abbrev pub is_empty : List McCopy → Bool
-is_empty copies = length copies == 0
+abbrev pub holds_none : List McCopy → Bool
+holds_none copies = length copies == 0
 
 -- whether no queue holds a copy and no vertex has one that it did not send
 abbrev pub has_none : State → Bool
-has_none s = list_all is_empty s.inputs && (list_all is_empty s.cores && list_all is_empty s.unsent)
+has_none s = list_all holds_none s.inputs && (list_all holds_none s.cores && list_all holds_none s.unsent)
 
 -- One mesh leads to another by a round in which routers and banks did this: with some flow, in which a copy moves where anything was
 -- done.

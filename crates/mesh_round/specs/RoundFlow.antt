@@ -78,8 +78,8 @@ abbrev pub got_on : Setup → Flow → Chip → List McCopy
 got_on u f c = gathered (λ v spot. of_chip c spot (delivered_to f v)) 0 u.spots
 
 -- a moment at which a queue was found full: as many copies had entered and left by then as leave it with its capacity
-abbrev pub IsFullAt : State → Flow → Queue → ℕ × ℕ → Type 0
-IsFullAt m f q e = (e.0 ≤ length (f.entered q)) × (e.1 ≤ length (f.left q)) × (length (held_in m q) + e.0 ≡ e.1 + capacity_of m.setup q)
+abbrev pub WasFullAt : State → Flow → Queue → ℕ × ℕ → Type 0
+WasFullAt m f q e = (e.0 ≤ length (f.entered q)) × (e.1 ≤ length (f.left q)) × (length (held_in m q) + e.0 ≡ e.1 + capacity_of m.setup q)
 
 -- no router holds a copy in hand
 abbrev pub HasNoHand : State → Type 0
@@ -114,7 +114,7 @@ pub record Passes (m : State) (f : Flow) (n : State) : Type 0 where
 -- none get more copies than there are turns.
 pub record IsRound (patience turns : ℕ) (m : State) (f : Flow) (n : State) : Type 0 where
   pub passes : Passes m f n
-  pub full : (q : Queue) → All (IsFullAt m f q) (f.fulls q)
+  pub full : (q : Queue) → All (WasFullAt m f q) (f.fulls q)
   pub patient : (c : Chip) (o : Out) → IsLiveChip m.setup.machine c → IsOutput o → patience * length (dumped_at f c o) ≤ length (f.fulls (behind m.setup c o))
   pub takes : (c : Chip) → IsLiveChip m.setup.machine c → sum_by (λ port. length (f.left (at_port m.setup c port))) all_ports ≤ turns
   pub sends : (c : Chip) → IsLiveChip m.setup.machine c → length (sent_on m.setup f c) ≤ turns

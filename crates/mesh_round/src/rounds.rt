@@ -4,7 +4,7 @@ ghost use Rattle.std.specs.List.{list_all};
 ghost use Rattle.mesh_core.specs.State.{IsMesh};
 ghost use Rattle.mesh_core.specs.Expected.{IsAtRest};
 ghost use Rattle.mesh_round.specs.RoundFlow.{HasNoHand, HasRounds};
-ghost use Rattle.mesh_round.specs.OnThreads.{LeadsByRound, MayGoOn, has_none, is_empty};
+ghost use Rattle.mesh_round.specs.OnThreads.{LeadsByRound, MayGoOn, has_none, holds_none};
 ghost use Rattle.mesh_round.specs.Bound.{HasMovingRounds, LeadsSoon};
 
 use crate::flow_laws::rounds_that_move_copies_are_few;
@@ -161,7 +161,7 @@ fn is_at_rest(parts: &MeshParts) -> bool
 
 // Whether each queue is empty.
 fn are_empty(queues: &[Fifo<McCopy>]) -> bool
-    ensures { result ≡ list_all is_empty queues.now }
+    ensures { result ≡ list_all holds_none queues.now }
 {
     queues.iter().all(|queue| queue.len() == 0)
 }

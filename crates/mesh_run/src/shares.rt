@@ -80,14 +80,21 @@ impl Share {
                 }
             }
             if at < self.to {
-                self.turn_one(rt, ground, number, at);
+                self.turn_one(rt, ground, number, at, all);
             }
             at += 1;
         }
     }
 
     // One turn of the actor at a place.
-    fn turn_one<R: Wait>(&mut self, rt: &R, ground: Ground, number: u32, at: usize)
+    fn turn_one<R: Wait>(
+        &mut self,
+        rt: &R,
+        ground: Ground,
+        number: u32,
+        at: usize,
+        all: bool,
+    )
         requires floor { IsFloorOf ground.setup.now ground.floor.now }
         requires share { IsShareOf ground.setup.now ground.around.links.now self.old }
         requires above { self.old.from ≤ at }
@@ -96,7 +103,7 @@ impl Share {
             self.new }
         ensures share { IsShareOf ground.entry.setup.now ground.entry.around.links.now self.new }
     {
-        match self.act(rt, ground, number, at) {
+        match self.act(rt, ground, number, at, all) {
             Turn::Moved => self.moved = true,
             Turn::Waits => self.short.set(at),
             Turn::Nothing => {
@@ -108,7 +115,14 @@ impl Share {
     }
 
     // What the actor at a place does in a turn. On a chip that isn't live there is none.
-    fn act<R: Wait>(&mut self, rt: &R, ground: Ground, number: u32, at: usize) -> Turn
+    fn act<R: Wait>(
+        &mut self,
+        rt: &R,
+        ground: Ground,
+        number: u32,
+        at: usize,
+        all: bool,
+    ) -> Turn
         requires floor { IsFloorOf ground.setup.now ground.floor.now }
         requires share { IsShareOf ground.setup.now ground.around.links.now self.old }
         requires above { self.old.from ≤ at }
@@ -121,13 +135,13 @@ impl Share {
         if at % 2 == 0 {
             match ground.floor.router(ground.setup, index) {
                 Some(router) => {
-                    router.turn(rt, ground.around, &mut self.hold, &mut self.awake, number)
+                    router.turn(rt, ground.around, &mut self.hold, &mut self.awake, number, all)
                 }
                 None => Turn::Nothing,
             }
         } else if ground.floor.is_live(index) {
             let bank = ground.floor.bank(index);
-            bank.turn(rt, ground.around, &mut self.hold, &mut self.awake, number)
+            bank.turn(rt, ground.around, &mut self.hold, &mut self.awake, number, all)
         } else {
             Turn::Nothing
         }

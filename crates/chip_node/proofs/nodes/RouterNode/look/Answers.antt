@@ -3,7 +3,6 @@ use Rattle.std.proofs.lemmas.Bool.{false≢true}
 use Rattle.std.proofs.lemmas.List.Elements.{All-set}
 use Rattle.spin_base.proofs.Places.{one_item_at}
 use Rattle.spin_base.specs.declared.routes.Out.{Out}
-use Rattle.spin_base.specs.Outputs.{core_outs, link_outs}
 use Rattle.chip_node.specs.declared.ends.Seen.TheVariants.{Front}
 use Rattle.chip_node.specs.Going.{IsEndOf}
 use Rattle.chip_node.specs.Items.{port_place}
@@ -19,12 +18,15 @@ use Rattle.chip_node.proofs.nodes.RouterNode.look.Goals as goal
 
 pub returns-in_default-clause-looks : goal.returns-in_default-clause-looks
 returns-in_default-clause-looks g c =
-    let at : 7 * c.args.self.index + c.from.result ≡ port_place c.args.self.index c.args.port = ap (λ n. 7 * c.args.self.index + n) (c.from.ensures ∙ c.number.ensures.number) in
+    let at : 7 * c.args.self.index + c.from.result ≡ port_place c.args.self.index c.args.port = ap (λ n. 7 * c.args.self.index + n) (c.from.ensures ∙ c.number-number.ensures.number) in
     (stays_same c.args.hold.now, idle_past c.args.hold.now.ends.items c.deref.result.now _ _ c.deref.ensures.value at c.in_default.ensures.lookup.3)
+
+pub returns-then-not-has_mark-clause-looks : goal.returns-then-not-has_mark-clause-looks
+returns-then-not-has_mark-clause-looks g c = (stays_same c.args.hold.now, (let not = c.if-not-all.true in cc))
 
 pub returns-in-Nothing-clause-looks : goal.returns-in-Nothing-clause-looks
 returns-in-Nothing-clause-looks g c =
-    let at : 7 * c.args.self.index + c.from.result ≡ port_place c.args.self.index c.args.port = ap (λ n. 7 * c.args.self.index + n) (c.from.ensures ∙ c.number.ensures.number) in
+    let at : 7 * c.args.self.index + c.from.result ≡ port_place c.args.self.index c.args.port = ap (λ n. 7 * c.args.self.index + n) (c.from.ensures ∙ c.number-number.ensures.number) in
     let x = c.in-Some.end.now in
     let stands = read_stands c.args.hold.now.ends.items c.deref.result.now _ _ x c.deref.ensures.value at c.in-Some.ensures.lookup.3.0 c.in-Some.ensures.lookup.1 in
     (stays_same c.args.hold.now, idle_at c.args.hold.now.ends.items _ x stands (end_lacks_idle x x c.in-Nothing.ensures))
@@ -32,14 +34,14 @@ returns-in-Nothing-clause-looks g c =
 pub returns-then-not-has_room-clause-looks : goal.returns-then-not-has_room-clause-looks
 returns-then-not-has_room-clause-looks g c = (stays_same c.args.hold.now, λ roomy. false≢true (c.if-not-has_room.ensures.no roomy))
 
-pub returns-then-not-has_room-2-clause-looks : goal.returns-then-not-has_room-2-clause-looks
-returns-then-not-has_room-2-clause-looks g c = (stays_same c.args.hold.now, λ roomy. false≢true (c.if-not-has_room-2.ensures.no roomy))
+pub returns-then-not-has_room_everywhere-clause-looks : goal.returns-then-not-has_room_everywhere-clause-looks
+returns-then-not-has_room_everywhere-clause-looks g c = (stays_same c.args.hold.now, λ roomy. false≢true (c.if-not-has_room_everywhere.ensures.no roomy))
 
 pub returns-in-Some-take-clause-looks : goal.returns-in-Some-take-clause-looks
 returns-in-Some-take-clause-looks g c =
     let r = c.args.self in
     let a = c.args.hold.now in
-    let at : 7 * r.index + c.from.result ≡ port_place r.index c.args.port = ap (λ n. 7 * r.index + n) (c.from.ensures ∙ c.number.ensures.number) in
+    let at : 7 * r.index + c.from.result ≡ port_place r.index c.args.port = ap (λ n. 7 * r.index + n) (c.from.ensures ∙ c.number-number.ensures.number) in
     let old = c.index_mut.result.now in
     let new = c.take.new.self in
     let long = ap length c.deref.ensures.value in
@@ -70,7 +72,7 @@ pub returns-in-None-clause-looks : goal.returns-in-None-clause-looks
 returns-in-None-clause-looks g c =
     let r = c.args.self in
     let a = c.args.hold.now in
-    let at : 7 * r.index + c.from.result ≡ port_place r.index c.args.port = ap (λ n. 7 * r.index + n) (c.from.ensures ∙ c.number.ensures.number) in
+    let at : 7 * r.index + c.from.result ≡ port_place r.index c.args.port = ap (λ n. 7 * r.index + n) (c.from.ensures ∙ c.number-number.ensures.number) in
     let old = c.index_mut.result.now in
     let new = c.take.new.self in
     let long = ap length c.deref.ensures.value in
@@ -90,11 +92,10 @@ returns-in-None-clause-ready g c =
     (All-set (IsEndOf c.args.around.links.now) c.args.hold.now.ends.items _ c.take.new.self c.in-None.ensures.end c.requires.ends) c.requires
 
 pub returns-in-Some-take-2-clause-looks : goal.returns-in-Some-take-2-clause-looks
-unfolding link_outs core_outs
 returns-in-Some-take-2-clause-looks g c =
     let r = c.args.self in
     let a = c.args.hold.now in
-    let at : 7 * r.index + c.from.result ≡ port_place r.index c.args.port = ap (λ n. 7 * r.index + n) (c.from.ensures ∙ c.number.ensures.number) in
+    let at : 7 * r.index + c.from.result ≡ port_place r.index c.args.port = ap (λ n. 7 * r.index + n) (c.from.ensures ∙ c.number-number.ensures.number) in
     let old = c.index_mut-in-Unknown.result.now in
     let new = c.take-in-Unknown.new.self in
     let long = ap length c.deref.ensures.value in
@@ -110,7 +111,7 @@ returns-in-Some-take-2-clause-looks g c =
       differ = c.outputs_of-outs-in-Some-take-2.ensures.differ;
       room = room_kept c.args.around.capacity c.args.around.links.now r c.args.port _ a _ old new c.requires w refl
           (subst (λ (l : List Out). HasRoomFor c.args.around.capacity r l a) (sym given)
-          (room_for_all c.args.around.capacity r.table.now r c.args.port c.in-Some-take-2.copy a (c.if-not-has_room-2.ensures.yes refl)));
+          (room_for_all c.args.around.capacity r.table.now r c.args.port c.in-Some-take-2.copy a (c.if-not-has_room_everywhere.ensures.yes refl)));
     }
 
 pub returns-in-Some-take-2-clause-ready : goal.returns-in-Some-take-2-clause-ready
@@ -122,7 +123,7 @@ pub returns-in-None-take-clause-looks : goal.returns-in-None-take-clause-looks
 returns-in-None-take-clause-looks g c =
     let r = c.args.self in
     let a = c.args.hold.now in
-    let at : 7 * r.index + c.from.result ≡ port_place r.index c.args.port = ap (λ n. 7 * r.index + n) (c.from.ensures ∙ c.number.ensures.number) in
+    let at : 7 * r.index + c.from.result ≡ port_place r.index c.args.port = ap (λ n. 7 * r.index + n) (c.from.ensures ∙ c.number-number.ensures.number) in
     let old = c.index_mut-in-Unknown.result.now in
     let new = c.take-in-Unknown.new.self in
     let long = ap length c.deref.ensures.value in

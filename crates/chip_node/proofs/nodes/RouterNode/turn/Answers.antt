@@ -9,7 +9,7 @@ use Rattle.chip_node.proofs.GoingRound.{gone_more}
 use Rattle.chip_node.proofs.Stays.{roomy_on, stays_on}
 use Rattle.chip_node.proofs.Turning.{next_idle, port_at, port_step, ports_gone, routes_one, seven_ports}
 use Rattle.chip_node.proofs.nodes.RouterNode.turn.Goals as goal
-use Rattle.chip_node.proofs.nodes.RouterNode.turn.Goals.{in-Empty, in-NoRoom}
+use Rattle.chip_node.proofs.nodes.RouterNode.turn.Goals.{in-Empty, in-NoRoom, in-Passed}
 
 pub returns-in-Took-clause-acts : goal.returns-in-Took-clause-acts
 returns-in-Took-clause-acts g c =
@@ -38,8 +38,16 @@ loop-step-preserved g c =
             stays = stays_on a m b before.stays looks.0;
             ready = c.look.ensures.ready;
             none = λ e. before.none (sym w.found-is ∙ e);
-            idle = λ roomy. gone_more (λ (j : ℕ). (p : Port) → port_number p ≡ j → IsIdleAt a.ends.items (port_place i p)) start 7 step at more below (port_step c.args.number step more)
-                (next_idle a m i at port before.stays (port_at at below) looks.1) (before.idle roomy);
+            idle = λ is roomy. gone_more (λ (j : ℕ). (p : Port) → port_number p ≡ j → IsIdleAt a.ends.items (port_place i p)) start 7 step at more below (port_step c.args.number step more)
+                (next_idle a m i at port before.stays (port_at at below) looks.1) (before.idle is roomy);
+          }
+      | in-Passed w ↦
+          let looks = w.in-Passed.ensures.looks in
+          record {
+            stays = stays_on a m b before.stays looks.0;
+            ready = c.look.ensures.ready;
+            none = λ e. before.none (sym w.found-is ∙ e);
+            idle = λ is roomy. (let not = looks.1 in cc);
           }
       | in-NoRoom w ↦
           let looks = w.in-NoRoom.ensures.looks in
@@ -47,11 +55,11 @@ loop-step-preserved g c =
             stays = stays_on a m b before.stays looks.0;
             ready = c.look.ensures.ready;
             none = λ e. (let waits = w.found-is in cc);
-            idle = λ roomy. absurd (looks.1 (roomy_on cap a m before.stays roomy));
+            idle = λ is roomy. absurd (looks.1 (roomy_on cap a m before.stays roomy));
           }
     ]
 
 pub returns-clause-idle : goal.returns-clause-idle
-returns-clause-idle g c = λ none roomy port.
+returns-clause-idle g c = λ is none roomy port.
     ports_gone (λ (j : ℕ). (p : Port) → port_number p ≡ j → IsIdleAt c.args.hold.now.ends.items (port_place c.args.self.index p)) (c.args.number % 7) c.loop-step.step (omega arith)
-    (c.loop-step.invariant.idle roomy) port port refl
+    (c.loop-step.invariant.idle is roomy) port port refl

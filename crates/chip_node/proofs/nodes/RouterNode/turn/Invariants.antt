@@ -1,4 +1,5 @@
 use Rattle.std.proofs.Common.{◌≡◌, ◌≢◌}
+use Rattle.std.specs.Prelude.{IsTrue}
 use Rattle.spin_base.specs.declared.chips.Port.{Port}
 use Rattle.spin_base.specs.Links.{port_number}
 use Rattle.chip_node.specs.declared.holdings.Turn.TheVariants.{Moved}
@@ -8,11 +9,11 @@ use Rattle.chip_node.specs.Items.{port_place}
 use Rattle.chip_node.proofs.GoingRound.{GoneBy}
 use Rattle.chip_node.proofs.nodes.RouterNode.turn.Given as goal
 
--- nothing was done so far; where there is room, that is since the queues of the ports so far are empty
+-- nothing was done so far; where there is room and all are looked at, that is since the queues of the ports so far are empty
 abbrev pub invariant-loop-step : goal.invariant-loop-step
 invariant-loop-step g l = record {
   stays : Stays l.fn.hold l.hold;
   ready : IsReadyRouter l.around.links.now l.self l.hold;
   none : l.found ≢ Moved;
-  idle : IsRoomy l.around.capacity l.fn.hold → GoneBy (λ j. (port : Port) → port_number port ≡ j → IsIdleAt l.fn.hold.ends.items (port_place l.self.index port)) l.start 7 l.step;
+  idle : IsTrue l.all → IsRoomy l.around.capacity l.fn.hold → GoneBy (λ j. (port : Port) → port_number port ≡ j → IsIdleAt l.fn.hold.ends.items (port_place l.self.index port)) l.start 7 l.step;
 }

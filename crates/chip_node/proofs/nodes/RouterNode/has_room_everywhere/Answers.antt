@@ -1,0 +1,14 @@
+use Rattle.std.proofs.Common.{Option, subst, arith}
+use Rattle.std.specs.List.{All}
+use Rattle.std.proofs.lemmas.List.{take_all}
+use Rattle.chip_node.specs.declared.nodes.Behind.{Behind}
+use Rattle.chip_node.specs.Taking.{HasRoomIn}
+use Rattle.chip_node.proofs.Looking.{room_everywhere}
+use Rattle.chip_node.proofs.nodes.RouterNode.has_room_everywhere.Goals as goal
+
+pub returns-clause-yes : goal.returns-clause-yes
+returns-clause-yes c = λ yes.
+    let h = c.args.hold.now in
+    let all = take_all c.loop-slot.slot-index c.args.self.behind.now (omega arith) in
+    room_everywhere c.args.around.capacity c.args.self h
+    (subst (All (λ (slot : Option Behind). HasRoomIn c.args.around.capacity slot h)) all c.loop-slot.invariant) (omega arith)
