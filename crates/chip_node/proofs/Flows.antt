@@ -16,7 +16,7 @@ use Rattle.chip_node.specs.declared.nodes.CoreBank.{CoreBank}
 use Rattle.chip_node.specs.declared.nodes.RouterNode.{RouterNode}
 use Rattle.chip_node.specs.Acting.{IsReadyBank, IsReadyRouter}
 use Rattle.chip_node.specs.Going.{AreEndsOf, EndGoes, EndStays, Goes, HoldsSender, IsFullMoment, IsSending, LaneGoes, Stays}
-use Rattle.chip_node.specs.Items.{Item, delivered_of, deliveries, dumped_of, entered, entered_by, injection_place, left, left_by, lost_at, lost_by, records, sent_by, sent_of}
+use Rattle.chip_node.specs.Items.{Item, delivered_of, deliveries, dumped_of, entered, entered_by, injection_place, left, left_by, lost_at, lost_by, records, sent_by, sent_in}
 use Rattle.chip_node.proofs.Stays.{end_before, patient_on, sender_on, taker_on}
 
 -- ---- lanes
@@ -156,7 +156,7 @@ goes_on cap patience a b c xs ys h k = record {
   unsent_long = k.unsent_long ∙ h.unsent_long;
   unsent = λ v.
       h.unsent v ∙ (ap (λ l. sent_by v xs ++ l) (k.unsent v) ∙ (sym (append_assoc (sent_by v xs) (sent_by v ys) (slice_index_or c.unsent.items v []))
-      ∙ ap (λ l. l ++ slice_index_or c.unsent.items v []) (sym (flat_map-append (sent_of v) xs ys))));
+      ∙ ap (λ l. l ++ slice_index_or c.unsent.items v []) (sym (flat_map-append (sent_in v) xs ys))));
   delivered =
       k.delivered ∙ (ap (λ l. l ++ deliveries ys) h.delivered ∙ (append_assoc a.deliveries.items (deliveries xs) (deliveries ys)
       ∙ ap (λ l. a.deliveries.items ++ l) (sym (flat_map-append delivered_of xs ys))));

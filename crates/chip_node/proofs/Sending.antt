@@ -14,14 +14,14 @@ use Rattle.chip_node.specs.declared.ends.End.{End}
 use Rattle.chip_node.specs.declared.ends.Served.{Served}
 use Rattle.chip_node.specs.declared.ends.Served.TheVariants.{Sent, Dumped}
 use Rattle.chip_node.specs.declared.nodes.Behind.{Behind}
-use Rattle.chip_node.specs.Acting.{place_behind, place_in}
+use Rattle.chip_node.specs.Acting.{place_at_router, place_in}
 use Rattle.chip_node.specs.Going.{HoldsSender, IsSending}
 use Rattle.chip_node.specs.Items.{recorded}
 use Rattle.chip_node.specs.Passing.{SendsBehind}
 
 -- ---- the place behind an output
 
-pub place_there : (behind : List (Option Behind)) (o : Out) (n : ℕ) (d : Option Behind) (b : Behind) → n ≡ out_number o → length behind ≡ 24 → IsOutput o → get_or behind n d ≡ Some b → place_behind behind o ≡ Some b.place
+pub place_there : (behind : List (Option Behind)) (o : Out) (n : ℕ) (d : Option Behind) (b : Behind) → n ≡ out_number o → length behind ≡ 24 → IsOutput o → get_or behind n d ≡ Some b → place_at_router behind o ≡ Some b.place
 place_there behind o n d b number long numbered is =
     let below = out_number_below o numbered in
     let stands : slice_get behind (out_number o) ≡ Some (get_or behind n d) = ap (slice_get behind) (sym number) ∙ slice_get-get_or behind n d (omega arith) in

@@ -8,7 +8,7 @@ use Rattle.spin_base.specs.Outputs.{IsOutput}
 use Rattle.link_queue.specs.declared.links.Link.{Link}
 use Rattle.chip_node.specs.declared.holdings.Holdings.{Holdings}
 use Rattle.chip_node.specs.declared.nodes.RouterNode.{RouterNode}
-use Rattle.chip_node.specs.Acting.{IsReadyRouter, ServesOuts, place_behind, service_items}
+use Rattle.chip_node.specs.Acting.{IsReadyRouter, ServesOuts, place_at_router, service_items}
 use Rattle.chip_node.specs.Going.{Goes}
 use Rattle.chip_node.specs.Items.{Item, Service, served}
 use Rattle.std.proofs.lemmas.List.Elements.{All-nil, All-cons, All-append}
@@ -18,13 +18,13 @@ use Rattle.chip_node.proofs.Flows.{goes_none, goes_on}
 use Rattle.chip_node.proofs.Stays.{stays_same}
 
 pub serves_none : (cap patience : ℕ) (r : RouterNode) (k : McCopy) (a : Holdings) → ServesOuts cap patience r [] k a a
-serves_none cap patience r k a = record { done = []; each_once = refl; nowhere = All-nil (λ (s : Service). place_behind r.behind.now s.out ≡ None → s.fate ≡ Dumped); goes = goes_none cap patience a a (stays_same a) }
+serves_none cap patience r k a = record { done = []; each_once = refl; nowhere = All-nil (λ (s : Service). place_at_router r.behind.now s.out ≡ None → s.fate ≡ Dumped); goes = goes_none cap patience a a (stays_same a) }
 
 -- one output more
-pub serves_more : (cap patience : ℕ) (r : RouterNode) (k : McCopy) (a b c : Holdings) (outs : List Out) (i : ℕ) (s : Service) → i < length outs → s.out ≡ get_or outs i s.out → s.copy ≡ k → (place_behind r.behind.now s.out ≡ None → s.fate ≡ Dumped)
+pub serves_more : (cap patience : ℕ) (r : RouterNode) (k : McCopy) (a b c : Holdings) (outs : List Out) (i : ℕ) (s : Service) → i < length outs → s.out ≡ get_or outs i s.out → s.copy ≡ k → (place_at_router r.behind.now s.out ≡ None → s.fate ≡ Dumped)
     → ServesOuts cap patience r (take i outs) k a b → Goes cap patience b (service_items r (s ∷ [])) c → ServesOuts cap patience r (take (i + 1) outs) k a c
 serves_more cap patience r k a b c outs i s below read of nowhere h goes = record {
-  nowhere = All-append (λ (x : Service). place_behind r.behind.now x.out ≡ None → x.fate ≡ Dumped) h.done (s ∷ []) h.nowhere (All-cons (λ (x : Service). place_behind r.behind.now x.out ≡ None → x.fate ≡ Dumped) s [] nowhere (All-nil (λ (x : Service). place_behind r.behind.now x.out ≡ None → x.fate ≡ Dumped)));
+  nowhere = All-append (λ (x : Service). place_at_router r.behind.now x.out ≡ None → x.fate ≡ Dumped) h.done (s ∷ []) h.nowhere (All-cons (λ (x : Service). place_at_router r.behind.now x.out ≡ None → x.fate ≡ Dumped) s [] nowhere (All-nil (λ (x : Service). place_at_router r.behind.now x.out ≡ None → x.fate ≡ Dumped)));
   done = h.done ++ s ∷ [];
   each_once =
       map-append pair h.done (s ∷ [])
@@ -44,18 +44,18 @@ serves_more cap patience r k a b c outs i s below read of nowhere h goes = recor
     with_copy o = (o, k)
 
     item : Service → Item
-    item x = served r.index r.chip (place_behind r.behind.now x.out) x
+    item x = served r.index r.chip (place_at_router r.behind.now x.out) x
 
 pub serves_all : (cap patience : ℕ) (r : RouterNode) (k : McCopy) (a b : Holdings) (outs : List Out) (i : ℕ) → length outs ≤ i → ServesOuts cap patience r (take i outs) k a b → ServesOuts cap patience r outs k a b
 serves_all cap patience r k a b outs i past h = subst (λ (l : List Out). ServesOuts cap patience r l k a b) (take_all i outs past) h
 
 -- the outputs from one on still have room, where the queue behind the one before alone has changed
 pub room_left : (cap : ℕ) (links : List Link) (r : RouterNode) (a b : Holdings) (outs : List Out) (i : ℕ) (o : Out) → IsReadyRouter links r a → All IsOutput outs → AllPairs (λ x y. x ≢ y) outs → i < length outs → o ≡ get_or outs i o
-    → AllWithin (HasRoomBehind cap r a) outs i (length outs) → ((q : ℕ) → place_behind r.behind.now o ≢ Some q → slice_get b.ends.items q ≡ slice_get a.ends.items q) → AllWithin (HasRoomBehind cap r b) outs (i + 1) (length outs)
+    → AllWithin (HasRoomBehind cap r a) outs i (length outs) → ((q : ℕ) → place_at_router r.behind.now o ≢ Some q → slice_get b.ends.items q ≡ slice_get a.ends.items q) → AllWithin (HasRoomBehind cap r b) outs (i + 1) (length outs)
 room_left cap links r a b outs i o ready numbered differ below read room elsewhere = λ j d from inside q e behind stands.
     (let p = get_or outs j d in
     let o_is : IsOutput o = subst IsOutput (sym read) (numbered i o below) in
     let p_is : IsOutput p = numbered j d inside in
     let apart : o ≢ p = λ same. differ i j d (omega arith) inside (get_or_default outs i d o below ∙ (sym read ∙ same)) in
-    let other : place_behind r.behind.now o ≢ Some q = λ also. apart (ready.differ o p q also behind o_is p_is) in
+    let other : place_at_router r.behind.now o ≢ Some q = λ also. apart (ready.differ o p q also behind o_is p_is) in
     room j d (omega arith) inside q e behind (sym (elsewhere q other) ∙ stands))

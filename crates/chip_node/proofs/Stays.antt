@@ -16,7 +16,7 @@ use Rattle.chip_node.specs.declared.ends.InEnd.{InEnd}
 use Rattle.chip_node.specs.declared.ends.OutEnd.{OutEnd}
 use Rattle.chip_node.specs.declared.holdings.Holdings.{Holdings}
 use Rattle.chip_node.specs.Ends.{IsOutEndOf}
-use Rattle.chip_node.specs.Going.{AreEndsOf, EndStays, HasRoom, IsEndOf, IsFullAt, IsFullEnd, IsIdle, IsIdleAt, IsRoomy, SenderGoes, Stays, TakerGoes}
+use Rattle.chip_node.specs.Going.{AreEndsOf, EndStays, EndHasRoom, IsEndOf, IsFullAt, IsFullEnd, IsIdle, IsIdleAt, HasAmpleRoom, SenderGoes, Stays, TakerGoes}
 
 -- ---- ends of links, one step after the other
 
@@ -80,11 +80,11 @@ end_idle_before (Takes a) y (b, is, h) idle =
     let whole : StartsWith (taking b.rx).took (taking b.rx).first = subst IsIdle is idle in
     (whole.0, ap (λ l. l ++ whole.0) (sym h.first) ∙ (whole.1 ∙ (h.took ∙ append-nil (taking a.rx).took)))
 
-end_roomy_on : (cap : ℕ) (x y : End) → EndStays x y → HasRoom cap x → HasRoom cap y
-end_roomy_on cap Away y h room = subst (HasRoom cap) (sym h) tt
-end_roomy_on cap (Own a) y h room = subst (HasRoom cap) (sym h) room
-end_roomy_on cap (Sends a) y (b, is, h) room = subst (HasRoom cap) (sym is) tt
-end_roomy_on cap (Takes a) y (b, is, h) room = subst (HasRoom cap) (sym is) tt
+end_roomy_on : (cap : ℕ) (x y : End) → EndStays x y → EndHasRoom cap x → EndHasRoom cap y
+end_roomy_on cap Away y h room = subst (EndHasRoom cap) (sym h) tt
+end_roomy_on cap (Own a) y h room = subst (EndHasRoom cap) (sym h) room
+end_roomy_on cap (Sends a) y (b, is, h) room = subst (EndHasRoom cap) (sym is) tt
+end_roomy_on cap (Takes a) y (b, is, h) room = subst (EndHasRoom cap) (sym is) tt
 
 -- two ends of one link have its capacity
 same_cap : (links : List Link) (x y : OutEnd) → IsOutEndOf links x → IsOutEndOf links y → y.link ≡ x.link → (sending y.tx).cap ≡ (sending x.tx).cap
@@ -140,13 +140,13 @@ full_before links cap a b q of_a of_b h (y, at, full) =
     (x.0, x.1, end_full_before links cap x.0 y (All-at (IsEndOf links) a.ends.items q x.0 of_a x.1) (All-at (IsEndOf links) b.ends.items q y of_b at) (h.ends q x.0 y x.1 at) full)
 
 -- where nothing was done, there is as much room as before
-pub roomy_on : (cap : ℕ) (a b : Holdings) → Stays a b → IsRoomy cap a → IsRoomy cap b
+pub roomy_on : (cap : ℕ) (a b : Holdings) → Stays a b → HasAmpleRoom cap a → HasAmpleRoom cap b
 roomy_on cap a b h room = record {
   lanes = λ q d below.
       (let at = slice_get-get_or b.ends.items q d below in
       let y = get_or b.ends.items q d in
       let x = end_before a.ends.items b.ends.items q y h.ends_long at in
-      end_roomy_on cap x.0 y (h.ends q x.0 y x.1 at) (All-at (HasRoom cap) a.ends.items q x.0 room.lanes x.1));
+      end_roomy_on cap x.0 y (h.ends q x.0 y x.1 at) (All-at (EndHasRoom cap) a.ends.items q x.0 room.lanes x.1));
   dumps = subst (λ (l : WithRoom DumpRec). 24 ≤ l.spare) (sym h.dumps) room.dumps;
   deliveries = subst (λ (l : WithRoom Delivery). 1 ≤ l.spare) (sym h.deliveries) room.deliveries;
 }

@@ -25,21 +25,21 @@ place_in None = None
 place_in (Some None) = None
 place_in (Some (Some b)) = Some b.place
 
-abbrev pub place_behind : List (Option Behind) → Out → Option ℕ
-place_behind behind o = place_in (slice_get behind (out_number o))
+abbrev pub place_at_router : List (Option Behind) → Out → Option ℕ
+place_at_router behind o = place_in (slice_get behind (out_number o))
 
 -- A router's turn may begin: it has an entry for each of 24 outputs, no two of which lead to one queue, or to a port of its own; it holds
 -- the sending end of each queue behind one; and ends of links are ends of the links at their places.
 pub record IsReadyRouter (links : List Link) (r : RouterNode) (h : Holdings) : Type 0 where
   pub outputs : length r.behind.now ≡ 24
-  pub senders : (o : Out) (q : ℕ) → place_behind r.behind.now o ≡ Some q → HoldsSender h.ends.items q
-  pub differ : (o p : Out) (q : ℕ) → place_behind r.behind.now o ≡ Some q → place_behind r.behind.now p ≡ Some q → IsOutput o → IsOutput p → o ≡ p
-  pub apart : (o : Out) (port : Port) → place_behind r.behind.now o ≡ Some (port_place r.index port) → ⊥
+  pub senders : (o : Out) (q : ℕ) → place_at_router r.behind.now o ≡ Some q → HoldsSender h.ends.items q
+  pub differ : (o p : Out) (q : ℕ) → place_at_router r.behind.now o ≡ Some q → place_at_router r.behind.now p ≡ Some q → IsOutput o → IsOutput p → o ≡ p
+  pub apart : (o : Out) (port : Port) → place_at_router r.behind.now o ≡ Some (port_place r.index port) → ⊥
   pub ends : AreEndsOf links h.ends.items
 
 -- what the router did where it served these outputs of a copy
 abbrev pub service_items : RouterNode → List Service → List Item
-service_items r done = map (λ s. served r.index r.chip (place_behind r.behind.now s.out) s) done
+service_items r done = map (λ s. served r.index r.chip (place_at_router r.behind.now s.out) s) done
 
 -- The router took a copy at a port, and served each output that lookup gives it there, once and in order. Where no queue stands behind an
 -- output, the copy was dumped.
@@ -48,14 +48,14 @@ pub record RoutesOne (entries : List Entry) (r : RouterNode) (items : List Item)
   pub copy : McCopy
   pub done : List Service
   pub each_once : map {B = Out × McCopy} (λ s. (s.out, s.copy)) done ≡ map (λ o. (o, copy)) (outputs_at entries port copy)
-  pub nowhere : All (λ s. place_behind r.behind.now s.out ≡ None → s.fate ≡ Dumped) done
+  pub nowhere : All (λ s. place_at_router r.behind.now s.out ≡ None → s.fate ≡ Dumped) done
   pub are : items ≡ took r.index port copy ∷ service_items r done
 
 -- some of the outputs were served, of one copy
 pub record ServesOuts (cap patience : ℕ) (r : RouterNode) (outs : List Out) (k : McCopy) (before after : Holdings) : Type 0 where
   pub done : List Service
   pub each_once : map {B = Out × McCopy} (λ s. (s.out, s.copy)) done ≡ map (λ o. (o, k)) outs
-  pub nowhere : All (λ s. place_behind r.behind.now s.out ≡ None → s.fate ≡ Dumped) done
+  pub nowhere : All (λ s. place_at_router r.behind.now s.out ≡ None → s.fate ≡ Dumped) done
   pub goes : Goes cap patience before (service_items r done) after
 
 -- What a turn of a router does: it routes a copy where it moved one, and else nothing.

@@ -143,14 +143,14 @@ abbrev pub IsFullAt : ℕ → List End → ℕ → Type 0
 IsFullAt cap ends q = (e : End) × (slice_get ends q ≡ Some e) × IsFullEnd cap e
 
 -- a lane has room for a copy more, or holds as many as it may
-abbrev pub HasRoom : ℕ → End → Type 0
-HasRoom cap Away = Unit {0}
-HasRoom cap (Own a) = (0 < a.spare) ⊎ (cap ≤ length a.items)
-HasRoom cap (Sends e) = Unit {0}
-HasRoom cap (Takes e) = Unit {0}
+abbrev pub EndHasRoom : ℕ → End → Type 0
+EndHasRoom cap Away = Unit {0}
+EndHasRoom cap (Own a) = (0 < a.spare) ⊎ (cap ≤ length a.items)
+EndHasRoom cap (Sends e) = Unit {0}
+EndHasRoom cap (Takes e) = Unit {0}
 
 -- there is room for all that one turn of a router or a bank may need
-pub record IsRoomy (cap : ℕ) (h : Holdings) : Type 0 where
-  pub lanes : All (HasRoom cap) h.ends.items
+pub record HasAmpleRoom (cap : ℕ) (h : Holdings) : Type 0 where
+  pub lanes : All (EndHasRoom cap) h.ends.items
   pub dumps : 24 ≤ h.dumps.spare
   pub deliveries : 1 ≤ h.deliveries.spare

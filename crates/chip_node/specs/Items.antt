@@ -80,11 +80,11 @@ lost_by q (served i c place s) = where_there place q (lost s s.fate)
 lost_by q (sent i v k) = []
 lost_by q (got i v place k) = []
 
-abbrev pub sent_of : ℕ → Item → List McCopy
-sent_of v (took i port k) = []
-sent_of v (served i c place s) = []
-sent_of v (sent i w k) = where_same w v (k ∷ [])
-sent_of v (got i w place k) = []
+abbrev pub sent_in : ℕ → Item → List McCopy
+sent_in v (took i port k) = []
+sent_in v (served i c place s) = []
+sent_in v (sent i w k) = where_same w v (k ∷ [])
+sent_in v (got i w place k) = []
 
 abbrev pub delivered_of : Item → List Delivery
 delivered_of (took i port k) = []
@@ -137,7 +137,7 @@ lost_at q items = flat_map (lost_by q) items
 
 -- the copies that a vertex sent
 abbrev pub sent_by : ℕ → List Item → List McCopy
-sent_by v items = flat_map (sent_of v) items
+sent_by v items = flat_map (sent_in v) items
 
 abbrev pub deliveries : List Item → List Delivery
 deliveries items = flat_map delivered_of items

@@ -11,21 +11,21 @@ use Rattle.chip_node.specs.declared.routers.Look.TheVariants.{Took, Empty, Passe
 use Rattle.chip_node.specs.declared.routers.Taken.{Taken}
 use Rattle.chip_node.specs.declared.nodes.Behind.{Behind}
 use Rattle.chip_node.specs.declared.nodes.RouterNode.{RouterNode}
-use Rattle.chip_node.specs.Acting.{place_behind, place_in}
-use Rattle.chip_node.specs.Going.{Goes, HasRoom, IsIdleAt, IsRoomy, Stays}
+use Rattle.chip_node.specs.Acting.{place_at_router, place_in}
+use Rattle.chip_node.specs.Going.{Goes, EndHasRoom, IsIdleAt, HasAmpleRoom, Stays}
 use Rattle.chip_node.specs.Items.{took, port_place}
 use Rattle.chip_node.specs.Routing.{outputs_at}
 
 -- the queue of a place behind an output, where there is one, has room for a copy, or takes none
 abbrev pub HasRoomIn : ℕ → Option Behind → Holdings → Type 0
-HasRoomIn cap slot h = (q : ℕ) (e : End) → place_in (Some slot) ≡ Some q → slice_get h.ends.items q ≡ Some e → HasRoom cap e
+HasRoomIn cap slot h = (q : ℕ) (e : End) → place_in (Some slot) ≡ Some q → slice_get h.ends.items q ≡ Some e → EndHasRoom cap e
 
 -- the queue behind an output has room for a copy, or takes none
 abbrev pub HasRoomBehind : ℕ → RouterNode → Holdings → Out → Type 0
-HasRoomBehind cap r h o = (q : ℕ) (e : End) → place_behind r.behind.now o ≡ Some q → slice_get h.ends.items q ≡ Some e → HasRoom cap e
+HasRoomBehind cap r h o = (q : ℕ) (e : End) → place_at_router r.behind.now o ≡ Some q → slice_get h.ends.items q ≡ Some e → EndHasRoom cap e
 
 -- there is room for a copy at each of these outputs, and for as many records
-pub record HasRoomFor (cap : ℕ) (r : RouterNode) (outs : List Out) (h : Holdings) : Type 0 where
+pub record HasRoomForOuts (cap : ℕ) (r : RouterNode) (outs : List Out) (h : Holdings) : Type 0 where
   pub behind : All (HasRoomBehind cap r h) outs
   pub records : length outs ≤ h.dumps.spare
 
@@ -35,11 +35,11 @@ pub record TakesAt (cap patience : ℕ) (entries : List Entry) (r : RouterNode) 
   pub given : t.outs.items ≡ outputs_at entries port t.copy
   pub numbered : All IsOutput t.outs.items
   pub differ : AllPairs (λ a b. a ≢ b) t.outs.items
-  pub room : HasRoomFor cap r t.outs.items after
+  pub room : HasRoomForOuts cap r t.outs.items after
 
 -- a copy was taken at a port, with the outputs that lookup gives it there, and there is room at them; or nothing was done
 abbrev pub Looks : ℕ → ℕ → List Entry → RouterNode → Port → Bool → Holdings → Look → Holdings → Type 0
 Looks cap patience entries r port all before (Took t) after = TakesAt cap patience entries r port before t after
 Looks cap patience entries r port all before Empty after = Stays before after × IsIdleAt before.ends.items (port_place r.index port)
 Looks cap patience entries r port all before Passed after = Stays before after × (all ≡ false)
-Looks cap patience entries r port all before NoRoom after = Stays before after × (IsRoomy cap before → ⊥)
+Looks cap patience entries r port all before NoRoom after = Stays before after × (HasAmpleRoom cap before → ⊥)

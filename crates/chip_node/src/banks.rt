@@ -1,7 +1,7 @@
 // The bank of a chip's vertices between queues.
 ghost use Rattle.std.specs.Prelude.{◌≡◌, ◌≢◌, ◌+◌, ◌<◌, [], All, IfNone, IfSome, IsTrue, length, slice_index_or};
 ghost use Rattle.chip_node.specs.Acting.{BankActs, CannotGet, CannotSend, GetsOne, HalfActs, IsIdleBank, IsReadyBank, IsUnsentAt, SendsOne, turn_of_both};
-ghost use Rattle.chip_node.specs.Going.{AreEndsOf, IsRoomy};
+ghost use Rattle.chip_node.specs.Going.{AreEndsOf, HasAmpleRoom};
 ghost use Rattle.chip_node.specs.declared.holdings.Turn.TheVariants.{Moved};
 
 use crate::ends::{Bounds, Served};
@@ -28,7 +28,7 @@ impl CoreBank {
         requires { IsReadyBank around.links.now self.now hold.old }
         ensures acts { BankActs around.entry.capacity around.entry.patience self.now hold.old
             result hold.new }
-        ensures idle { IsTrue all → result ≢ Moved → IsRoomy around.entry.capacity hold.old
+        ensures idle { IsTrue all → result ≢ Moved → HasAmpleRoom around.entry.capacity hold.old
             → IsIdleBank around.entry.capacity self.now hold.old }
         ensures ends { AreEndsOf around.entry.links.now hold.new.ends.items }
     {
@@ -51,7 +51,7 @@ impl CoreBank {
         requires { IsReadyBank around.links.now self.now hold.old }
         ensures acts { HalfActs around.entry.capacity around.entry.patience (SendsOne self.now)
             hold.old result hold.new }
-        ensures idle { IsTrue all → result ≢ Moved → IsRoomy around.entry.capacity hold.old
+        ensures idle { IsTrue all → result ≢ Moved → HasAmpleRoom around.entry.capacity hold.old
             → CannotSend around.entry.capacity self.now hold.old }
         ensures ready { IsReadyBank around.entry.links.now self.now hold.new }
     {
@@ -75,7 +75,7 @@ impl CoreBank {
         requires { IsReadyBank around.links.now self.now hold.old }
         ensures acts { HalfActs around.entry.capacity around.entry.patience (SendsOne self.now)
             hold.old result hold.new }
-        ensures idle { result ≢ Moved → IsRoomy around.entry.capacity hold.old
+        ensures idle { result ≢ Moved → HasAmpleRoom around.entry.capacity hold.old
             → CannotSend around.entry.capacity self.now hold.old }
         ensures ready { IsReadyBank around.entry.links.now self.now hold.new }
     {
@@ -104,7 +104,7 @@ impl CoreBank {
         requires { IsReadyBank around.links.now self.now hold.old }
         ensures acts { HalfActs around.entry.capacity around.entry.patience (GetsOne self.now)
             hold.old result hold.new }
-        ensures idle { result ≢ Moved → IsRoomy around.entry.capacity hold.old
+        ensures idle { result ≢ Moved → HasAmpleRoom around.entry.capacity hold.old
             → CannotGet self.now hold.old }
         ensures ends { AreEndsOf around.entry.links.now hold.new.ends.items }
     {

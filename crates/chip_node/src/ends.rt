@@ -4,7 +4,7 @@ ghost use Rattle.link_queue.specs.Ends.{sending, taking};
 ghost use Rattle.link_queue.specs.Moves.{MatchOffered, TakesOffer, TakesCopy, FindsNothing};
 ghost use Rattle.chip_node.specs.Ends.{IsInEndOf, IsOutEndOf};
 ghost use Rattle.chip_node.specs.Offers.{RefusesOffers, IsServedAs};
-ghost use Rattle.chip_node.specs.Going.{HasRoom, IsEndOf, IsSending};
+ghost use Rattle.chip_node.specs.Going.{EndHasRoom, IsEndOf, IsSending};
 ghost use Rattle.chip_node.specs.Passing.{EndLacks, EndServes, EndTakes, IsSeen};
 
 use crate::lanes::Lane;
@@ -153,7 +153,7 @@ impl End {
     ) -> Served
         requires end { IsEndOf links.now self.old }
         requires sends { IsSending self.old }
-        requires room { HasRoom bounds.capacity self.old }
+        requires room { EndHasRoom bounds.capacity self.old }
         ensures served { EndServes bounds.capacity bounds.patience copy result self.old self.new }
         ensures end { IsEndOf links.now self.new }
     {
@@ -175,8 +175,8 @@ impl End {
 
     // Whether the queue takes a copy without more room, or takes none.
     pub(crate) fn has_room(&self, capacity: u32) -> bool
-        ensures yes { IsTrue result → HasRoom capacity self.now }
-        ensures no { HasRoom capacity self.now → IsTrue result }
+        ensures yes { IsTrue result → EndHasRoom capacity self.now }
+        ensures no { EndHasRoom capacity self.now → IsTrue result }
     {
         match self {
             End::Own(lane) => lane.spare() > 0 || lane.len() >= capacity as usize,

@@ -1,10 +1,10 @@
 // A chip's router between queues.
 ghost use Rattle.std.specs.Prelude.{◌≡◌, ◌≢◌, ◌≤◌, ◌<◌, ◌+◌, [], ◌∷◌, ℕ, None, Some, length, slice_get, All, AllPairs, IsTrue};
 ghost use Rattle.spin_base.specs.Outputs.{IsOutput, all_outs};
-ghost use Rattle.chip_node.specs.Acting.{IsIdleRouter, IsReadyRouter, RouterActs, ServesOuts, place_behind, service_items};
-ghost use Rattle.chip_node.specs.Going.{AreEndsOf, Goes, IsRoomy};
+ghost use Rattle.chip_node.specs.Acting.{IsIdleRouter, IsReadyRouter, RouterActs, ServesOuts, place_at_router, service_items};
+ghost use Rattle.chip_node.specs.Going.{AreEndsOf, Goes, HasAmpleRoom};
 ghost use Rattle.chip_node.specs.Passing.{SendsBehind};
-ghost use Rattle.chip_node.specs.Taking.{HasRoomBehind, HasRoomFor, HasRoomIn, Looks};
+ghost use Rattle.chip_node.specs.Taking.{HasRoomBehind, HasRoomForOuts, HasRoomIn, Looks};
 ghost use Rattle.chip_node.specs.declared.ends.Served.TheVariants.{Dumped};
 ghost use Rattle.chip_node.specs.declared.holdings.Turn.TheVariants.{Moved};
 
@@ -54,7 +54,7 @@ impl RouterNode<'_> {
         requires { IsReadyRouter around.links.now self hold.old }
         ensures acts { RouterActs around.entry.capacity around.entry.patience self.entry.table.now
             self.entry hold.old result hold.new }
-        ensures idle { IsTrue all → result ≢ Moved → IsRoomy around.entry.capacity hold.old
+        ensures idle { IsTrue all → result ≢ Moved → HasAmpleRoom around.entry.capacity hold.old
             → IsIdleRouter self.entry hold.old }
         ensures ends { AreEndsOf around.entry.links.now hold.new.ends.items }
     {
@@ -133,8 +133,8 @@ impl RouterNode<'_> {
     fn has_room_everywhere(self, around: Around, hold: &Holdings) -> bool
         requires { length self.behind.now ≡ 24 }
         ensures yes { IsTrue result
-            → HasRoomFor around.entry.capacity self.entry all_outs hold.now }
-        ensures no { IsRoomy around.entry.capacity hold.now → IsTrue result }
+            → HasRoomForOuts around.entry.capacity self.entry all_outs hold.now }
+        ensures no { HasAmpleRoom around.entry.capacity hold.now → IsTrue result }
     {
         if hold.dumps.spare() < self.behind.len() {
             return false;
@@ -153,8 +153,8 @@ impl RouterNode<'_> {
         requires numbered { All IsOutput outs.now }
         requires few { length outs.now ≤ 24 }
         ensures yes { IsTrue result
-            → HasRoomFor around.entry.capacity self.entry outs.entry.now hold.now }
-        ensures no { IsRoomy around.entry.capacity hold.now → IsTrue result }
+            → HasRoomForOuts around.entry.capacity self.entry outs.entry.now hold.now }
+        ensures no { HasAmpleRoom around.entry.capacity hold.now → IsTrue result }
     {
         if hold.dumps.spare() < outs.len() {
             return false;
@@ -172,7 +172,7 @@ impl RouterNode<'_> {
         requires outputs { length self.behind.now ≡ 24 }
         requires numbered { IsOutput out }
         ensures yes { IsTrue result → HasRoomBehind around.entry.capacity self.entry hold.now out }
-        ensures no { IsRoomy around.entry.capacity hold.now → IsTrue result }
+        ensures no { HasAmpleRoom around.entry.capacity hold.now → IsTrue result }
     {
         has_room_in(around, hold, self.behind[out.number() as usize])
     }
@@ -190,7 +190,7 @@ impl RouterNode<'_> {
         requires ready { IsReadyRouter around.links.now self hold.old }
         requires numbered { All IsOutput outs.now }
         requires differ { AllPairs (λ a b. a ≢ b) outs.now }
-        requires room { HasRoomFor around.capacity self outs.now hold.old }
+        requires room { HasRoomForOuts around.capacity self outs.now hold.old }
         ensures serves { ServesOuts around.entry.capacity around.entry.patience self.entry
             outs.entry.now copy hold.old hold.new }
         ensures ready { IsReadyRouter around.entry.links.now self.entry hold.new }
@@ -219,8 +219,8 @@ impl RouterNode<'_> {
         ensures goes { Goes around.entry.capacity around.entry.patience hold.old
             (service_items self.entry (record { out = out; copy = copy; fate = result } ∷ []))
             hold.new }
-        ensures nowhere { place_behind self.entry.behind.now out ≡ None → result ≡ Dumped }
-        ensures elsewhere { (q : ℕ) → place_behind self.entry.behind.now out ≢ Some q
+        ensures nowhere { place_at_router self.entry.behind.now out ≡ None → result ≡ Dumped }
+        ensures elsewhere { (q : ℕ) → place_at_router self.entry.behind.now out ≢ Some q
             → slice_get hold.new.ends.items q ≡ slice_get hold.old.ends.items q }
         ensures spare { hold.old.dumps.spare ≤ hold.new.dumps.spare + 1 }
         ensures ready { IsReadyRouter around.entry.links.now self.entry hold.new }
@@ -251,7 +251,7 @@ impl RouterNode<'_> {
         requires numbered { IsOutput out }
         requires room { HasRoomBehind around.capacity self hold.old out }
         ensures sends { SendsBehind around.entry.capacity around.entry.patience
-            (place_behind self.entry.behind.now out) copy result hold.old.ends.items
+            (place_at_router self.entry.behind.now out) copy result hold.old.ends.items
             hold.new.ends.items }
         ensures ends { AreEndsOf around.entry.links.now hold.new.ends.items }
         ensures unsent { hold.new.unsent ≡ hold.old.unsent }
@@ -273,7 +273,7 @@ impl RouterNode<'_> {
 // Whether the queue behind an output, where there is one, takes a copy without more room, or takes none.
 fn has_room_in(around: Around, hold: &Holdings, slot: Option<Behind>) -> bool
     ensures yes { IsTrue result → HasRoomIn around.entry.capacity slot hold.now }
-    ensures no { IsRoomy around.entry.capacity hold.now → IsTrue result }
+    ensures no { HasAmpleRoom around.entry.capacity hold.now → IsTrue result }
 {
     let Some(behind) = slot else {
         return true;

@@ -25,7 +25,7 @@ use Rattle.machine_desc.specs.declared.nets.NetPlan.{NetPlan}
 use Rattle.machine_desc.specs.Outputs.{is_wanted}
 use Rattle.machine_desc.specs.RightTables.{IsKeyOf, RoutesByTree, AreRight, table_at}
 use Rattle.mesh_core.proofs.Counting.{counted}
-use Rattle.mesh_example.specs.Board.{two_chip_board, left, right, east, targets, device, net, other_net, nets, tables, wrong_tables, right_table, block, other_block, left_route, right_route, east_route, entry_of_key}
+use Rattle.mesh_example.specs.Board.{two_chip_board, left_chip, right_chip, east, targets, device, net, other_net, nets, tables, wrong_tables, right_table, block, other_block, left_route, right_route, east_route, entry_of_key}
 
 is_first : (route : Route) (key : ℕ) → IsKeyOf block key → matches (entry_of_key 0 route) key ≡ true
 is_first route key k = ap (λ (n : ℕ). n == 0) k.matches
@@ -54,21 +54,21 @@ wanted_by route n c same o valid =
     subst (λ p. has route p ≡ is_wanted (east ∷ []) n.targets c p) (sym (out_eq_true o found.0 found.2))
     (agree_on (has route) (is_wanted (east ∷ []) n.targets c) all_outs found.0 same found.1)
 
-left_outs : HasWanted left_route net left
+left_outs : HasWanted left_route net left_chip
 unfolding link_outs core_outs
-left_outs = wanted_by left_route net left refl
+left_outs = wanted_by left_route net left_chip refl
 
-right_outs : HasWanted right_route net right
+right_outs : HasWanted right_route net right_chip
 unfolding link_outs core_outs
-right_outs = wanted_by right_route net right refl
+right_outs = wanted_by right_route net right_chip refl
 
-other_left_outs : HasWanted east_route other_net left
+other_left_outs : HasWanted east_route other_net left_chip
 unfolding link_outs core_outs
-other_left_outs = wanted_by east_route other_net left refl
+other_left_outs = wanted_by east_route other_net left_chip refl
 
-other_right_outs : HasWanted east_route other_net right
+other_right_outs : HasWanted east_route other_net right_chip
 unfolding link_outs core_outs
-other_right_outs = wanted_by east_route other_net right refl
+other_right_outs = wanted_by east_route other_net right_chip refl
 
 IsRightAt : NetPlan → ℕ → Port → Out → Chip → Type 0
 IsRightAt n key port o c = has (lookup (table_at two_chip_board tables c) key port) o ≡ is_wanted (east ∷ []) n.targets c o
@@ -79,33 +79,33 @@ unfolding IsRightAt HasWanted
 right_by n key port o c route is wanted valid = ap (λ r. has r o) is ∙ wanted o valid
 
 -- where the nets' packets come in: anywhere on the left chip, and by the link west on the right one
-at_end : (c : Chip) (e : Edge) → Contains (east ∷ []) e → end_of two_chip_board e ≡ Some c → (east ≡ e) × (right ≡ c)
+at_end : (c : Chip) (e : Edge) → Contains (east ∷ []) e → end_of two_chip_board e ≡ Some c → (east ≡ e) × (right_chip ≡ c)
 at_end c e has ends =
     let same : east ≡ e = Contains-only east e has in
-    let there : Some right ≡ Some c = ap (end_of two_chip_board) same ∙ ends in
+    let there : Some right_chip ≡ Some c = ap (end_of two_chip_board) same ∙ ends in
     (same, cc there)
 
 net_right : RoutesByTree two_chip_board tables net
 unfolding IsRightAt
 net_right c port key o (inl root) k valid =
     subst (IsRightAt net key port o) (sym root.0)
-    (right_by net key port o left left_route (lookup_hit (entry_of_key 0 left_route) (entry_of_key 1 east_route ∷ []) key port (is_first left_route key k)) left_outs valid)
+    (right_by net key port o left_chip left_route (lookup_hit (entry_of_key 0 left_route) (entry_of_key 1 east_route ∷ []) key port (is_first left_route key k)) left_outs valid)
 net_right c port key o (inr h) k valid =
     subst (IsRightAt net key port o) (at_end c h.0 h.1 h.2).1
-    (right_by net key port o right right_route (lookup_hit (entry_of_key 0 right_route) [] key port (is_first right_route key k)) right_outs valid)
+    (right_by net key port o right_chip right_route (lookup_hit (entry_of_key 0 right_route) [] key port (is_first right_route key k)) right_outs valid)
 
 other_right : RoutesByTree two_chip_board tables other_net
 unfolding IsRightAt
 other_right c port key o (inl root) k valid =
     subst (IsRightAt other_net key port o) (sym root.0)
-    (right_by other_net key port o left east_route
+    (right_by other_net key port o left_chip east_route
     (lookup_miss (entry_of_key 0 left_route) (entry_of_key 1 east_route ∷ []) key port (is_not_first left_route key k) ∙ lookup_hit (entry_of_key 1 east_route) [] key port (is_second east_route key k)) other_left_outs valid)
 other_right c port key o (inr h) k valid =
     let there = at_end c h.0 h.1 h.2 in
     let by_west : port ≡ ByLink West = h.3 ∙ ap (λ (e : Edge). ByLink (opposite_of e.dir)) (sym there.0) in
     let straight : lookup right_table key (ByLink West) ≡ east_route = lookup_miss (entry_of_key 0 right_route) [] key (ByLink West) (is_not_first right_route key k) in
     subst (IsRightAt other_net key port o) there.1
-    (subst (λ (p : Port). IsRightAt other_net key p o right) (sym by_west) (right_by other_net key (ByLink West) o right east_route straight other_right_outs valid))
+    (subst (λ (p : Port). IsRightAt other_net key p o right_chip) (sym by_west) (right_by other_net key (ByLink West) o right_chip east_route straight other_right_outs valid))
 
 pub tables_right : AreRight two_chip_board tables nets
 tables_right = All-from_recursion (RoutesByTree two_chip_board tables) nets (net_right, (other_right, tt))
@@ -114,5 +114,5 @@ tables_right = All-from_recursion (RoutesByTree two_chip_board tables) nets (net
 pub wrong_not_right : AreRight two_chip_board wrong_tables nets → ⊥
 wrong_not_right h =
     let other : RoutesByTree two_chip_board wrong_tables other_net = h 1 other_net (omega arith) in
-    let lost : false ≡ true = other left Local 1 (Link East) (inl (refl, refl)) (record { fits = omega arith; matches = refl }) tt in
+    let lost : false ≡ true = other left_chip Local 1 (Link East) (inl (refl, refl)) (record { fits = omega arith; matches = refl }) tt in
     absurd (false≢true lost)

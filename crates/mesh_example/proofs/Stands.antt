@@ -19,64 +19,64 @@ use Rattle.mesh_core.specs.State.{IsMesh}
 use Rattle.mesh_core.specs.Opened.{AreOfNets}
 use Rattle.mesh_core.proofs.Changes.{IsMesh-empty}
 use Rattle.mesh_core.proofs.OpenedLaw.{IsMesh-opened}
-use Rattle.mesh_example.specs.Board.{two_chip_board, left, right, east, source, targets, device, spots, net, other_net, nets, packets, setup, opened, block, other_block}
+use Rattle.mesh_example.specs.Board.{two_chip_board, left_chip, right_chip, east, source, targets, device, spots, net, other_net, nets, packets, setup, opened, block, other_block}
 
-left_is_not_right : left ≢ right
+left_is_not_right : left_chip ≢ right_chip
 left_is_not_right e = let f : 0 ≡ 1 = ap (λ (c : Chip). c.x) e in absurd (omega (arith, f))
 
-chips_of_tree : (c : Chip) → IsTreeChip two_chip_board left (east ∷ []) c → (c ≡ left) ⊎ (c ≡ right)
+chips_of_tree : (c : Chip) → IsTreeChip two_chip_board left_chip (east ∷ []) c → (c ≡ left_chip) ⊎ (c ≡ right_chip)
 chips_of_tree c (inl at) = inl at
 chips_of_tree c (inr e) =
     let same : east ≡ e.1 = Contains-only east e.1 (e.0, e.2, e.3) in
-    let ends : Some right ≡ Some c = ap (end_of two_chip_board) same ∙ e.4 in
+    let ends : Some right_chip ≡ Some c = ap (end_of two_chip_board) same ∙ e.4 in
     inr (sym (cc ends))
 
-reached : (c : Chip) → IsTreeChip two_chip_board left (east ∷ []) c → (path : List Edge) × IsPath two_chip_board (east ∷ []) left path c
+reached : (c : Chip) → IsTreeChip two_chip_board left_chip (east ∷ []) c → (path : List Edge) × IsPath two_chip_board (east ∷ []) left_chip path c
 reached c h = by (chips_of_tree c h)
   where
-    by : (c ≡ left) ⊎ (c ≡ right) → (path : List Edge) × IsPath two_chip_board (east ∷ []) left path c
+    by : (c ≡ left_chip) ⊎ (c ≡ right_chip) → (path : List Edge) × IsPath two_chip_board (east ∷ []) left_chip path c
     by (inl at) = ([], sym at)
-    by (inr at) = (east ∷ [], ((0, omega arith, refl), refl, (right, refl, sym at)))
+    by (inr at) = (east ∷ [], ((0, omega arith, refl), refl, (right_chip, refl, sym at)))
 
-left_in_tree : IsTreeChip two_chip_board left (east ∷ []) left
+left_in_tree : IsTreeChip two_chip_board left_chip (east ∷ []) left_chip
 left_in_tree = inl refl
 
-right_in_tree : IsTreeChip two_chip_board left (east ∷ []) right
+right_in_tree : IsTreeChip two_chip_board left_chip (east ∷ []) right_chip
 right_in_tree = inr (0, east, omega arith, refl, refl)
 
 -- the tree of the one link, to targets of which one is on the right chip
-tree_to : (to : List Spot) → Contains (map (λ (s : Spot). s.chip) to) right → All (IsTreeChip two_chip_board left (east ∷ [])) (map (λ (s : Spot). s.chip) to) →
-    IsRoutingTree two_chip_board left (east ∷ []) to
+tree_to : (to : List Spot) → Contains (map (λ (s : Spot). s.chip) to) right_chip → All (IsTreeChip two_chip_board left_chip (east ∷ [])) (map (λ (s : Spot). s.chip) to) →
+    IsRoutingTree two_chip_board left_chip (east ∷ []) to
 tree_to to has in_tree =
     record {
       edges_live = All-from_recursion (λ (e : Edge). IsLiveLink two_chip_board e.chip e.dir) (east ∷ []) (refl, tt);
-      edges_begin = All-from_recursion (λ (e : Edge). IsTreeChip two_chip_board left (east ∷ []) e.chip) (east ∷ []) (left_in_tree, tt);
-      none_into_root = All-from_recursion (λ (e : Edge). end_of two_chip_board e ≢ Some left) (east ∷ []) ((λ e. left_is_not_right (sym (cc e))), tt);
+      edges_begin = All-from_recursion (λ (e : Edge). IsTreeChip two_chip_board left_chip (east ∷ []) e.chip) (east ∷ []) (left_in_tree, tt);
+      none_into_root = All-from_recursion (λ (e : Edge). end_of two_chip_board e ≢ Some left_chip) (east ∷ []) ((λ e. left_is_not_right (sym (cc e))), tt);
       one_into_each = λ i j d lt within. absurd (omega (arith, lt, within));
       reached = reached;
       has_targets = in_tree;
       ends_are_targets = λ c h. ends c (chips_of_tree c h);
     }
   where
-    ends : (c : Chip) → (c ≡ left) ⊎ (c ≡ right) → Any (λ (e : Edge). e.chip ≡ c) (east ∷ []) ⊎ Contains (map (λ (s : Spot). s.chip) to) c
+    ends : (c : Chip) → (c ≡ left_chip) ⊎ (c ≡ right_chip) → Any (λ (e : Edge). e.chip ≡ c) (east ∷ []) ⊎ Contains (map (λ (s : Spot). s.chip) to) c
     ends c (inl at) = inl (0, east, omega arith, refl, sym at)
     ends c (inr at) = inr (subst (Contains (map (λ (s : Spot). s.chip) to)) (sym at) has)
 
-tree_stands : IsRoutingTree two_chip_board left (east ∷ []) targets
+tree_stands : IsRoutingTree two_chip_board left_chip (east ∷ []) targets
 tree_stands = tree_to targets (1, omega arith, refl)
-    (All-from_recursion (IsTreeChip two_chip_board left (east ∷ [])) (left ∷ right ∷ right ∷ []) (left_in_tree, (right_in_tree, (right_in_tree, tt))))
+    (All-from_recursion (IsTreeChip two_chip_board left_chip (east ∷ [])) (left_chip ∷ right_chip ∷ right_chip ∷ []) (left_in_tree, (right_in_tree, (right_in_tree, tt))))
 
-other_tree_stands : IsRoutingTree two_chip_board left (east ∷ []) (device ∷ [])
-other_tree_stands = tree_to (device ∷ []) (0, omega arith, refl) (All-from_recursion (IsTreeChip two_chip_board left (east ∷ [])) (right ∷ []) (right_in_tree, tt))
+other_tree_stands : IsRoutingTree two_chip_board left_chip (east ∷ []) (device ∷ [])
+other_tree_stands = tree_to (device ∷ []) (0, omega arith, refl) (All-from_recursion (IsTreeChip two_chip_board left_chip (east ∷ [])) (right_chip ∷ []) (right_in_tree, tt))
 
 abbrev near : Spot
-near = record { chip = left; core = 2 }
+near = record { chip = left_chip; core = 2 }
 
 abbrev far : Spot
-far = record { chip = right; core = 1 }
+far = record { chip = right_chip; core = 1 }
 
 abbrev last : Spot
-last = record { chip = right; core = 2 }
+last = record { chip = right_chip; core = 2 }
 
 spots_of_one : (a b : Spot) → (a.chip.x + (2 * a.core)) ≢ (b.chip.x + (2 * b.core)) → a ≢ b
 spots_of_one a b differ same = differ (ap (λ (s : Spot). s.chip.x + (2 * s.core)) same)

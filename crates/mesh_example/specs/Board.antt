@@ -26,26 +26,26 @@ use Rattle.mesh_core.specs.Opened.{opened_mesh}
 abbrev pub two_chip_board : Description
 two_chip_board = record { width = 2; height = 1; wrap = false; sdram = CHIP_MEMORY; dead_chips = []; dead_cores = []; dead_links = [] }
 
-abbrev pub left : Chip
-left = record { x = 0; y = 0 }
+abbrev pub left_chip : Chip
+left_chip = record { x = 0; y = 0 }
 
-abbrev pub right : Chip
-right = record { x = 1; y = 0 }
+abbrev pub right_chip : Chip
+right_chip = record { x = 1; y = 0 }
 
 -- the link from the left chip to the right one
 abbrev pub east : Edge
-east = record { chip = left; dir = East }
+east = record { chip = left_chip; dir = East }
 
 -- the core that sends, and the targets: one on the same chip, two on the other
 abbrev pub source : Spot
-source = record { chip = left; core = 1 }
+source = record { chip = left_chip; core = 1 }
 
 abbrev pub targets : List Spot
-targets = record { chip = left; core = 2 } ∷ record { chip = right; core = 1 } ∷ record { chip = right; core = 2 } ∷ []
+targets = record { chip = left_chip; core = 2 } ∷ record { chip = right_chip; core = 1 } ∷ record { chip = right_chip; core = 2 } ∷ []
 
 -- the device on the right chip's link east, which leads nowhere
 abbrev pub device : Spot
-device = record { chip = right; core = 18 }
+device = record { chip = right_chip; core = 18 }
 
 -- A vertex on each: 0 sends to 1, 2 and 3, and vertex 1 sends to the device, which is vertex 4.
 abbrev pub spots : List Spot
@@ -60,10 +60,10 @@ other_block = record { key = 1; mask = 4_294_967_295; within = refl; small = lit
 
 -- the nets, both with the tree of the one link
 abbrev pub net : NetPlan
-net = record { block = block; source = source; targets = targets; tree = record { root = left; edges = east ∷ [] } }
+net = record { block = block; source = source; targets = targets; tree = record { root = left_chip; edges = east ∷ [] } }
 
 abbrev pub other_net : NetPlan
-other_net = record { block = other_block; source = record { chip = left; core = 2 }; targets = device ∷ []; tree = record { root = left; edges = east ∷ [] } }
+other_net = record { block = other_block; source = record { chip = left_chip; core = 2 }; targets = device ∷ []; tree = record { root = left_chip; edges = east ∷ [] } }
 
 abbrev pub nets : List NetPlan
 nets = net ∷ other_net ∷ []
@@ -109,26 +109,26 @@ opened = opened_mesh setup nets packets
 
 -- the way to the last target
 abbrev pub far_branch : List Exit
-far_branch = record { chip = left; out = Link East } ∷ record { chip = right; out = Core 2 } ∷ []
+far_branch = record { chip = left_chip; out = Link East } ∷ record { chip = right_chip; out = Core 2 } ∷ []
 
 -- the way to the device
 abbrev pub device_branch : List Exit
-device_branch = record { chip = left; out = Link East } ∷ record { chip = right; out = Link East } ∷ []
+device_branch = record { chip = left_chip; out = Link East } ∷ record { chip = right_chip; out = Link East } ∷ []
 
 -- The first packet goes to all its targets.
 abbrev pub first_packet : List Event
 first_packet =
-    Inject 0 ∷ Take left Local ∷ Send left (Core 2) ∷ Send left (Link East) ∷ Take right (ByLink West)
-    ∷ Send right (Core 1) ∷ Send right (Core 2) ∷ Collect 2 ∷ Collect 3 ∷ []
+    Inject 0 ∷ Take left_chip Local ∷ Send left_chip (Core 2) ∷ Send left_chip (Link East) ∷ Take right_chip (ByLink West)
+    ∷ Send right_chip (Core 1) ∷ Send right_chip (Core 2) ∷ Collect 2 ∷ Collect 3 ∷ []
 
 -- The second packet finds the queue of vertex 1 full, and is dumped there.
 abbrev pub second_packet : List Event
-second_packet = Inject 0 ∷ Take left Local ∷ Dump left (Core 2) ∷ []
+second_packet = Inject 0 ∷ Take left_chip Local ∷ Dump left_chip (Core 2) ∷ []
 
 -- The packet of the other net goes through the right chip to the device.
 abbrev pub device_packet : List Event
 device_packet =
-    Inject 1 ∷ Take left Local ∷ Send left (Link East) ∷ Take right (ByLink West) ∷ Send right (Link East) ∷ Collect 4 ∷ []
+    Inject 1 ∷ Take left_chip Local ∷ Send left_chip (Link East) ∷ Take right_chip (ByLink West) ∷ Send right_chip (Link East) ∷ Collect 4 ∷ []
 
 -- a copy of a packet of the first net that has passed so many routers
 abbrev pub copy : ℕ → ℕ → McCopy

@@ -16,7 +16,7 @@ ghost use Rattle.mesh_core.specs.State.{IsMesh};
 ghost use Rattle.mesh_core.specs.Step.{after_events};
 ghost use Rattle.mesh_core.specs.Opened.{AreOfNets, MeetsJobLedger};
 ghost use Rattle.mesh_core.specs.Whereabouts.{IsTracked};
-ghost use Rattle.mesh_example.specs.Board.{two_chip_board, left, right, device, spots, net, other_net, nets, tables, wrong_tables, packets, opened, far_branch, device_branch, first_packet, second_packet, device_packet, copy, other_copy};
+ghost use Rattle.mesh_example.specs.Board.{two_chip_board, left_chip, right_chip, device, spots, net, other_net, nets, tables, wrong_tables, packets, opened, far_branch, device_branch, first_packet, second_packet, device_packet, copy, other_copy};
 
 /// The nets stand on the machine with trees to their targets, the tables are right for them, and each packet has a key of
 /// its net. So the mesh meets the ledger of the job after every list of events, and each packet can be found in it. Tables
@@ -28,7 +28,7 @@ pub fn the_example_meets_the_definitions()
     ensures wrong_tables { AreRight two_chip_board wrong_tables nets → ⊥ }
     ensures of_nets { AreOfNets nets packets }
     ensures way { IsWayOn two_chip_board spots net (record {
-      chip = right;
+      chip = right_chip;
       core = 2;
     }) far_branch 0 3 }
     ensures way_to_device { IsWayOn two_chip_board spots other_net device device_branch 1 4 }
@@ -45,13 +45,13 @@ pub fn the_example_meets_the_definitions()
 /// second packet is dumped there. The packet of the other net is delivered at the device, with no row on the right chip.
 #[tactic(auto, unfolding(spin_base::specs::Outputs::link_outs, spin_base::specs::Outputs::core_outs))]
 pub fn the_events_do_what_is_expected()
-    ensures in_hand { (after_events opened (Inject 0 ∷ Take left Local ∷ [])).hands
+    ensures in_hand { (after_events opened (Inject 0 ∷ Take left_chip Local ∷ [])).hands
         ≡ Some (record {
           copy = copy 0 0;
           port = Local;
           outs = Link East ∷ Core 2 ∷ [];
         }) ∷ None ∷ [] }
-    ensures across { (after_events opened (Inject 0 ∷ Take left Local ∷ Send left (Link East) ∷
+    ensures across { (after_events opened (Inject 0 ∷ Take left_chip Local ∷ Send left_chip (Link East) ∷
         [])).inputs
         ≡ [] ∷ [] ∷ [] ∷ [] ∷ [] ∷ [] ∷ [] ∷ [] ∷ [] ∷ [] ∷ (copy 0 1 ∷ []) ∷ [] ∷ [] ∷ [] ∷ [] }
     ensures delivered { (after_events opened first_packet).delivered
@@ -59,7 +59,7 @@ pub fn the_events_do_what_is_expected()
     ensures waits { (after_events opened first_packet).cores
         ≡ [] ∷ (copy 0 1 ∷ []) ∷ [] ∷ [] ∷ [] ∷ [] }
     ensures dumped { (after_events opened (first_packet ++ second_packet)).dumped
-        ≡ record { chip = left; out = Core 2; copy = copy 1 0 } ∷ [] }
+        ≡ record { chip = left_chip; out = Core 2; copy = copy 1 0 } ∷ [] }
     ensures goes_on { (after_events opened (first_packet ++ second_packet)).hands
         ≡ Some (record { copy = copy 1 0; port = Local; outs = Link East ∷ [] }) ∷ None ∷ [] }
     ensures at_device { (after_events opened device_packet).delivered

@@ -23,11 +23,11 @@ use Rattle.machine_desc.proofs.Far.{live_inside}
 use Rattle.machine_desc.proofs.Live.{chip_of-index_of, index_of-chip_of}
 use Rattle.chip_node.specs.declared.ends.Served.{Served}
 use Rattle.chip_node.specs.declared.ends.Served.TheVariants.{Sent, Dumped}
-use Rattle.chip_node.specs.Items.{Item, Service, took, served, sent, got, brought, lost, recorded, where_same, where_there, port_place, injection_place, entered_by, left_by, lost_by, sent_of, delivered_of, dumped_of, taking_of, service_of, sending_of, getting_of}
+use Rattle.chip_node.specs.Items.{Item, Service, took, served, sent, got, brought, lost, recorded, where_same, where_there, port_place, injection_place, entered_by, left_by, lost_by, sent_in, delivered_of, dumped_of, taking_of, service_of, sending_of, getting_of}
 use Rattle.mesh_core.specs.State.{Setup, queue_at}
 use Rattle.mesh_core.specs.Ledger.{all_ports}
 use Rattle.mesh_core.proofs.Changes.{port_below}
-use Rattle.mesh_run.specs.Played.{IsDone, IsLiveIndex, IsVertexOn, place_behind, vertex_place}
+use Rattle.mesh_run.specs.Played.{IsDoneOn, IsLiveIndex, IsVertexOn, place_behind, vertex_place}
 use Rattle.mesh_round.specs.RoundFlow.{of_chip}
 use Rattle.mesh_round.proofs.Apart.{here, elsewhere, there, not_there, by_wire, no_injection, one_output, port_is_no_vertex}
 use Rattle.mesh_round.proofs.Ends.{one_port}
@@ -71,7 +71,7 @@ module _ (u : Setup) where
   place_is j p = ap (λ i. 7 * i + port_number p) (sym (index_of-chip_of u.machine j))
 
   -- what left a vertex's queue was delivered to it
-  pub collected_by : (v : ℕ) (x : Item) → IsDone u x → left_by (vertex_place u v) x ≡ copies_to v (delivered_of x)
+  pub collected_by : (v : ℕ) (x : Item) → IsDoneOn u x → left_by (vertex_place u v) x ≡ copies_to v (delivered_of x)
   collected_by v (took j p k) live =
       elsewhere (port_place j p) (vertex_place u v) (k ∷ []) (λ e. port_is_no_vertex u (chip_of u.machine j) p v (inside_of j (chip_of u.machine j) live refl) (sym (place_is j p) ∙ e))
   collected_by v (served j e place s) done = refl
@@ -102,7 +102,7 @@ module _ (u : Setup) where
     -- ---- ports
 
     -- what left the queues of the chip's ports was taken by its router
-    pub taken_by : (leaves : Port → McCopy → Bool) (x : Item) → IsDone u x →
+    pub taken_by : (leaves : Port → McCopy → Bool) (x : Item) → IsDoneOn u x →
         gathered (λ i port. filter (leaves port) (left_by (queue_at u.machine c port) x)) 0 all_ports ≡ flat_map (λ t. filter (leaves t.0) (t.1 ∷ [])) (taking_of index x)
     taken_by leaves (took j p k) live = elim (doer j) [
       | this same is ↦
@@ -133,7 +133,7 @@ module _ (u : Setup) where
         ap (filter (leaves port)) (elsewhere place (queue_at u.machine c port) (k ∷ []) (λ e. port_is_no_vertex u c port v inside (sym e ∙ is))))
 
     -- what its bank sent entered its injection queue
-    pub injected_by : (x : Item) → IsDone u x → entered_by (queue_at u.machine c Local) x ≡ sending_of index x
+    pub injected_by : (x : Item) → IsDoneOn u x → entered_by (queue_at u.machine c Local) x ≡ sending_of index x
     injected_by (took j p k) done = refl
     injected_by (served j e place s) (live, chip, behind, is, dark) =
         not_there place (queue_at u.machine c Local) (brought s s.fate) (λ at. no_injection u e c s.out (inside_of j e live chip) inside (sym behind ∙ at))
@@ -145,7 +145,7 @@ module _ (u : Setup) where
 
     -- nothing entered the queue of a port to which no live link leads, and that is not its live chip's own
     pub not_entered : (port : Port) → ((d : Dir) → port ≡ ByLink d → IsLiveLink u.machine c d → ⊥) → (port ≡ Local → IsLiveChip u.machine c → ⊥) →
-        (x : Item) → IsDone u x → entered_by (queue_at u.machine c port) x ≡ []
+        (x : Item) → IsDoneOn u x → entered_by (queue_at u.machine c port) x ≡ []
     not_entered port no_wire no_chip (took j p k) done = refl
     not_entered port no_wire no_chip (served j e place s) (live, chip, behind, is, dark) =
         not_there place (queue_at u.machine c port) (brought s s.fate) (λ at.
@@ -175,14 +175,14 @@ module _ (u : Setup) where
         ]
 
     -- what the vertices of the chip sent its bank sent
-    pub sent_by_bank : (x : Item) → IsDone u x → gathered (λ v spot. of_chip c spot (sent_of v x)) 0 u.spots ≡ sending_of index x
+    pub sent_by_bank : (x : Item) → IsDoneOn u x → gathered (λ v spot. of_chip c spot (sent_in v x)) 0 u.spots ≡ sending_of index x
     sent_by_bank (took j p k) done = gathered_none (λ v spot. of_chip c spot []) 0 u.spots (λ i spot at. refl)
     sent_by_bank (served j e place s) done = gathered_none (λ v spot. of_chip c spot []) 0 u.spots (λ i spot at. refl)
     sent_by_bank (sent j v k) (live, on) = of_vertex (λ w. where_same v w (k ∷ [])) j v k on (here v v (k ∷ []) refl) (λ w apart. elsewhere v w (k ∷ []) apart)
     sent_by_bank (got j v place k) done = gathered_none (λ v spot. of_chip c spot []) 0 u.spots (λ i spot at. refl)
 
     -- what they got it took
-    pub got_by_bank : (x : Item) → IsDone u x → gathered (λ v spot. of_chip c spot (copies_to v (delivered_of x))) 0 u.spots ≡ getting_of index x
+    pub got_by_bank : (x : Item) → IsDoneOn u x → gathered (λ v spot. of_chip c spot (copies_to v (delivered_of x))) 0 u.spots ≡ getting_of index x
     got_by_bank (took j p k) done = gathered_none (λ v spot. of_chip c spot []) 0 u.spots (λ i spot at. refl)
     got_by_bank (served j e place s) done = gathered_none (λ v spot. of_chip c spot []) 0 u.spots (λ i spot at. refl)
     got_by_bank (sent j v k) done = gathered_none (λ v spot. of_chip c spot []) 0 u.spots (λ i spot at. refl)
@@ -204,7 +204,7 @@ module _ (u : Setup) where
         own : service_at (served j e place s) ≡ s ∷ [] → e ≡ c → s.out ≡ o → place ≡ place_behind u c o → Serves j e place s
         off : service_at (served j e place s) ≡ [] → ((q : ℕ) → place ≡ Some q → place_behind u c o ≡ Some q → ⊥) → (e ≡ c → s.out ≡ o → ⊥) → Serves j e place s
 
-      serves : (j : ℕ) (e : Chip) (place : Option ℕ) (s : Service) → IsDone u (served j e place s) → Serves j e place s
+      serves : (j : ℕ) (e : Chip) (place : Option ℕ) (s : Service) → IsDoneOn u (served j e place s) → Serves j e place s
       serves j e place s (live, chip, behind, is, dark) = elim (doer j) [
         | this same at ↦ elim (cases_Bool (out_eq o s.out)) [
           | inl own_out ↦
@@ -225,14 +225,14 @@ module _ (u : Setup) where
           of ss = filter (λ (s : Service). out_eq o s.out) ss
 
       -- what was made of it at the queue behind the output was made of what was served there
-      made_by : (made : Service → Served → List McCopy) (q : ℕ) → place_behind u c o ≡ Some q → (j : ℕ) (e : Chip) (place : Option ℕ) (s : Service) → IsDone u (served j e place s) →
+      made_by : (made : Service → Served → List McCopy) (q : ℕ) → place_behind u c o ≡ Some q → (j : ℕ) (e : Chip) (place : Option ℕ) (s : Service) → IsDoneOn u (served j e place s) →
           where_there place q (made s s.fate) ≡ flat_map (λ x. made x x.fate) (service_at (served j e place s))
       made_by made q at j e place s done = elim (serves j e place s done) [
         | own one chip out behind ↦ there place q (made s s.fate) (behind ∙ at) ∙ (sym (append-nil (made s s.fate)) ∙ sym (ap (flat_map (λ x. made x x.fate)) one))
         | off none apart never ↦ not_there place q (made s s.fate) (λ e. apart q e at) ∙ sym (ap (flat_map (λ x. made x x.fate)) none)
       ]
 
-      pub entered_behind : (q : ℕ) → place_behind u c o ≡ Some q → (x : Item) → IsDone u x → entered_by q x ≡ went_on (service_at x)
+      pub entered_behind : (q : ℕ) → place_behind u c o ≡ Some q → (x : Item) → IsDoneOn u x → entered_by q x ≡ went_on (service_at x)
       entered_behind q at (took j p k) done = refl
       entered_behind q at (served j e place s) done = made_by brought q at j e place s done
       entered_behind q at (sent j v k) (live, on) =
@@ -240,14 +240,14 @@ module _ (u : Setup) where
           no_injection u c (chip_of u.machine j) o inside (inside_of j (chip_of u.machine j) live refl) (at ∙ ap Some (sym e ∙ place_is j Local)))
       entered_behind q at (got j v place k) done = refl
 
-      pub lost_behind : (q : ℕ) → place_behind u c o ≡ Some q → (x : Item) → IsDone u x → lost_by q x ≡ fell (service_at x)
+      pub lost_behind : (q : ℕ) → place_behind u c o ≡ Some q → (x : Item) → IsDoneOn u x → lost_by q x ≡ fell (service_at x)
       lost_behind q at (took j p k) done = refl
       lost_behind q at (served j e place s) done = made_by lost q at j e place s done
       lost_behind q at (sent j v k) done = refl
       lost_behind q at (got j v place k) done = refl
 
       -- nothing went on by an output behind which no queue stands
-      pub none_went : place_behind u c o ≡ None → (x : Item) → IsDone u x → went_on (service_at x) ≡ []
+      pub none_went : place_behind u c o ≡ None → (x : Item) → IsDoneOn u x → went_on (service_at x) ≡ []
       none_went at (took j p k) done = refl
       none_went at (served j e place s) done = elim (serves j e place s done) [
         | own one chip out behind ↦ ap went_on one ∙ ap (λ f. brought s f ++ []) (done.4 (behind ∙ at))
@@ -257,7 +257,7 @@ module _ (u : Setup) where
       none_went at (got j v place k) done = refl
 
       -- the records of the output are of what was dumped there
-      pub recorded_at : (x : Item) → IsDone u x → copies_at c o (dumped_of x) ≡ fell (service_at x)
+      pub recorded_at : (x : Item) → IsDoneOn u x → copies_at c o (dumped_of x) ≡ fell (service_at x)
       recorded_at (took j p k) done = refl
       recorded_at (served j e place s) done = elim (serves j e place s done) [
         | own one chip out behind ↦ at_own s.fate (and_from (chip_eq e c) (out_eq s.out o) (ap (λ x. chip_eq x c) chip ∙ chip_eq_same c) (ap (λ x. out_eq x o) out ∙ out_eq_same o)) ∙ sym (ap fell one)

@@ -13,7 +13,7 @@ use Rattle.spin_base.specs.declared.chips.Port.{Port}
 use Rattle.spin_base.specs.declared.chips.Port.TheVariants.{Link as ByLink, Local}
 use Rattle.spin_base.specs.declared.copies.McCopy.{McCopy}
 use Rattle.machine_desc.specs.Live.{chip_of, index_of, IsInside}
-use Rattle.chip_node.specs.Items.{Item, took, served, sent, got, port_place, entered, left, left_by, sent_by, sent_of, taking_of}
+use Rattle.chip_node.specs.Items.{Item, took, served, sent, got, port_place, entered, left, left_by, sent_by, sent_in, taking_of}
 use Rattle.mesh_core.specs.State.{Setup, State, Hand, FitsQueue, FitsHand, IsMesh, core, queue_at}
 use Rattle.mesh_core.proofs.Changes.{queue_at-below}
 use Rattle.mesh_run.specs.Played.{held_at, vertex_place, IsPlayedBy}
@@ -116,7 +116,7 @@ module _ (r : Round) where
       taken_by j from.0 took.0 (among_contains took.0 r.items took.1) took.2
   moved_by (sent j v k) has =
       let on = (done_of r (sent j v k) has).1 in
-      let among = among_into (sent_of v) (sent j v k) k r.items has (first_here v v k refl) in
+      let among = among_into (sent_in v) (sent j v k) k r.items has (first_here v v k refl) in
       inr (v, slice_get_within u.spots v on.spot on.stands, not_empty k (sent_by v r.items) among)
   moved_by (got j v place k) has =
       let done = done_of r (got j v place k) has in

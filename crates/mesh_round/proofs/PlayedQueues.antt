@@ -18,10 +18,10 @@ use Rattle.spin_base.specs.Outputs.{IsOutput}
 use Rattle.machine_desc.specs.Live.{chip_of, IsLiveChip}
 use Rattle.chip_node.specs.declared.ends.Served.{Served}
 use Rattle.chip_node.specs.declared.ends.Served.TheVariants.{Sent, Dumped}
-use Rattle.chip_node.specs.Items.{Item, Service, took, served, sent, got, brought, recorded, where_same, where_there, port_place, entered, left, entered_by, left_by, sent_of, taking_of, service_of, delivered_of, dumped_of, records, sent_by, services, takings}
+use Rattle.chip_node.specs.Items.{Item, Service, took, served, sent, got, brought, recorded, where_same, where_there, port_place, entered, left, entered_by, left_by, sent_in, taking_of, service_of, delivered_of, dumped_of, records, sent_by, services, takings}
 use Rattle.mesh_core.specs.State.{Setup, FitsQueue, Queue}
 use Rattle.mesh_core.proofs.Changes.{queue_at-below}
-use Rattle.mesh_run.specs.Played.{held_at, port_count, IsDone, IsLiveIndex}
+use Rattle.mesh_run.specs.Played.{held_at, port_count, IsDoneOn, IsLiveIndex}
 use Rattle.mesh_round.specs.RoundFlow.{WasFullAt, capacity_of, held_in}
 use Rattle.mesh_round.proofs.Apart.{first_here, here}
 use Rattle.mesh_round.proofs.Done.{inside_of, place_is}
@@ -51,8 +51,8 @@ module _ (r : Round) where
   abbrev u : Setup
   u = r.m.setup
 
-  pub done_of : (x : Item) → Contains r.items x → IsDone u x
-  done_of x has = All-contains (IsDone u) r.items x r.played.turns_are.each has
+  pub done_of : (x : Item) → Contains r.items x → IsDoneOn u x
+  done_of x has = All-contains (IsDoneOn u) r.items x r.played.turns_are.each has
 
   -- ---- the balance of each queue
 
@@ -110,7 +110,7 @@ module _ (r : Round) where
       by (took i p k) has = All-nil IsSmall
       by (served i c place s) has = fits_there IsSmall place q (brought s s.fate) (small s s.fate)
       by (sent i v k) has =
-          let new : k.hop ≡ 0 = one_here IsNew v k (All-contains (λ x. All IsNew (sent_of v x)) r.items (sent i v k) (All-from_flat_map IsNew (sent_of v) r.items (new_sent v)) has) in
+          let new : k.hop ≡ 0 = one_here IsNew v k (All-contains (λ x. All IsNew (sent_in v x)) r.items (sent i v k) (All-from_flat_map IsNew (sent_in v) r.items (new_sent v)) has) in
           fits_same IsSmall _ q (k ∷ []) (All-cons IsSmall k [] (omega (arith, new)) (All-nil IsSmall))
       by (got i v place k) has = All-nil IsSmall
 

@@ -25,12 +25,12 @@ use Rattle.spin_base.proofs.Tests.{answers_none}
 use Rattle.machine_desc.specs.Live.{chip_of, index_of, is_live_chip, is_live_link, IsInside, IsLiveChip}
 use Rattle.machine_desc.proofs.Far.{far_inside, live_inside}
 use Rattle.machine_desc.proofs.Live.{chip_of-index_of}
-use Rattle.chip_node.specs.Items.{Item, Service, brought, delivered_of, dumped_of, entered, entered_by, getting_of, gettings, left, left_by, lost, lost_at, lost_by, records, sending_of, sendings, sent_by, sent_of, service_of, services, taking_of, takings}
+use Rattle.chip_node.specs.Items.{Item, Service, brought, delivered_of, dumped_of, entered, entered_by, getting_of, gettings, left, left_by, lost, lost_at, lost_by, records, sending_of, sendings, sent_by, sent_in, service_of, services, taking_of, takings}
 use Rattle.mesh_core.specs.State.{Setup, Hand, core, nowhere, behind, queue_at}
 use Rattle.mesh_core.specs.Ledger.{all_ports}
 use Rattle.mesh_core.proofs.Changes.{queue_at-below}
 use Rattle.mesh_core.proofs.Ways.{vertex_behind_stands}
-use Rattle.mesh_run.specs.Played.{queue_place_of, vertex_place, owed_on, IsDone}
+use Rattle.mesh_run.specs.Played.{queue_place_of, vertex_place, owed_on, IsDoneOn}
 use Rattle.mesh_round.specs.RoundFlow.{Passes, IsRound, IsQueueOf, at_port, delivered_to, dumped_at, got_on, leaves_by, of_chip, sent_on, taken_for}
 use Rattle.mesh_round.proofs.Done.{copies_at, copies_to, collected_by, entered_behind, got_by_bank, injected_by, lost_behind, none_went, not_entered, recorded_at, sent_by_bank, service_at, taken_by}
 use Rattle.mesh_round.proofs.Ends.{leads, by_link, to_vertex, to_none}
@@ -44,8 +44,8 @@ module _ (r : Round) where
   u = r.m.setup
 
   -- where two functions agree of each thing that was done
-  all_agree : {Y : Type 0} (f g : Item → List Y) → ((x : Item) → IsDone u x → f x ≡ g x) → flat_map f r.items ≡ flat_map g r.items
-  all_agree f g same = flat_agree (IsDone u) f g same r.items r.played.turns_are.each
+  all_agree : {Y : Type 0} (f g : Item → List Y) → ((x : Item) → IsDoneOn u x → f x ≡ g x) → flat_map f r.items ≡ flat_map g r.items
+  all_agree f g same = flat_agree (IsDoneOn u) f g same r.items r.played.turns_are.each
 
   -- ---- ports
 
@@ -61,7 +61,7 @@ module _ (r : Round) where
   pub dead_ports : (c : Chip) (d : Dir) → IsInside u.machine c → is_live_link u.machine c d ≡ false → (flow_of r).entered (at_port u c (ByLink d)) ≡ []
   dead_ports c d inside dead =
       entered_port c (ByLink d) inside
-      ∙ flat_none (IsDone u) (entered_by (queue_at u.machine c (ByLink d))) (not_entered u c inside (ByLink d)
+      ∙ flat_none (IsDoneOn u) (entered_by (queue_at u.machine c (ByLink d))) (not_entered u c inside (ByLink d)
       (λ e same live. answers_none (is_live_link u.machine c d) (ap (is_live_link u.machine c) (one_wire d e same) ∙ live) dead) (λ same live. no_wire d same)) r.items r.played.turns_are.each
     where
       one_wire : (d e : Dir) → ByLink d ≡ ByLink e → d ≡ e
@@ -73,7 +73,7 @@ module _ (r : Round) where
   pub dead_chips : (c : Chip) → IsInside u.machine c → is_live_chip u.machine c ≡ false → (flow_of r).entered (at_port u c Local) ≡ []
   dead_chips c inside dead =
       entered_port c Local inside
-      ∙ flat_none (IsDone u) (entered_by (queue_at u.machine c Local)) (not_entered u c inside Local (λ d same live. no_wire d same) (λ same live. answers_none (is_live_chip u.machine c) live dead)) r.items r.played.turns_are.each
+      ∙ flat_none (IsDoneOn u) (entered_by (queue_at u.machine c Local)) (not_entered u c inside Local (λ d same live. no_wire d same) (λ same live. answers_none (is_live_chip u.machine c) live dead)) r.items r.played.turns_are.each
     where
       no_wire : (d : Dir) → Local ≡ ByLink d → ⊥
       no_wire d same = cc
@@ -85,7 +85,7 @@ module _ (r : Round) where
   taken_at_ports leaves c inside =
       let each : Port × McCopy → List McCopy = λ t. filter (leaves t.0) (t.1 ∷ []) in
       subst (IsPermutation (gathered (λ i port. filter (leaves port) ((flow_of r).left (at_port u c port))) 0 all_ports)) (sym (flat-flat each (taking_of (index_of u.machine c)) r.items))
-      (by_items (IsDone u) (λ x i port. filter (leaves port) (left_by (queue_at u.machine c port) x)) (λ i port. filter (leaves port) ((flow_of r).left (at_port u c port)))
+      (by_items (IsDoneOn u) (λ x i port. filter (leaves port) (left_by (queue_at u.machine c port) x)) (λ i port. filter (leaves port) ((flow_of r).left (at_port u c port)))
       (λ x. flat_map each (taking_of (index_of u.machine c) x)) 0 all_ports r.items
       (λ i port. ap (filter (leaves port)) (left_port c port inside) ∙ filter-flat (leaves port) (left_by (queue_at u.machine c port)) r.items)
       (taken_by u c inside leaves) r.played.turns_are.each)
@@ -106,8 +106,8 @@ module _ (r : Round) where
   -- what the vertices of a chip sent its bank sent, and what they got it took
   sent_spread : (c : Chip) → IsInside u.machine c → IsPermutation (sent_on u (flow_of r) c) (sendings (index_of u.machine c) r.items)
   sent_spread c inside =
-      by_items (IsDone u) (λ x v spot. of_chip c spot (sent_of v x)) (λ v spot. of_chip c spot (sent_by v r.items)) (sending_of (index_of u.machine c)) 0 u.spots r.items
-      (λ v spot. filter-flat (λ k. chip_eq spot.chip c) (sent_of v) r.items) (sent_by_bank u c inside) r.played.turns_are.each
+      by_items (IsDoneOn u) (λ x v spot. of_chip c spot (sent_in v x)) (λ v spot. of_chip c spot (sent_by v r.items)) (sending_of (index_of u.machine c)) 0 u.spots r.items
+      (λ v spot. filter-flat (λ k. chip_eq spot.chip c) (sent_in v) r.items) (sent_by_bank u c inside) r.played.turns_are.each
 
   delivered_is : (v : ℕ) → delivered_to (flow_of r) v ≡ flat_map (λ x. copies_to v (delivered_of x)) r.items
   delivered_is v =
@@ -116,7 +116,7 @@ module _ (r : Round) where
 
   got_spread : (c : Chip) → IsInside u.machine c → IsPermutation (got_on u (flow_of r) c) (gettings (index_of u.machine c) r.items)
   got_spread c inside =
-      by_items (IsDone u) (λ x v spot. of_chip c spot (copies_to v (delivered_of x))) (λ v spot. of_chip c spot (delivered_to (flow_of r) v)) (getting_of (index_of u.machine c)) 0 u.spots r.items
+      by_items (IsDoneOn u) (λ x v spot. of_chip c spot (copies_to v (delivered_of x))) (λ v spot. of_chip c spot (delivered_to (flow_of r) v)) (getting_of (index_of u.machine c)) 0 u.spots r.items
       (λ v spot. ap (of_chip c spot) (delivered_is v) ∙ filter-flat (λ k. chip_eq spot.chip c) (λ x. copies_to v (delivered_of x)) r.items) (got_by_bank u c inside) r.played.turns_are.each
 
   few_got : (c : Chip) → IsLiveChip u.machine c → length (got_on u (flow_of r) c) ≤ r.turns
@@ -185,7 +185,7 @@ module _ (r : Round) where
     entered_is : (x : Stands r (behind u c o)) → by_place r (behind u c o) (λ p. entered p.at r.items) [] x ≡ went_on at_output
     entered_is (found p) = all_agree (entered_by p.at) (λ x. went_on (service_at u c inside o x)) (entered_behind u c inside o p.at p.is) ∙ went_is
     entered_is (beyond out some before after) = absurd (not_beyond out some)
-    entered_is (dark is) = sym (flat_none (IsDone u) (λ x. went_on (service_at u c inside o x)) (none_went u c inside o (ap (queue_place_of u) is)) r.items r.played.turns_are.each) ∙ went_is
+    entered_is (dark is) = sym (flat_none (IsDoneOn u) (λ x. went_on (service_at u c inside o x)) (none_went u c inside o (ap (queue_place_of u) is)) r.items r.played.turns_are.each) ∙ went_is
 
     dumped_is : dumped_at (flow_of r) c o ≡ fell at_output
     dumped_is =

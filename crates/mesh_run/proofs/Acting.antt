@@ -25,7 +25,7 @@ use Rattle.chip_node.specs.declared.nodes.Behind.{Behind}
 use Rattle.chip_node.specs.declared.nodes.CoreBank.{CoreBank}
 use Rattle.chip_node.specs.declared.nodes.RouterNode.{RouterNode}
 use Rattle.chip_node.specs.Acting.{place_in, BankActs, IsReadyBank, IsReadyRouter, RouterActs}
-use Rattle.chip_node.specs.Acting.{place_behind as place_at_router}
+use Rattle.chip_node.specs.Acting.{place_at_router}
 use Rattle.chip_node.specs.Going.{AreEndsOf, Goes, HoldsSender, Stays}
 use Rattle.chip_node.specs.Items.{Item, injection_place, port_place}
 use Rattle.chip_node.proofs.Flows.{goes_none, goes_on, holds_sender_on}
@@ -33,9 +33,9 @@ use Rattle.chip_node.proofs.Stays.{stays_same}
 use Rattle.mesh_core.specs.State.{Setup}
 use Rattle.mesh_run.specs.declared.floors.Floor.{Floor}
 use Rattle.mesh_run.specs.declared.shares.Share.{Share}
-use Rattle.mesh_run.specs.Floors.{chip_count, IsBankOf, IsFloorOf}
+use Rattle.mesh_run.specs.Floors.{grid_size, IsBankOf, IsFloorOf}
 use Rattle.mesh_run.specs.Played.{place_behind, port_count, vertex_place, AreTurns, IsLiveIndex}
-use Rattle.mesh_run.specs.Shares.{actor_of, bank_place, router_place, ActsAt, AreOf, DoesAt, IsIn, IsNoted, IsShareOf, MovesAt, PlaysOne, PlaysRound, PlaysTurns, SharePlays}
+use Rattle.mesh_run.specs.Shares.{actor_of, bank_place, router_place, ActsAt, AreOf, DoesAt, IsInRun, IsNoted, IsShareOf, MovesAt, PlaysOne, PlaysRound, PlaysTurns, SharePlays}
 use Rattle.mesh_run.proofs.Apart.{not_to_itself, one_output}
 use Rattle.mesh_run.proofs.Turns.{IsNotOf, IsRouterOf, bank_by, bank_turns, routed_by, routed_some, routed_turns, turns_beside, turns_none, turns_on}
 
@@ -60,7 +60,7 @@ even_place at even = omega (arith, even, div-add-mod' at 2)
 pub odd_place : (at : ℕ) → at % 2 ≢ 0 → bank_place (at / 2) ≡ at
 odd_place at odd = omega (arith, odd, div-add-mod' at 2, mod_below at 2 (omega arith))
 
-pub in_place : (from to at a : ℕ) → a ≡ at → from ≤ at → at < to → IsIn from to a
+pub in_place : (from to at a : ℕ) → a ≡ at → from ≤ at → at < to → IsInRun from to a
 in_place from to at a is above below = record { above = omega (arith, is, above); below = omega (arith, is, below) }
 
 pub half_below : (at to chips : ℕ) → at < to → to ≤ 2 * chips → at / 2 < chips
@@ -81,7 +81,7 @@ module _ (u : Setup) (f : Floor) where
   pub live_index : (i : ℕ) → is_live_chip u.machine (chip_of u.machine i) ≡ true → IsLiveIndex u i
   live_index i live = record { live = live; is = index_of-chip_of u.machine i }
 
-  router_outputs : (i : ℕ) (r : RouterNode) → IsFloorOf u f → i < chip_count u → IsFloorRouter u f i r → length r.behind.now ≡ 24
+  router_outputs : (i : ℕ) (r : RouterNode) → IsFloorOf u f → i < grid_size u → IsFloorRouter u f i r → length r.behind.now ≡ 24
   router_outputs i r of below is =
       let all = ap length is.3 in
       let taken = length-take 24 (drop (24 * i) f.behind.items) in
@@ -89,7 +89,7 @@ module _ (u : Setup) (f : Floor) where
       let long = of.behind_long in
       omega (arith, all, taken, dropped, long, below)
 
-  pub router_of : (i : ℕ) (r : RouterNode) → IsFloorOf u f → i < chip_count u → is_live_chip u.machine (chip_of u.machine i) ≡ true → IsFloorRouter u f i r → IsRouterOf u i r
+  pub router_of : (i : ℕ) (r : RouterNode) → IsFloorOf u f → i < grid_size u → is_live_chip u.machine (chip_of u.machine i) ≡ true → IsFloorRouter u f i r → IsRouterOf u i r
   router_of i r of below live is = record {
     live = live_index i live;
     index = is.1;
@@ -119,8 +119,8 @@ module _ (u : Setup) (f : Floor) where
       bit_within o (let within = slice_get_within r.behind.now (out_number o) at.0 at.1 in omega (arith, within, long))
 
   module _ (links : List QueueLink) (s : Share) where
-    pub ready_router : (i : ℕ) (r : RouterNode) → IsFloorOf u f → IsShareOf u links s → i < chip_count u → is_live_chip u.machine (chip_of u.machine i) ≡ true → IsFloorRouter u f i r →
-        IsIn s.from s.to (router_place i) → IsReadyRouter links r s.hold
+    pub ready_router : (i : ℕ) (r : RouterNode) → IsFloorOf u f → IsShareOf u links s → i < grid_size u → is_live_chip u.machine (chip_of u.machine i) ≡ true → IsFloorRouter u f i r →
+        IsInRun s.from s.to (router_place i) → IsReadyRouter links r s.hold
     ready_router i r of share below live is within =
         let long = router_outputs i r of below is in
         let router = router_of i r of below live is in
@@ -139,7 +139,7 @@ module _ (u : Setup) (f : Floor) where
         }
 
     pub ready_bank : (i : ℕ) (b : CoreBank) → IsFloorOf u f → IsShareOf u links s → slice_get f.banks.items i ≡ Some b → is_live_chip u.machine (chip_of u.machine i) ≡ true →
-        IsIn s.from s.to (bank_place i) → IsReadyBank links b s.hold
+        IsInRun s.from s.to (bank_place i) → IsReadyBank links b s.hold
     ready_bank i b of share stands live within =
         let bank = of.banks i b stands in
         record {
@@ -161,26 +161,26 @@ module _ (u : Setup) (links : List QueueLink) (s : Share) where
   share_on cap patience t items from to goes ends share = record {
     ends_long = goes.ends_long ∙ share.ends_long;
     unsent_long = goes.unsent_long ∙ share.unsent_long;
-    within = subst (λ n. n ≤ 2 * chip_count u) (sym to) share.within;
+    within = subst (λ n. n ≤ 2 * grid_size u) (sym to) share.within;
     routers = λ i o q live within behind. holds_sender_on cap patience s.hold t.hold items q goes (share.routers i o q live (was_in within) behind);
     banks = λ i live within. holds_sender_on cap patience s.hold t.hold items (injection_place i) goes (share.banks i live (was_in within));
     ends = ends;
   }
     where
-      was_in : {a : ℕ} → IsIn t.from t.to a → IsIn s.from s.to a
+      was_in : {a : ℕ} → IsInRun t.from t.to a → IsInRun s.from s.to a
       was_in {a} is = record { above = subst (λ n. n ≤ a) from is.above; below = subst (λ n. a < n) to is.below }
 
   pub share_same : (t : Share) → t.from ≡ s.from → t.to ≡ s.to → t.hold ≡ s.hold → IsShareOf u links s → IsShareOf u links t
   share_same t from to hold share = record {
     ends_long = subst (λ (h : Holdings). length h.ends.items ≡ port_count u + length u.spots) (sym hold) share.ends_long;
     unsent_long = subst (λ (h : Holdings). length h.unsent.items ≡ length u.spots) (sym hold) share.unsent_long;
-    within = subst (λ n. n ≤ 2 * chip_count u) (sym to) share.within;
+    within = subst (λ n. n ≤ 2 * grid_size u) (sym to) share.within;
     routers = λ i o q live within behind. subst (λ (h : Holdings). HoldsSender h.ends.items q) (sym hold) (share.routers i o q live (was_in within) behind);
     banks = λ i live within. subst (λ (h : Holdings). HoldsSender h.ends.items (injection_place i)) (sym hold) (share.banks i live (was_in within));
     ends = subst (λ (h : Holdings). AreEndsOf links h.ends.items) (sym hold) share.ends;
   }
     where
-      was_in : {a : ℕ} → IsIn t.from t.to a → IsIn s.from s.to a
+      was_in : {a : ℕ} → IsInRun t.from t.to a → IsInRun s.from s.to a
       was_in {a} is = record { above = subst (λ n. n ≤ a) from is.above; below = subst (λ n. a < n) to is.below }
 
 -- ---- what a turn does
@@ -263,7 +263,7 @@ module _ (u : Setup) (patience : ℕ) where
   pub one_stays : (at : ℕ) (s t : Share) → t.from ≡ s.from → t.to ≡ s.to → t.moved ≡ s.moved → Stays s.hold t.hold → PlaysOne u patience at s t
   one_stays at s t from to moved stays = record {
     items = [];
-    plays = record { from = from; to = to; goes = goes_none u.capacity patience s.hold t.hold stays; own = All-nil (λ x. IsIn s.from s.to (actor_of x)); turns_are = turns_none u 1 };
+    plays = record { from = from; to = to; goes = goes_none u.capacity patience s.hold t.hold stays; own = All-nil (λ x. IsInRun s.from s.to (actor_of x)); turns_are = turns_none u 1 };
     of_it = All-nil (λ x. actor_of x ≡ at);
     noted = noted_none s.moved t.moved moved;
   }
@@ -275,7 +275,7 @@ module _ (u : Setup) (patience : ℕ) where
       from = from;
       to = to;
       goes = h.goes;
-      own = All-weaker (λ x. actor_of x ≡ at) (λ x. IsIn s.from s.to (actor_of x)) (λ x is. subst (IsIn s.from s.to) (sym is) (record { above = above; below = below })) h.items h.of_it;
+      own = All-weaker (λ x. actor_of x ≡ at) (λ x. IsInRun s.from s.to (actor_of x)) (λ x is. subst (IsInRun s.from s.to) (sym is) (record { above = above; below = below })) h.items h.of_it;
       turns_are = h.turns_are;
     };
     of_it = h.of_it;
@@ -296,7 +296,7 @@ module _ (u : Setup) (patience : ℕ) where
     from = from;
     to = to;
     goes = subst (Goes u.capacity patience s.hold []) (sym hold) (goes_none u.capacity patience s.hold s.hold (stays_same s.hold));
-    own = All-nil (λ x. IsIn s.from s.to (actor_of x));
+    own = All-nil (λ x. IsInRun s.from s.to (actor_of x));
     turns_are = turns_none u n;
   }
 
@@ -304,7 +304,7 @@ module _ (u : Setup) (patience : ℕ) where
   each_none start at = record { items = []; plays = plays_none 1 start start refl refl refl; before = All-nil (λ x. actor_of x < at); noted = noted_none start.moved start.moved refl }
 
   own_on : (a b : Share) (xs ys : List Item) → b.from ≡ a.from → b.to ≡ a.to → AreOf a.from a.to xs → AreOf b.from b.to ys → AreOf a.from a.to (xs ++ ys)
-  own_on a b xs ys from to h k = All-append (λ x. IsIn a.from a.to (actor_of x)) xs ys h
+  own_on a b xs ys from to h k = All-append (λ x. IsInRun a.from a.to (actor_of x)) xs ys h
       (subst (λ n. AreOf n a.to ys) from (subst (λ n. AreOf b.from n ys) to k))
 
   -- a place further on

@@ -25,11 +25,11 @@ use Rattle.mesh_run.specs.declared.homes.Home.{Home}
 use Rattle.mesh_run.specs.declared.raised.RaisedMesh.{RaisedMesh}
 use Rattle.mesh_run.specs.declared.shares.Share.{Share}
 use Rattle.mesh_run.specs.Crossing.{AreCuts, Deals, IsUncut}
-use Rattle.mesh_run.specs.Floors.{chip_count}
-use Rattle.mesh_run.specs.Homes.{AreRuns, run_start}
+use Rattle.mesh_run.specs.Floors.{grid_size}
+use Rattle.mesh_run.specs.Homes.{AreShareRuns, run_start}
 use Rattle.mesh_run.specs.Queues.{WasUp}
 use Rattle.mesh_run.specs.Raised.{IsRaisedFrom}
-use Rattle.mesh_run.specs.Shares.{bank_place, router_place, IsIn, IsShareOf}
+use Rattle.mesh_run.specs.Shares.{bank_place, router_place, IsInRun, IsShareOf}
 use Rattle.mesh_run.specs.Split.{end_at, end_in}
 use Rattle.mesh_run.proofs.Feeding.{LeadsTo, by_link, leads, place_below, to_vertex}
 use Rattle.mesh_run.proofs.HomeLaws.{live_below}
@@ -41,7 +41,7 @@ has_bit u i o q (by_link d e out far at) = let link : IsOutput (ByLink d) = tt i
 has_bit u i o q (to_vertex v t stands here out at) = subst IsOutput out (out_of-has_bit t.core)
 
 -- no run ends past the last place
-run_within : (count : ℕ) (ends : List ℕ) (k : ℕ) → AreRuns count ends → k < length ends → slice_index_or ends k 0 ≤ count
+run_within : (count : ℕ) (ends : List ℕ) (k : ℕ) → AreShareRuns count ends → k < length ends → slice_index_or ends k 0 ≤ count
 run_within count ends k runs below = by_last (length ends) refl below
   where
     by_last : (n : ℕ) → length ends ≡ n → k < n → slice_index_or ends k 0 ≤ count
@@ -215,7 +215,7 @@ module _ (m : State) (is_mesh : IsMesh m) (more : ℕ) (r : RaisedMesh) (raised 
         run_to = (deals.same.1 k was.0 t was.1 at).to ∙ raised.shared.to k was.0 was.1
 
         -- its actors have its number
-        numbered : (a : ℕ) → IsIn t.from t.to a → slice_get raised.shared.table a ≡ Some k
+        numbered : (a : ℕ) → IsInRun t.from t.to a → slice_get raised.shared.table a ≡ Some k
         numbered a in_run =
             let above = in_run.above in
             let below = in_run.below in
@@ -233,7 +233,7 @@ module _ (m : State) (is_mesh : IsMesh m) (more : ℕ) (r : RaisedMesh) (raised 
         dealt_share = record {
           ends_long = ends_many ∙ raised.shared.homes_are.long;
           unsent_long = ap (λ v. length v.items) (deals.same.1 k was.0 t was.1 at).unsent ∙ raised.shared.unsent_long k was.0 was.1;
-          within = let to = run_to in let most = run_within (2 * chip_count u) raised.shared.ends k raised.shared.runs has_run in omega (arith, to, most);
+          within = let to = run_to in let most = run_within (2 * grid_size u) raised.shared.ends k raised.shared.runs has_run in omega (arith, to, most);
           routers = λ i o q live in_run behind.
               let led = leads u (chip_of u.machine i) o q behind in
               let place = place_below u (chip_of u.machine i) o q (live_inside u.machine (chip_of u.machine i) live.live) led in

@@ -6,9 +6,9 @@ use Rattle.std.proofs.lemmas.List.{get_or_append_left, get_or-append_right, get_
 use Rattle.std.proofs.lemmas.List.Elements.{All-head, All-tail}
 use Rattle.std.proofs.lemmas.Option.{slice_get_within}
 use Rattle.spin_base.specs.declared.copies.McCopy.{McCopy}
-use Rattle.chip_node.specs.Items.{Item, took, served, sent, got, deliveries, records, sent_by, sent_of}
+use Rattle.chip_node.specs.Items.{Item, took, served, sent, got, deliveries, records, sent_by, sent_in}
 use Rattle.mesh_core.specs.State.{Setup, State}
-use Rattle.mesh_run.specs.Played.{port_count, IsDone, IsPlayedBy}
+use Rattle.mesh_run.specs.Played.{port_count, IsDoneOn, IsPlayedBy}
 use Rattle.mesh_run.proofs.Apart.{elsewhere}
 use Rattle.mesh_run.proofs.EachQueue.{AfterRound, queue_after}
 use Rattle.mesh_run.proofs.EachVertex.{VertexAfter, vertex_after}
@@ -16,16 +16,16 @@ use Rattle.mesh_run.proofs.Together.{joined, listed}
 use Rattle.mesh_run.proofs.WholeRound.{Whole, parts, whole_turns}
 
 -- no vertex that is not there sent a copy
-none_sent_of : (u : Setup) (v : ℕ) → length u.spots ≤ v → (x : Item) → IsDone u x → sent_of v x ≡ []
+none_sent_of : (u : Setup) (v : ℕ) → length u.spots ≤ v → (x : Item) → IsDoneOn u x → sent_in v x ≡ []
 none_sent_of u v past (took i port k) done = refl
 none_sent_of u v past (served i c place s) done = refl
 none_sent_of u v past (sent i n k) done = elsewhere n v (k ∷ []) (λ same. let inside = slice_get_within u.spots n done.1.spot done.1.stands in omega (arith, inside, same, past))
 none_sent_of u v past (got i n place k) done = refl
 
-none_sent : (u : Setup) (v : ℕ) → length u.spots ≤ v → (items : List Item) → All (IsDone u) items → sent_by v items ≡ []
+none_sent : (u : Setup) (v : ℕ) → length u.spots ≤ v → (items : List Item) → All (IsDoneOn u) items → sent_by v items ≡ []
 none_sent u v past [] done = refl
 none_sent u v past (x ∷ items) done =
-    ap (λ l. l ++ sent_by v items) (none_sent_of u v past x (All-head (IsDone u) x items done)) ∙ none_sent u v past items (All-tail (IsDone u) x items done)
+    ap (λ l. l ++ sent_by v items) (none_sent_of u v past x (All-head (IsDoneOn u) x items done)) ∙ none_sent u v past items (All-tail (IsDoneOn u) x items done)
 
 module _ (w : Whole) where
   pub after_inputs : (xs : List (List McCopy)) × (length xs ≡ port_count w.m.setup) × ((q : ℕ) (d : List McCopy) → q < port_count w.m.setup → AfterRound w q (get_or xs q d))

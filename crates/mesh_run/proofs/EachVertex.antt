@@ -4,7 +4,7 @@ use Rattle.std.specs.List.{slice_get, slice_index_or}
 use Rattle.std.proofs.lemmas.Option.{get_or_from_slice_get, slice_get_within, slice_get-get_or, same_Some}
 use Rattle.spin_base.proofs.Places.{both_none, slice_get_there}
 use Rattle.spin_base.specs.declared.copies.McCopy.{McCopy}
-use Rattle.chip_node.specs.Items.{sent_by, sent_of}
+use Rattle.chip_node.specs.Items.{sent_by, sent_in}
 use Rattle.mesh_run.specs.declared.homes.Home.{Home}
 use Rattle.mesh_run.specs.declared.shares.Share.{Share}
 use Rattle.mesh_run.specs.Played.{vertex_place}
@@ -66,7 +66,7 @@ module _ (w : Whole) where
       let below = (home_below w (vertex_place w.m.setup v) home.0 at).1 in
       let k = home.0.receiver in
       let all : sent_by v (joined (parts w)) ≡ sent_by v (get_or (parts w) k []) =
-      told_by_one w.m.setup.capacity w.patience w.dealt w.played (parts w) (played_parts w) (sent_of v) k below
+      told_by_one w.m.setup.capacity w.patience w.dealt w.played (parts w) (played_parts w) (sent_in v) k below
       (λ j within other. (none_unsent j v within (unsent.nowhere_else v home.0 j at other)).0) in (
         unsent_at w.cleared k v,
         record {

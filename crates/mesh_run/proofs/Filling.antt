@@ -25,7 +25,7 @@ use Rattle.chip_node.specs.declared.ends.Served.TheVariants.{Sent, Dumped}
 use Rattle.chip_node.specs.Items.{Item, Service, took, served, sent, got, brought, entered, entered_by, injection_place, sending_of, sendings, service_of, services, takings, where_same, where_there}
 use Rattle.mesh_core.specs.State.{Setup, queue_at}
 use Rattle.mesh_core.specs.Step.{outputs}
-use Rattle.mesh_run.specs.Played.{owed_on, place_behind, AreTurns, IsDone, IsLiveIndex}
+use Rattle.mesh_run.specs.Played.{owed_on, place_behind, AreTurns, IsDoneOn, IsLiveIndex}
 use Rattle.mesh_run.proofs.Apart.{elsewhere, here, no_injection, not_there, one_output}
 
 module _ (u : Setup) where
@@ -36,7 +36,7 @@ module _ (u : Setup) where
   few_brought s Dumped = omega arith
 
   -- what one item brings to an injection queue, its bank sent
-  sent_there : (i : ℕ) → IsLiveIndex u i → (x : Item) → IsDone u x → length (entered_by (injection_place i) x) ≤ length (sending_of i x)
+  sent_there : (i : ℕ) → IsLiveIndex u i → (x : Item) → IsDoneOn u x → length (entered_by (injection_place i) x) ≤ length (sending_of i x)
   sent_there i live (took j port k) done = omega arith
   sent_there i live (served j c place s) done =
       let is : chip_of u.machine j ≡ c = sym done.1 in
@@ -57,12 +57,12 @@ module _ (u : Setup) where
   ]
   sent_there i live (got j v place k) done = omega arith
 
-  fewer : {X Y : Type 0} (f : Item → List X) (g : Item → List Y) → ((x : Item) → IsDone u x → length (f x) ≤ length (g x)) → (items : List Item) → All (IsDone u) items →
+  fewer : {X Y : Type 0} (f : Item → List X) (g : Item → List Y) → ((x : Item) → IsDoneOn u x → length (f x) ≤ length (g x)) → (items : List Item) → All (IsDoneOn u) items →
       length (flat_map f items) ≤ length (flat_map g items)
   fewer f g each [] done = omega arith
   fewer f g each (x ∷ items) done =
-      let one = each x (All-head (IsDone u) x items done) in
-      let rest = fewer f g each items (All-tail (IsDone u) x items done) in
+      let one = each x (All-head (IsDoneOn u) x items done) in
+      let rest = fewer f g each items (All-tail (IsDoneOn u) x items done) in
       let first = length-append (f x) (flat_map f items) in
       let second = length-append (g x) (flat_map g items) in
       omega (arith, one, rest, first, second)
@@ -107,7 +107,7 @@ module _ (u : Setup) where
       omega (arith, both, mapped, one, rest)
 
   -- what one item brings to the queue behind an output, its router served there
-  served_there : (i : ℕ) (o : Out) (q : ℕ) → IsLiveIndex u i → place_behind u (chip_of u.machine i) o ≡ Some q → (x : Item) → IsDone u x →
+  served_there : (i : ℕ) (o : Out) (q : ℕ) → IsLiveIndex u i → place_behind u (chip_of u.machine i) o ≡ Some q → (x : Item) → IsDoneOn u x →
       length (entered_by q x) ≤ count_by (by o) (map told (service_of i x))
   served_there i o q live behind (took j port k) done = omega arith
   served_there i o q live behind (served j c None s) done = omega arith
@@ -133,12 +133,12 @@ module _ (u : Setup) where
       omega (arith, none)
   served_there i o q live behind (got j v place k) done = omega arith
 
-  counted : (i : ℕ) (o : Out) (q : ℕ) → IsLiveIndex u i → place_behind u (chip_of u.machine i) o ≡ Some q → (items : List Item) → All (IsDone u) items →
+  counted : (i : ℕ) (o : Out) (q : ℕ) → IsLiveIndex u i → place_behind u (chip_of u.machine i) o ≡ Some q → (items : List Item) → All (IsDoneOn u) items →
       length (entered q items) ≤ count_by (by o) (map told (services i items))
   counted i o q live behind [] done = omega arith
   counted i o q live behind (x ∷ items) done =
-      let one = served_there i o q live behind x (All-head (IsDone u) x items done) in
-      let rest = counted i o q live behind items (All-tail (IsDone u) x items done) in
+      let one = served_there i o q live behind x (All-head (IsDoneOn u) x items done) in
+      let rest = counted i o q live behind items (All-tail (IsDoneOn u) x items done) in
       let long = length-append (entered_by q x) (entered q items) in
       let joined = ap (count_by (by o)) (map-append told (service_of i x) (services i items)) in
       let both = count_by-append (by o) (map told (service_of i x)) (map told (services i items)) in
@@ -161,7 +161,7 @@ module _ (u : Setup) where
     by_router : (i : ℕ) (o : Out) → IsLiveIndex u i → IsOutput o → place_behind u (chip_of u.machine i) o ≡ Some q → Feeds q items
     by_bank : (i : ℕ) → IsLiveIndex u i → injection_place i ≡ q → Feeds q items
 
-  feeds_first : (q : ℕ) (items : List Item) (x : Item) → IsDone u x → entered q items ≡ [] → Feeds q (x ∷ items)
+  feeds_first : (q : ℕ) (items : List Item) (x : Item) → IsDoneOn u x → entered q items ≡ [] → Feeds q (x ∷ items)
   feeds_first q items (took j port k) done none = nobody none
   feeds_first q items (served j c None s) done none = nobody none
   feeds_first q items (served j c (Some p) s) done none = elim (cases_eq p q) [
@@ -174,10 +174,10 @@ module _ (u : Setup) where
   ]
   feeds_first q items (got j v place k) done none = nobody none
 
-  feeds : (q : ℕ) (items : List Item) → All (IsDone u) items → Feeds q items
+  feeds : (q : ℕ) (items : List Item) → All (IsDoneOn u) items → Feeds q items
   feeds q [] done = nobody refl
-  feeds q (x ∷ items) done = elim (feeds q items (All-tail (IsDone u) x items done)) [
-    | nobody none ↦ feeds_first q items x (All-head (IsDone u) x items done) none
+  feeds q (x ∷ items) done = elim (feeds q items (All-tail (IsDoneOn u) x items done)) [
+    | nobody none ↦ feeds_first q items x (All-head (IsDoneOn u) x items done) none
     | by_router i o live output behind ↦ by_router i o live output behind
     | by_bank i live is ↦ by_bank i live is
   ]

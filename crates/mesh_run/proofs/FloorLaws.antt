@@ -25,7 +25,7 @@ use Rattle.chip_node.specs.Acting.{place_in}
 use Rattle.chip_node.specs.declared.nodes.Behind.{Behind}
 use Rattle.chip_node.specs.declared.nodes.CoreBank.{CoreBank}
 use Rattle.mesh_run.specs.declared.floors.Floor.{Floor}
-use Rattle.mesh_run.specs.Floors.{AddsBehind, AreVerticesOn, AreVerticesOf, IsBankOf, IsFloorOf, IsFloorSoFar, chip_count, live_if, live_one, place_of}
+use Rattle.mesh_run.specs.Floors.{AddsBehind, AreVerticesOn, AreVerticesOf, IsBankOf, IsFloorOf, IsFloorSoFar, grid_size, live_if, live_one, place_of_slot}
 use Rattle.mesh_run.specs.Played.{place_behind, port_count, IsVertexOn}
 
 -- ---- few vertices
@@ -150,7 +150,7 @@ module _ (u : Setup) (i : ℕ) where
 
 -- ---- the queues behind outputs
 
-pub placed : (b : Option Behind) → place_in (Some b) ≡ place_of b
+pub placed : (b : Option Behind) → place_in (Some b) ≡ place_of_slot b
 placed None = refl
 placed (Some b) = refl
 
@@ -162,7 +162,7 @@ behind_none u c list = record { more = []; are = sym (nil list); long = refl; pl
     nil (x ∷ xs) = ap (λ l. x ∷ l) (nil xs)
 
 pub behind_more : (u : Setup) (c : Chip) (n : ℕ) (before now new : List (Option Behind)) (b : Option Behind) (o : Out) → AddsBehind u c n before now → new ≡ now ++ b ∷ [] → IsOutput o → out_number o ≡ n →
-    place_of b ≡ place_behind u c o → AddsBehind u c (n + 1) before new
+    place_of_slot b ≡ place_behind u c o → AddsBehind u c (n + 1) before new
 behind_more u c n before now new b o so_far is output number place = record {
   more = so_far.more ++ b ∷ [];
   are = is ∙ (ap (λ l. l ++ b ∷ []) so_far.are ∙ append_assoc before so_far.more (b ∷ []));
@@ -189,7 +189,7 @@ floor_none u f chips behind banks = record {
   banks = λ i b at. absurd (none-some b (sym (ap (λ (l : List CoreBank). slice_get l i) banks) ∙ at));
 }
 
-pub floor_all : (u : Setup) (n : ℕ) (f : Floor) → length u.tables ≡ chip_count u → n ≡ chip_count u → IsFloorSoFar u n f → IsFloorOf u f
+pub floor_all : (u : Setup) (n : ℕ) (f : Floor) → length u.tables ≡ grid_size u → n ≡ grid_size u → IsFloorSoFar u n f → IsFloorOf u f
 floor_all u n f tables all so_far =
     let g = subst (λ k. IsFloorSoFar u k f) all so_far in
     record { tables_long = tables; chips_long = g.chips_long; behind_long = g.behind_long; banks_long = g.banks_long; chips = g.chips; behind = g.behind; banks = g.banks }
@@ -250,5 +250,5 @@ dead_there u i is = by (is_live_chip u.machine (chip_of u.machine i)) is
     by false e = refl
 
 -- the chip that is read at a place
-pub chip_read : (u : Setup) (f : Floor) (i : ℕ) (d : Option Chip) → IsFloorOf u f → i < chip_count u → get_or f.chips.items i d ≡ live_one u i
+pub chip_read : (u : Setup) (f : Floor) (i : ℕ) (d : Option Chip) → IsFloorOf u f → i < grid_size u → get_or f.chips.items i d ≡ live_one u i
 chip_read u f i d floor below = get_or_from_slice_get f.chips.items i (live_one u i) d (floor.chips i below)

@@ -8,12 +8,12 @@ use Rattle.std.proofs.lemmas.List.Folds.{list_any-append}
 use Rattle.std.proofs.lemmas.List.Sums.{sum_by-drop_more, sum_by-take-drop}
 use Rattle.mesh_run.specs.declared.gathering.MeshLogs.{MeshLogs}
 use Rattle.mesh_run.specs.declared.shares.Share.{Share}
-use Rattle.mesh_run.specs.Gathering.{AreCleared, FitsLogs, IsAnyMoved, IsCleared}
+use Rattle.mesh_run.specs.Gathering.{AreEmptied, FitsLogs, IsAnyMoved, IsEmptied}
 use Rattle.mesh_run.proofs.Going.{GoneTo, gone_all, gone_more, gone_none}
 
 -- what the shares before a place logged was gathered, and there is room for what the others did
 pub record GatheredTo (old now : List Share) (n : ℕ) (start logs : MeshLogs) (moved : Bool) : Type 0 where
-  pub gone : GoneTo IsCleared old now n
+  pub gone : GoneTo IsEmptied old now n
   pub delivered : logs.delivered.items ≡ start.delivered.items ++ flat_map (λ s. s.hold.deliveries.items) (take n old)
   pub dumped : logs.dumped.items ≡ start.dumped.items ++ flat_map (λ s. s.hold.dumps.items) (take n old)
   pub delivered_room : sum_by (λ s. length s.hold.deliveries.items) (drop n old) ≤ logs.delivered.spare
@@ -26,7 +26,7 @@ nil (x ∷ xs) = ap (λ l. x ∷ l) (nil xs)
 
 pub gathered_none : (old : List Share) (start : MeshLogs) (moved : Bool) → moved ≡ false → FitsLogs old start → GatheredTo old old 0 start start moved
 gathered_none old start moved none fits = record {
-  gone = gone_none IsCleared old;
+  gone = gone_none IsEmptied old;
   delivered = sym (nil start.delivered.items);
   dumped = sym (nil start.dumped.items);
   delivered_room = fits.delivered;
@@ -56,7 +56,7 @@ room_next old now n start logs moved s so_far below read =
     (omega (arith, first, one, a), omega (arith, second, two, b))
 
 pub gathered_more : (old now new : List Share) (n : ℕ) (start logs after : MeshLogs) (moved next : Bool) (s t : Share) → GatheredTo old now n start logs moved → n < length now → s ≡ get_or now n s → new ≡ set now n t →
-    IsCleared s t → next ≡ (moved || s.moved) →
+    IsEmptied s t → next ≡ (moved || s.moved) →
     after.delivered.items ≡ logs.delivered.items ++ s.hold.deliveries.items → after.delivered.spare + length s.hold.deliveries.items ≡ logs.delivered.spare →
     after.dumped.items ≡ logs.dumped.items ++ s.hold.dumps.items → after.dumped.spare + length s.hold.dumps.items ≡ logs.dumped.spare → GatheredTo old new (n + 1) start after next
 gathered_more old now new n start logs after moved next s t so_far below read is cleared next_is delivered delivered_room dumped dumped_room =
@@ -70,7 +70,7 @@ gathered_more old now new n start logs after moved next s t so_far below read is
     let a = so_far.delivered_room in
     let b = so_far.dumped_room in
     record {
-      gone = gone_more IsCleared old now new n s t so_far.gone below read is cleared;
+      gone = gone_more IsEmptied old now new n s t so_far.gone below read is cleared;
       delivered = delivered ∙ (ap (λ l. l ++ s.hold.deliveries.items) so_far.delivered
           ∙ (flat_map_more (λ (x : Share). x.hold.deliveries.items) start.delivered.items (take n old) s ∙ ap (λ l. start.delivered.items ++ flat_map (λ (x : Share). x.hold.deliveries.items) l) (sym taken)));
       dumped = dumped ∙ (ap (λ l. l ++ s.hold.dumps.items) so_far.dumped
@@ -88,7 +88,7 @@ gathered_more old now new n start logs after moved next s t so_far below read is
 pub record Gathered (old now : List Share) (start logs : MeshLogs) (moved : Bool) : Type 0 where
   pub delivered : logs.delivered.items ≡ start.delivered.items ++ flat_map (λ s. s.hold.deliveries.items) old
   pub dumped : logs.dumped.items ≡ start.dumped.items ++ flat_map (λ s. s.hold.dumps.items) old
-  pub cleared : AreCleared old now
+  pub cleared : AreEmptied old now
   pub moved_are : IsAnyMoved old moved
 
 pub gathered_all : (old now : List Share) (n : ℕ) (start logs : MeshLogs) (moved : Bool) → GatheredTo old now n start logs moved → length now ≤ n → Gathered old now start logs moved
@@ -101,8 +101,8 @@ gathered_all old now n start logs moved so_far past =
       cleared = (
         long,
         λ k s t before after.
-            subst (λ (x : Share). IsCleared x t) (get_or_from_slice_get old k s s before)
-            (subst (λ (x : Share). IsCleared (get_or old k s) x) (get_or_from_slice_get now k t s after) (gone_all IsCleared old now n so_far.gone past k s (slice_get_within old k s before))),
+            subst (λ (x : Share). IsEmptied x t) (get_or_from_slice_get old k s s before)
+            (subst (λ (x : Share). IsEmptied (get_or old k s) x) (get_or_from_slice_get now k t s after) (gone_all IsEmptied old now n so_far.gone past k s (slice_get_within old k s before))),
       );
       moved_are = so_far.moved_are ∙ ap (list_any (λ (x : Share). x.moved)) all;
     }

@@ -17,10 +17,10 @@ use Rattle.mesh_core.specs.State.{Setup}
 use Rattle.chip_node.specs.Items.{injection_place}
 use Rattle.mesh_run.specs.declared.homes.Cut.{Cut}
 use Rattle.mesh_run.specs.declared.homes.Home.{Home}
-use Rattle.mesh_run.specs.Floors.{chip_count}
-use Rattle.mesh_run.specs.Homes.{AreCutsOf, AreHomesOf, AreHomesTo, AreRuns, HaveSenders, IsBefore, IsInTable, IsShareTable, MayCut, MayGrow, SetsSender, homes_of_ports, run_start}
+use Rattle.mesh_run.specs.Floors.{grid_size}
+use Rattle.mesh_run.specs.Homes.{AreCutsOf, AreHomesOf, AreHomesTo, AreShareRuns, HaveSenders, IsBefore, IsInTable, IsShareTable, MayCut, MayGrow, SetsSender, homes_of_ports, run_start}
 use Rattle.mesh_run.specs.Played.{IsLiveIndex, place_behind, port_count}
-use Rattle.mesh_run.specs.Shares.{IsIn, bank_place, router_place}
+use Rattle.mesh_run.specs.Shares.{IsInRun, bank_place, router_place}
 use Rattle.mesh_run.proofs.FloorLaws.{slice_get-first, slice_get-second}
 use Rattle.mesh_run.proofs.Feeding.{leads, no_injection, one_output, place_below}
 
@@ -74,8 +74,8 @@ rise_more p before after so_far (inr grown) = subst (RiseTo (p + 1)) (sym grown)
       few = omega (arith, long, few);
     })
 
-pub runs_all : (p count : ℕ) (before after : List ℕ) → p ≡ count → RiseTo p before → after ≡ before ++ count ∷ [] → AreRuns count after
-runs_all p count before after all so_far grown = subst (AreRuns count) (sym grown) (
+pub runs_all : (p count : ℕ) (before after : List ℕ) → p ≡ count → RiseTo p before → after ≡ before ++ count ∷ [] → AreShareRuns count after
+runs_all p count before after all so_far grown = subst (AreShareRuns count) (sym grown) (
     let so_far : RiseTo count before = subst (λ (q : ℕ). RiseTo q before) all so_far in
     let long = length_push before count in
     record {
@@ -88,13 +88,13 @@ runs_all p count before after all so_far grown = subst (AreRuns count) (sym grow
 
 pub record TableTo (ends : List ℕ) (n : ℕ) (table : List ℕ) : Type 0 where
   pub long : length table ≡ run_start ends n
-  pub done : (a k : ℕ) → k < n → IsIn (run_start ends k) (get_or ends k 0) a → slice_get table a ≡ Some k
+  pub done : (a k : ℕ) → k < n → IsInRun (run_start ends k) (get_or ends k 0) a → slice_get table a ≡ Some k
   pub below : (a k : ℕ) → slice_get table a ≡ Some k → k < n
 
 -- the run at hand, up to a place
 pub record RunTo (ends : List ℕ) (n p : ℕ) (table : List ℕ) : Type 0 where
   pub long : length table ≡ p
-  pub done : (a k : ℕ) → k < n → IsIn (run_start ends k) (get_or ends k 0) a → slice_get table a ≡ Some k
+  pub done : (a k : ℕ) → k < n → IsInRun (run_start ends k) (get_or ends k 0) a → slice_get table a ≡ Some k
   pub here : (a : ℕ) → run_start ends n ≤ a → a < p → slice_get table a ≡ Some n
   pub below : (a k : ℕ) → slice_get table a ≡ Some k → k < n + 1
 
@@ -102,7 +102,7 @@ pub start_more : (ends : List ℕ) (k : ℕ) → run_start ends (k + 1) ≡ get_
 start_more ends k = let e : k + 1 ≡ suc k = omega arith in ap (run_start ends) e
 
 -- the run of a number is no shorter than nothing
-pub run_from : (count : ℕ) (ends : List ℕ) (n : ℕ) → AreRuns count ends → n < length ends → run_start ends n ≤ get_or ends n 0
+pub run_from : (count : ℕ) (ends : List ℕ) (n : ℕ) → AreShareRuns count ends → n < length ends → run_start ends n ≤ get_or ends n 0
 run_from count ends zero runs below = omega arith
 run_from count ends (suc k) runs below = runs.rising k (suc k) (omega arith) below
 
@@ -150,7 +150,7 @@ run_all ends n p table so_far all = record {
   below = so_far.below;
 }
 
-pub table_all : (count : ℕ) (ends : List ℕ) (n : ℕ) (table : List ℕ) → AreRuns count ends → n ≡ length ends → TableTo ends n table → IsShareTable count ends table
+pub table_all : (count : ℕ) (ends : List ℕ) (n : ℕ) (table : List ℕ) → AreShareRuns count ends → n ≡ length ends → TableTo ends n table → IsShareTable count ends table
 table_all count ends n table runs all so_far = record {
   long = so_far.long ∙ (ap (run_start ends) all ∙ last (length ends) refl);
   number = λ a k below in_run. so_far.done a k (omega (arith, below, all)) in_run;
@@ -215,7 +215,7 @@ vertex_more table chips m home homes new so_far listed is = subst (AreHomesTo ta
 pub same_chip : (u : Setup) (i j : ℕ) → IsLiveIndex u i → IsLiveIndex u j → chip_of u.machine i ≡ chip_of u.machine j → i ≡ j
 same_chip u i j first second same = sym first.is ∙ (ap (index_of u.machine) same ∙ second.is)
 
-pub senders_none : (u : Setup) (table : List ℕ) (homes : List Home) → AreHomesTo table (chip_count u) (length u.spots) homes → HaveSenders u table 0 0 homes
+pub senders_none : (u : Setup) (table : List ℕ) (homes : List Home) → AreHomesTo table (grid_size u) (length u.spots) homes → HaveSenders u table 0 0 homes
 senders_none u table homes are = record {
   homes_are = are;
   routers = λ i o q k h before. absurd (nothing i o before);
@@ -226,7 +226,7 @@ senders_none u table homes are = record {
     nothing i o (inr same) = let less = same.1 in omega (arith, less)
 
 -- an output more
-pub senders_more : (u : Setup) (table : List ℕ) (n m sender : ℕ) (place : Option ℕ) (p : Out) (homes new : List Home) → HaveSenders u table n m homes → IsLiveIndex u n → n < chip_count u → IsOutput p → out_number p ≡ m →
+pub senders_more : (u : Setup) (table : List ℕ) (n m sender : ℕ) (place : Option ℕ) (p : Out) (homes new : List Home) → HaveSenders u table n m homes → IsLiveIndex u n → n < grid_size u → IsOutput p → out_number p ≡ m →
     place ≡ place_behind u (chip_of u.machine n) p → slice_get table (router_place n) ≡ Some sender → SetsSender place sender homes new → HaveSenders u table n (m + 1) new
 senders_more u table n m sender place p homes new so_far live below_n output number is_place at_sender sets = record {
   homes_are = record {
@@ -263,7 +263,7 @@ senders_more u table n m sender place p homes new so_far live below_n output num
       | inr other ↦ let less = same.1 in inr (same.0, omega (arith, less, other))
     ]
 
-    never : (i : ℕ) → i < chip_count u → place_behind u (chip_of u.machine n) p ≡ Some (injection_place i) → ⊥
+    never : (i : ℕ) → i < grid_size u → place_behind u (chip_of u.machine n) p ≡ Some (injection_place i) → ⊥
     never i below e =
         no_injection u (chip_of u.machine n) (chip_of u.machine i) p (injection_place i) (live_inside u.machine (chip_of u.machine n) live.live) (chip_of-inside u.machine i below)
         (leads u (chip_of u.machine n) p (injection_place i) e) (ap (λ (k : ℕ). 7 * k + 6) (sym (index_of-chip_of u.machine i)))
@@ -305,10 +305,10 @@ senders_dead u table n homes so_far dead = record {
     less i o on (inr same) = let none = same.1 in absurd (omega (arith, none))
 
 -- a live chip's index is below the number of chips
-pub live_below : (u : Setup) (i : ℕ) → IsLiveIndex u i → i < chip_count u
-live_below u i on = subst (λ (n : ℕ). n < chip_count u) on.is (index_below u.machine (chip_of u.machine i) (live_inside u.machine (chip_of u.machine i) on.live))
+pub live_below : (u : Setup) (i : ℕ) → IsLiveIndex u i → i < grid_size u
+live_below u i on = subst (λ (n : ℕ). n < grid_size u) on.is (index_below u.machine (chip_of u.machine i) (live_inside u.machine (chip_of u.machine i) on.live))
 
-pub homes_all : (u : Setup) (table : List ℕ) (n : ℕ) (homes : List Home) → chip_count u ≤ n → HaveSenders u table n 0 homes → AreHomesOf u table homes
+pub homes_all : (u : Setup) (table : List ℕ) (n : ℕ) (homes : List Home) → grid_size u ≤ n → HaveSenders u table n 0 homes → AreHomesOf u table homes
 homes_all u table n homes past so_far = record {
   long = so_far.homes_are.long;
   routers = λ i o q k h on out. let below = live_below u i on in so_far.routers i o q k h (inl (omega (arith, below, past))) on out;

@@ -13,8 +13,8 @@ use Rattle.mesh_core.specs.State.{FitsQueue, IsMesh, Setup, State}
 use Rattle.mesh_run.specs.declared.homes.Cut.{Cut}
 use Rattle.mesh_run.specs.declared.homes.Home.{Home}
 use Rattle.mesh_run.specs.declared.shares.Share.{Share}
-use Rattle.mesh_run.specs.Floors.{chip_count}
-use Rattle.mesh_run.specs.Homes.{AreCutsOf, AreHomesOf, AreRuns, IsShareTable}
+use Rattle.mesh_run.specs.Floors.{grid_size}
+use Rattle.mesh_run.specs.Homes.{AreCutsOf, AreHomesOf, AreShareRuns, IsShareTable}
 use Rattle.mesh_run.specs.Played.{port_count}
 use Rattle.mesh_run.specs.Split.{AreShared, cut_queues}
 use Rattle.mesh_run.specs.Splitting.{AreInside, FitHomes, HoldNothing, IsEmptyHand}
@@ -30,7 +30,7 @@ ends_many runs queues vertices shares k s nothing at = ap length (hand_at runs q
 unsent_many : (runs : List ℕ) (queues vertices : ℕ) (shares : List Share) (k : ℕ) (s : Share) → HoldNothing runs queues vertices shares → slice_get shares k ≡ Some s → length s.hold.unsent.items ≡ vertices
 unsent_many runs queues vertices shares k s nothing at = ap length (hand_at runs queues vertices shares k s nothing at).unsent ∙ length-replicate vertices []
 
-pub plan_shared : (u : Setup) (ends table : List ℕ) (homes : List Home) (cuts : List Cut) (vertices : ℕ) (shares : List Share) → AreRuns (2 * chip_count u) ends → IsShareTable (2 * chip_count u) ends table → AreHomesOf u table homes → AreCutsOf homes cuts →
+pub plan_shared : (u : Setup) (ends table : List ℕ) (homes : List Home) (cuts : List Cut) (vertices : ℕ) (shares : List Share) → AreShareRuns (2 * grid_size u) ends → IsShareTable (2 * grid_size u) ends table → AreHomesOf u table homes → AreCutsOf homes cuts →
     HoldNothing ends (length homes) vertices shares → vertices ≡ length u.spots → AreShared u homes cuts shares
 plan_shared u ends table homes cuts vertices shares runs numbers homes_are cuts_are nothing all = record {
   ends = ends;
@@ -48,7 +48,7 @@ plan_shared u ends table homes cuts vertices shares runs numbers homes_are cuts_
   apart = cuts_are.apart;
 }
 
-pub plan_fits : (m : State) (ends table : List ℕ) (homes : List Home) (shares : List Share) → IsMesh m → IsShareTable (2 * chip_count m.setup) ends table → AreHomesOf m.setup table homes → HoldNothing ends (length homes) (length m.unsent) shares → FitHomes m homes shares
+pub plan_fits : (m : State) (ends table : List ℕ) (homes : List Home) (shares : List Share) → IsMesh m → IsShareTable (2 * grid_size m.setup) ends table → AreHomesOf m.setup table homes → HoldNothing ends (length homes) (length m.unsent) shares → FitHomes m homes shares
 plan_fits m ends table homes shares mesh numbers homes_are nothing =
     let inputs = mesh.input_lists in
     let cores = mesh.core_lists in

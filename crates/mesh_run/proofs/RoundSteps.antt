@@ -12,7 +12,7 @@ use Rattle.mesh_run.specs.declared.raised.RaisedMesh.{RaisedMesh}
 use Rattle.mesh_run.specs.declared.shares.Share.{Share}
 use Rattle.mesh_run.specs.declared.standing.Standing.{Standing}
 use Rattle.mesh_run.specs.Crossing.{AreCuts, AreLaid, Deals, HoldsCollected, HoldsNoEnds}
-use Rattle.mesh_run.specs.Gathering.{AreCleared, FitsLogs, IsAnyMoved}
+use Rattle.mesh_run.specs.Gathering.{AreEmptied, FitsLogs, IsAnyMoved}
 use Rattle.mesh_run.specs.Queues.{RestAll, WasUp}
 use Rattle.mesh_run.specs.Raised.{IsRoomyFrom, PlaysTo}
 use Rattle.mesh_run.specs.Shares.{IsShareOf, PlaysAndStays}
@@ -132,7 +132,7 @@ module _ {m : State} {r : RaisedMesh} {lent : Standing} {dealt : List Share} whe
       -- The whole round, with links at rest and logs gathered.
       pub round_plays : {rested : Rested} (standing : Standing) (shares : Vec Share) (logs : MeshLogs) (moved : Bool) →
           IsCollected m r lent dealt played brought collected →
-          ((ends : List LinkEnds) → HoldsAll ends brought → RestAll r.parts.setup.capacity ends standing rested) → AreCleared collected shares.items →
+          ((ends : List LinkEnds) → HoldsAll ends brought → RestAll r.parts.setup.capacity ends standing rested) → AreEmptied collected shares.items →
           logs.delivered.items ≡ r.logs.delivered.items ++ flat_map (λ s. s.hold.deliveries.items) collected →
           logs.dumped.items ≡ r.logs.dumped.items ++ flat_map (λ s. s.hold.dumps.items) collected → IsAnyMoved collected moved →
           PlaysTo r.pace.patience r.pace.turns m moved (record r { standing = standing; shares = shares; logs = logs })

@@ -18,9 +18,9 @@ use Rattle.chip_node.specs.Items.{Item, entered, entered_by, left, left_by, lost
 use Rattle.chip_node.proofs.Stays.{end_before}
 use Rattle.mesh_core.specs.State.{Setup}
 use Rattle.mesh_run.specs.declared.shares.Share.{Share}
-use Rattle.mesh_run.specs.Homes.{run_start, AreRuns}
+use Rattle.mesh_run.specs.Homes.{run_start, AreShareRuns}
 use Rattle.mesh_run.specs.Played.{AreTurns}
-use Rattle.mesh_run.specs.Shares.{actor_of, AreOf, IsIn, IsNoted, SharePlays}
+use Rattle.mesh_run.specs.Shares.{actor_of, AreOf, IsInRun, IsNoted, SharePlays}
 use Rattle.mesh_run.specs.Split.{end_at, end_in}
 use Rattle.mesh_run.proofs.Turns.{IsNotOf, flat_map_none, turns_beside, turns_none}
 
@@ -62,7 +62,7 @@ module _ (u : Setup) (n count : ℕ) (ends : List ℕ) (parts : List (List Item)
     turns : AreTurns u n (joined (take k parts))
     before : All (λ x. actor_of x < run_start ends k) (joined (take k parts))
 
-  so_far : AreRuns count ends → length parts ≡ length ends → ((k : ℕ) (d : List Item) → k < length parts → AreTurns u n (get_or parts k d)) →
+  so_far : AreShareRuns count ends → length parts ≡ length ends → ((k : ℕ) (d : List Item) → k < length parts → AreTurns u n (get_or parts k d)) →
       ((k : ℕ) (d : List Item) → k < length parts → AreOf (run_start ends k) (slice_index_or ends k 0) (get_or parts k d)) → (k : ℕ) → k ≤ length parts → SoFar k
   so_far runs long turns own zero within = record { turns = turns_none u n; before = All-nil (λ x. actor_of x < 0) }
   so_far runs long turns own (suc k) within =
@@ -77,12 +77,12 @@ module _ (u : Setup) (n count : ℕ) (ends : List ℕ) (parts : List (List Item)
         turns = subst (AreTurns u n) (sym is) (turns_beside u n (joined (take k parts)) last (λ a. beside a h mine) h.turns (turns k [] below));
         before = subst (All (λ x. actor_of x < run_start ends (suc k))) (sym is) (All-append (λ x. actor_of x < run_start ends (suc k)) (joined (take k parts)) last
             (All-weaker (λ x. actor_of x < run_start ends k) (λ x. actor_of x < run_start ends (suc k)) (λ x less. omega (arith, less, rises k below)) (joined (take k parts)) h.before)
-            (All-weaker (λ x. IsIn (run_start ends k) (slice_index_or ends k 0) (actor_of x)) (λ x. actor_of x < run_start ends (suc k)) (λ x is_in. is_in.below) last mine));
+            (All-weaker (λ x. IsInRun (run_start ends k) (slice_index_or ends k 0) (actor_of x)) (λ x. actor_of x < run_start ends (suc k)) (λ x is_in. is_in.below) last mine));
       }
     where
       beside : (a : ℕ) → SoFar k → AreOf (run_start ends k) (slice_index_or ends k 0) (get_or parts k []) → IsNotOf u a (joined (take k parts)) ⊎ IsNotOf u a (get_or parts k [])
       beside a h mine = elim (cases_lt a (run_start ends k)) [
-        | inl less ↦ inr (All-weaker (λ x. IsIn (run_start ends k) (slice_index_or ends k 0) (actor_of x)) (λ x. actor_of x ≢ a)
+        | inl less ↦ inr (All-weaker (λ x. IsInRun (run_start ends k) (slice_index_or ends k 0) (actor_of x)) (λ x. actor_of x ≢ a)
             (λ x is_in same. let from = is_in.above in omega (arith, from, same, less)) (get_or parts k []) mine)
         | inr more ↦ inl (All-weaker (λ x. actor_of x < run_start ends k) (λ x. actor_of x ≢ a) (λ x less same. omega (arith, less, same, more)) (joined (take k parts)) h.before)
       ]
@@ -91,7 +91,7 @@ module _ (u : Setup) (n count : ℕ) (ends : List ℕ) (parts : List (List Item)
       rises zero inside = omega arith
       rises (suc j) inside = runs.rising j (suc j) (omega arith) (omega (arith, inside, long))
 
-  pub turns_joined : AreRuns count ends → length parts ≡ length ends → ((k : ℕ) (d : List Item) → k < length parts → AreTurns u n (get_or parts k d)) →
+  pub turns_joined : AreShareRuns count ends → length parts ≡ length ends → ((k : ℕ) (d : List Item) → k < length parts → AreTurns u n (get_or parts k d)) →
       ((k : ℕ) (d : List Item) → k < length parts → AreOf (run_start ends k) (slice_index_or ends k 0) (get_or parts k d)) → AreTurns u n (joined parts)
   turns_joined runs long turns own =
       subst (λ (l : List (List Item)). AreTurns u n (joined l)) (take_all (length parts) parts (omega arith)) (so_far runs long turns own (length parts) (omega arith)).turns

@@ -25,12 +25,12 @@ use Rattle.chip_node.specs.declared.ends.Served.TheVariants.{Dumped}
 use Rattle.chip_node.specs.declared.nodes.CoreBank.{CoreBank}
 use Rattle.chip_node.specs.declared.nodes.RouterNode.{RouterNode}
 use Rattle.chip_node.specs.Acting.{place_in, service_items, BankMoves, GetsOne, RoutesOne, SendsOne}
-use Rattle.chip_node.specs.Acting.{place_behind as place_at_router}
+use Rattle.chip_node.specs.Acting.{place_at_router}
 use Rattle.chip_node.specs.Items.{Item, Service, took, served, sent, got, where_same, getting_of, gettings, sending_of, sendings, service_of, services, taking_of, takings}
 use Rattle.chip_node.specs.Routing.{outputs_at}
 use Rattle.mesh_core.specs.State.{Setup}
 use Rattle.mesh_core.specs.Step.{outputs}
-use Rattle.mesh_run.specs.Played.{owed_on, place_behind, port_count, vertex_place, AreTurns, IsDone, IsLiveIndex, IsVertexOn}
+use Rattle.mesh_run.specs.Played.{owed_on, place_behind, port_count, vertex_place, AreTurns, IsDoneOn, IsLiveIndex, IsVertexOn}
 use Rattle.mesh_run.specs.Floors.{IsBankOf}
 use Rattle.mesh_run.specs.Shares.{actor_of, bank_place, router_place}
 use Rattle.mesh_run.proofs.Apart.{elsewhere, here}
@@ -94,7 +94,7 @@ told s = (s.out, s.copy)
 
 -- so many copies were taken by each router, sent by each bank, and taken by each
 pub record AreCounted (u : Setup) (takes sends gets : ℕ) (items : List Item) : Type 0 where
-  pub each : All (IsDone u) items
+  pub each : All (IsDoneOn u) items
   pub each_once : (i : ℕ) → map {B = Out × McCopy} (λ s. (s.out, s.copy)) (services i items) ≡ owed_on u (chip_of u.machine i) (takings i items)
   pub takings_few : (i : ℕ) → length (takings i items) ≤ takes
   pub sendings_few : (i : ℕ) → length (sendings i items) ≤ sends
@@ -129,7 +129,7 @@ module _ (u : Setup) where
 
   pub counted_on : (t s g a b c : ℕ) (xs ys : List Item) → AreCounted u t s g xs → AreCounted u a b c ys → AreCounted u (t + a) (s + b) (g + c) (xs ++ ys)
   counted_on t s g a b c xs ys h k = record {
-    each = All-append (IsDone u) xs ys h.each k.each;
+    each = All-append (IsDoneOn u) xs ys h.each k.each;
     each_once = λ i. each_once_on xs ys i (h.each_once i) (k.each_once i);
     takings_few = λ i. length_on (taking_of i) xs ys t a (h.takings_few i) (k.takings_few i);
     sendings_few = λ i. length_on (sending_of i) xs ys s b (h.sendings_few i) (k.sendings_few i);
@@ -139,7 +139,7 @@ module _ (u : Setup) where
   -- no turns
   pub counted_none : AreCounted u 0 0 0 []
   counted_none = record {
-    each = All-nil (IsDone u);
+    each = All-nil (IsDoneOn u);
     each_once = λ i. refl;
     takings_few = λ i. omega arith;
     sendings_few = λ i. omega arith;
@@ -193,7 +193,7 @@ module _ (u : Setup) where
   -- turns of other actors, beside turns
   pub turns_beside : (n : ℕ) (xs ys : List Item) → ((a : ℕ) → IsNotOf a xs ⊎ IsNotOf a ys) → AreTurns u n xs → AreTurns u n ys → AreTurns u n (xs ++ ys)
   turns_beside n xs ys apart h k = record {
-    each = All-append (IsDone u) xs ys h.each k.each;
+    each = All-append (IsDoneOn u) xs ys h.each k.each;
     each_once = λ i. each_once_on xs ys i (h.each_once i) (k.each_once i);
     takes = λ i. length_beside (taking_of i) (router_place i) n (untaken i) xs ys (apart (router_place i)) (h.takes i) (k.takes i);
     sends = λ i. length_beside (sending_of i) (bank_place i) n (unsent i) xs ys (apart (bank_place i)) (h.sends i) (k.sends i);
@@ -245,14 +245,14 @@ module _ (u : Setup) where
       (subst (All (λ (p : Out × McCopy). IsOutput p.0)) (sym h.each_once)
       (All-map (λ (p : Out × McCopy). IsOutput p.0) (λ o. (o, h.copy)) (outputs_at r.table.now h.port h.copy) (outputs_have_bits r.table.now h.port h.copy)))
 
-  routed_each : (r : RouterNode) (a : ℕ) → IsRouterOf a r → (items : List Item) → RoutesOne r.table.now r items → All (IsDone u) items
+  routed_each : (r : RouterNode) (a : ℕ) → IsRouterOf a r → (items : List Item) → RoutesOne r.table.now r items → All (IsDoneOn u) items
   routed_each r a of items h =
       let live : IsLiveIndex u r.index = subst (IsLiveIndex u) (sym of.index) of.live in
       let outs = served_outputs r items h in
-      subst (All (IsDone u)) (sym h.are)
-      (All-cons (IsDone u) (took r.index h.port h.copy) (service_items r h.done) live
-      (All-map (IsDone u) (λ s. served r.index r.chip (place_at_router r.behind.now s.out) s) h.done
-      (All-each (λ s. IsDone u (served r.index r.chip (place_at_router r.behind.now s.out) s)) h.done (λ s in_done.
+      subst (All (IsDoneOn u)) (sym h.are)
+      (All-cons (IsDoneOn u) (took r.index h.port h.copy) (service_items r h.done) live
+      (All-map (IsDoneOn u) (λ s. served r.index r.chip (place_at_router r.behind.now s.out) s) h.done
+      (All-each (λ s. IsDoneOn u (served r.index r.chip (place_at_router r.behind.now s.out) s)) h.done (λ s in_done.
       let output : IsOutput s.out = All-contains (λ (t : Service). IsOutput t.out) h.done s outs in_done in (
         live,
         of.chip ∙ ap (chip_of u.machine) (sym of.index),
@@ -297,8 +297,8 @@ module _ (u : Setup) where
 
   sends_counted : (i : ℕ) (b : CoreBank) (items : List Item) → IsLiveIndex u i → IsBankOf u i b → SendsOne b items → AreCounted u 0 1 0 items
   sends_counted i b items live of h = subst (AreCounted u 0 1 0) (sym h.are) (record {
-    each = All-cons (IsDone u) (sent b.index h.vertex h.copy) []
-        (subst (IsLiveIndex u) (sym of.index) live, subst (λ n. IsVertexOn u n h.vertex) (sym of.index) (of.vertices h.vertex h.has)) (All-nil (IsDone u));
+    each = All-cons (IsDoneOn u) (sent b.index h.vertex h.copy) []
+        (subst (IsLiveIndex u) (sym of.index) live, subst (λ n. IsVertexOn u n h.vertex) (sym of.index) (of.vertices h.vertex h.has)) (All-nil (IsDoneOn u));
     each_once = λ j. refl;
     takings_few = λ j. omega arith;
     sendings_few = λ j. few_more b.index j h.copy;
@@ -307,11 +307,11 @@ module _ (u : Setup) where
 
   gets_counted : (i : ℕ) (b : CoreBank) (items : List Item) → IsLiveIndex u i → IsBankOf u i b → GetsOne b items → AreCounted u 0 0 1 items
   gets_counted i b items live of h = subst (AreCounted u 0 0 1) (sym h.are) (record {
-    each = All-cons (IsDone u) (got b.index h.vertex (b.cores + h.vertex) h.copy) [] (
+    each = All-cons (IsDoneOn u) (got b.index h.vertex (b.cores + h.vertex) h.copy) [] (
       subst (IsLiveIndex u) (sym of.index) live,
       subst (λ n. IsVertexOn u n h.vertex) (sym of.index) (of.vertices h.vertex h.has),
       ap (λ n. n + h.vertex) of.cores,
-    ) (All-nil (IsDone u));
+    ) (All-nil (IsDoneOn u));
     each_once = λ j. refl;
     takings_few = λ j. omega arith;
     sendings_few = λ j. omega arith;

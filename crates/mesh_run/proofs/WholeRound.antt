@@ -12,7 +12,7 @@ use Rattle.mesh_run.specs.declared.raised.RaisedMesh.{RaisedMesh}
 use Rattle.mesh_run.specs.declared.shares.Share.{Share}
 use Rattle.mesh_run.specs.declared.standing.Standing.{Standing}
 use Rattle.mesh_run.specs.Crossing.{Deals, HoldsCollected, IsUncut}
-use Rattle.mesh_run.specs.Gathering.{AreCleared}
+use Rattle.mesh_run.specs.Gathering.{AreEmptied}
 use Rattle.mesh_run.specs.Homes.{run_start}
 use Rattle.mesh_run.specs.Played.{AreTurns}
 use Rattle.mesh_run.specs.Queues.{RestAll}
@@ -42,7 +42,7 @@ pub record Whole : Type 0 where
   pub rested : Rested
   pub rests : RestAll m.setup.capacity collects.ends standing rested
   pub cleared : List Share
-  pub clears : AreCleared collected cleared
+  pub clears : AreEmptied collected cleared
 
 module _ (w : Whole) where
   abbrev u : Setup

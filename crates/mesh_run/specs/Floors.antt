@@ -13,8 +13,8 @@ use Rattle.mesh_run.specs.declared.floors.Floor.{Floor}
 use Rattle.mesh_run.specs.Played.{port_count, place_behind, IsVertexOn}
 
 -- how many chips the grid has
-abbrev pub chip_count : Setup → ℕ
-chip_count u = u.machine.width * u.machine.height
+abbrev pub grid_size : Setup → ℕ
+grid_size u = u.machine.width * u.machine.height
 
 abbrev pub live_if : Bool → Chip → Option Chip
 live_if true c = Some c
@@ -34,12 +34,12 @@ pub record IsBankOf (u : Setup) (i : ℕ) (b : CoreBank) : Type 0 where
 -- For each chip index the chip where it is live, the place of the queue behind each output of a live chip, and the bank. The setup has a
 -- table for each.
 pub record IsFloorOf (u : Setup) (f : Floor) : Type 0 where
-  pub tables_long : length u.tables ≡ chip_count u
-  pub chips_long : length f.chips.items ≡ chip_count u
-  pub behind_long : length f.behind.items ≡ 24 * chip_count u
-  pub banks_long : length f.banks.items ≡ chip_count u
-  pub chips : (i : ℕ) → i < chip_count u → slice_get f.chips.items i ≡ Some (live_one u i)
-  pub behind : (i : ℕ) (o : Out) → i < chip_count u → is_live_chip u.machine (chip_of u.machine i) ≡ true → IsOutput o
+  pub tables_long : length u.tables ≡ grid_size u
+  pub chips_long : length f.chips.items ≡ grid_size u
+  pub behind_long : length f.behind.items ≡ 24 * grid_size u
+  pub banks_long : length f.banks.items ≡ grid_size u
+  pub chips : (i : ℕ) → i < grid_size u → slice_get f.chips.items i ≡ Some (live_one u i)
+  pub behind : (i : ℕ) (o : Out) → i < grid_size u → is_live_chip u.machine (chip_of u.machine i) ≡ true → IsOutput o
       → place_in (slice_get f.behind.items (24 * i + out_number o)) ≡ place_behind u (chip_of u.machine i) o
   pub banks : (i : ℕ) (b : CoreBank) → slice_get f.banks.items i ≡ Some b → IsBankOf u i b
 
@@ -71,6 +71,6 @@ pub record AddsBehind (u : Setup) (c : Chip) (n : ℕ) (before after : List (Opt
   pub places : (o : Out) → IsOutput o → out_number o < n → place_in (slice_get more (out_number o)) ≡ place_behind u c o
 
 -- the place of a queue that is there
-abbrev pub place_of : Option Behind → Option ℕ
-place_of None = None
-place_of (Some b) = Some b.place
+abbrev pub place_of_slot : Option Behind → Option ℕ
+place_of_slot None = None
+place_of_slot (Some b) = Some b.place

@@ -15,7 +15,7 @@ pub record FitsLogs (shares : List Share) (l : MeshLogs) : Type 0 where
   pub dumped : sum_by (λ s. length s.hold.dumps.items) shares ≤ l.dumped.spare
 
 -- a share whose logs are empty again
-pub record IsCleared (before after : Share) : Type 0 where
+pub record IsEmptied (before after : Share) : Type 0 where
   pub from : after.from ≡ before.from
   pub to : after.to ≡ before.to
   pub ends : after.hold.ends ≡ before.hold.ends
@@ -23,9 +23,9 @@ pub record IsCleared (before after : Share) : Type 0 where
   pub dumps : after.hold.dumps.items ≡ []
   pub deliveries : after.hold.deliveries.items ≡ []
 
-abbrev pub AreCleared : List Share → List Share → Type 0
-AreCleared before after =
-    (length after ≡ length before) × ((k : ℕ) (s t : Share) → slice_get before k ≡ Some s → slice_get after k ≡ Some t → IsCleared s t)
+abbrev pub AreEmptied : List Share → List Share → Type 0
+AreEmptied before after =
+    (length after ≡ length before) × ((k : ℕ) (s t : Share) → slice_get before k ≡ Some s → slice_get after k ≡ Some t → IsEmptied s t)
 
 -- whether a copy moved in one of the shares
 abbrev pub IsAnyMoved : List Share → Bool → Type 0

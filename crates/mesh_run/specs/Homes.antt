@@ -8,12 +8,12 @@ use Rattle.mesh_core.specs.State.{Setup}
 use Rattle.chip_node.specs.Items.{injection_place}
 use Rattle.mesh_run.specs.declared.homes.Cut.{Cut}
 use Rattle.mesh_run.specs.declared.homes.Home.{Home}
-use Rattle.mesh_run.specs.Floors.{chip_count}
+use Rattle.mesh_run.specs.Floors.{grid_size}
 use Rattle.mesh_run.specs.Played.{port_count, place_behind, vertex_place, IsLiveIndex}
-use Rattle.mesh_run.specs.Shares.{router_place, bank_place, IsIn}
+use Rattle.mesh_run.specs.Shares.{router_place, bank_place, IsInRun}
 
 -- Runs of so many places: each but the first begins where the one before ends, and the last ends with the last place.
-pub record AreRuns (count : ℕ) (ends : List ℕ) : Type 0 where
+pub record AreShareRuns (count : ℕ) (ends : List ℕ) : Type 0 where
   pub rising : (a b : ℕ) → a < b → b < length ends → slice_index_or ends a 0 ≤ slice_index_or ends b 0
   pub last : (n : ℕ) → length ends ≡ n + 1 → slice_index_or ends n 0 ≡ count
   pub some : 0 < length ends
@@ -26,7 +26,7 @@ run_start ends (suc k) = slice_index_or ends k 0
 -- the number of the run of each place
 pub record IsShareTable (count : ℕ) (ends : List ℕ) (table : List ℕ) : Type 0 where
   pub long : length table ≡ count
-  pub number : (a k : ℕ) → k < length ends → IsIn (run_start ends k) (slice_index_or ends k 0) a → slice_get table a ≡ Some k
+  pub number : (a k : ℕ) → k < length ends → IsInRun (run_start ends k) (slice_index_or ends k 0) a → slice_get table a ≡ Some k
   pub below : (a k : ℕ) → slice_get table a ≡ Some k → k < length ends
 
 -- The homes of all queues: an output's router sends to the queue behind it, and a bank to its chip's injection queue. All of a bank's
@@ -67,7 +67,7 @@ IsBefore index number i o = (i < index) ⊎ ((i ≡ index) × (out_number o < nu
 
 -- The routers of the chips before one, and its own for outputs below a number, send to the queues behind their outputs.
 pub record HaveSenders (u : Setup) (table : List ℕ) (index number : ℕ) (homes : List Home) : Type 0 where
-  pub homes_are : AreHomesTo table (chip_count u) (length u.spots) homes
+  pub homes_are : AreHomesTo table (grid_size u) (length u.spots) homes
   pub routers : (i : ℕ) (o : Out) (q k : ℕ) (h : Home) → IsBefore index number i o → IsLiveIndex u i → IsOutput o → place_behind u (chip_of u.machine i) o ≡ Some q → slice_get table (router_place i) ≡ Some k
       → slice_get homes q ≡ Some h → h.sender ≡ k
 

@@ -54,12 +54,12 @@ pub record IsVertexOn (u : Setup) (i v : ℕ) : Type 0 where
 
 -- A live chip's router took a copy; it served an output, with the queue behind it, and where there is none the copy was dumped; or the
 -- bank of a live chip's vertices sent or took one.
-abbrev pub IsDone : Setup → Item → Type 0
-IsDone u (took i port k) = IsLiveIndex u i
-IsDone u (served i c place s) =
+abbrev pub IsDoneOn : Setup → Item → Type 0
+IsDoneOn u (took i port k) = IsLiveIndex u i
+IsDoneOn u (served i c place s) =
     IsLiveIndex u i × (c ≡ chip_of u.machine i) × (place ≡ place_behind u c s.out) × IsOutput s.out × (place ≡ None → s.fate ≡ Dumped)
-IsDone u (sent i v k) = IsLiveIndex u i × IsVertexOn u i v
-IsDone u (got i v place k) = IsLiveIndex u i × IsVertexOn u i v × (place ≡ vertex_place u v)
+IsDoneOn u (sent i v k) = IsLiveIndex u i × IsVertexOn u i v
+IsDoneOn u (got i v place k) = IsLiveIndex u i × IsVertexOn u i v × (place ≡ vertex_place u v)
 
 -- each output that lookup gives a copy that was taken, with the copy, in order
 abbrev pub owed_on : Setup → Chip → List (Port × McCopy) → List (Out × McCopy)
@@ -68,7 +68,7 @@ owed_on u c taken = flat_map (λ t. map (λ o. (o, t.1)) (outputs u c t.0 t.1)) 
 -- The router of each chip served what it took, once at each output that lookup gives it and in order; and no chip's router or bank
 -- did more than it has turns.
 pub record AreTurns (u : Setup) (turns : ℕ) (items : List Item) : Type 0 where
-  pub each : All (IsDone u) items
+  pub each : All (IsDoneOn u) items
   pub each_once : (i : ℕ) → map {B = Out × McCopy} (λ s. (s.out, s.copy)) (services i items) ≡ owed_on u (chip_of u.machine i) (takings i items)
   pub takes : (i : ℕ) → length (takings i items) ≤ turns
   pub sends : (i : ℕ) → length (sendings i items) ≤ turns

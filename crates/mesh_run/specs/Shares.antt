@@ -9,7 +9,7 @@ use Rattle.chip_node.specs.declared.holdings.Turn.TheVariants.{Moved, Nothing, W
 use Rattle.chip_node.specs.Going.{AreEndsOf, Goes, HoldsSender, Stays}
 use Rattle.chip_node.specs.Items.{Item, took, served, sent, got, injection_place}
 use Rattle.mesh_run.specs.declared.shares.Share.{Share}
-use Rattle.mesh_run.specs.Floors.{chip_count}
+use Rattle.mesh_run.specs.Floors.{grid_size}
 use Rattle.mesh_run.specs.Played.{port_count, place_behind, AreTurns, IsLiveIndex}
 
 -- The places of actors: the router of the chip of index i has place 2 * i, and its bank the next one.
@@ -27,22 +27,22 @@ actor_of (sent i v k) = bank_place i
 actor_of (got i v place k) = bank_place i
 
 -- a place of a run of places
-pub record IsIn (from to a : ℕ) : Type 0 where
+pub record IsInRun (from to a : ℕ) : Type 0 where
   pub above : from ≤ a
   pub below : a < to
 
 -- all was done by actors of the share
 abbrev pub AreOf : ℕ → ℕ → List Item → Type 0
-AreOf from to items = All (λ x. IsIn from to (actor_of x)) items
+AreOf from to items = All (λ x. IsInRun from to (actor_of x)) items
 
 -- A share of a mesh: it has an end, or none, of each queue, and a list of unsent copies for each vertex. Of each of its live actors it
 -- holds the sending ends by which the actor sends. Ends of links are ends of the links at their places.
 pub record IsShareOf (u : Setup) (links : List Link) (s : Share) : Type 0 where
   pub ends_long : length s.hold.ends.items ≡ port_count u + length u.spots
   pub unsent_long : length s.hold.unsent.items ≡ length u.spots
-  pub within : s.to ≤ 2 * chip_count u
-  pub routers : (i : ℕ) (o : Out) (q : ℕ) → IsLiveIndex u i → IsIn s.from s.to (router_place i) → place_behind u (chip_of u.machine i) o ≡ Some q → HoldsSender s.hold.ends.items q
-  pub banks : (i : ℕ) → IsLiveIndex u i → IsIn s.from s.to (bank_place i) → HoldsSender s.hold.ends.items (injection_place i)
+  pub within : s.to ≤ 2 * grid_size u
+  pub routers : (i : ℕ) (o : Out) (q : ℕ) → IsLiveIndex u i → IsInRun s.from s.to (router_place i) → place_behind u (chip_of u.machine i) o ≡ Some q → HoldsSender s.hold.ends.items q
+  pub banks : (i : ℕ) → IsLiveIndex u i → IsInRun s.from s.to (bank_place i) → HoldsSender s.hold.ends.items (injection_place i)
   pub ends : AreEndsOf links s.hold.ends.items
 
 -- What some turns of a share's actors do: these items, all of them by its own actors.

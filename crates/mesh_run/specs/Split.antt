@@ -8,8 +8,8 @@ use Rattle.chip_node.specs.declared.ends.End.TheVariants.{Away, Own, Sends, Take
 use Rattle.mesh_run.specs.declared.homes.Cut.{Cut}
 use Rattle.mesh_run.specs.declared.homes.Home.{Home}
 use Rattle.mesh_run.specs.declared.shares.Share.{Share}
-use Rattle.mesh_run.specs.Floors.{chip_count}
-use Rattle.mesh_run.specs.Homes.{AreHomesOf, AreRuns, IsShareTable, run_start}
+use Rattle.mesh_run.specs.Floors.{grid_size}
+use Rattle.mesh_run.specs.Homes.{AreHomesOf, AreShareRuns, IsShareTable, run_start}
 use Rattle.mesh_run.specs.Played.{port_count, vertex_place}
 
 -- what the share of a number holds of the queue at a place
@@ -34,8 +34,8 @@ unsent_at shares s v = unsent_in (slice_get shares s) v
 pub record AreShared (u : Setup) (homes : List Home) (cuts : List Cut) (shares : List Share) : Type 0 where
   pub ends : List ℕ
   pub table : List ℕ
-  pub runs : AreRuns (2 * chip_count u) ends
-  pub numbers : IsShareTable (2 * chip_count u) ends table
+  pub runs : AreShareRuns (2 * grid_size u) ends
+  pub numbers : IsShareTable (2 * grid_size u) ends table
   pub homes_are : AreHomesOf u table homes
   pub long : length shares ≡ length ends
   pub from : (k : ℕ) (s : Share) → slice_get shares k ≡ Some s → s.from ≡ run_start ends k

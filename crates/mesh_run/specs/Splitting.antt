@@ -46,7 +46,7 @@ pub record FitHomes (s : State) (homes : List Home) (shares : List Share) : Type
   pub unsent_long : All (λ k. length k.hold.unsent.items ≡ length s.unsent) shares
 
 -- How a mesh is split: with a link for each queue between two shares, and shares that hold nothing yet.
-pub record IsPlanOf (m : State) (more : ℕ) (p : SplitPlan) : Type 0 where
+pub record IsSplitPlanOf (m : State) (more : ℕ) (p : SplitPlan) : Type 0 where
   pub floor : IsFloorOf m.setup p.floor
   pub shared : AreShared m.setup p.homes.items p.cuts.items p.shares.items
   pub runs : List ℕ

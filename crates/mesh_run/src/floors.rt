@@ -4,7 +4,7 @@ ghost use Rattle.spin_base.specs.Outputs.{IsOutput, out_number};
 ghost use Rattle.machine_desc.specs.Live.{chip_of, is_live_chip, IsInside};
 ghost use Rattle.machine_desc.specs.NetsOn.{vertex_at};
 ghost use Rattle.mesh_core.specs.State.{Setup};
-ghost use Rattle.mesh_run.specs.Floors.{AddsBehind, AreVerticesOf, IsFloorOf, IsFloorSoFar, chip_count, live_if, place_of};
+ghost use Rattle.mesh_run.specs.Floors.{AddsBehind, AreVerticesOf, IsFloorOf, IsFloorSoFar, grid_size, live_if, place_of_slot};
 ghost use Rattle.mesh_run.specs.Played.{place_behind, IsLiveIndex};
 
 use chip_node::{Behind, CoreBank, RouterNode};
@@ -29,7 +29,7 @@ impl Shared for Floor {}
 impl Floor {
     /// The floor of a mesh.
     pub fn of(alloc: Global, setup: &MeshSetup) -> Result<Floor, Memory>
-        requires { length setup.now.tables ≡ chip_count setup.now }
+        requires { length setup.now.tables ≡ grid_size setup.now }
         ensures { IfOk result (IsFloorOf setup.now) }
     {
         let count = setup.machine().chips();
@@ -49,7 +49,7 @@ impl Floor {
 
     // One chip more.
     fn add(&mut self, alloc: Global, setup: &MeshSetup, index: u32) -> Result<(), Memory>
-        requires below { index < chip_count setup.now }
+        requires below { index < grid_size setup.now }
         requires before { IsFloorSoFar setup.now index self.old }
         ensures { OnOk result (IsFloorSoFar setup.now (index + 1) self.new) }
     {
@@ -101,7 +101,7 @@ impl Floor {
     /// The place of the queue behind an output of a live chip, by the chip's index.
     pub fn behind_output(&self, setup: &MeshSetup, index: usize, out: Out) -> Option<u32>
         requires floor { IsFloorOf setup.now self.now }
-        requires below { index < chip_count setup.now }
+        requires below { index < grid_size setup.now }
         requires live { IsLiveIndex setup.now index }
         requires output { IsOutput out }
         ensures { result ≡ place_behind setup.now (chip_of setup.now.machine index) out }
@@ -128,7 +128,7 @@ impl Floor {
     /// The router of the chip of an index, where it is live.
     pub fn router<'a>(&'a self, setup: &'a MeshSetup, index: usize) -> Option<RouterNode<'a>>
         requires floor { IsFloorOf setup.now self.now }
-        requires below { index < chip_count setup.now }
+        requires below { index < grid_size setup.now }
         ensures none { IsNone result
             ↔ (is_live_chip setup.now.machine (chip_of setup.now.machine index) ≡ false) }
         ensures some { IfSome result (λ r. (r.chip ≡ chip_of setup.now.machine index)
@@ -169,7 +169,7 @@ fn live_chip(setup: &MeshSetup, chip: Chip) -> Option<Chip>
 
 // The vertices on the chip of an index.
 fn vertices_on(alloc: Global, setup: &MeshSetup, index: u32) -> Result<Vec<u32>, Memory>
-    requires { index < chip_count setup.now }
+    requires { index < grid_size setup.now }
     ensures { IfOk result (λ vertices. AreVerticesOf setup.now index vertices.items) }
 {
     let chip = setup.machine().chip_at(index);
@@ -207,7 +207,7 @@ fn push_number(numbers: &mut Vec<u32>, number: Option<u32>) -> Result<(), Memory
 // No two vertices are on one site, so there are few, and there are few chips.
 fn few_vertices(setup: &MeshSetup)
     ensures vertices { length setup.now.spots ≤ 98304 }
-    ensures chips { chip_count setup.now ≤ 4096 }
+    ensures chips { grid_size setup.now ≤ 4096 }
 {
     every_setup_has_sites(setup);
     let _ = setup.machine().chips();
@@ -249,7 +249,7 @@ pub(crate) fn out_at(number: u8) -> Out
 
 // The queue behind an output, with who takes from it.
 fn behind_of(setup: &MeshSetup, chip: Chip, out: Out) -> Option<Behind>
-    ensures { place_of result ≡ place_behind setup.now chip out }
+    ensures { place_of_slot result ≡ place_behind setup.now chip out }
 {
     few_vertices(setup);
     every_setup_has_sites(setup);

@@ -1,7 +1,7 @@
 // What the shares logged in a round, put at the ends of the mesh's lists.
 ghost use Rattle.std.specs.Prelude.{◌≡◌, ◌≤◌, ◌+◌, ◌++◌, ◌||◌, IfOk, OnOk, length};
 ghost use Rattle.std.specs.List.{flat_map};
-ghost use Rattle.mesh_run.specs.Gathering.{AreCleared, FitsLogs, HasRoomForLogs, IsAnyMoved, IsCleared};
+ghost use Rattle.mesh_run.specs.Gathering.{AreEmptied, FitsLogs, HasRoomForLogs, IsAnyMoved, IsEmptied};
 
 use crate::shares::Share;
 use chip_node::Log;
@@ -38,7 +38,7 @@ impl MeshLogs {
             ≡ self.old.delivered.items ++ flat_map (λ s. s.hold.deliveries.items) shares.old }
         ensures dumped { self.new.dumped.items
             ≡ self.old.dumped.items ++ flat_map (λ s. s.hold.dumps.items) shares.old }
-        ensures cleared { AreCleared shares.old shares.new }
+        ensures cleared { AreEmptied shares.old shares.new }
         ensures moved { IsAnyMoved shares.old result }
     {
         let mut moved = false;
@@ -61,7 +61,7 @@ impl MeshLogs {
             ≡ self.old.dumped.items ++ share.old.hold.dumps.items }
         ensures dumped_room { self.new.dumped.spare + length share.old.hold.dumps.items
             ≡ self.old.dumped.spare }
-        ensures cleared { IsCleared share.old share.new }
+        ensures cleared { IsEmptied share.old share.new }
     {
         share.deliveries_wanted = share.hold.deliveries.as_slice().len().saturating_mul(2);
         share.dumps_wanted = share.hold.dumps.as_slice().len().saturating_mul(2);

@@ -1,8 +1,8 @@
 // In which shares the two ends of each queue stand.
 ghost use Rattle.std.specs.Prelude.{◌≡◌, ◌+◌, ◌*◌, ◌<◌, ◌≤◌, ◌^◌, ◌++◌, ℕ, IfOk, OnOk, Some, length};
-ghost use Rattle.mesh_run.specs.Floors.{IsFloorOf, chip_count};
+ghost use Rattle.mesh_run.specs.Floors.{IsFloorOf, grid_size};
 ghost use Rattle.mesh_run.specs.Played.{IsLiveIndex};
-ghost use Rattle.mesh_run.specs.Homes.{AreCutsOf, AreHomesOf, AreRuns, HaveSenders, IsShareTable, MayCut, MayGrow, SetsSender, homes_of_ports};
+ghost use Rattle.mesh_run.specs.Homes.{AreCutsOf, AreHomesOf, AreShareRuns, HaveSenders, IsShareTable, MayCut, MayGrow, SetsSender, homes_of_ports};
 
 use crate::floors::{Floor, OUT_COUNT, out_at};
 use mesh_core::MeshSetup;
@@ -23,7 +23,7 @@ pub(crate) struct Home {
 pub(crate) fn runs_of(alloc: Global, floor: &Floor, workers: u32) -> Result<Vec<usize>, Memory>
     requires staffed { 1 ≤ workers }
     requires few { length floor.now.chips.items ≤ 4096 }
-    ensures runs { IfOk result (λ ends. AreRuns (2 * length floor.now.chips.items) ends.items) }
+    ensures runs { IfOk result (λ ends. AreShareRuns (2 * length floor.now.chips.items) ends.items) }
     ensures few { IfOk result (λ ends. length ends.items
         ≤ 2 * length floor.now.chips.items + 1) }
 {
@@ -57,7 +57,7 @@ fn end_run(ends: &mut Vec<usize>, place: usize, here: usize, size: usize) -> Res
 
 /// The number of the run of each actor.
 pub(crate) fn share_table(alloc: Global, ends: &[usize], count: usize) -> Result<Vec<u32>, Memory>
-    requires runs { AreRuns count ends.now }
+    requires runs { AreShareRuns count ends.now }
     requires few { length ends.now < 2 ^ 32 }
     ensures { IfOk result (λ table. IsShareTable count ends.now table.items) }
 {
@@ -79,7 +79,7 @@ pub(crate) fn homes_of(
     table: &[u32],
 ) -> Result<Vec<Home>, Memory>
     requires floor { IsFloorOf setup.now floor.now }
-    requires long { length table.now ≡ 2 * chip_count setup.now }
+    requires long { length table.now ≡ 2 * grid_size setup.now }
     ensures { IfOk result (λ homes. AreHomesOf setup.now table.now homes.items) }
 {
     let chips = chips_of(setup);
@@ -102,7 +102,7 @@ pub(crate) fn homes_of(
 
 // How many chips the grid has.
 fn chips_of(setup: &MeshSetup) -> usize
-    ensures value { result ≡ chip_count setup.now }
+    ensures value { result ≡ grid_size setup.now }
     ensures few { result ≤ 4096 }
 {
     setup.machine().chips()
@@ -111,7 +111,7 @@ fn chips_of(setup: &MeshSetup) -> usize
 // The index of a vertex's chip.
 fn home_index(setup: &MeshSetup, vertex: usize) -> usize
     requires { vertex < length setup.now.spots }
-    ensures { result < chip_count setup.now }
+    ensures { result < grid_size setup.now }
 {
     every_setup_has_sites(setup);
     let home = setup.machine().index(setup.spots()[vertex].chip);
@@ -138,8 +138,8 @@ fn push_ports(homes: &mut Vec<Home>, router: u32, bank: u32) -> Result<(), Memor
 // The router of the chip of an index, where that is live, sends to the queues behind its outputs.
 fn set_senders(homes: &mut Vec<Home>, setup: &MeshSetup, floor: &Floor, table: &[u32], index: usize)
     requires floor { IsFloorOf setup.now floor.now }
-    requires long { length table.now ≡ 2 * chip_count setup.now }
-    requires below { index < chip_count setup.now }
+    requires long { length table.now ≡ 2 * grid_size setup.now }
+    requires below { index < grid_size setup.now }
     requires before { HaveSenders setup.now table.now index 0 homes.old.items }
     ensures { HaveSenders setup.now table.now (index + 1) 0 homes.new.items }
 {
@@ -157,9 +157,9 @@ fn set_live_senders(
     index: usize,
 )
     requires floor { IsFloorOf setup.now floor.now }
-    requires long { length table.now ≡ 2 * chip_count setup.now }
+    requires long { length table.now ≡ 2 * grid_size setup.now }
     requires live { IsLiveIndex setup.now index }
-    requires below { index < chip_count setup.now }
+    requires below { index < grid_size setup.now }
     requires before { HaveSenders setup.now table.now index 0 homes.old.items }
     ensures { HaveSenders setup.now table.now index 24 homes.new.items }
 {

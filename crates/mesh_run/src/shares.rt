@@ -87,14 +87,7 @@ impl Share {
     }
 
     // One turn of the actor at a place.
-    fn turn_one<R: Wait>(
-        &mut self,
-        rt: &R,
-        ground: Ground,
-        number: u32,
-        at: usize,
-        all: bool,
-    )
+    fn turn_one<R: Wait>(&mut self, rt: &R, ground: Ground, number: u32, at: usize, all: bool)
         requires floor { IsFloorOf ground.setup.now ground.floor.now }
         requires share { IsShareOf ground.setup.now ground.around.links.now self.old }
         requires above { self.old.from ≤ at }
@@ -115,14 +108,7 @@ impl Share {
     }
 
     // What the actor at a place does in a turn. On a chip that isn't live there is none.
-    fn act<R: Wait>(
-        &mut self,
-        rt: &R,
-        ground: Ground,
-        number: u32,
-        at: usize,
-        all: bool,
-    ) -> Turn
+    fn act<R: Wait>(&mut self, rt: &R, ground: Ground, number: u32, at: usize, all: bool) -> Turn
         requires floor { IsFloorOf ground.setup.now ground.floor.now }
         requires share { IsShareOf ground.setup.now ground.around.links.now self.old }
         requires above { self.old.from ≤ at }
@@ -135,13 +121,27 @@ impl Share {
         if at % 2 == 0 {
             match ground.floor.router(ground.setup, index) {
                 Some(router) => {
-                    router.turn(rt, ground.around, &mut self.hold, &mut self.awake, number, all)
+                    router.turn(
+                        rt,
+                        ground.around,
+                        &mut self.hold,
+                        &mut self.awake,
+                        number,
+                        all,
+                    )
                 }
                 None => Turn::Nothing,
             }
         } else if ground.floor.is_live(index) {
             let bank = ground.floor.bank(index);
-            bank.turn(rt, ground.around, &mut self.hold, &mut self.awake, number, all)
+            bank.turn(
+                rt,
+                ground.around,
+                &mut self.hold,
+                &mut self.awake,
+                number,
+                all,
+            )
         } else {
             Turn::Nothing
         }

@@ -7,7 +7,7 @@ ghost use Rattle.mesh_core.specs.State.{IsMesh};
 ghost use Rattle.chip_node.specs.declared.ends.End.{End};
 ghost use Rattle.mesh_run.specs.declared.shares.Share.{Share};
 ghost use Rattle.mesh_run.specs.Split.{cut_queues, end_at, unsent_at};
-ghost use Rattle.mesh_run.specs.Splitting.{AreInside, AreSameHolds, FitHomes, HoldNothing, IsEmptyHand, IsPlanOf, MayPutLane, MayTakeLane, MovesIn, MovesOut, PutsUnsent, SetsQueue, SetsUnsent};
+ghost use Rattle.mesh_run.specs.Splitting.{AreInside, AreSameHolds, FitHomes, HoldNothing, IsEmptyHand, IsSplitPlanOf, MayPutLane, MayTakeLane, MovesIn, MovesOut, PutsUnsent, SetsQueue, SetsUnsent};
 
 use crate::crossing::put_end;
 use crate::floors::Floor;
@@ -45,7 +45,7 @@ impl SplitPlan {
         pace: Pace,
     ) -> Result<SplitPlan, Memory>
         requires { IsMesh parts.now }
-        ensures { IfOk result (IsPlanOf parts.now (pace.turns + 1)) }
+        ensures { IfOk result (IsSplitPlanOf parts.now (pace.turns + 1)) }
     {
         let floor = Floor::of(alloc, &parts.setup)?;
         let runs = runs_of(alloc, &floor, pace.workers)?;

@@ -29,7 +29,7 @@ pub returns-clause-right_tables : goal.returns-clause-right_tables
 returns-clause-right_tables c = λ k d lt. tables_right k d lt
 
 pub returns-clause-wrong_tables : goal.returns-clause-wrong_tables
-returns-clause-wrong_tables c = λ right. wrong_not_right right
+returns-clause-wrong_tables c = λ right_chip. wrong_not_right right_chip
 
 pub returns-clause-of_nets : goal.returns-clause-of_nets
 returns-clause-of_nets c = λ i p at. packets_of_nets i p at

@@ -1,6 +1,6 @@
 use Rattle.std.proofs.Common.{◌≡◌, ◌+◌, ◌*◌, ◌<◌, ◌≤◌, ℕ, length, refl, sym, subst, arith}
 use Rattle.std.proofs.lemmas.Option.{slice_get-get_or}
-use Rattle.mesh_run.specs.Floors.{chip_count}
+use Rattle.mesh_run.specs.Floors.{grid_size}
 use Rattle.mesh_run.specs.Homes.{AreHomesTo}
 use Rattle.mesh_run.proofs.HomeLaws.{homes_all, homes_none, ports_more, senders_none, vertex_more}
 use Rattle.mesh_run.proofs.homes.homes_of.Goals as goal
@@ -21,7 +21,7 @@ loop-index-preserved c =
 pub loop-vertex-init : goal.loop-vertex-init
 loop-vertex-init c =
     let chips = c.chips_of-chips.ensures.value in
-    let all : c.loop-index.index ≡ chip_count c.args.setup.now = omega (arith, chips) in
+    let all : c.loop-index.index ≡ grid_size c.args.setup.now = omega (arith, chips) in
     subst (λ (n : ℕ). AreHomesTo c.args.table.now n 0 c.loop-index.homes.items) all c.loop-index.invariant
 
 pub loop-vertex-preserved : goal.loop-vertex-preserved
@@ -30,7 +30,7 @@ loop-vertex-preserved c =
     let home = c.home_index-index.ensures in
     let sender : 2 * c.home_index-index.result < length c.args.table.now = omega (arith, long, home) in
     let receiver : 2 * c.home_index-index.result + 1 < length c.args.table.now = omega (arith, long, home) in
-    vertex_more c.args.table.now (chip_count c.args.setup.now) c.loop-vertex.vertex _ c.loop-vertex.homes.items c.push.new.self.items c.loop-vertex.invariant
+    vertex_more c.args.table.now (grid_size c.args.setup.now) c.loop-vertex.vertex _ c.loop-vertex.homes.items c.push.new.self.items c.loop-vertex.invariant
     (record {
       sender_at = 2 * c.home_index-index.result;
       sender = slice_get-get_or c.args.table.now (2 * c.home_index-index.result) 0 sender;

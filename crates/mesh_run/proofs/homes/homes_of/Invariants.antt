@@ -1,4 +1,4 @@
-use Rattle.mesh_run.specs.Floors.{chip_count}
+use Rattle.mesh_run.specs.Floors.{grid_size}
 use Rattle.mesh_run.specs.Homes.{AreHomesTo, HaveSenders}
 use Rattle.mesh_run.proofs.homes.homes_of.Given as goal
 
@@ -8,7 +8,7 @@ invariant-loop-index l = AreHomesTo l.table l.index 0 l.homes.items
 
 -- and those of vertices
 abbrev pub invariant-loop-vertex : goal.invariant-loop-vertex
-invariant-loop-vertex l = AreHomesTo l.table (chip_count l.setup) l.vertex l.homes.items
+invariant-loop-vertex l = AreHomesTo l.table (grid_size l.setup) l.vertex l.homes.items
 
 -- the senders of the chips so far
 abbrev pub invariant-loop-at : goal.invariant-loop-at

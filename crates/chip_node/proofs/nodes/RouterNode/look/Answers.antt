@@ -8,7 +8,7 @@ use Rattle.chip_node.specs.Going.{IsEndOf}
 use Rattle.chip_node.specs.Items.{port_place}
 use Rattle.chip_node.specs.Passing.{IsSeen}
 use Rattle.chip_node.specs.Routing.{outputs_at}
-use Rattle.chip_node.specs.Taking.{HasRoomFor}
+use Rattle.chip_node.specs.Taking.{HasRoomForOuts}
 use Rattle.chip_node.proofs.EndSteps.{end_lacks_idle, end_stays_lacks}
 use Rattle.chip_node.proofs.Flows.{goes_none, ready_router_on}
 use Rattle.chip_node.proofs.Looking.{idle_at, idle_past, read_stands, room_for_all, room_kept, seen_first}
@@ -60,7 +60,7 @@ returns-in-Some-take-clause-looks g c =
       numbered = c.outputs_of-outs.ensures.numbered;
       differ = c.outputs_of-outs.ensures.differ;
       room = room_kept c.args.around.capacity c.args.around.links.now r c.args.port _ a _ old new c.requires w refl
-          (subst (λ (l : List Out). HasRoomFor c.args.around.capacity r l a) c.as_slice.ensures.value (c.if-not-has_room.ensures.yes refl));
+          (subst (λ (l : List Out). HasRoomForOuts c.args.around.capacity r l a) c.as_slice.ensures.value (c.if-not-has_room.ensures.yes refl));
     }
 
 pub returns-in-Some-take-clause-ready : goal.returns-in-Some-take-clause-ready
@@ -110,7 +110,7 @@ returns-in-Some-take-2-clause-looks g c =
       numbered = c.outputs_of-outs-in-Some-take-2.ensures.numbered;
       differ = c.outputs_of-outs-in-Some-take-2.ensures.differ;
       room = room_kept c.args.around.capacity c.args.around.links.now r c.args.port _ a _ old new c.requires w refl
-          (subst (λ (l : List Out). HasRoomFor c.args.around.capacity r l a) (sym given)
+          (subst (λ (l : List Out). HasRoomForOuts c.args.around.capacity r l a) (sym given)
           (room_for_all c.args.around.capacity r.table.now r c.args.port c.in-Some-take-2.copy a (c.if-not-has_room_everywhere.ensures.yes refl)));
     }
 

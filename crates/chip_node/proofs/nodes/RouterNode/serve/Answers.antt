@@ -3,7 +3,7 @@ use Rattle.spin_base.specs.declared.copies.DumpRec.{DumpRec}
 use Rattle.spin_base.specs.WithRoom.{WithRoom}
 use Rattle.chip_node.specs.declared.holdings.Holdings.{Holdings}
 use Rattle.spin_base.specs.declared.copies.McCopy.{McCopy}
-use Rattle.chip_node.specs.Acting.{place_behind}
+use Rattle.chip_node.specs.Acting.{place_at_router}
 use Rattle.chip_node.specs.Passing.{SendsBehind}
 use Rattle.chip_node.proofs.Sending.{dumped_recorded, dumped_room, sent_nowhere, sent_recorded, sent_room}
 use Rattle.chip_node.proofs.Flows.{ready_router_on}
@@ -13,7 +13,7 @@ use Rattle.chip_node.proofs.nodes.RouterNode.serve.Goals as goal
 pub returns-in-Sent-clause-goes : goal.returns-in-Sent-clause-goes
 returns-in-Sent-clause-goes g c =
     let s = c.args.self in
-    let place = place_behind s.behind.now c.args.out in
+    let place = place_at_router s.behind.now c.args.out in
     let fate = c.send-served.result in
     let a = c.args.hold.now in
     let b = c.send-served.new.hold in
@@ -25,7 +25,7 @@ returns-in-Sent-clause-goes g c =
 
 pub returns-in-Sent-clause-elsewhere : goal.returns-in-Sent-clause-elsewhere
 returns-in-Sent-clause-elsewhere g c = λ q other.
-    served_elsewhere c.args.around.capacity c.args.around.patience (place_behind c.args.self.behind.now c.args.out) c.onward.result c.send-served.result c.args.hold.now.ends.items c.send-served.new.hold.ends.items q c.send-served.ensures.sends other
+    served_elsewhere c.args.around.capacity c.args.around.patience (place_at_router c.args.self.behind.now c.args.out) c.onward.result c.send-served.result c.args.hold.now.ends.items c.send-served.new.hold.ends.items q c.send-served.ensures.sends other
 
 pub returns-in-Sent-clause-ready : goal.returns-in-Sent-clause-ready
 returns-in-Sent-clause-ready g c =
@@ -34,7 +34,7 @@ returns-in-Sent-clause-ready g c =
 pub returns-in-Dumped-clause-goes : goal.returns-in-Dumped-clause-goes
 returns-in-Dumped-clause-goes g c =
     let s = c.args.self in
-    let place = place_behind s.behind.now c.args.out in
+    let place = place_at_router s.behind.now c.args.out in
     let fate = c.send-served.result in
     let a = c.args.hold.now in
     let sent = c.send-served.new.hold in
@@ -48,7 +48,7 @@ returns-in-Dumped-clause-goes g c =
 
 pub returns-in-Dumped-clause-elsewhere : goal.returns-in-Dumped-clause-elsewhere
 returns-in-Dumped-clause-elsewhere g c = λ q other.
-    served_elsewhere c.args.around.capacity c.args.around.patience (place_behind c.args.self.behind.now c.args.out) c.onward.result c.send-served.result c.args.hold.now.ends.items c.send-served.new.hold.ends.items q c.send-served.ensures.sends other
+    served_elsewhere c.args.around.capacity c.args.around.patience (place_at_router c.args.self.behind.now c.args.out) c.onward.result c.send-served.result c.args.hold.now.ends.items c.send-served.new.hold.ends.items q c.send-served.ensures.sends other
 
 pub returns-in-Dumped-clause-ready : goal.returns-in-Dumped-clause-ready
 returns-in-Dumped-clause-ready g c =
@@ -56,8 +56,8 @@ returns-in-Dumped-clause-ready g c =
 
 pub returns-in-Sent-clause-nowhere : goal.returns-in-Sent-clause-nowhere
 returns-in-Sent-clause-nowhere g c = λ none.
-    sent_nowhere c.args.around.capacity c.args.around.patience (place_behind c.args.self.behind.now c.args.out) c.onward.result c.send-served.result c.args.hold.now.ends.items c.send-served.new.hold.ends.items c.send-served.ensures.sends none
+    sent_nowhere c.args.around.capacity c.args.around.patience (place_at_router c.args.self.behind.now c.args.out) c.onward.result c.send-served.result c.args.hold.now.ends.items c.send-served.new.hold.ends.items c.send-served.ensures.sends none
 
 pub returns-in-Dumped-clause-nowhere : goal.returns-in-Dumped-clause-nowhere
 returns-in-Dumped-clause-nowhere g c = λ none.
-    sent_nowhere c.args.around.capacity c.args.around.patience (place_behind c.args.self.behind.now c.args.out) c.onward.result c.send-served.result c.args.hold.now.ends.items c.send-served.new.hold.ends.items c.send-served.ensures.sends none
+    sent_nowhere c.args.around.capacity c.args.around.patience (place_at_router c.args.self.behind.now c.args.out) c.onward.result c.send-served.result c.args.hold.now.ends.items c.send-served.new.hold.ends.items c.send-served.ensures.sends none

@@ -4,7 +4,7 @@ use Rattle.spin_base.specs.declared.chips.Port.{Port}
 use Rattle.spin_base.specs.Links.{port_number}
 use Rattle.chip_node.specs.declared.holdings.Turn.TheVariants.{Moved}
 use Rattle.chip_node.specs.Acting.{IsReadyRouter}
-use Rattle.chip_node.specs.Going.{IsIdleAt, IsRoomy, Stays}
+use Rattle.chip_node.specs.Going.{IsIdleAt, HasAmpleRoom, Stays}
 use Rattle.chip_node.specs.Items.{port_place}
 use Rattle.chip_node.proofs.GoingRound.{GoneBy}
 use Rattle.chip_node.proofs.nodes.RouterNode.turn.Given as goal
@@ -15,5 +15,5 @@ invariant-loop-step g l = record {
   stays : Stays l.fn.hold l.hold;
   ready : IsReadyRouter l.around.links.now l.self l.hold;
   none : l.found ≢ Moved;
-  idle : IsTrue l.all → IsRoomy l.around.capacity l.fn.hold → GoneBy (λ j. (port : Port) → port_number port ≡ j → IsIdleAt l.fn.hold.ends.items (port_place l.self.index port)) l.start 7 l.step;
+  idle : IsTrue l.all → HasAmpleRoom l.around.capacity l.fn.hold → GoneBy (λ j. (port : Port) → port_number port ≡ j → IsIdleAt l.fn.hold.ends.items (port_place l.self.index port)) l.start 7 l.step;
 }

@@ -9,7 +9,7 @@ use Rattle.mesh_run.specs.declared.homes.Cut.{Cut}
 use Rattle.mesh_run.specs.declared.raised.RaisedMesh.{RaisedMesh}
 use Rattle.mesh_run.specs.declared.shares.Share.{Share}
 use Rattle.mesh_run.specs.Crossing.{AreCuts, AreLaid, Deals, HoldsNoEnds}
-use Rattle.mesh_run.specs.Gathering.{AreCleared, FitsLogs, IsAnyMoved}
+use Rattle.mesh_run.specs.Gathering.{AreEmptied, FitsLogs, IsAnyMoved}
 use Rattle.mesh_run.specs.Queues.{RestAll, WasUp}
 use Rattle.mesh_run.specs.Raised.{IsRoomyFrom, PlaysTo}
 use Rattle.mesh_run.specs.Shares.{IsShareOf}
@@ -117,8 +117,8 @@ returns-clause-played g c = λ m is_mesh roomy.
     (round_plays standing shares logs c.gather.result all
     (subst (λ (n : ℕ). (ends : List LinkEnds) → HoldsAll ends c.collect.new.standing → RestAll n ends standing c.rest_all.result)
     (c.capacity-2.ensures ∙ ap (λ (x : RaisedMesh). x.parts.setup.capacity) c.self.view_is) c.rest_all.ensures)
-    (subst (AreCleared c.collect.new.shares.items) (sym (with_items_is c.collect.new.shares c.gather.new.shares (c.gather.ensures.cleared.0 ∙ c.deref_mut.ensures.len)))
-    (subst (λ (l : List Share). AreCleared l c.gather.new.shares) value c.gather.ensures.cleared))
+    (subst (AreEmptied c.collect.new.shares.items) (sym (with_items_is c.collect.new.shares c.gather.new.shares (c.gather.ensures.cleared.0 ∙ c.deref_mut.ensures.len)))
+    (subst (λ (l : List Share). AreEmptied l c.gather.new.shares) value c.gather.ensures.cleared))
     (c.gather.ensures.delivered
     ∙ (ap (λ (x : RaisedMesh). x.logs.delivered.items ++ flat_map (λ (s : Share). s.hold.deliveries.items) c.deref_mut.result.now) c.self.view_is
     ∙ ap (λ (l : List Share). r.logs.delivered.items ++ flat_map (λ (s : Share). s.hold.deliveries.items) l) value))

@@ -4,9 +4,9 @@ use Rattle.std.specs.List.{All}
 use Rattle.std.proofs.lemmas.List.{length-map}
 use Rattle.machine_desc.specs.Description.{HasSize}
 use Rattle.mesh_core.specs.State.{Setup, State}
-use Rattle.mesh_run.specs.Floors.{IsFloorOf, chip_count}
+use Rattle.mesh_run.specs.Floors.{IsFloorOf, grid_size}
 use Rattle.mesh_run.specs.declared.homes.Home.{Home}
-use Rattle.mesh_run.specs.Homes.{AreCutsOf, AreHomesOf, AreRuns, IsShareTable}
+use Rattle.mesh_run.specs.Homes.{AreCutsOf, AreHomesOf, AreShareRuns, IsShareTable}
 use Rattle.mesh_run.specs.Queues.{AreUp}
 use Rattle.mesh_run.specs.Split.{cut_queues}
 use Rattle.mesh_run.specs.Splitting.{AreInside, HoldNothing}
@@ -15,7 +15,7 @@ use Rattle.mesh_run.proofs.FloorLaws.{few_chips}
 use Rattle.mesh_run.proofs.splitting.SplitPlan.of.Goals as goal
 
 pub of-requires : goal.of-requires
-of-requires g c = subst (λ (s : State). length s.setup.tables ≡ chip_count s.setup) (sym c.parts.view_is) c.requires.table_list
+of-requires g c = subst (λ (s : State). length s.setup.tables ≡ grid_size s.setup) (sym c.parts.view_is) c.requires.table_list
 
 pub runs_of-requires-clause-few : goal.runs_of-requires-clause-few
 runs_of-requires-clause-few g c =
@@ -30,7 +30,7 @@ actors-requires g c =
     omega (arith, few, long)
 
 pub share_table-requires-clause-runs : goal.share_table-requires-clause-runs
-share_table-requires-clause-runs g c = subst (λ n. AreRuns n c.deref.result.now) (sym c.actors.ensures) (subst (AreRuns (2 * length c.in_ok-floor.floor.chips.items)) (sym c.deref.ensures.value) c.in_ok-runs.ensures.runs)
+share_table-requires-clause-runs g c = subst (λ n. AreShareRuns n c.deref.result.now) (sym c.actors.ensures) (subst (AreShareRuns (2 * length c.in_ok-floor.floor.chips.items)) (sym c.deref.ensures.value) c.in_ok-runs.ensures.runs)
 
 pub share_table-requires-clause-few : goal.share_table-requires-clause-few
 share_table-requires-clause-few g c =
@@ -83,7 +83,7 @@ returns g c =
     let runs = c.in_ok-runs.runs.items in
     let table = c.in_ok-table.table.items in
     let floor = subst (λ (s : State). IsFloorOf s.setup c.in_ok-floor.floor) is c.in_ok-floor.ensures in
-    let runs_are = subst (λ (n : ℕ). AreRuns (2 * n) runs) floor.chips_long c.in_ok-runs.ensures.runs in
+    let runs_are = subst (λ (n : ℕ). AreShareRuns (2 * n) runs) floor.chips_long c.in_ok-runs.ensures.runs in
     let count = c.actors.ensures ∙ ap (λ (n : ℕ). 2 * n) floor.chips_long in
     let numbers = subst (λ (n : ℕ). IsShareTable n runs table) count (subst (λ (r : List ℕ). IsShareTable c.actors.result r table) c.deref.ensures.value c.in_ok-table.ensures) in
     let homes_are = subst (λ (t : List ℕ). AreHomesOf m.setup t homes) c.deref-2.ensures.value (subst (λ (s : State). AreHomesOf s.setup c.deref-2.result.now homes) is c.in_ok-homes.ensures) in
