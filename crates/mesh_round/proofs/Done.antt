@@ -29,7 +29,7 @@ use Rattle.mesh_core.specs.Ledger.{all_ports}
 use Rattle.mesh_core.proofs.Changes.{port_below}
 use Rattle.mesh_run.specs.Played.{IsDoneOn, IsLiveIndex, IsVertexOn, place_behind, vertex_place}
 use Rattle.mesh_round.specs.RoundFlow.{of_chip}
-use Rattle.mesh_round.proofs.Apart.{here, elsewhere, there, not_there, by_wire, no_injection, one_output, port_is_no_vertex}
+use Rattle.mesh_run.proofs.Apart.{here, elsewhere, there, not_there, by_wire, no_injection, one_output, port_is_no_vertex}
 use Rattle.mesh_round.proofs.Ends.{one_port}
 use Rattle.mesh_round.proofs.Entered.{numbered_port}
 use Rattle.mesh_round.proofs.Joined.{gathered_none, gathered_one}

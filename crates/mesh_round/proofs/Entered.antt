@@ -39,6 +39,7 @@ use Rattle.mesh_core.proofs.Ways.{vertex_behind_stands, vertex_behind_there, lea
 use Rattle.mesh_round.specs.RoundFlow.{Flow, Passes, at_port}
 use Rattle.mesh_round.proofs.Sums.{sum_agree, sum_none, sum_map, carried}
 use Rattle.mesh_round.proofs.Ends.{behind_eq, behind_eq_same, behind_eq_true, Leads, by_link, to_vertex, to_none, leads, one_port, one_link, one_end}
+pub use Rattle.mesh_run.proofs.OutputBits.{has_bit}
 use Rattle.mesh_round.proofs.Sources.{once_in_range, range_parts, live_of_live_chips, live_chips, choices, choice_eq, choice_eq_same, choice_eq_true, IsChoice, sources, source_eq, source_once}
 
 abbrev one_where : Bool → ℕ
@@ -103,25 +104,6 @@ core_once u v below =
     omega (arith, both, first, one, second, none)
 
 -- ---- a source that a queue alone has
-
-link_bit : (o : Out) → Among o link_outs → IsOutput o
-unfolding link_outs
-link_bit (Link d) a = tt
-link_bit (Core c) a = let of = among_map Link (Core c) all_dirs a in cc
-
-core_bit : (o : Out) → Among o core_outs → IsOutput o
-unfolding core_outs
-core_bit (Link d) a = tt
-core_bit (Core c) a =
-    let of = among_map Core (Core c) (range_with_len 0 18) a in
-    let same : c ≡ of.0 = cc in
-    omega (arith, same, (range_parts 0 18 of.0 of.1).1)
-
-pub has_bit : (o : Out) → Among o all_outs → IsOutput o
-has_bit o a = elim (among_either o link_outs core_outs a) [
-  | inl links ↦ link_bit o links
-  | inr cores ↦ core_bit o cores
-]
 
 -- the parts of a source
 pub source_parts : (m : Description) (s : Chip × Option Out) → Among s (sources m) → IsLiveChip m s.0 × IsChoice s.1

@@ -4,7 +4,6 @@ mod Balance
 pub mod Ends
 pub mod Sources
 pub mod Entered
-mod Apart
 mod Serving
 mod Done
 mod TheFlow

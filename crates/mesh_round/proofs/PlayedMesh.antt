@@ -19,7 +19,7 @@ use Rattle.mesh_core.proofs.Changes.{queue_at-below}
 use Rattle.mesh_run.specs.Played.{held_at, vertex_place, IsPlayedBy}
 use Rattle.mesh_round.specs.RoundFlow.{HasMoved, at_port, held_in}
 use Rattle.mesh_round.specs.OnThreads.{LeadsByFlow}
-use Rattle.mesh_round.proofs.Apart.{first_here}
+use Rattle.mesh_run.proofs.Apart.{first_here}
 use Rattle.mesh_round.proofs.Done.{inside_of, place_is}
 use Rattle.mesh_round.proofs.Joined.{among_flat, among_into}
 use Rattle.mesh_round.proofs.PlayedQueues.{done_of, fits_after, from_taken, in_order}

@@ -23,7 +23,7 @@ use Rattle.mesh_core.specs.State.{Setup, FitsQueue, Queue}
 use Rattle.mesh_core.proofs.Changes.{queue_at-below}
 use Rattle.mesh_run.specs.Played.{held_at, port_count, IsDoneOn, IsLiveIndex}
 use Rattle.mesh_round.specs.RoundFlow.{WasFullAt, capacity_of, held_in}
-use Rattle.mesh_round.proofs.Apart.{first_here, here}
+use Rattle.mesh_run.proofs.Apart.{first_here, here}
 use Rattle.mesh_round.proofs.Done.{inside_of, place_is}
 use Rattle.mesh_round.proofs.Joined.{among_into}
 use Rattle.mesh_round.proofs.Serving.{served_fits}

@@ -14,10 +14,11 @@ use Rattle.spin_base.specs.Outputs.{all_outs, IsOutput}
 use Rattle.spin_base.proofs.Equality.{nat_eq_same, chip_eq_same, chip_eq_true, out_eq_same, out_eq_true}
 use Rattle.spin_base.proofs.Once.{all_once}
 use Rattle.machine_desc.specs.Description.{Description}
-use Rattle.machine_desc.specs.Live.{index_of, chip_of, grid_size, is_live_chip, IsLiveChip}
+use Rattle.machine_desc.specs.Live.{index_of, chip_of, grid_chips, is_live_chip, IsLiveChip}
 use Rattle.machine_desc.proofs.Far.{live_inside, index_below}
 use Rattle.machine_desc.proofs.Live.{index_of-chip_of, chip_of-index_of}
 use Rattle.mesh_round.proofs.Sums.{sum_agree, sum_none, sum_filter, sum_map, sum_gathered, sum_at-plain}
+pub use Rattle.mesh_run.proofs.OutputBits.{range_parts}
 
 -- ---- each number stands once in a range
 
@@ -59,29 +60,21 @@ once_in_range i a (suc n) from below =
         let yes' : (i == a) ≡ true = ap (λ k. i == k) (sym same) ∙ nat_eq_same i in
         cc
 
--- what stands in a range is within it
-pub range_parts : (a n j : ℕ) → Among j (range_with_len a n) → (a ≤ j) × (j < a + n)
-range_parts a zero j none = absurd none
-range_parts a (suc n) j (inl here) = (omega (arith, here), omega (arith, here))
-range_parts a (suc n) j (inr there) =
-    let parts = range_parts (a + 1) n j there in
-    (omega (arith, parts.0), omega (arith, parts.1))
-
 -- ---- each live chip stands once among the live chips, and each output once among the outputs
 
 abbrev pub live_chips : Description → List Chip
-live_chips m = filter (is_live_chip m) (grid_size m)
+live_chips m = filter (is_live_chip m) (grid_chips m)
 
 pub live_of_live_chips : (m : Description) (c : Chip) → Among c (live_chips m) → IsLiveChip m c
-live_of_live_chips m c a = (among_filter (is_live_chip m) c (grid_size m) a).1
+live_of_live_chips m c a = (among_filter (is_live_chip m) c (grid_chips m) a).1
 
 abbrev one_where : Bool → ℕ
 one_where b = cond b 1 0
 
 pub live_chip_once : (m : Description) (c : Chip) → IsLiveChip m c → count_by (chip_eq c) (live_chips m) ≡ 1
 live_chip_once m c live =
-    sum_filter (is_live_chip m) (λ e. one_where (chip_eq c e)) (grid_size m)
-    ∙ (sum_agree (λ e. cond (is_live_chip m e) (one_where (chip_eq c e)) 0) (λ e. one_where (chip_eq c e)) (grid_size m) (λ e a. same e)
+    sum_filter (is_live_chip m) (λ e. one_where (chip_eq c e)) (grid_chips m)
+    ∙ (sum_agree (λ e. cond (is_live_chip m e) (one_where (chip_eq c e)) 0) (λ e. one_where (chip_eq c e)) (grid_chips m) (λ e a. same e)
     ∙ (sum_map (chip_of m) (λ e. one_where (chip_eq c e)) (range_with_len 0 (m.width * m.height))
     ∙ (sum_agree (λ j. one_where (chip_eq c (chip_of m j))) (λ j. one_where (index_of m c == j)) (range_with_len 0 (m.width * m.height)) by_index
     ∙ once_in_range (index_of m c) 0 (m.width * m.height) (omega arith) (omega (arith, index_below m c (live_inside m c live))))))

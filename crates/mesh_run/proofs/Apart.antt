@@ -19,19 +19,14 @@ use Rattle.chip_node.specs.Items.{where_same, where_there}
 use Rattle.mesh_core.specs.State.{Setup, input, core, behind, queue_at}
 use Rattle.mesh_core.proofs.Changes.{queue_at-below}
 use Rattle.mesh_core.proofs.Ways.{vertex_behind_stands}
+pub use Rattle.chip_node.proofs.Placing.{where_here as here, where_other as elsewhere}
 use Rattle.mesh_run.specs.Played.{place_behind, queue_place_of, vertex_place}
 use Rattle.mesh_run.proofs.Ends.{leads, by_link, to_vertex, to_none, one_end, one_link, one_port}
 
 -- ---- where two places are the same
 
-pub here : {X : Type 0} (p q : ℕ) (xs : List X) → p ≡ q → where_same p q xs ≡ xs
-here p q xs same = cond-true (p == q) xs [] (eq-eqb p q same)
-
 pub first_here : {X : Type 0} (p q : ℕ) (x : X) → p ≡ q → Among x (where_same p q (x ∷ []))
 first_here {X} p q x same = subst (λ (l : List X). Among x l) (sym (here p q (x ∷ []) same)) (inl refl)
-
-pub elsewhere : {X : Type 0} (p q : ℕ) (xs : List X) → (p ≡ q → ⊥) → where_same p q xs ≡ []
-elsewhere p q xs other = cond-false (p == q) xs [] (ne_eqb p q other)
 
 pub there : {X : Type 0} (place : Option ℕ) (q : ℕ) (xs : List X) → place ≡ Some q → where_there place q xs ≡ xs
 there place q xs is = ap (λ p. where_there p q xs) is ∙ here q q xs refl

@@ -38,37 +38,43 @@ few_chips m size =
     let area : m.width * m.height ≤ m.width * 64 = mul-le-mul_left m.width h in
     omega (arith, w, area)
 
+-- Different items with different numbers below a bound are no more than the bound.
+few_numbered : {A : Type 0} (f : A → ℕ) (n : ℕ) (xs : List A) (x : A) → AllPairs (λ a b. a ≢ b) xs → ((k : ℕ) → k < length xs → f (get_or xs k x) < n)
+    → ((i j : ℕ) → i < length xs → j < length xs → f (get_or xs i x) ≡ f (get_or xs j x) → get_or xs i x ≡ get_or xs j x) → length xs ≤ n
+few_numbered {A} f n xs x different small one = subst (λ l. l ≤ n) (length-map xs f) (length_le_from_apart (map f xs) n apart below)
+  where
+    inside : (k : ℕ) → k < length (map f xs) → k < length xs
+    inside k low = subst (λ l. k < l) (length-map xs f) low
+
+    below : (k d : ℕ) → k < length (map f xs) → get_or (map f xs) k d < n
+    below k d low = subst (λ v. v < n) (sym (get_or-map f xs k x d (inside k low))) (small k (inside k low))
+
+    apart : (i j d : ℕ) → i < j → j < length (map f xs) → get_or (map f xs) i d ≢ get_or (map f xs) j d
+    apart i j d before low e =
+        let low_i : i < length (map f xs) = omega (arith, before, low) in
+        let same = sym (get_or-map f xs i x d (inside i low_i)) ∙ (e ∙ get_or-map f xs j x d (inside j low)) in
+        different i j x before (inside j low) (one i j (inside i low_i) (inside j low) same)
+
 pub few_vertices : (m : Description) (spots : List Spot) → AllPairs (λ a b. a ≢ b) spots → All (IsSite m) spots → HasSize m → length spots ≤ 98304
 few_vertices m spots different sites size =
-    let few = length_le_from_apart (map (spot_place m) spots) (24 * (m.width * m.height)) apart below in
-    let long = length-map spots (spot_place m) in
+    let few = few_numbered (spot_place m) (24 * (m.width * m.height)) spots nothing different small one in
     let area = few_chips m size in
-    omega (arith, few, long, area)
+    omega (arith, few, area)
   where
     nothing : Spot
     nothing = record { chip = record { x = 0; y = 0 }; core = 0 }
 
-    in_spots : (k : ℕ) → k < length (map (spot_place m) spots) → k < length spots
-    in_spots k low = subst (λ n. k < n) (length-map spots (spot_place m)) low
+    small : (k : ℕ) → k < length spots → spot_place m (get_or spots k nothing) < 24 * (m.width * m.height)
+    small k low =
+        let at = site_inside m (get_or spots k nothing) (sites k nothing low) in
+        spot_place-below m (get_or spots k nothing) at.0 at.1
 
-    read : (k d : ℕ) → k < length (map (spot_place m) spots) → get_or (map (spot_place m) spots) k d ≡ spot_place m (get_or spots k nothing)
-    read k d low = get_or-map (spot_place m) spots k nothing d (in_spots k low)
-
-    on_grid : (k : ℕ) → k < length spots → IsInside m (get_or spots k nothing).chip × ((get_or spots k nothing).core < 24)
-    on_grid k low = site_inside m (get_or spots k nothing) (sites k nothing low)
-
-    below : (k d : ℕ) → k < length (map (spot_place m) spots) → get_or (map (spot_place m) spots) k d < 24 * (m.width * m.height)
-    below k d low =
-        let at = on_grid k (in_spots k low) in
-        subst (λ n. n < 24 * (m.width * m.height)) (sym (read k d low)) (spot_place-below m (get_or spots k nothing) at.0 at.1)
-
-    apart : (i j d : ℕ) → i < j → j < length (map (spot_place m) spots) → get_or (map (spot_place m) spots) i d ≢ get_or (map (spot_place m) spots) j d
-    apart i j d before low e =
-        let low_i : i < length (map (spot_place m) spots) = omega (arith, before, low) in
-        let one = on_grid i (in_spots i low_i) in
-        let other = on_grid j (in_spots j low) in
-        different i j nothing before (in_spots j low)
-        (same_spot_place m (get_or spots i nothing) (get_or spots j nothing) one.0 other.0 one.1 other.1 (sym (read i d low_i) ∙ (e ∙ read j d low)))
+    one : (i j : ℕ) → i < length spots → j < length spots → spot_place m (get_or spots i nothing) ≡ spot_place m (get_or spots j nothing)
+        → get_or spots i nothing ≡ get_or spots j nothing
+    one i j low_i low_j same =
+        let a = site_inside m (get_or spots i nothing) (sites i nothing low_i) in
+        let b = site_inside m (get_or spots j nothing) (sites j nothing low_j) in
+        same_spot_place m (get_or spots i nothing) (get_or spots j nothing) a.0 b.0 a.1 b.1 same
 
 -- ---- lists
 

@@ -1,4 +1,5 @@
 -- What the shares so far have logged.
+use Rattle.std.proofs.Math.Bool.{or-false}
 use Rattle.std.proofs.Common.{◌≡◌, ◌||◌, Bool, true, false, ℕ, ◌+◌, ◌<◌, ◌≤◌, List, [], ◌∷◌, ◌++◌, length, take, drop, get_or, set, Some, refl, sym, ap, ◌∙◌, subst, arith, append_assoc}
 use Rattle.std.specs.List.{flat_map, list_any, slice_get, sum_by}
 use Rattle.std.proofs.lemmas.Bool.{cases_lt}
@@ -78,12 +79,8 @@ gathered_more old now new n start logs after moved next s t so_far below read is
       delivered_room = omega (arith, first, one, a, delivered_room);
       dumped_room = omega (arith, second, two, b, dumped_room);
       moved_are = next_is ∙ (ap (λ m. m || s.moved) so_far.moved_are
-          ∙ (ap (λ m. list_any (λ (x : Share). x.moved) (take n old) || m) (sym (or_false s.moved)) ∙ (sym (list_any-append (λ (x : Share). x.moved) (take n old) (s ∷ [])) ∙ ap (list_any (λ (x : Share). x.moved)) (sym taken))));
+          ∙ (ap (λ m. list_any (λ (x : Share). x.moved) (take n old) || m) (sym (or-false s.moved)) ∙ (sym (list_any-append (λ (x : Share). x.moved) (take n old) (s ∷ [])) ∙ ap (list_any (λ (x : Share). x.moved)) (sym taken))));
     }
-  where
-    or_false : (m : Bool) → (m || false) ≡ m
-    or_false true = refl
-    or_false false = refl
 
 pub record Gathered (old now : List Share) (start logs : MeshLogs) (moved : Bool) : Type 0 where
   pub delivered : logs.delivered.items ≡ start.delivered.items ++ flat_map (λ s. s.hold.deliveries.items) old

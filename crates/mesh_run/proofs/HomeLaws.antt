@@ -408,6 +408,3 @@ cuts_all homes n cuts past so_far = record {
   all_cut = λ q h at. let inside = slice_get_within homes q h at in so_far.all_cut q h (omega (arith, inside, past)) at;
   apart = so_far.apart;
 }
-
-pub apart_tests : (b : Bool) → b ≡ true → b ≡ false → ⊥
-apart_tests b yes_it no_it = let t : true ≡ false = sym yes_it ∙ no_it in cc

@@ -7,12 +7,12 @@ mod AfterLinks
 mod AfterRound
 mod AfterRuns
 mod AfterLogs
-mod Apart
+pub mod Apart
 mod BringingUp
 mod CrossingLaws
 mod EachQueue
 mod EachVertex
-mod Ends
+pub mod Ends
 pub mod Feeding
 mod Filling
 mod FloorLaws
@@ -21,6 +21,7 @@ mod Going
 mod Holding
 mod HomeLaws
 mod Lowering
+pub mod OutputBits
 mod Passing
 mod PlanLaws
 mod Raising

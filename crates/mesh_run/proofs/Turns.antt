@@ -5,10 +5,9 @@ use Rattle.std.proofs.lemmas.Bool.{cases_eq, cond_both}
 use Rattle.std.proofs.lemmas.List.{map-append, length-append}
 use Rattle.std.proofs.lemmas.List.Elements.{All-append, All-contains, All-cons, All-filter, All-head, All-map, All-nil, All-tail, All-weaker}
 use Rattle.std.proofs.lemmas.Grind.{flat_map-append}
-use Rattle.spin_base.proofs.Members.{Among, among_either, among_map, contains_among}
+use Rattle.spin_base.proofs.Members.{contains_among}
 use Rattle.spin_base.proofs.Pairs.{All-from_map}
 use Rattle.spin_base.proofs.Places.{All-each}
-use Rattle.std.specs.List.{range_with_len}
 use Rattle.spin_base.specs.declared.chips.Chip.{Chip}
 use Rattle.spin_base.specs.declared.chips.Port.{Port}
 use Rattle.spin_base.specs.declared.routes.Out.{Out}
@@ -17,9 +16,8 @@ use Rattle.spin_base.specs.declared.routes.Route.{Route}
 use Rattle.spin_base.specs.declared.blocks.Entry.{Entry}
 use Rattle.spin_base.specs.declared.copies.McCopy.{McCopy}
 use Rattle.spin_base.specs.Hops.{last_hop}
-use Rattle.spin_base.specs.Links.{all_dirs}
 use Rattle.spin_base.specs.Lookup.{lookup}
-use Rattle.spin_base.specs.Outputs.{all_outs, core_outs, has, link_outs, out_number, outs_of, IsOutput}
+use Rattle.spin_base.specs.Outputs.{all_outs, has, out_number, outs_of, IsOutput}
 use Rattle.machine_desc.specs.Live.{chip_of, index_of}
 use Rattle.chip_node.specs.declared.ends.Served.TheVariants.{Dumped}
 use Rattle.chip_node.specs.declared.nodes.CoreBank.{CoreBank}
@@ -34,6 +32,7 @@ use Rattle.mesh_run.specs.Played.{owed_on, place_behind, port_count, vertex_plac
 use Rattle.mesh_run.specs.Floors.{IsBankOf}
 use Rattle.mesh_run.specs.Shares.{actor_of, bank_place, router_place}
 use Rattle.mesh_run.proofs.Apart.{elsewhere, here}
+use Rattle.mesh_run.proofs.OutputBits.{has_bit}
 
 -- ---- lists
 
@@ -53,33 +52,6 @@ pub few_more : {X : Type 0} (p q : ℕ) (x : X) → length (where_same p q (x �
 few_more {X} p q x = subst (λ (l : List X). length l ≤ 1) (sym (append-nil (where_same p q (x ∷ [])))) (few_same p q x)
 
 -- ---- outputs
-
--- what stands in a range is within it
-range_parts : (a n j : ℕ) → Among j (range_with_len a n) → (a ≤ j) × (j < a + n)
-range_parts a zero j none = absurd none
-range_parts a (suc n) j (inl here) = (omega (arith, here), omega (arith, here))
-range_parts a (suc n) j (inr there) =
-    let parts = range_parts (a + 1) n j there in
-    (omega (arith, parts.0), omega (arith, parts.1))
-
-link_bit : (o : Out) → Among o link_outs → IsOutput o
-unfolding link_outs
-link_bit (Link d) a = tt
-link_bit (Core c) a = let of = among_map Link (Core c) all_dirs a in cc
-
-core_bit : (o : Out) → Among o core_outs → IsOutput o
-unfolding core_outs
-core_bit (Link d) a = tt
-core_bit (Core c) a =
-    let of = among_map Core (Core c) (range_with_len 0 18) a in
-    let same : c ≡ of.0 = cc in
-    omega (arith, same, (range_parts 0 18 of.0 of.1).1)
-
-has_bit : (o : Out) → Among o all_outs → IsOutput o
-has_bit o a = elim (among_either o link_outs core_outs a) [
-  | inl links ↦ link_bit o links
-  | inr cores ↦ core_bit o cores
-]
 
 pub outputs_have_bits : (entries : List Entry) (port : Port) (k : McCopy) → All IsOutput (outputs_at entries port k)
 outputs_have_bits entries port k =

@@ -1,7 +1,8 @@
 use Rattle.std.proofs.Common.{sym, ◌∙◌}
 use Rattle.machine_desc.specs.Live.{chip_of, is_live_chip}
 use Rattle.machine_desc.proofs.Live.{index_of-chip_of}
-use Rattle.mesh_run.proofs.HomeLaws.{apart_tests, senders_dead, senders_live}
+use Rattle.spin_base.proofs.Tests.{answers_none}
+use Rattle.mesh_run.proofs.HomeLaws.{senders_dead, senders_live}
 use Rattle.mesh_run.proofs.homes.set_senders.Goals as goal
 
 pub set_live_senders-requires-clause-live : goal.set_live_senders-requires-clause-live
@@ -17,4 +18,4 @@ pub returns : goal.returns
 returns c =
     let u = c.args.setup.now in
     senders_dead u c.args.table.now c.args.index c.args.homes.now.items c.requires.before
-    (λ on. apart_tests (is_live_chip u.machine (chip_of u.machine c.args.index)) on.live (sym (c.is_live.ensures u c.requires.floor) ∙ c.if-is_live.false))
+    (λ on. answers_none (is_live_chip u.machine (chip_of u.machine c.args.index)) on.live (sym (c.is_live.ensures u c.requires.floor) ∙ c.if-is_live.false))
