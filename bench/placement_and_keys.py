@@ -222,8 +222,8 @@ def program_in(room):
         copy.write(lines.read() + LINE)
     with open(f"{room}/crates/bench_placement/src/main.rt", "w", encoding="utf-8") as source:
         source.write(PROGRAM)
-    launcher.main(room, "bench_placement")
-    return f"{room}/out/spin"
+    launcher.main(room, "bench_placement", "spin_unchecked")
+    return f"{room}/out/spin_unchecked"
 
 
 def processor_time():

@@ -92,8 +92,8 @@ def program_in(room):
         copy.write(lines.read() + LINE)
     with open(f"{room}/crates/bench_reading/src/main.rt", "w", encoding="utf-8") as source:
         source.write(PROGRAM)
-    launcher.main(room, "bench_reading")
-    return f"{room}/out/spin"
+    launcher.main(room, "bench_reading", "spin_unchecked")
+    return f"{room}/out/spin_unchecked"
 
 
 def name(letter, i, width):

@@ -333,8 +333,8 @@ def program_in(room):
         copy.write(lines.read() + LINE)
     with open(f"{room}/crates/bench_rounds/src/main.rt", "w", encoding="utf-8") as source:
         source.write(PROGRAM)
-    launcher.main(room, "bench_rounds")
-    return f"{room}/out/spin"
+    launcher.main(room, "bench_rounds", "spin_unchecked")
+    return f"{room}/out/spin_unchecked"
 
 
 def processor_time():

@@ -146,8 +146,8 @@ def program_in(room):
         copy.write(lines.read() + LINE)
     with open(f"{room}/crates/bench_trees/src/main.rt", "w", encoding="utf-8") as source:
         source.write(PROGRAM)
-    launcher.main(room, "bench_trees")
-    return f"{room}/out/spin"
+    launcher.main(room, "bench_trees", "spin_unchecked")
+    return f"{room}/out/spin_unchecked"
 
 
 def processor_time():

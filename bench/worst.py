@@ -1,10 +1,11 @@
 """Times the worst that a user can do: small texts of legal jobs that take the program long, or much memory.
 
-    python3 bench/worst.py [--program PROGRAM] [--beside OTHER] [--runs RUNS] [--limit MIB] [KIND[=SIZE] ..]
+    python3 bench/worst.py [--program PROGRAM] [--beside OTHER] [--runs RUNS] [--limit MIB] [--doubled TIMES] [KIND[=SIZE] ..]
 
 PROGRAM is out/spin where none is named; OTHER is run in turn with it, and is what it is compared with. A SIZE is a number, or `most` for
 what a job may have at most. Without one a kind has a size that takes seconds, and without KINDs all are run. A program that wants more
-than MIB of memory, 4,096 where no number is given, ends with status 9. Told are processor time, wall-clock time and peak memory.
+than MIB of memory, 4,096 where no number is given, ends with status 9. Told are processor time, wall-clock time and peak memory. With
+TIMES each kind is run at its size and so many times at twice the size before, so that growth can be read off.
 
     loads          `apps`: so many loads of an empty graph on 64 by 64 chips
     small_loads    `apps`: the same with four vertices, two nets and two packets each, while there is room
@@ -17,6 +18,12 @@ than MIB of memory, 4,096 where no number is given, ends with status 9. Told are
     far_and_wide   `compile`: so many nets of 740 targets on a torus of 64 by 64 chips with 1,200 dead links, target 0
     serpentine     `tables`: so many nets of two targets along a serpentine of live links through 64 by 64 chips, target 0
     uncovered      `tables`: the same where rows have no target to get below: 1,024
+    alike          `tables`: so many vertices, and 200,000 targets that name the last; all names have one word modulo four times their
+                   number and one: so they have one slot
+    in_a_bucket    `tables`: the same; the words of all names agree on the bits by which std's hash map tells names apart at first
+    holes          `apps`: loads of so many nets together with fixed blocks of a key, each with a hole behind, upwards
+    holes_down     `apps`: the same downwards
+    last_rows      `run`: so many packets along a path that turns at nearly each of 31 by 32 chips, of the net whose rows match last
     deep_lists     `tables`: so many MiB of lists, 126 deep, in a member that nobody reads
     thin_objects   `tables`: so many MiB of objects with one member each, in such a member
 """
@@ -80,21 +87,114 @@ def long_tables(size, side, targets, dead_links):
     return {"version": 1, "machine": machine, "graph": graph, "run": {"target": 0}}
 
 
-def serpentine(size, target):
+ROWS = [(x if y % 2 == 0 else SIDE - 1 - x, y) for y in range(SIDE) for x in range(SIDE)]
+
+
+def serpentine(size, target, path=ROWS, sides=(SIDE, SIDE)):
     """Along each row to its end, and then up: all other links are dead. Each net goes from the first chip to the middle and the last."""
-    path = [(x if y % 2 == 0 else SIDE - 1 - x, y) for y in range(SIDE) for x in range(SIDE)]
     steps = {frozenset(pair) for pair in zip(path, path[1:])}
     dead = []
     for x, y in path:
         for link, (right, above) in enumerate(((1, 0), (1, 1), (0, 1))):
             end = (x + right, y + above)
-            if max(end) < SIDE and frozenset([(x, y), end]) not in steps:
+            if end[0] < sides[0] and end[1] < sides[1] and frozenset([(x, y), end]) not in steps:
                 dead.append([x, y, link])
     ends = [path[0]] * 8 + [path[len(path) // 2], path[-1]]
     vertices = [{"name": f"v{i}", "at": list(chip)} for i, chip in enumerate(ends)]
     nets = [net(i, i % 8, [8, 9]) for i in range(size)]
-    return {"version": 1, "machine": {"width": SIDE, "height": SIDE, "dead_links": dead}, "graph": {"vertices": vertices, "nets": nets},
-            "run": {"target": target}}
+    machine = {"width": sides[0], "height": sides[1], "dead_links": dead}
+    return {"version": 1, "machine": machine, "graph": {"vertices": vertices, "nets": nets}, "run": {"target": target}}
+
+
+# ---- names
+
+FULL = 2**64 - 1
+REFERENCES = 200_000
+
+
+def folded(state, read, length):
+    product = (state ^ read) * (0x9E3779B97F4A7C15 ^ 2 * length)
+    return product & FULL ^ product >> 64
+
+
+def word_of(name):
+    """The word by which a name of four to eight bytes gets its slot."""
+    ends = int.from_bytes(name[:4], "little") | int.from_bytes(name[-4:], "little") << 32
+    return folded(0x243F6A8885A308D3, ends, len(name))
+
+
+def hash_of(name):
+    """What std's hash map makes of the name: a byte more goes into the word."""
+    word = folded(word_of(name), 0xFFFFFF, 1)
+    return (word ^ word >> 32) & 0xFFFFFFFF
+
+
+def names_with(size, wanted):
+    """So many names of eight letters that pass the test."""
+    found, i = [], 0
+    while len(found) < size:
+        name = f"{i:08x}".encode()
+        if wanted(name):
+            found.append(name.decode())
+        i += 1
+    return found
+
+
+def referred_to(names):
+    """The last of the names is named by all targets."""
+    nets, vertices = 64, [{"name": name} for name in names]
+    listed = [{"name": f"n{i}", "source": names[-1], "targets": [names[-1]] * (REFERENCES // nets)} for i in range(nets)]
+    return {"version": 1, "machine": {"width": SIDE, "height": SIDE}, "graph": {"vertices": vertices, "nets": listed}}
+
+
+def alike(size):
+    return referred_to(names_with(size, lambda name: word_of(name) % (4 * size + 1) == 0))
+
+
+def in_a_bucket(size):
+    groups = 1
+    while 9 * groups < size:
+        groups *= 2
+    return referred_to(names_with(size, lambda name: hash_of(name) & (0xFF000000 | groups - 1) == 0x1000000))
+
+
+# ---- holes
+
+EACH = 4096
+
+
+def load_with(number, keys):
+    """A load of nets with these keys, each from a core to itself. It has four chips of its own, since a chip has 1,024 rows."""
+    vertices = [{"name": f"v{i}", "at": [(4 * number + i) % SIDE, (4 * number + i) // SIDE]} for i in range(4)]
+    nets = [{**net(i, i % 4, [i % 4]), "fixed": [key, FULL >> 32]} for i, key in enumerate(keys)]
+    machine = {"width": SIDE, "height": SIDE}
+    return ["load", number, {"version": 2, "machine": machine, "graph": {"vertices": vertices, "nets": nets}}]
+
+
+def holes(size, order=1):
+    """Every second key is a fixed block of its own: so many, in loads of as many nets as one may have."""
+    keys = [2 * i for i in range(size)][::order]
+    return [load_with(begin // EACH, keys[begin : begin + EACH]) for begin in range(0, size, EACH)]
+
+
+# ---- lookups
+
+
+def last_rows(packets):
+    """The path goes up and down between two rows of chips, and then between the next two. Its rows can't go by default."""
+    width, height, nets = 31, 32, 1024
+    path = []
+    for pair in range(height // 2):
+        columns = range(width) if pair % 2 == 0 else range(width - 1, -1, -1)
+        for place, x in enumerate(columns):
+            path += [(x, 2 * pair + (place + k) % 2) for k in range(2)]
+    job = serpentine(nets, 1024, path, (width, height))
+    return {**job, **sent_by(nets - 1, packets)}
+
+
+def sent_by(number, packets):
+    sent = [{"net": f"n{number}", "index": 0} for _ in range(packets)]
+    return {"run": {"queue": 64, "turns": 64, "target": 1024, "packets": sent}}
 
 
 # ---- texts
@@ -121,6 +221,11 @@ KINDS = {
     "far_and_wide": ("compile", lambda size: long_tables(size, SIDE, 740, 1200), 128, 4096),
     "serpentine": ("tables", lambda size: serpentine(size, 0), 64, 4096),
     "uncovered": ("tables", lambda size: serpentine(size, 1024), 64, 4096),
+    "alike": ("tables", alike, 512, 16384),
+    "in_a_bucket": ("tables", in_a_bucket, 256, 16384),
+    "holes": ("apps", holes, 8192, 240000),
+    "holes_down": ("apps", lambda size: holes(size, -1), 8192, 240000),
+    "last_rows": ("run", last_rows, 128, 65536),
     "deep_lists": ("tables", lambda size: text_with("[" * DEEP + "]" * DEEP, size), 1, 16),
     "thin_objects": ("tables", lambda size: text_with('{"a":' * DEEP + "0" + "}" * DEEP, size), 1, 16),
 }
@@ -130,6 +235,7 @@ def main():
     parser = argparse.ArgumentParser(description="Times the worst that a user can do (see the head of this file).")
     parser.add_argument("kinds", nargs="*", metavar="KIND[=SIZE]", help=", ".join(KINDS))
     parser.add_argument("--limit", type=int, default=4096, help="MiB of memory that a program may take")
+    parser.add_argument("--doubled", type=int, default=0, metavar="TIMES", help="how often the size is doubled")
     add_programs(parser, 1)
     asked = parser.parse_args()
     programs = programs_of(asked)
@@ -140,9 +246,10 @@ def main():
             parser.error(f"{kind} is no kind, or its size no number")
         word, make, small, most = KINDS[name]
         size = most if size == "most" else int(size or small)
-        job = make(size)
-        text = job if isinstance(job, bytes) else json.dumps(job, separators=(",", ":")).encode()
-        show(f"{name}={size}: {word}, {len(text) / 1e6:.2f} MB", programs, [word], text, asked.runs, asked.limit * MEBI)
+        for size in [size << times for times in range(asked.doubled + 1)]:
+            job = make(size)
+            text = job if isinstance(job, bytes) else json.dumps(job, separators=(",", ":")).encode()
+            show(f"{name}={size}: {word}, {len(text) / 1e6:.2f} MB", programs, [word], text, asked.runs, asked.limit * MEBI)
 
 
 if __name__ == "__main__":

@@ -6,7 +6,7 @@
 
 PROGRAM is out/spin where none is named. A small library is compiled with `cc` and loaded before the C library. It counts what is
 asked for, and refuses the Nth time, or each time from the Nth on: memory (malloc, calloc, realloc and their kin), or a thread
-(pthread_create). Where there is no `cc`, the script says so and ends with 0.
+(pthread_create). Where there is no `cc`, a line SKIPPED says so, and the script ends with 0.
 
 A refused run may write two things: the example's own report with the example's own status, or the line `out of memory` with
 status 9. Where nothing was read yet, status 9 may come without the line: there was no memory for the command's words. Anything else is
@@ -241,6 +241,7 @@ class Trials:
                 "BROKEN_COUNTS": counts.name,
                 f"BROKEN_{refusal.kind}_FIRST": str(refusal.first),
                 f"BROKEN_{refusal.kind}_LAST": str(refusal.last),
+                **{name: value for name, value in os.environ.items() if name == "SPIN_COVERED"},
             }
             command = [self.program, *case.words]
             try:
@@ -330,7 +331,7 @@ def main():
     words.add_argument("--selftest", action="store_true", help="the check itself, on stand-ins")
     given = words.parse_args()
     if not shutil.which("cc"):
-        print("no cc: nothing was tried")
+        print("SKIPPED memory: nothing that is refused memory or a thread was tried, since there is no cc")
         return 0
     with tempfile.TemporaryDirectory() as folder:
         library = compiled(folder, "broken.so", LIBRARY, "-shared", "-fPIC")

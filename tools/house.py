@@ -1,10 +1,11 @@
-"""Prints the picture of docs/architecture.md: the crates by layer, each with its lines and what it stands on.
+"""Writes what the sources say into two documents: the picture of docs/architecture.md, which has the crates by layer, each with its lines
+and what it stands on; and the list at the end of docs/definitions.md, which has the files that its tables do not name.
 
     python3 tools/house.py [--check]
 
-With --check it compares the picture with what stands there; docs/definitions.md with the files of definitions, each of which it has
-to name; and docs/promises.md with the sources: what carries a promise has to be there, with the clauses that are named, and what is
-said to call it has to name it. The status is 1 where something differs.
+With --check it compares these with what stands there, and docs/promises.md with the sources: what carries a promise has to be there,
+with the clauses that are named; so has what breaks it, and each edit has to break one. The rooms of docs/architecture.md
+have to name each file of code. The status is 1 where something differs.
 
 A crate's layer is one more than the highest layer below it, among the crates of this repository. A chain of crates is as long
 as the number of layers. Lines: code without tests, definitions, proofs.
@@ -16,7 +17,9 @@ import sys
 
 ROOT = os.path.dirname(os.path.dirname(os.path.realpath(__file__)))
 BEGIN, END = "<!-- made by tools/house.py -->\n", "<!-- end -->\n"
-PROMISES = "| promise | carried by | called by |"
+FILES = "<!-- files by tools/house.py -->\n"
+ALONE = r"\((Tests alone|No command)"
+PROMISES, LAWS = "| promise | carried by | broken by |", "| law or lemma | stands as |"
 
 
 def crates():
@@ -95,82 +98,134 @@ def calls():
 
 
 def promises(text):
-    """The rows of the tables of promises, each as its cells."""
+    """The rows of the tables of promises and of laws, each as its cells."""
     rows, is_row = [], False
     for line in text.splitlines():
-        is_row = line.startswith("| ") and (is_row or line == PROMISES) or is_row and line.startswith("|-")
-        if is_row and line.startswith("| ") and line != PROMISES:
+        is_row = line.startswith("| ") and (is_row or line in (PROMISES, LAWS)) or is_row and line.startswith("|-")
+        if is_row and line.startswith("| ") and line not in (PROMISES, LAWS):
             rows.append(line.strip("| ").split(" | "))
     return rows
 
 
-def wrong_row(carried, callers, labels, called, defined):
-    """What two cells of a promise say of the sources that is not so: what carries it, and which functions call that."""
-    function, is_clause, depth, carriers = None, False, 0, set()
+def named_by(carried, labels, defined, wrong):
+    """The functions that the second cell of a row names, each with its clauses. What is not there is added to what is wrong."""
+    function, is_clause, depth, found = None, False, 0, {}
     for name, word, mark in re.findall(r"`([^`]+)`|\b(clauses?|of)\b|([();])", carried):
         depth += {"(": 1, ")": -1}.get(mark, 0)
         is_clause = (is_clause or word.startswith("clause")) and word != "of" and mark != ";"
         last = name.rpartition("::")[2]
         if name and not depth and is_clause:
+            found.setdefault(function, set()).add(name)
             if name not in labels.get(function, ()):
-                yield f"{function} has no clause {name}"
+                wrong.append(f"{function} has no clause {name}")
         elif name and not set(re.findall(r"\w+", name)) <= defined:
-            yield f"there is no {name}"
+            wrong.append(f"there is no {name}")
         elif name and not depth and last in labels:
             function = last
-            carriers.add(last)
-    for name in sorted(callers):
-        if name not in called:
-            yield f"there is no {name}"
-        elif carriers and not carriers & called[name]:
-            yield f"{name} calls none of {', '.join(sorted(carriers))}"
-    for name in sorted(carriers - set().union(*(called.get(it, ()) for it in callers)) if callers else ()):
-        yield f"none of {', '.join(sorted(callers))} calls {name}"
+            found.setdefault(function, set())
+    return found
+
+
+def breakers():
+    """What may break a promise: the edits that the prover must refuse, and the tests of crates."""
+    edits = {os.path.basename(it)[:-5] for it in glob.glob(f"{ROOT}/crates/*/must-fail/*.edit")}
+    return edits, set(re.findall(r"#\[test\]\s+(?:pub )?fn (\w+)", text_of("crates/*/src/**/*.rt")))
 
 
 def wrong_promises():
-    """What docs/promises.md says of the sources that is not so. In the tables of promises, the second cell of a row names functions, each with
-    its clauses after the word 'clause' or 'clauses', up to a semicolon; in brackets and elsewhere it names whatever is defined, a lemma too.
-    The third cell names crates, and functions of crates that call those of the second, so that each is called by one. Each clause of `spin`
-    has a heading."""
+    """What docs/promises.md says of the sources that is not so. In its tables the second cell of a row names functions, each with its clauses
+    after the word 'clause' or 'clauses', up to a semicolon; in brackets it names whatever is defined, a lemma too. The third cell names
+    edits, tests, and files. Where only tests call a function, or nothing does, the first cell says so (ALONE). Each edit is named by some
+    row, and so is each clause of `spin`."""
     labels, called, crate_names = clauses(), calls(), set(os.listdir(f"{ROOT}/crates"))
     defined = set(re.findall(r"\w+", text_of("crates/*/src/**/*.rt") + text_of("crates/*/specs/**/*.antt"))) | crate_names
     defined |= set(re.findall(r"^pub (\w+) :", text_of("crates/*/proofs/**/*.antt"), re.M))
     with open(f"{ROOT}/docs/promises.md", encoding="utf-8") as text:
-        text = text.read()
-    wrong, rows = [], promises(text)
+        rows = promises(text.read())
+    wrong, of_spin, named = [], set(), set()
+    edits, tests = breakers()
+    callers = {}
+    for name, them in called.items():
+        for it in them:
+            callers.setdefault(it, set()).add(name)
+    for row in rows:
+        if len(row) not in (2, 3):
+            wrong.append(f"a row has {len(row)} cells: {row[0]}")
+            continue
+        carriers = named_by(row[1], labels, defined, wrong)
+        of_spin |= carriers.get("spin", set())
+        if len(row) == 3:
+            for name in sorted(carriers):
+                others = {it for it in callers.get(name, ()) if it.rpartition("::")[2] != name and not it.startswith(("stage_trials::", "round_trials::"))}
+                if not others and not re.search(ALONE, row[0]):
+                    wrong.append(f"no code but tests calls {name}, and the row does not say so: {row[0]}")
+            for name in re.findall(r"`([^`]+)`", row[2]):
+                if name not in edits | tests and not ("/" in name and os.path.exists(f"{ROOT}/{name}")):
+                    wrong.append(f"{name} is no edit, test or file: {row[0]}")
+                named.add(name)
+    wrong += [f"no row names the edit {it}" for it in sorted(edits - named)]
+    wrong += [f"no row names the clause {it} of spin" for it in sorted(labels["spin"] - of_spin)]
     if not rows:
         wrong.append("there is no table of promises")
-    for row in rows:
-        if len(row) == 3:
-            wrong += wrong_row(row[1], set(re.findall(r"`([^`]+)`", row[2])) - crate_names, labels, called, defined)
-        else:
-            wrong.append(f"a row has {len(row)} cells and not 3: {row[0]}")
-    headings = set(re.findall(r"^### `(\w+)`$", text, re.M))
-    wrong += [f"the clauses of spin and the headings differ in {name}" for name in sorted(headings ^ labels["spin"])]
     return [f"docs/promises.md: {it}" for it in wrong]
 
 
-def main(words):
-    file = f"{ROOT}/docs/architecture.md"
-    with open(file, encoding="utf-8") as text:
-        before, _, rest = text.read().partition(BEGIN)
-    _, _, after = rest.partition(END)
-    made = before + picture() + after
-    with open(file, encoding="utf-8") as text:
-        is_same = text.read() == made
-    if "--check" not in words:
-        with open(file, "w", encoding="utf-8") as text:
-            text.write(made)
-        return 0
-    wrong = [] if is_same else ["docs/architecture.md has another picture: python3 tools/house.py"]
+def other_files(text):
+    """The files of definitions that a document does not name before its list of all other files, by crate: that list."""
+    named = set(re.findall(r"`(\w+/specs/[\w/]+\.antt)`", text.partition(FILES)[0]))
+    found = {}
+    for file in sorted(files_of_definitions() - named):
+        crate, _, name = file.partition("/specs/")
+        found.setdefault(crate, []).append(name[:-5])
+    return FILES + "".join(f"- `{crate}`: {', '.join(f'`{it}`' for it in names)}\n" for crate, names in found.items()) + END
+
+
+def files_of_definitions():
     files = {os.path.relpath(it, f"{ROOT}/crates") for it in glob.glob(f"{ROOT}/crates/*/specs/**/*.antt", recursive=True)}
-    files = {it for it in files if os.path.basename(it) != "Lib.antt"}
+    return {it for it in files if os.path.basename(it) != "Lib.antt"}
+
+
+def renewed(file, begin, made):
+    """A document as it stands, and as it is with what is made between the two marks."""
+    with open(f"{ROOT}/{file}", encoding="utf-8") as text:
+        text = text.read()
+    before, _, rest = text.partition(begin)
+    return text, before + made(text) + rest.partition(END)[2]
+
+
+def wrong_rooms():
+    """Which files of code the rooms of docs/architecture.md do not name, and which they name that are not there. A room begins with the name
+    of its crate, or with those of several, whose files it has together."""
+    with open(f"{ROOT}/docs/architecture.md", encoding="utf-8") as text:
+        parts = re.split(r"^((?:\*\*\w+\*\*(?: and )?)+)", text.read().partition("# Room by room")[2], flags=re.M)
+    names, wrong = set(), []
+    for heads, text in zip(parts[1::2], parts[2::2]):
+        rooms = re.findall(r"\w+", heads.replace(" and ", " "))
+        files = {os.path.basename(it) for name in rooms for it in glob.glob(f"{ROOT}/crates/{name}/src/**/*.rt", recursive=True)}
+        told = set(re.findall(r"`(\w+\.rt)`", text.partition("\n## ")[0]))
+        names.update(rooms)
+        wrong += [f"the room of {', '.join(rooms)} does not name {it}" for it in sorted(files - told - {"lib.rt", "main.rt"})]
+        wrong += [f"the room of {', '.join(rooms)} names {it}, which is not there" for it in sorted(told - files)]
+    wrong += [f"there is no room of {it}" for it in sorted(set(os.listdir(f"{ROOT}/crates")) - names)]
+    return [f"docs/architecture.md: {it}" for it in wrong]
+
+
+def main(words):
+    documents = {"docs/architecture.md": (BEGIN, lambda text: picture()), "docs/definitions.md": (FILES, other_files)}
+    wrong = []
+    for file, (begin, made) in documents.items():
+        stands, wanted = renewed(file, begin, made)
+        if "--check" not in words:
+            with open(f"{ROOT}/{file}", "w", encoding="utf-8") as text:
+                text.write(wanted)
+        elif stands != wanted:
+            wrong.append(f"{file} is behind the sources: python3 tools/house.py")
+    if "--check" not in words:
+        return 0
     with open(f"{ROOT}/docs/definitions.md", encoding="utf-8") as text:
         named = set(re.findall(r"`(\w+/specs/[\w/]+\.antt)`", text.read()))
-    wrong += [f"docs/definitions.md does not name {it}" for it in sorted(files - named)]
-    wrong += [f"docs/definitions.md names {it}, which is not there" for it in sorted(named - files)]
-    wrong += wrong_promises()
+    wrong += [f"docs/definitions.md names {it}, which is not there" for it in sorted(named - files_of_definitions())]
+    wrong += wrong_rooms() + wrong_promises()
     print("\n".join(wrong), end="\n" if wrong else "")
     return 1 if wrong else 0
 

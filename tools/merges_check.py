@@ -79,7 +79,7 @@ fn main(rt: HostRuntime) -> ExitCode {
 
 
 def program_in(room):
-    """Compiles the program in a copy of the repository with one crate more."""
+    """Compiles the program in a copy of the repository with one crate more: with its checks, since nothing there is proved."""
     os.makedirs(f"{room}/crates/merges_check/src")
     for name in os.listdir(f"{ROOT}/crates"):
         os.symlink(f"{ROOT}/crates/{name}", f"{room}/crates/{name}")

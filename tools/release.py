@@ -3,13 +3,18 @@
     python3 tools/release.py            dist/ of this clone
     python3 tools/release.py --try      the same in a folder of its own, installed and run where there is no toolchain
     python3 tools/release.py --tests    the package as `pip install ./python` installs it, with its tests
+    python3 tools/release.py --tag      a local tag, as v0.2.0, on the commit from which dist/ was made
 
-The program is that of the launcher, which compiles it where that is due. The wheel says which sources, commit and toolchain it was
-compiled from (`kulzobad --version`). --try installs the wheel into an empty virtual environment, with a path on which nothing of the
-toolchain lies and no network, and runs examples, whose bytes have to be those that stand beside them. --tests runs python/tests from a
-folder without the package. Where pip or venv is missing both say so: --try is skipped, and --tests runs the tests of the package as it
-stands. Each ends with status 1 where something fails, and names the tests that failed.
+The program is the one that `rt ci` compiled of what it proved, where .ci/run has just left that here and the sources are the same.
+Else it is that of the launcher, which compiles it where that is due, and keeps its checks where the gate has not proved the sources.
+The wheel says which, and which sources, commit and toolchain it was compiled from (`kulzobad --version`). --try installs the wheel into
+an empty virtual environment, with a path on which nothing of the toolchain lies and no network, and runs examples, whose bytes have to
+be those that stand beside them. --tests runs python/tests from a folder without the package. Where pip or venv is missing both say so:
+--try is skipped, and --tests runs the tests of the package as it stands. --tag wants a wheel of this version in dist/, made from this
+commit without changes, and a part of CHANGELOG.md on it; it pushes nothing. Each ends with status 1 where something fails, and names the
+tests that failed. What is skipped has a line SKIPPED, the tests of pages as `page`, and what asks for pip as `wheel`.
 """
+import collections
 import glob
 import hashlib
 import json
@@ -19,16 +24,18 @@ import shutil
 import subprocess
 import sys
 import tempfile
+import zipfile
 
 ROOT = os.path.dirname(os.path.dirname(os.path.realpath(__file__)))
 sys.path.insert(0, f"{ROOT}/python")
+sys.path.insert(0, f"{ROOT}/tools")
 
 import building  # noqa: E402
+import proved  # noqa: E402
 
 # The program needs a C library as new as that for which the toolchain links.
 TAG = "py3-none-linux_x86_64"
-# The status of the program that shortens tables, where its input is empty.
-NO_TABLES = 4
+APART = "the package is an installed one"
 EXAMPLES = ("one_chip", "image", "reinject_fan_out", "trace_fan_out", "check_right", "apps_used_again", "long_table")
 
 
@@ -46,12 +53,33 @@ def read(file):
         return data.read()
 
 
-def built_from():
-    """What is known of the launcher's build."""
+# Of each program words to which it has an answer, without input, and the answer's status.
+TRIED = {"spin": (["gen", "0"], 0), "spin_tables": ([], 4)}
+
+
+def program_here(name="spin"):
+    """The program that is packed, with what is said of its checks."""
+    made = proved.proved_program(name)
+    if made:
+        return made, "left out: rt ci compiled what it proved"
+    words, status = TRIED[name]
+    done = subprocess.run([f"{ROOT}/{name}", *words], env=plain(), stdin=subprocess.DEVNULL, stdout=subprocess.DEVNULL, check=False)
+    if done.returncode != status:
+        sys.exit(f"release: the launcher {name} gives no program")
+    with open(f"{ROOT}/out/{name}.sum", encoding="utf-8") as kept:
+        return f"{ROOT}/out/{name}", kept.read().splitlines()[-1].partition(" ")[2]
+
+
+def plain():
+    """The variables without that which asks for another program."""
+    return {name: value for name, value in os.environ.items() if name != "SPIN_CHECKS"}
+
+
+def built_from(checks):
+    """What is known of the program that is packed."""
     commit = output_of(["git", "rev-parse", "HEAD"])
     changed = output_of(["git", "status", "--porcelain", "--", "crates", "crates.txt", "tools/compile.py"])
-    with open(f"{ROOT}/out/spin.sum", encoding="utf-8") as kept:
-        told = {"sources": kept.read().strip(), "toolchain": output_of(["rt", "version"]).split("\n")[0]}
+    told = {"sources": proved.sum_now(), "toolchain": output_of(["rt", "version"]).split("\n")[0], "checks": checks}
     if commit:
         told["commit"] = commit + (" with changes" if changed else "")
     return told
@@ -59,15 +87,12 @@ def built_from():
 
 def make(folder):
     """Writes the program, the wheel and the checksums into a folder, and gives the wheel's name."""
-    if subprocess.run([f"{ROOT}/spin", "gen", "0"], stdout=subprocess.DEVNULL, check=False).returncode:
-        sys.exit("release: the launcher gives no program")
+    program, checks = program_here()
     os.makedirs(folder, exist_ok=True)
-    if subprocess.run([f"{ROOT}/spin_tables"], stdin=subprocess.DEVNULL, stdout=subprocess.DEVNULL, check=False).returncode != NO_TABLES:
-        sys.exit("release: the launcher gives no program that shortens tables")
-    shutil.copy(f"{ROOT}/out/spin", f"{folder}/spin")
-    told = json.dumps(built_from(), indent=1) + "\n"
+    shutil.copy(program, f"{folder}/spin")
+    told = json.dumps(built_from(checks), indent=1) + "\n"
     inside = [("kulzobad/compiled/built.json", told.encode()), ("kulzobad/compiled/spin", read(f"{folder}/spin"))]
-    inside.append(("kulzobad/compiled/spin_tables", read(f"{ROOT}/out/spin_tables")))
+    inside.append(("kulzobad/compiled/spin_tables", read(program_here("spin_tables")[0])))
     wheel = building.write_wheel(folder, TAG, more=inside)
     with open(f"{folder}/SHA256SUMS", "w", encoding="utf-8") as sums:
         sums.writelines(f"{hashlib.sha256(read(f'{folder}/{name}')).hexdigest()}  {name}\n" for name in sorted(("spin", wheel)))
@@ -80,7 +105,7 @@ def environment_in(room):
     python = f"{room}/environment/bin/python"
     pip = [sys.executable, "-m", "pip", "--python", python, "--disable-pip-version-check", "install", "--quiet", "--no-index", "--no-deps"]
     if made.returncode or subprocess.run([*pip[:5], "--version"], capture_output=True, check=False).returncode:
-        print("release: nothing is installed, for pip or venv is missing, or pip is older than 22.3")
+        print("SKIPPED wheel: nothing is installed, for pip or venv is missing, or pip is older than 22.3")
         return None
     return python, pip
 
@@ -112,13 +137,20 @@ def failures_of_release(room, wheel, python):
         given = done.stderr.split(b"\n", 1)[0] + b"\n" if status else done.stdout
         if (done.returncode, given) != (status, wanted):
             yield f"kulzobad {word} of examples/{name}.json: status {done.returncode}, {given[:200]}, {done.stderr[:200]}"
+    for words, status, part in (
+        (("run", "/nowhere", "--json"), 2, b'"kind": "read fault"'), (("jump", "--json"), 64, b'"kind": "usage"'), (("help", "verify"), 0, b"example:"),
+        (("completion", "bash"), 0, b"complete -o default -F _kulzobad kulzobad"), (("page", f"{ROOT}/examples/one_chip.json"), 0, b"</html>"),
+    ):
+        done = call(*words)
+        if done.returncode != status or part not in done.stdout:
+            yield f"kulzobad {' '.join(words)}: status {done.returncode}, {done.stdout[:200]}, {done.stderr[:200]}"
     with open(f"{room}/tables.csv", "w", encoding="utf-8") as rows:
         rows.write("x,y,key,mask,route\n0,0,0,0xffffffff,1\n0,0,1,0xffffffff,1\n")
     shorter = call("minimise", "tables.csv").stdout
     if shorter != b"x,y,key,mask,route\n0,0,0x00000000,0xfffffffe,0x000001\n":
         yield f"kulzobad minimise gives {shorter!r}"
-    told, known = call("--version").stdout.decode(), built_from()
-    for line in (f"sources {known['sources']}", f"toolchain {known['toolchain']}", "not proved on this machine"):
+    told, known = call("--version").stdout.decode(), built_from(program_here()[1])
+    for line in (*(f"{name} {known[name]}" for name in ("sources", "toolchain", "checks")), "not proved on this machine"):
         if line not in told:
             yield f"kulzobad --version does not say {line!r}: {told}"
     sums = "".join(f"{hashlib.sha256(read(f'{room}/dist/{name}')).hexdigest()}  {name}\n" for name in sorted(("spin", wheel)))
@@ -145,7 +177,8 @@ def try_tests(room):
     if not installed(pip, f"{ROOT}/python"):
         return ["the package can't be installed"]
     os.makedirs(f"{room}/copy/python")
-    shutil.copytree(f"{ROOT}/python/tests", f"{room}/copy/python/tests", ignore=shutil.ignore_patterns("__pycache__"))
+    for name in ("tests", "examples"):
+        shutil.copytree(f"{ROOT}/python/{name}", f"{room}/copy/python/{name}", ignore=shutil.ignore_patterns("__pycache__"))
     for name in ("examples", "docs", "tools"):
         os.symlink(f"{ROOT}/{name}", f"{room}/copy/{name}")
     folder, ask = f"{room}/copy/python", "import kulzobad; print(kulzobad.__file__)"
@@ -155,10 +188,34 @@ def try_tests(room):
     return tests_that_fail(python, folder, environment)
 
 
+def tag():
+    """Tags the commit from which the wheel in dist/ was made. It gives what stands against it."""
+    version, commit = building.project()["project"]["version"], output_of(["git", "rev-parse", "HEAD"])
+    name, wheel = f"v{version}", f"{ROOT}/dist/{building.base_name()}-{TAG}.whl"
+    with open(f"{ROOT}/CHANGELOG.md", encoding="utf-8") as text:
+        if f"## {version}" not in (line.partition(",")[0].strip() for line in text):
+            return [f"CHANGELOG.md has no part on {version}"]
+    if not os.path.isfile(wheel):
+        return [f"dist/ has no wheel of {version}: make it by tools/release.py"]
+    with zipfile.ZipFile(wheel) as files:
+        made_from = json.loads(files.read("kulzobad/compiled/built.json")).get("commit", "no commit")
+    if made_from != commit or output_of(["git", "status", "--porcelain"]):
+        return [f"the wheel is of {made_from}, and here is {commit}, or something that is not committed"]
+    if subprocess.run(["git", "tag", "-a", name, "-m", f"kulzobad {version}", commit], cwd=ROOT, check=False).returncode:
+        return [f"there is a tag {name} already, or git makes none"]
+    print(f"{name} {commit}")
+    return []
+
+
 def tests_that_fail(python, folder, environment):
     """Runs the tests of a folder, and gives the names of those that fail."""
-    done = subprocess.run([python, "-m", "unittest", "-q"], cwd=folder, env=environment, stderr=subprocess.PIPE, text=True, check=False)
-    sys.stderr.write(done.stderr)
+    done = subprocess.run([python, "-m", "unittest", "-v"], cwd=folder, env=environment, stderr=subprocess.PIPE, text=True, check=False)
+    sys.stderr.write("".join(it for it in done.stderr.splitlines(True) if not re.search(r"\.\.\. (ok|skipped .*)$", it)))
+    skipped = collections.Counter(re.findall(r"\.\.\. skipped ['\"](.*)['\"]$", done.stderr, re.M))
+    for why, count in skipped.items():
+        # (what asks for the package as it stands is run apart)
+        if why != APART:
+            print(f"SKIPPED {'page' if 'Chromium' in why else 'tests'}: {count} tests: {why}")
     named = re.findall(r"^(?:FAIL|ERROR): (.*)$", done.stderr, re.M)
     return named or (["a test of the installed package fails"] if done.returncode else [])
 
@@ -173,6 +230,9 @@ def main(words):
         return 0
     failures = []
     for word in words:
+        if word == "--tag":
+            failures += tag()
+            continue
         with tempfile.TemporaryDirectory(prefix="release-") as room:
             failures += {"--try": try_release, "--tests": try_tests}[word](os.path.realpath(room))
     for failure in failures:
@@ -181,6 +241,6 @@ def main(words):
 
 
 if __name__ == "__main__":
-    if not set(sys.argv[1:]) <= {"--try", "--tests"}:
+    if not set(sys.argv[1:]) <= {"--try", "--tests", "--tag"}:
         sys.exit(__doc__)
     sys.exit(main(sys.argv[1:]))

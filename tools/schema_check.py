@@ -163,7 +163,7 @@ def stock_validators():
     try:
         from jsonschema import Draft202012Validator
     except ImportError:
-        print("no validator (the Python package jsonschema) is installed: the package's own is tried alone")
+        print("SKIPPED schemas: the package's own validator is tried alone, since the Python package jsonschema is not installed")
         return []
     found = []
     for lenient in (True, False):

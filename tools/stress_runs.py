@@ -9,7 +9,7 @@ vertices and 20 nets; 5 to 200 packets. One job in ten, or each with --large, ha
 packets. There are nets with fixed keys, and devices, also on tori with a side of 1. Queues hold one to 50 copies, most of them one
 to three; patience is 1 to 20, and there are up to 64 workers and turns.
 
-`run` may drop copies of such a job, and which ones depends on the order in which threads take their turns. So no bytes are
+`run` may drop copies of such a job, and which ones depends on the order of turns, which nothing promises. So no bytes are
 compared but those of the places, keys and tables, which are to be those of tools/model.py. Each packet is followed over the tables
 that the report tells, by lookup alone: the first row that matches, or straight on where none does. That gives the outputs by which
 its copies go, and the branch of each target. Then

@@ -15,11 +15,14 @@ target from 0 to 1,024. Of each the image alone is verified, with the places and
     joined     all rows are made anew by tools/neighbour_rows.py, whose rows take parts of nets; and in half of them a route is spoiled
     merged     nets of one source and the same targets are one net with several blocks; and in half of them a row is left out
     device     nets of one source come from a device on a link of its chip; and in half of them a row of that chip is left out
+    nowhere    a link is added to a row's route, and the row at the end of that link that takes the row's keys is made to send nowhere
+    trees      each net comes with the tree of one of its keys; some get a way round, or lack a link; and in half of them a route is spoiled
     random     of a few chips with any rows, nets have as targets what one of their keys reaches; their blocks have any masks and may share keys
 
 and what `verify` says is compared with what is worked out here in the plainest way: each key of each net is looked up for itself, row by
-row, in each table that it comes to. Where it says `Right`, each key has to reach just its net's targets, and no chip twice. Where it says
-something else, the way that it tells has to be the way of that key, and what it tells of its end has to be so. And where it says `Right`,
+row, in each table that it comes to. Where it says `Right`, each key has to reach just its net's targets, no chip twice, and no chip from
+which it goes nowhere; and by the net's tree, where one came with it. Where it says something else, the way that it tells has to be the way
+of that key, what it tells of its end has to be so, and all this has to hold of the nets before. And where it says `Right`,
 the requests to which the program answered so have to have asked for each key of each net: with the rows of each chip of the key's tree,
 and with the net's vertices where they stand, as the slow model places those of a request.
 
@@ -43,7 +46,7 @@ sys.path.insert(0, f"{ROOT}/python")
 
 from kulzobad import Machine, decode  # noqa: E402
 from kulzobad.reports import LINKS, read  # noqa: E402
-from kulzobad.verdicts import Dies, Loops, Misses, Right, Strays, Twice  # noqa: E402
+from kulzobad.verdicts import BadTree, Dies, Loops, Misses, OffTree, Right, Stops, Strays, Twice  # noqa: E402
 from kulzobad import verifying  # noqa: E402
 from kulzobad.verifying import KeyedNet, Verifier  # noqa: E402
 
@@ -61,11 +64,14 @@ EXPECTED = {
     "joined": {"Right", "Strays", "cut"},
     "merged": {"Right", "Misses"},
     "device": {"Right"},
+    "nowhere": {"Stops"},
+    "trees": {"Right", "BadTree", "OffTree", "Strays"},
     "random": {"Right", "Strays", "Misses", "cut"},
 }
 
-# What is asked: the machine's part of the job, the spots of vertices by name, the nets with their blocks, and rows by chip.
-Question = namedtuple("Question", "machine spots nets tables")
+# What is asked: the machine's part of the job, the spots of vertices by name, the nets with their blocks, rows by chip, and links of trees
+# by the names of nets.
+Question = namedtuple("Question", "machine spots nets tables trees", defaults=({},))
 Net = namedtuple("Net", "name source targets blocks")
 
 
@@ -103,11 +109,12 @@ def begin_of(question, net):
 
 
 class Fate:
-    """What becomes of a key: how often it comes to each chip, the spots that get it, and the links that are not live by which it is sent.
-    A copy that comes to a chip by a port by which another has come is not followed."""
+    """What becomes of a key: how often it comes to each chip, the live links by which it goes, the spots that get it, the links that are
+    not live by which it is sent, and the chips behind the first from which it goes nowhere. A copy that comes to a chip by a port by which
+    another has come is not followed."""
 
     def __init__(self, question, machine, net, key):
-        self.comes, self.got, self.dead = Counter(), Counter(), set()
+        self.comes, self.got, self.links, self.dead, self.stops = Counter(), Counter(), set(), set(), set()
         devices = {spot for spot in question.spots.values() if spot[2] >= 18}
         ahead, seen = [begin_of(question, net)], set()
         while ahead:
@@ -116,10 +123,14 @@ class Fate:
             if (chip, port) in seen:
                 continue
             seen.add((chip, port))
-            for out in outputs(question.tables.get(chip, ()), key, port)[1]:
+            outs = outputs(question.tables.get(chip, ()), key, port)[1]
+            if not outs and len(seen) > 1:
+                self.stops.add(chip)
+            for out in outs:
                 if out >= 6:
                     self.got[(*chip, out - 6)] += 1
                 elif machine.is_live_link(chip, out):
+                    self.links.add((*chip, out))
                     ahead.append((machine.far(chip, out), model.opposite(out)))
                 elif (*chip, 18 + out) in devices:
                     self.got[(*chip, 18 + out)] += 1
@@ -128,7 +139,7 @@ class Fate:
         self.wanted = {question.spots[name] for name in net.targets}
 
     def is_right(self):
-        return not self.dead and max(self.comes.values()) == 1 and set(self.got) == self.wanted
+        return not self.dead and not self.stops and max(self.comes.values()) == 1 and set(self.got) == self.wanted
 
 
 def is_way(question, machine, net, key, way):
@@ -151,16 +162,49 @@ def is_way(question, machine, net, key, way):
     return True
 
 
+def is_tree(question, machine, net):
+    """Whether the links that came with a net are a routing tree for it."""
+    root, links = begin_of(question, net)[0], question.trees[net.name]
+    ends = [machine.far(it[:2], it[2]) for it in links if machine.is_live_link(it[:2], it[2])]
+    reached, wanted = {root}, {question.spots[name][:2] for name in net.targets}
+    for _ in links:
+        reached |= {machine.far(it[:2], it[2]) for it in links if it[:2] in reached}
+    leaves = reached - {it[:2] for it in links} - {root}
+    return len(ends) == len(links) == len(set(ends) - {root}) and set(ends) | wanted <= reached and leaves <= wanted
+
+
+def is_right(question, machine, net):
+    """Whether all keys of a net come to its targets and nowhere else, by its tree if one came with it."""
+    fates = [Fate(question, machine, net, key) for key in keys_of(net.blocks)]
+    tree = question.trees.get(net.name)
+    is_on_tree = tree is None or (is_tree(question, machine, net) and all(it.links == set(tree) for it in fates))
+    return is_on_tree and all(it.is_right() for it in fates)
+
+
 def is_true(question, verdict):
-    """Whether an answer is so."""
+    """Whether an answer is so, and the nets before the one that it names are right."""
     machine, nets = model.Machine(question.machine), {net.name: net for net in question.nets}
     if isinstance(verdict, Right):
-        return all(Fate(question, machine, net, key).is_right() for net in question.nets for key in keys_of(net.blocks))
-    net, key = nets[verdict.net], verdict.key
+        return all(is_right(question, machine, net) for net in question.nets)
+    net = nets[verdict.net]
+    if not all(is_right(question, machine, it) for it in question.nets[:question.nets.index(net)]):
+        return False
+    return not is_tree(question, machine, net) if isinstance(verdict, BadTree) else is_true_of(question, machine, net, verdict)
+
+
+def is_true_of(question, machine, net, verdict):
+    """Whether an answer that tells the way of a key of a net is so."""
+    key = verdict.key
     fate, last = Fate(question, machine, net, key), verdict.way[-1]
-    if fate.is_right() or key not in keys_of(net.blocks) or not is_way(question, machine, net, key, verdict.way):
+    if key not in keys_of(net.blocks) or not is_way(question, machine, net, key, verdict.way):
         return False
     chip, chips = (last.x, last.y), [(hop.x, hop.y) for hop in verdict.way]
+    if isinstance(verdict, OffTree):
+        tree = set(question.trees[net.name])
+        apart = {it[:2] for it in fate.links ^ tree}
+        return fate.is_right() and is_tree(question, machine, net) and chip in apart and not apart & set(chips[:-1])
+    if fate.is_right():
+        return False
     if isinstance(verdict, Strays):
         spot = (*chip, 18 + LINKS.index(last.out) if last.out in LINKS else int(last.out[1:]))
         return spot in fate.got and spot not in fate.wanted
@@ -171,6 +215,8 @@ def is_true(question, verdict):
     if isinstance(verdict, Twice):
         return fate.comes[chip] > 1 and last.out is None
     ends = not fate.dead and max(fate.comes.values()) == 1 and set(fate.got) <= fate.wanted
+    if isinstance(verdict, Stops):
+        return ends and set(fate.got) == fate.wanted and chip in fate.stops and last.out is None
     return isinstance(verdict, Misses) and ends and question.spots[verdict.target] not in fate.got and verdict.target in net.targets
 
 
@@ -244,7 +290,7 @@ def verdict_of(question, program):
         part["width"], part["height"], part.get("wrap", False), part.get("sdram"),
         *([tuple(it) for it in part.get(name, [])] for name in ("dead_chips", "dead_cores", "dead_links")),
     )
-    verifier = Recorder(machine, question.spots, [KeyedNet(*net) for net in question.nets], question.tables, program=program)
+    verifier = Recorder(machine, question.spots, [KeyedNet(*net) for net in question.nets], question.tables, question.trees, program)
     return verifier.verdict(), verifier.asked > sum(len(net.blocks) for net in question.nets), getattr(verifier, "kept", [])
 
 
@@ -350,6 +396,39 @@ class Spoiler(random.Random):
         i = self.randrange(len(rows))
         return made._replace(tables={**made.tables, chip: rows[:i] + rows[i + 1:]})
 
+    def nowhere(self, question):
+        machine = model.Machine(question.machine)
+        places = [(chip, i, d) for chip, rows in question.tables.items() for i in range(len(rows)) for d in range(6)]
+        places = [(chip, i, d) for chip, i, d in places if machine.is_live_link(chip, d) and not question.tables[chip][i][2] >> d & 1]
+        if not places:
+            return None
+        chip, i, d = self.choice(places)
+        end, (key, mask, route) = machine.far(chip, d), question.tables[chip][i]
+        rows = question.tables[chip]
+        there = [(key, mask, 0), *question.tables.get(end, ())]
+        return question._replace(tables={**question.tables, chip: [*rows[:i], (key, mask, route | 1 << d), *rows[i + 1:]], end: there})
+
+    def trees(self, question):
+        machine = model.Machine(question.machine)
+        trees = {net.name: sorted(Fate(question, machine, net, net.blocks[0][0]).links) for net in question.nets}
+        named = [name for name, links in trees.items() if links]
+        for name in self.sample(named, min(len(named), self.randrange(3))):
+            trees[name] = self.other_way(machine, trees[name])
+        for name in self.sample(named, min(len(named), self.randrange(2))):
+            trees[name] = self.sample(trees[name], len(trees[name]) - 1)
+        made = question._replace(trees=trees)
+        return self.route(made) if self.random() < 0.5 else made
+
+    def other_way(self, machine, links):
+        """The links with two in place of one, by another chip, where there are such."""
+        for x, y, d in self.sample(links, len(links)):
+            for first in self.sample(range(6), 6):
+                midst = machine.far((x, y), first) if machine.is_live_link((x, y), first) else None
+                second = [it for it in range(6) if midst and machine.is_live_link(midst, it) and machine.far(midst, it) == machine.far((x, y), d)]
+                if first != d and second:
+                    return [*(it for it in links if it != (x, y, d)), (x, y, first), (*midst, second[0])]
+        return links
+
     def joined(self, question):
         tables = neighbour_rows.of_tables(self, question.machine, question.spots, question.nets, question.tables)
         made = question._replace(tables=tables)
@@ -392,7 +471,7 @@ def any_block(dice, care):
 
 def trials(program, seeds, most):
     """The seeds of jobs, what is spoiled, and the questions; so many of each kind."""
-    counts, kinds = Counter(), ("route", "mask", "order", "missing", "dead_link", "bits", "joined", "merged", "device")
+    counts, kinds = Counter(), ("route", "mask", "order", "missing", "dead_link", "bits", "joined", "merged", "device", "nowhere", "trees")
     for seed in seeds:
         job = model.Dice(seed).job(seed)
         question = compiled(job, program)

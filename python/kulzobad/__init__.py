@@ -8,27 +8,50 @@
 
 The package has no rules of its own: placements, keys, tables and refusals are those of the program. Where `verify` says that tables are
 right, the program has said so of each key; the ways of keys that go wrong are found here.
-"""
-from .applications import RUN, Answer, AlreadyLoaded, CutOff, KeysOut, Loaded, MemoryOut, NoRoom, NotLoaded, Ran, RowsOut, Unloaded
-from .applications import Waiting, load, unload
-from .checks import BadImage, BadTree, OtherMachine, Right, Split, Verdict, Wrong
-from .explaining import explain
-from .images import Image, decode, encode
-from .jobs import Job, Machine, Net, Packet, Vertex, collect, dump, inject, send, take
-from .kinds import BrokenAnswer
-from .members import Slip, UnknownMembers
-from .minimising import Minimised, minimise
-from .program import NoProgram, Refused, apps, check, compile, gen, reinject, run, tables, trace
-from .reports import Delivery, Dump, Keys, Place, Plan, Report, Row, Summary, Table, Wait, links_of, cores_of
-from .trees import trees
-from .verdicts import Dies, Loops, Misses, OffTree, Strays, TooLong, Twice
-from .verifying import KeyedNet, notes, verify
 
-__all__ = [
-    "AlreadyLoaded", "Answer", "BadImage", "BadTree", "BrokenAnswer", "CutOff", "Delivery", "Dump", "Image", "Job", "Keys", "KeysOut",
-    "Loaded", "Machine", "MemoryOut", "Net", "NoProgram", "NoRoom", "NotLoaded", "OtherMachine", "Packet", "Place", "Plan", "RUN",
-    "Ran", "Refused", "Report", "Right", "Row", "RowsOut", "Slip", "Split", "Summary", "Table", "UnknownMembers", "Unloaded", "Verdict",
-    "Vertex", "Wait", "Waiting", "Wrong", "apps", "check", "collect", "compile", "cores_of", "decode", "dump", "encode", "explain",
-    "gen", "inject", "links_of", "load", "reinject", "run", "send", "tables", "take", "trace", "trees", "unload",
-    "Dies", "KeyedNet", "Loops", "Minimised", "Misses", "OffTree", "Strays", "TooLong", "Twice", "minimise", "notes", "verify",
-]
+What is used most stands here. The rest has its module:
+
+    calls       all calls, by the program's words: `calls.compile(job)`
+    events      the events of `trace`
+    steps       the steps of `apps`, and their answers
+    reports     what the program writes, as objects
+    images      the bytes of tables
+    verdicts    what `check` and `verify` say
+    links       links and outputs as names
+    formats     rows and networks of other tools; spinntools, graphs and frames: those of SpiNNTools, networkx and pandas
+"""
+from importlib import import_module
+from typing import Any, List
+
+from .jobs import Job, Machine, Net, Packet, Vertex
+from .minimising import minimise
+from .program import Refused, check, run, tables
+from .trees import trees
+from .verifying import KeyedNet, verify
+from .versions import VERSION as __version__
+
+__all__ = ["Job", "KeyedNet", "Machine", "Net", "Packet", "Refused", "Vertex", "check", "minimise", "run", "tables", "trees", "verify", "__version__"]
+
+# Names that the package had at its top at first, by the modules that have them now. They are still found here.
+_MOVED = {
+    "calls": "apps compile explain gen notes reinject trace",
+    "events": "collect dump inject send take",
+    "steps": "RUN AlreadyLoaded Answer CutOff KeysOut Loaded MemoryOut NoRoom NotLoaded Ran RowsOut Unloaded Waiting load unload",
+    "reports": "Delivery Dump Keys Place Plan Report Row Summary Table Wait cores_of links_of",
+    "images": "Image decode encode",
+    "verdicts": "BadImage BadTree Dies Loops Misses OffTree OtherMachine Right Split Strays TooLong Twice Verdict Wrong",
+    "kinds": "BrokenAnswer",
+    "members": "Slip UnknownMembers",
+    "program": "NoProgram",
+}
+_HOMES = {name: module for module, names in _MOVED.items() for name in names.split()}
+
+
+def __getattr__(name: str) -> Any:
+    if name in _HOMES:
+        return getattr(import_module(f".{_HOMES[name]}", __name__), name)
+    raise AttributeError(f"module {__name__!r} has no attribute {name!r}")
+
+
+def __dir__() -> List[str]:
+    return sorted(__all__)

@@ -7,6 +7,7 @@ from typing import Any, Dict, List, Optional, Sequence, Tuple
 
 from .jobs import Job
 from .kinds import BrokenAnswer, one, shown, whole
+from .reports import NAME, N
 
 Step = Tuple[Any, ...]
 
@@ -135,27 +136,28 @@ ANSWERS: Dict[str, Tuple[type, ...]] = {
 def read_answer(line: str, at: int = 1) -> Answer:
     """Reads a line of `apps`, without its end, which is the line of this number."""
     for pattern, made in (
-        (r"load (\d+) ok", Loaded),
-        (r"load (\d+) loaded", AlreadyLoaded),
-        (r"load (\d+) no room (\S+)", NoRoom),
-        (r"load (\d+) cut off (\S+) (\d+) (\d+)", CutOff),
-        (r"load (\d+) memory out (\S+)", MemoryOut),
-        (r"load (\d+) keys out (\S+)", KeysOut),
-        (r"load (\d+) rows out (\d+) (\d+)", RowsOut),
-        (r"unload (\d+) got (\d+) dumped (\d+)", Unloaded),
-        (r"unload (\d+) not loaded", NotLoaded),
-        (r"unload (\d+) waiting (\d+)", Waiting),
+        (rf"load {N} ok", Loaded),
+        (rf"load {N} loaded", AlreadyLoaded),
+        (rf"load {N} no room {NAME}", NoRoom),
+        (rf"load {N} cut off {NAME} {N} {N}", CutOff),
+        (rf"load {N} memory out {NAME}", MemoryOut),
+        (rf"load {N} keys out {NAME}", KeysOut),
+        (rf"load {N} rows out {N} {N}", RowsOut),
+        (rf"unload {N} got {N} dumped {N}", Unloaded),
+        (rf"unload {N} not loaded", NotLoaded),
+        (rf"unload {N} waiting {N}", Waiting),
         (r"run", Ran),
     ):
         found = re.fullmatch(pattern, line)
         if found:
             # (a name may have digits alone)
             items = zip((it.name for it in fields(made)), found.groups())
-            return made(**{name: item if name in NAMES else int(item) for name, item in items})
+            answer: Answer = made(**{name: item if name in NAMES else int(item) for name, item in items})
+            return answer
     raise BrokenAnswer(f"line {at} is {shown(line)}: no line of apps")
 
 
-def read_answers(text: str, steps: Optional[Sequence[Step]] = None) -> List[Answer]:
+def read_answers(text: str, steps: Optional[Sequence[Sequence[Any]]] = None) -> List[Answer]:
     """Reads what `apps` writes: a line for each step. Where steps are given, there have to be as many lines, each of its step.
     ValueError, with the line, where that is not so."""
     *lines, rest = text.split("\n")

@@ -10,13 +10,13 @@ from .checks import Verdict, read_verdict
 from .images import MAGIC
 from .jobs import Chip, Machine
 from .program import answer_to_text
+from .reports import ENTRIES
 from .trees import Link
 from .walks import DEVICES, Row, Spot
 
 # A key, a mask and a route.
 Words = Tuple[int, int, int]
 
-ENTRIES = 1024
 MOST_NETS, MOST_VERTICES = 4096, 16384
 # The bytes as they stand in a list, with a comma before each.
 DIGITS = [f",{byte}" for byte in range(256)]
@@ -105,7 +105,7 @@ def layers(parts: Sequence[Part], order: Order) -> List[List[Part]]:
     """The parts in lists of which each has no two that share a key; mostly there is one. They keep their order."""
     found: List[List[int]] = []
     ends: List[int] = []
-    for start, size, i in sorted((order.word(it.block.key), -it.block.count, i) for i, it in enumerate(parts)):
+    for start, size, i in sorted((order.word(it.block.key), -it.block.size, i) for i, it in enumerate(parts)):
         free = next((j for j, end in enumerate(ends) if end <= start), len(ends))
         if free == len(ends):
             ends.append(0)
@@ -149,7 +149,7 @@ class Wire:
         listed = sorted(spots)
         names = {spot: f"v{i}" for i, spot in enumerate(listed)}
         dead = [[x, y, core] for x, y in chips for core in range(1, 18) if (x, y, core) not in spots]
-        vertices = [
+        vertices: List[Dict[str, Any]] = [
             {"name": names[x, y, n], **({"at": [x, y]} if n < DEVICES else {"device": [x, y, n - DEVICES]})} for x, y, n in listed
         ]
         word, nets = self.order.word, []

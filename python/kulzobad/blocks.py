@@ -19,7 +19,7 @@ class Block(NamedTuple):
     mask: int
 
     @property
-    def count(self) -> int:
+    def size(self) -> int:
         """How many keys it has."""
         return 1 << bin(WORD & ~self.mask).count("1")
 

@@ -3,8 +3,10 @@ from __future__ import annotations
 
 import re
 from dataclasses import dataclass
+from typing import Callable, List, Tuple
 
 from .kinds import BrokenAnswer, InHexadecimal, shown
+from .reports import HEX, NAME, N
 
 
 class Verdict:
@@ -61,14 +63,15 @@ class OtherMachine(Verdict):
 
 def read_verdict(text: str) -> Verdict:
     """Reads the line of `check`."""
-    for pattern, made in (
+    kinds: List[Tuple[str, Callable[..., Verdict]]] = [
         (r"right\n", Right),
-        (r"wrong (\S+) (\d+) (\d+) ([0-9a-f]{8})\n", lambda net, x, y, key: Wrong(net, int(x), int(y), int(key, 16))),
-        (r"split (\S+) (\d+) (\d+) (\d+)\n", lambda net, x, y, row: Split(net, int(x), int(y), int(row))),
-        (r"bad tree (\S+)\n", BadTree),
-        (r"bad image (\d+)\n", lambda at: BadImage(int(at))),
+        (rf"wrong {NAME} {N} {N} {HEX}\n", lambda net, x, y, key: Wrong(net, int(x), int(y), int(key, 16))),
+        (rf"split {NAME} {N} {N} {N}\n", lambda net, x, y, row: Split(net, int(x), int(y), int(row))),
+        (rf"bad tree {NAME}\n", BadTree),
+        (rf"bad image {N}\n", lambda at: BadImage(int(at))),
         (r"other machine\n", OtherMachine),
-    ):
+    ]
+    for pattern, made in kinds:
         found = re.fullmatch(pattern, text)
         if found:
             return made(*found.groups())

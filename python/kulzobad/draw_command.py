@@ -4,7 +4,8 @@ from __future__ import annotations
 import argparse
 from typing import Any
 
-from .command import USAGE, Stopped, add_job, command, read_job, read_text, write
+from .command import BAD_JOB, NO_PROGRAM, NOT_WHOLE, USAGE, Stopped
+from .command import add_force, add_job, command, keep_off_terminal, read_job, read_text, write
 from .drawing import WORDS, draw, png_of
 from .program import answer_to
 from .reports import read
@@ -13,9 +14,9 @@ from .reports import read
 def add_command(commands: Any) -> None:
     """Adds the command `draw`."""
     example = (
-        "kulzobad draw mesh job.json --out mesh.svg\n"
-        "kulzobad draw tree job.json --net spikes --out tree.svg\n"
-        "kulzobad draw copies job.json report.txt --png --out copies.png"
+        "kulzobad draw mesh job.json -o mesh.svg\n"
+        "kulzobad draw tree job.json --net spikes -o tree.svg\n"
+        "kulzobad draw copies job.json report.txt --png -o copies.png"
     )
     more = (
         "mesh   chips live, dead and used, dead links and cores, and devices\n"
@@ -30,10 +31,15 @@ def add_command(commands: Any) -> None:
     parser.add_argument("output", nargs="?", metavar="OUTPUT", help=what)
     parser.add_argument("--net", metavar="NAME", help="the net whose tree is drawn")
     parser.add_argument("--png", action="store_true", help="write a PNG file, where rsvg-convert is found")
+    add_force(parser)
 
 
 def run(options: argparse.Namespace) -> int:
     """Draws the command's job."""
+    if options.png:
+        keep_off_terminal(options)
+    if options.kind == "tree" and options.net is None:
+        raise Stopped("a tree is of a net: name it with --net", USAGE)
     job = read_job(options)
     if options.output is None:
         text = answer_to(WORDS[options.kind], job, options.program).decode()
@@ -42,11 +48,15 @@ def run(options: argparse.Namespace) -> int:
     try:
         report = read(text)
     except ValueError as error:
-        raise Stopped(f"{options.output or 'what the program wrote'}: {error}", USAGE) from None
+        status = NOT_WHOLE if options.output is None else BAD_JOB
+        raise Stopped(f"{options.output or 'what the program wrote'}: {error}", status) from None
     try:
         svg = draw(options.kind, job, report, options.net)
+    except ValueError as error:
+        raise Stopped(str(error)) from None
+    try:
         picture = png_of(svg) if options.png else svg.encode()
     except ValueError as error:
-        raise Stopped(str(error), USAGE) from None
+        raise Stopped(str(error), NO_PROGRAM) from None
     write(picture, options.out)
     return 0

@@ -21,6 +21,8 @@ from xml.sax.saxutils import escape
 
 from .grid import STEPS, Grid
 from .jobs import Chip, Job
+from .kinds import one
+from .kinds import text as text_of
 from .reports import LINKS, Plan, Report, cores_of, links_of
 from .trees import Way, lookups, root_of, ways, ways_of_nets
 
@@ -33,6 +35,14 @@ INKS = {PALE: GREY, WHITE: GREY, SAGE: GREY, DARK: WHITE, AMOUNTS[4]: WHITE, AMO
 
 # The core that a report gives to a device on link 0; on link d it is that number plus d.
 FIRST_DEVICE = 18
+
+# How wide a picture is shown beside text, and the least size of letters that can be read there. A mesh that fits is made no wider, and
+# letters that find no room at this size are left out.
+SHOWN, LEAST = 800.0, 11.0
+# From this unit on each chip has a number, and from this one on there is room for two.
+NUMBERED, TWO_NUMBERED = 40.0, 62.0
+# The border of a chip that has no row for what comes by.
+DASHED = 'stroke="#555555" stroke-width="1.6" stroke-dasharray="5 3"'
 
 Point = Tuple[float, float]
 Segment = Tuple[float, float, float, float]
@@ -49,7 +59,7 @@ class Paper:
     """Where the chips of a grid lie on paper. `unit` is how far the middles of two neighbours are apart."""
 
     def __init__(self, width: int, height: int) -> None:
-        self.unit = max(16.0, min(90.0, 1100.0 / (width + height / 2)))
+        self.unit = max(16.0, min(90.0, SHOWN / (width + height / 2 + 0.7)))
         self.left = self.unit * (height - 1) / 2 + self.unit
         self.top = 62.0
         self.low = self.top + self.unit * (0.7 + (height - 1) * math.sqrt(3) / 2)
@@ -111,18 +121,18 @@ class Picture(Paper):
 
     def text(self, x: float, y: float, words: str, size: float, colour: str = INK, anchor: str = "middle") -> None:
         """Words at a point, of which labels keep clear."""
-        half = 0.3 * size * len(words)
+        half = 0.32 * size * len(words)
         self.boxes.append((x - half, y - 0.85 * size, x + half, y + 0.15 * size))
         look = f'font-size="{size:.1f}" fill="{colour}" text-anchor="{anchor}"'
         self.shapes.append(f'<text x="{x:.1f}" y="{y:.1f}" {look}>{cleaned(words)}</text>')
 
-    def cell(self, x: int, y: int, fill: str, note: str) -> None:
+    def cell(self, x: int, y: int, fill: str, note: str, is_dashed: bool = False) -> None:
         """A chip, with what is told at the pointer."""
         corners = " ".join(f"{px:.1f},{py:.1f}" for px, py in self.corners(x, y))
         edge = "#9A9A9A" if self.unit >= 24 else "#CFCFCF" if fill == WHITE else WHITE
-        look = f'fill="{fill}" stroke="{edge}" stroke-width="0.7"'
+        look = f'fill="{fill}" ' + (DASHED if is_dashed else f'stroke="{edge}" stroke-width="0.7"')
         self.shapes.append(f'<polygon points="{corners}" {look}><title>{cleaned(note)}</title></polygon>')
-        self.used.add(("cell", fill))
+        self.used.add(("dashed" if is_dashed else "cell", fill))
         self.fills[x, y] = fill
 
     def arrow(self, start: Point, end: Point, colour: str, width: float) -> None:
@@ -151,8 +161,7 @@ class Picture(Paper):
         cx, cy = self.at(x, y)
         hexagon = cx - self.unit / 2, cy - self.unit, cx + self.unit / 2, cy + self.unit
         arrows, boxes = [it for it in self.arrows if crosses(hexagon, it)], [it for it in self.boxes if meets(hexagon, it)]
-        for share in (1.0, 0.85, 0.7):
-            tall = size * share
+        for tall in sorted({max(LEAST, size * share) for share in (1.0, 0.85, 0.7)}, reverse=True):
             half, edge = 0.32 * tall * len(words), self.unit * 0.045
             for dx, dy in LABEL_PLACES:
                 px, py = cx + self.unit * dx, cy + self.unit * dy
@@ -171,15 +180,18 @@ class Picture(Paper):
         return far_x <= wide and far_y + far_x / math.sqrt(3) <= radius
 
     def coordinates(self) -> None:
-        """The numbers of each chip inside it, where there is room."""
-        if self.unit >= 60:
+        """The numbers of each chip inside it, where there is room; where chips are small, not beside numbers of another kind."""
+        if self.unit >= NUMBERED:
+            numbered = list(self.boxes) if not self.arrows and self.unit < 80 else []
             for x, y in self.grid.chips():
-                self.label(x, y, f"{x},{y}", self.unit / 9, INKS.get(self.fills[x, y], INK))
+                (cx, cy), near = self.at(x, y), self.unit * 0.3
+                if not any(meets((cx - near, cy - near, cx + near, cy + near), it) for it in numbered):
+                    self.label(x, y, f"{x},{y}", LEAST, INKS.get(self.fills[x, y], INK))
 
     def numbers(self) -> None:
         """The coordinates along both axes, few enough to be read."""
         step = 1 if self.unit >= 34 else 4 if self.unit >= 18 else 8
-        size = max(9.0, min(14.0, self.unit / 3))
+        size = max(LEAST, min(14.0, self.unit / 3))
         for x in range(0, self.grid.width, step):
             cx, cy = self.at(x, 0)
             self.text(cx, cy + self.unit * 0.62 + size, str(x), size, DARK)
@@ -254,7 +266,8 @@ def legend_mark(mark: str, colour: str, x: float, y: float) -> str:
         return f'<circle cx="{x + 7:.0f}" cy="{y + 7:.0f}" r="6" fill="{colour}"/>'
     if mark == "device":
         return f'<rect x="{x + 1:.0f}" y="{y + 1:.0f}" width="13" height="13" fill="{colour}"/>'
-    return f'<rect x="{x:.0f}" y="{y:.0f}" width="15" height="15" fill="{colour}" stroke="{GREY}" stroke-width="0.6"/>'
+    look = DASHED if mark == "dashed" else f'stroke="{GREY}" stroke-width="0.6"'
+    return f'<rect x="{x:.0f}" y="{y:.0f}" width="15" height="15" fill="{colour}" {look}/>'
 
 
 def devices_of(job: Job, names: Optional[Iterable[str]] = None) -> Iterator[Tuple[int, int, int, str]]:
@@ -275,7 +288,7 @@ def mesh(job: Job, report: Report) -> Picture:
         is_dead = (x, y) in picture.grid.dead_chips
         note = f"({x}, {y}): " + ("dead" if is_dead else f"{used[x, y]} vertices, {broken[x, y]} dead cores")
         picture.cell(x, y, DARK if is_dead else SKY if used[x, y] else PALE, note)
-        if picture.unit >= 34 and used[x, y]:
+        if picture.unit >= NUMBERED and used[x, y]:
             picture.text(*picture.at(x, y), str(used[x, y]), picture.unit / 3.2)
         if broken[x, y]:
             picture.dot(x, y, ORANGE)
@@ -306,11 +319,12 @@ def tree(job: Job, report: Report, net: str) -> Picture:
         on_way = ORANGE if chip == root else SKY if chip in targets else SAGE if chip in found else PALE
         colour = DARK if chip in grid.dead_chips else on_way
         note = note_of(chip, found[chip], on_links) if chip in found else "dead" if chip in grid.dead_chips else "not on the tree"
-        picture.cell(*chip, colour, f"{chip}: {note}")
+        is_straight = chip in found and not found[chip].is_row and chip not in grid.dead_chips
+        picture.cell(*chip, colour, f"{chip}: {note}", is_straight)
     picture.dead_links()
     for (x, y), way in found.items():
         for link in way.links:
-            start, end = (0.14, 0.42) if (x, y, link) in on_links else (0.22, 0.8 if is_on_paper(grid, (x, y), link) else 0.62)
+            start, end = (0.08, 0.42) if (x, y, link) in on_links else (0.29, 0.72 if is_on_paper(grid, (x, y), link) else 0.62)
             picture.arrow(picture.toward(x, y, link, start), picture.toward(x, y, link, end), BLUE, max(1.6, picture.unit / 22))
     for (x, y, link), name in on_links.items():
         picture.device(x, y, link, f"device {name} on link {LINKS[link]} of ({x}, {y})")
@@ -318,6 +332,7 @@ def tree(job: Job, report: Report, net: str) -> Picture:
     picture.notes = [" ".join(note for note in WAY_NOTES if note in told)] if told else []
     picture.legend = [
         ("cell", ORANGE, "the source's chip"), ("cell", SKY, "has targets"), ("cell", SAGE, "on the way"),
+        ("dashed", SAGE, "on the way: no row, straight on"),
         ("cell", PALE, "not on the tree"), ("cell", DARK, "dead"), ("line", VERMILION, "dead link"),
         ("arrow", BLUE, "the net's packets"), ("device", GREEN, "device that gets them"),
     ]
@@ -326,18 +341,15 @@ def tree(job: Job, report: Report, net: str) -> Picture:
 
 CORES_NOTE = "c and a number: the cores that get them."
 MANY_NOTE = "A number of cores: the pointer tells which."
-DEFAULT_NOTE = "default: the chip has no row for them, and they go straight on."
-WAY_NOTES = (CORES_NOTE, MANY_NOTE, DEFAULT_NOTE)
+WAY_NOTES = (CORES_NOTE, MANY_NOTE)
 
 
 def labels_of_ways(picture: Picture, found: Mapping[Chip, Way]) -> Set[str]:
-    """Writes into the chips of a tree the cores that get its packets, or how many where there is no room, and that there is no
-    row. It gives the notes that say what is written."""
+    """Writes into the chips of a tree the cores that get its packets, or how many where there is no room. It gives the notes that say
+    what is written."""
     told = set()
     for (x, y), way in found.items():
         cores = " ".join(f"c{core}" for core in way.cores)
-        if not way.is_row and picture.label(x, y, "default", picture.unit / 7.5):
-            told.add(DEFAULT_NOTE)
         if cores and picture.label(x, y, cores, picture.unit / 7.5):
             told.add(CORES_NOTE)
         elif cores and picture.label(x, y, f"{len(way.cores)} cores", picture.unit / 7.5):
@@ -366,10 +378,10 @@ def amounts(job: Job, counts: Mapping[Chip, int], title: str, what: str, all_of:
         is_dead = (x, y) in picture.grid.dead_chips
         note = "dead" if is_dead else f"{count} of {every} {what}" if all_of is not None else f"{count} {what}"
         picture.cell(x, y, DARK if is_dead else AMOUNTS[level - 1] if count else SAGE if every else WHITE, f"({x}, {y}): {note}")
-        if picture.unit >= 34 and (count or every):
-            (cx, cy), colour = picture.at(x, y), WHITE if level > 4 else INK
-            picture.text(cx, cy + picture.unit * (0.02 if all_of is not None else 0.1), str(count), picture.unit / 3.6, colour)
-            if all_of is not None:
+        if picture.unit >= NUMBERED and (count or every):
+            (cx, cy), colour, has_both = picture.at(x, y), WHITE if level > 4 else INK, all_of is not None and picture.unit >= TWO_NUMBERED
+            picture.text(cx, cy + picture.unit * (0.02 if has_both else 0.1), str(count), picture.unit / 3.6, colour)
+            if has_both:
                 picture.text(cx, cy + picture.unit * 0.28, f"of {every}", picture.unit / 5.6, colour)
     bounds = {most * level // steps: AMOUNTS[level - 1] for level in range(steps, 0, -1) if most * level // steps}
     picture.legend = [("cell", colour, f"up to {bound} {what}") for bound, colour in sorted(bounds.items())]
@@ -387,7 +399,7 @@ def rows(job: Job, report: Report) -> Picture:
             plain[chip] += 1
     title = f"{sum(kept.values())} rows loaded of {sum(plain.values())}, at most {max(kept.values(), default=0)} on a chip"
     picture = amounts(job, kept, title, "rows", plain)
-    numbers = "Two numbers" if picture.unit >= 34 else "Two numbers at the pointer"
+    numbers = "Two numbers" if picture.unit >= TWO_NUMBERED else "Two numbers at the pointer"
     picture.notes = [f"{numbers}: the rows that are loaded, and how many there would be with one for each net that comes through the chip,"
                      " before rows are joined and those left out that default routing replaces."]
     return picture
@@ -444,8 +456,10 @@ def fits(job: Job, plan: Plan, report: Report) -> None:
 def draw(kind: str, job: Job, report: Report, net: Optional[str] = None) -> str:
     """The picture of a kind (`mesh`, `tree`, `rows` or `copies`) of a job and what the program wrote of it; a tree is of a net.
     ValueError where the report is not of the job, or the job has not the net."""
+    one("draw: job", job, Job)
+    one("draw: report", report, Report)
     fits(job, report.plan, report)
-    if kind == "tree":
+    if text_of("draw: kind", kind) == "tree":
         if net is None:
             raise ValueError("a tree is of a net: none is named")
         picture = tree(job, report, net)

@@ -2,10 +2,12 @@
 from __future__ import annotations
 
 import argparse
+import json
 from typing import Any
 
-from .command import add_job, command, read_bytes, write
+from .command import add_job, add_json, command, read_bytes, status_of, write
 from .explaining import lines_of
+from .json_forms import refused_in_json
 from .program import Refused, answer_to_text
 from .words import WORDS
 
@@ -22,6 +24,7 @@ def add_command(commands: Any) -> None:
     what = "the word that reads the file; tables, if none is named"
     parser.add_argument("--word", choices=tuple(WORDS), default="tables", metavar="WORD", help=what)
     add_job(parser)
+    add_json(parser)
 
 
 def run(options: argparse.Namespace) -> int:
@@ -29,7 +32,12 @@ def run(options: argparse.Namespace) -> int:
     try:
         answer_to_text([options.word], read_bytes(options.job), options.program)
     except Refused as refused:
-        lines = [refused.line or refused.kind, *(f"  {line}" for line in lines_of(refused, options.program))]
-        write("".join(f"{line}\n" for line in lines).encode(), options.out)
-        return refused.status
+        lines, status = lines_of(refused, options.program), status_of(refused)
+        if options.json:
+            write((json.dumps(refused_in_json(refused, status, lines)) + "\n").encode(), options.out)
+        else:
+            write("".join(f"{line}\n" for line in (refused.line or refused.kind, *(f"  {it}" for it in lines))).encode(), options.out)
+        return status
+    if options.json:
+        write(b'{"refused": null}\n', options.out)
     return 0

@@ -19,7 +19,7 @@ from typing import Any, Dict, Iterator, List, Mapping, Optional, Sequence, Set, 
 from .grid import Grid
 from .json_faults import json_fault
 from .jobs import Chip, Job, Machine, Net, Vertex, part_at
-from .kinds import counted, shown_as_json
+from .kinds import counted, one, shown_as_json, wrong
 from .program import Refused, tables
 from .reports import LINKS, Keys, Place
 from .schema import allowed_at, parts_at
@@ -52,7 +52,7 @@ OF_THE_SYSTEM = {
 def explain(refused: Refused, job: Union[Job, str, bytes, Mapping[str, Any], List[Any], None] = None, program: Optional[str] = None) -> str:
     """What stands behind a refusal, in lines: what the program read is known to the refusal, and needs no `job`; where one is given,
     as an object, a JSON value or its text, it is taken in place of that."""
-    return "\n".join(lines_of(with_job(refused, job), program))
+    return "\n".join(lines_of(with_job(one("explain: refused", refused, Refused), job), program))
 
 
 def with_job(refused: Refused, job: Union[Job, str, bytes, Mapping[str, Any], List[Any], None]) -> Refused:
@@ -69,7 +69,11 @@ def with_job(refused: Refused, job: Union[Job, str, bytes, Mapping[str, Any], Li
             return Refused(refused.status, refused.line, {}, text)
         return with_job(Refused(refused.status, refused.line, {}, text), value)
     parts = {"job": job.get("job"), "in": job} if isinstance(job, dict) and "trees" in job else {"job": job}
-    return Refused(refused.status, refused.line, parts, refused.text or json.dumps(job).encode())
+    try:
+        text = json.dumps(job).encode()
+    except (TypeError, ValueError, RecursionError):
+        raise wrong("explain: job", job, "a Job, its JSON value or its text") from None
+    return Refused(refused.status, refused.line, parts, refused.text or text)
 
 
 def lines_of(refused: Refused, program: Optional[str] = None) -> List[str]:
@@ -179,12 +183,13 @@ def more_of_value(job: Any, path: str, there: Any) -> Iterator[str]:
         yield f"the grid is {width} by {height}: x is 0 to {width - 1}, and y 0 to {height - 1}"
     index = re.fullmatch(r"(job\.run\.packets\[\d+\])\.index", path)
     if index and isinstance(there, int):
-        net = next((it for it in job["graph"]["nets"] if it["name"] == part_at({"job": job}, index[1] + ".net")), {})
+        net: Mapping[str, Any] = next((it for it in job["graph"]["nets"] if it["name"] == part_at({"job": job}, index[1] + ".net")), {})
         keys = net.get("keys") or 1
         yield f"net {net.get('name')} has {counted(keys, 'key')}, so index is 0{f' to {keys - 1}' if keys > 1 else ''}"
     fixed = re.fullmatch(r"(job\.graph\.nets\[\d+\])\.fixed", path)
     if fixed and isinstance(there, list) and len(there) == 2 and all(type(it) is int for it in there):
-        yield from more_of_block(*there, part_at({"job": job}, fixed[1] + ".keys") or 1)
+        key, mask = there
+        yield from more_of_block(key, mask, part_at({"job": job}, fixed[1] + ".keys") or 1)
     if path == "job.version" and there is not None:
         yield "steps with applications have jobs of version 1 or 2" if there == 3 else "the versions are 1, 2 and 3"
 
@@ -412,10 +417,11 @@ def cut_off(refused: Refused, job: Job, program: Optional[str]) -> Iterator[str]
     root, target = (places[net.source].x, places[net.source].y), refused.chip
     if target is None:
         return
+    end: Chip = target
     reached = reached_from(grid, root)
     names = [name for name in net.targets if (places[name].x, places[name].y) == target]
     who = f"{names[0]} stands" if len(names) == 1 else f"{', '.join(names[:4])} stand"
-    last = min(reached, key=lambda chip: (steps_between(grid, chip, target), steps_between(grid, root, chip), chip))
+    last = min(reached, key=lambda chip: (steps_between(grid, chip, end), steps_between(grid, root, chip), chip))
     others = counted(len(reached) - 1, "other chip")
     yield f"from chip {root}, where {net.source} stands, live links lead to {others}, and not to {target}, where {who}"
     away = counted(steps_between(grid, last, target), "link")

@@ -3,7 +3,7 @@
 - the 16 bytes for each entry that SpiNNaker's system software takes to load a router, and keeps of one: `write_router_entries`,
   `read_router_entries`;
 - the objects of Rig, by their attributes alone: `from_rig`, `to_rig`;
-- rows as text, as comma-separated values or as a plain dump: `read_rows`, `write_csv`, `write_dump`;
+- rows as text, as comma-separated values, as a plain dump, or as the program writes them: `read_rows`, `write_csv`, `write_dump`;
 - a network, that is a machine with places and nets, as JSON: `read_network`, `write_network`.
 """
 from __future__ import annotations
@@ -13,21 +13,29 @@ import io
 import json
 import re
 import struct
+from collections.abc import Iterable as IterableAbc
+from collections.abc import Set
 from dataclasses import dataclass, field
-from typing import Any, Callable, Dict, Hashable, Iterable, List, Mapping, NamedTuple, Optional, Sequence, Tuple, Union
+from typing import Any, Callable, Dict, Hashable, Iterable, Iterator, List, Mapping, NamedTuple, Optional, Sequence, Tuple, Union
 
 from .blocks import USUAL, WORD, block_of, cut
 from .grid import STEPS, Grid, opposite
 from .images import Image
 from .jobs import Chip, Job, Machine, Net, Vertex
+from .kinds import all_of, attribute_of, chip_of, hashable, items, json_in, lists_of_numbers, mapping, numbers, one, shown, whole, wrong
+from .kinds import links as links_in
+from .kinds import text as text_of
+from .links import word_of
 from .program import tables as compiled_tables
-from .reports import LINKS, Row, Table
-from .verifying import KeyedNet, Place, Rows, number_of, words_of
-from .walks import DEVICES
+from .reports import LINKS, SECTIONS, SIDE, Row, read
+from .verifying import KeyedNet, Place, Rows, known_nets, number_of, words_by_chip
+from .walks import DEVICES, Spot
 
 ENTRY = struct.Struct("<HHIII")
 # Entries that are not in use have ones in the highest byte of their route.
 UNUSED = 0xFF000000
+# A vertex with more cores than this has none on any chip.
+MOST_CORES = 64
 COLUMNS = ("x", "y", "key", "mask", "route")
 
 RowsByChip = Dict[Chip, Tuple[Row, ...]]
@@ -45,17 +53,29 @@ class Network:
     tables: Dict[Chip, Sequence[Row]] = field(default_factory=dict)
     trees: Dict[Any, List[Tuple[int, int, int]]] = field(default_factory=dict)
 
-    def __iter__(self) -> Any:
+    def __post_init__(self) -> None:
+        one("Network.machine", self.machine, Machine)
+        for what, value in (("places", self.places), ("tables", self.tables), ("trees", self.trees)):
+            mapping(f"Network.{what}", value, "names to places, chips to rows, or names to links")
+        self.nets = all_of("Network.nets", self.nets, KeyedNet)
+
+    def __iter__(self) -> Iterator[Any]:
         """What `verify` takes, in its order: `verify(*network)`."""
         return iter((self.machine, self.places, self.nets, self.tables, self.trees))
+
+    def spots(self) -> Dict[Any, Spot]:
+        """The spots of the vertices. ValueError where a place is none, or a net has no keys, or a vertex of it no place."""
+        found = {name: number_of(name, place) for name, place in self.places.items()}
+        known_nets(self.nets, found)
+        return found
 
     def job(self, target: Optional[int] = None) -> Job:
         """A job of the same machine and nets, whose vertices get the same places and whose nets get the same keys. Names that a job can't
         have are replaced by `v` or `n` and a number. A net with several blocks becomes several, one for each; so does one whose mask is no
         ones followed by zeros."""
-        numbers = {name: number_of(name, place)[2] for name, place in self.places.items()}
+        numbers = {name: spot[2] for name, spot in self.spots().items()}
         names = names_for(self.places, "v")
-        dead = {tuple(it) for it in self.machine.dead_cores}
+        dead = {(x, y, core) for x, y, core in self.machine.dead_cores}
         taken = {(self.places[name][0], self.places[name][1], number) for name, number in numbers.items() if number < DEVICES}
         dead |= {(x, y, core) for x, y in {it[:2] for it in taken} for core in range(1, 18) if (x, y, core) not in taken}
         vertices = []
@@ -78,7 +98,7 @@ class Network:
 def names_for(things: Iterable[Hashable], letter: str) -> Dict[Any, str]:
     """A name of a job for each thing: its own where that is text that a job can have, else the letter and a number."""
     listed = list(things)
-    found = {it: it for it in listed if isinstance(it, str) and re.fullmatch(r"[!-~]{1,56}", it)}
+    found: Dict[Any, str] = {it: it for it in listed if isinstance(it, str) and re.fullmatch(r"[!-~]{1,56}", it)}
     free = (f"{letter}{i}" for i in range(2 * len(listed) + 1) if f"{letter}{i}" not in found)
     return {it: found[it] if it in found else next(free) for it in listed}
 
@@ -86,7 +106,7 @@ def names_for(things: Iterable[Hashable], letter: str) -> Dict[Any, str]:
 def network_of_job(job: Job, program: Optional[str] = None) -> Network:
     """The network of a job: the places and keys that the program gives, and its tables. Refused where the program does not compile the
     job."""
-    plan = compiled_tables(job, program)
+    plan = compiled_tables(one("network_of_job: job", job, Job), program)
     places: Dict[Any, Place] = {name: (it.x, it.y, it.core) for name, it in plan.places.items()}
     nets = [KeyedNet(it.name, it.source, it.targets, [(plan.keys[it.name].key, plan.keys[it.name].mask)]) for it in job.nets]
     return Network(job.machine, places, nets, {chip: table.rows for chip, table in plan.tables.items()})
@@ -94,8 +114,7 @@ def network_of_job(job: Job, program: Optional[str] = None) -> Network:
 
 def rows_by_chip(tables: AnyTables) -> RowsByChip:
     """Rows as objects, by chip."""
-    given = tables.tables if isinstance(tables, Image) else tables
-    return {chip: tuple(Row(*words_of(row)) for row in (it.rows if isinstance(it, Table) else it)) for chip, it in given.items()}
+    return {chip: tuple(Row(*words) for words in listed) for chip, listed in words_by_chip(tables).items()}
 
 
 # ---- the router's own entries
@@ -117,7 +136,10 @@ def read_router_entries(entries: Mapping[Chip, bytes]) -> RowsByChip:
     """The rows that such bytes spell, as they are loaded, or read back from a board. Entries that are not in use are left out: those with
     ones in the highest byte of their route. ValueError where the bytes of a chip are no whole entries."""
     found = {}
-    for chip, data in entries.items():
+    for chip, data in mapping("read_router_entries: entries", entries, "chips to bytes").items():
+        chip = chip_of("read_router_entries: entries", chip)
+        if not isinstance(data, (bytes, bytearray, memoryview)):
+            raise wrong(f"read_router_entries: entries[{chip}]", data, "bytes")
         if len(data) % ENTRY.size:
             raise ValueError(f"the {len(data)} bytes of chip {chip} are no whole entries of 16 bytes")
         unpacked = [ENTRY.unpack_from(data, at) for at in range(0, len(data), ENTRY.size)]
@@ -197,56 +219,124 @@ def from_rig(
     has no keys."""
     places: Dict[Any, Place] = {}
     names: Dict[Any, List[Any]] = {}
-    endpoints = {it.vertex: int(it.route) for it in constraints if hasattr(it, "vertex") and hasattr(it, "route")}
-    for vertex, (x, y) in placements.items():
+    endpoints = endpoints_of(constraints)
+    allocated = mapping("from_rig: allocations", allocations, "vertices to their resources")
+    for vertex, chip in mapping("from_rig: placements", placements, "vertices to chips").items():
+        x, y = numbers(f"from_rig: placements[{shown(vertex)}]", chip, "x y")
         if vertex in endpoints:
             route = endpoints[vertex]
             places[vertex] = (x, y, LINKS[route] if route < 6 else route - 6)
             names[vertex] = [vertex]
             continue
-        ranges = [it for key, it in allocations.get(vertex, {}).items() if is_cores(key, cores)]
-        if len(ranges) != 1 or not 0 <= ranges[0].start < ranges[0].stop:
+        what = f"from_rig: allocations[{shown(vertex)}]"
+        resources = mapping(what, allocated.get(vertex, {}), "resources to slices")
+        ranges = [cores_in(what, it) for key, it in resources.items() if is_cores(key, cores)]
+        if len(ranges) != 1 or not ranges[0]:
             continue
-        listed = range(ranges[0].start, ranges[0].stop)
-        names[vertex] = [vertex] if len(listed) == 1 else [(vertex, i) for i in range(len(listed))]
-        places.update({name: (x, y, core) for name, core in zip(names[vertex], listed)})
-    found = []
-    for i, net in enumerate(nets):
-        for vertex in (net.source, *net.sinks):
-            if vertex not in names:
+        names[vertex] = [vertex] if len(ranges[0]) == 1 else [(vertex, i) for i in range(len(ranges[0]))]
+        places.update({name: (x, y, core) for name, core in zip(names[vertex], ranges[0])})
+    found, keys = [], mapping("from_rig: net_keys", net_keys, "nets to keys and masks")
+    for i, net in enumerate(items("from_rig: nets", nets, "a list of nets")):
+        what = f"from_rig: nets[{i}]"
+        source, sinks = attribute_of(what, net, "source"), items(f"{what}.sinks", attribute_of(what, net, "sinks"), "a list of vertices")
+        for vertex in (source, *sinks):
+            if hashable(what, vertex) not in names:
                 raise ValueError(f"vertex {vertex!r} of net {i} has no cores")
-        if net not in net_keys:
+        if hashable(what, net) not in keys:
             raise ValueError(f"net {i} has no keys")
-        found.append(KeyedNet(i, names[net.source][0], [name for it in net.sinks for name in names[it]], [tuple(net_keys[net])]))
-    tables = {
-        chip: tuple(Row(row.key, row.mask, sum(1 << out for out in {int(it) for it in row.route})) for row in rows)
-        for chip, rows in routing_tables.items()
-    }
-    return Network(machine_of_rig(machine, cores), places, found, tables)
+        key, mask = numbers(f"from_rig: net_keys of net {i}", keys[net], "key mask")
+        found.append(KeyedNet(i, names[source][0], [name for it in sinks for name in names[it]], [(key, mask)]))
+    return Network(machine_of_rig(machine, cores), places, found, tables_of_rig(routing_tables))
+
+
+def tables_of_rig(routing_tables: Mapping[Chip, Iterable[Any]]) -> Dict[Chip, Sequence[Row]]:
+    """The rows of Rig's tables, by chip."""
+    what = "from_rig: routing_tables"
+    found: Dict[Chip, Sequence[Row]] = {}
+    for given, listed in mapping(what, routing_tables, "chips to rows").items():
+        chip = chip_of(what, given)
+        found[chip] = tuple(row_of_rig(f"{what}[{chip}][{i}]", row) for i, row in enumerate(items(f"{what}[{chip}]", listed, "a list of rows")))
+    return found
+
+
+def row_of_rig(what: str, row: Any) -> Row:
+    """A row of Rig's: its route is a set of outputs."""
+    route = attribute_of(what, row, "route")
+    if isinstance(route, (str, bytes, Mapping)) or not isinstance(route, IterableAbc):
+        raise wrong(f"{what}.route", route, "a set of the numbers of outputs, 0 to 23")
+    key, mask = (whole(f"{what}.{name}", attribute_of(what, row, name)) for name in ("key", "mask"))
+    return Row(key, mask, word_of({output(f"{what}.route", it) for it in route}))
+
+
+def output(what: str, value: Any) -> int:
+    """The number of an output."""
+    found = whole(what, value)
+    if found not in range(24):
+        raise ValueError(f"{what} has the output {found}, and those of a router are 0 to 23")
+    return found
+
+
+def endpoints_of(constraints: Iterable[Any]) -> Dict[Any, int]:
+    """The outputs of vertices that hang on a link or stand on a core, by Rig's constraints."""
+    found: Dict[Any, int] = {}
+    for i, it in enumerate(items("from_rig: constraints", constraints, "a list of constraints")):
+        if hasattr(it, "vertex") and hasattr(it, "route"):
+            what = f"from_rig: constraints[{i}]"
+            found[hashable(f"{what}.vertex", it.vertex)] = output(f"{what}.route", it.route)
+    return found
+
+
+def cores_in(what: str, ranges: Any) -> range:
+    """The cores of a slice, which has both its ends, and goes from core to core."""
+    if not isinstance(ranges, slice):
+        raise wrong(what, ranges, "a slice of cores")
+    start, stop = whole(f"{what}.start", ranges.start), whole(f"{what}.stop", ranges.stop)
+    if ranges.step not in (None, 1) or start < 0:
+        raise ValueError(f"{what} is {shown(ranges)}, and should be a slice of cores from 0 on, one by one")
+    return range(start, min(stop, start + MOST_CORES))
 
 
 def is_cores(key: Any, cores: Any) -> bool:
     """Whether a key of resources is that for cores."""
-    return key == cores if cores is not None else str(key).strip("<>") == "Cores"
+    return bool(key == cores) if cores is not None else str(key).strip("<>") == "Cores"
+
+
+def resources_of(what: str, value: Any, cores: Any, usual: int) -> int:
+    """How many cores resources have: those of their key for cores, else as many as usual."""
+    found = [it for key, it in mapping(what, value, "resources to numbers").items() if is_cores(key, cores)]
+    return max(whole(f"{what}: cores", found[0]), 0) if found else usual
 
 
 def machine_of_rig(machine: Any, cores: Any = None) -> Machine:
     """The machine of one of Rig's: without wrap where no live link goes round the edge."""
+    what = "from_rig: machine"
+    width, height = (whole(f"{what}.{name}", attribute_of(what, machine, name)) for name in ("width", "height"))
+    if not (1 <= width <= SIDE and 1 <= height <= SIDE):
+        raise ValueError(f"{what} has {width} by {height} chips, and 1 by 1 to {SIDE} by {SIDE} can be told")
+    usual = resources_of(f"{what}.chip_resources", attribute_of(what, machine, "chip_resources"), cores, 18)
+    exceptions = mapping(f"{what}.chip_resource_exceptions", getattr(machine, "chip_resource_exceptions", None) or {}, "chips to resources")
     dead_cores = []
-    usual = next((count for key, count in machine.chip_resources.items() if is_cores(key, cores)), 18)
-    exceptions = dict(getattr(machine, "chip_resource_exceptions", None) or {})
-    for x in range(machine.width):
-        for y in range(machine.height):
-            resources = exceptions.get((x, y), {})
-            count = next((it for key, it in resources.items() if is_cores(key, cores)), usual)
-            dead_cores += [(x, y, core) for core in range(max(count, 0), 18)]
-    chips = sorted((x, y) for x, y in machine.dead_chips)
-    links = sorted((x, y, int(link)) for x, y, link in machine.dead_links)
-    torus = Machine(machine.width, machine.height, True, None, chips, dead_cores, links)
-    grid, round_the_edge = Grid(torus), set(links_round_the_edge(machine.width, machine.height))
+    for x in range(width):
+        for y in range(height):
+            count = resources_of(f"{what}.chip_resource_exceptions[{x, y}]", exceptions.get((x, y), {}), cores, usual)
+            dead_cores += [(x, y, core) for core in range(count, 18)]
+    chips = sorted((x, y) for x, y in lists_of_numbers(f"{what}.dead_chips", in_order(attribute_of(what, machine, "dead_chips")), "x y"))
+    links = sorted(links_in(f"{what}.dead_links", in_order(attribute_of(what, machine, "dead_links"))))
+    return machine_round(width, height, chips, dead_cores, links)
+
+
+def machine_round(width: int, height: int, chips: Sequence[Chip], dead_cores: Sequence[Spot], links: Sequence[Tuple[int, int, int]]) -> Machine:
+    """A torus with these dead chips, cores and links; without wrap where no live link goes round the edge."""
+    torus = Machine(width, height, True, None, chips, dead_cores, links)
+    grid, round_the_edge = Grid(torus), set(links_round_the_edge(width, height))
     if any(grid.next_chip((x, y), link) is not None for x, y, link in round_the_edge):
         return torus
-    return Machine(machine.width, machine.height, False, None, chips, dead_cores, [it for it in links if it not in round_the_edge])
+    return Machine(width, height, False, None, chips, dead_cores, [it for it in links if it not in round_the_edge])
+
+
+def in_order(value: Any) -> Any:
+    """A set as a list."""
+    return list(value) if isinstance(value, Set) else value
 
 
 def links_round_the_edge(width: int, height: int) -> List[Tuple[int, int, int]]:
@@ -266,7 +356,8 @@ def to_rig(
     """A network as Rig has it. `cores` is the key for cores among resources, and the others make the objects, with the arguments that
     Rig's own classes take: `to_rig(network, Cores, Machine, Net, RoutingTableEntry, RouteEndpointConstraint)`. ValueError where a net has
     several blocks of keys, which Rig's have not."""
-    part = network.machine
+    part = one("to_rig: network", network, Network).machine
+    network.spots()
     dead_links = {tuple(it) for it in part.dead_links}
     dead_links |= {(*far, opposite(d)) for x, y, d in dead_links for far in [Grid(part).far((x, y), d)] if far}
     if not part.wrap:
@@ -280,20 +371,25 @@ def to_rig(
             raise ValueError(f"core {core} of chip ({x}, {y}) is dead, and one behind it is not: of Rig's chips the last cores are missing")
     exceptions = {chip: {cores: core} for chip, core in least.items()}
     made = machine(part.width, part.height, {cores: 18}, exceptions, {tuple(it) for it in part.dead_chips}, dead_links)
-    placements, allocations, constraints = {}, {}, []
+    placements: Dict[Any, Chip] = {}
+    allocations: Dict[Any, Dict[Any, slice]] = {}
+    constraints = []
     for name, place in network.places.items():
-        placements[name], number = place[:2], number_of(name, place)[2]
+        x, y, number = number_of(name, place)
+        placements[name] = x, y
         if number >= DEVICES:
             constraints.append(endpoint(name, number - DEVICES))
             allocations[name] = {}
         else:
             allocations[name] = {cores: slice(number, number + 1)}
-    nets, net_keys = [], {}
+    nets: List[Any] = []
+    net_keys: Dict[Any, Tuple[int, int]] = {}
     for it in network.nets:
         if len(it.blocks) != 1:
             raise ValueError(f"net {it.name!r} has {len(it.blocks)} blocks of keys, and Rig's nets have one")
         nets.append(net(it.source, list(it.targets), 1.0))
-        net_keys[nets[-1]] = tuple(it.blocks[0])
+        key, mask = it.blocks[0]
+        net_keys[nets[-1]] = key, mask
     tables = {
         chip: [entry({out for out in range(24) if row.route >> out & 1}, row.key, row.mask) for row in rows]
         for chip, rows in rows_by_chip(network.tables).items()
@@ -316,24 +412,41 @@ def number_in(text: str, least_base: int = 10) -> int:
 
 
 def read_rows(text: str) -> RowsByChip:
-    """Rows of text, in the order of its lines: comma-separated values where the first line has a comma, else a dump."""
-    return read_csv(text) if "," in text.lstrip().partition("\n")[0] else read_dump(text)
+    """Rows of text, in the order of its lines: what the program's `tables` writes, or a report, where it begins with one of their words;
+    the JSON of SpiNNTools where it begins with `[` (`spinntools.read_tables`); comma-separated values where the first line has a comma; else a dump. ValueError, with the line, where it is none of that kind."""
+    start = text_of("read_rows: text", text).lstrip().splitlines()[:1] or [""]
+    if start[0].partition(" ")[0] in SECTIONS:
+        return {chip: table.rows for chip, table in read(text).plan.tables.items()}
+    if start[0].startswith("["):
+        from .spinntools import read_tables
+
+        return read_tables(text)
+    return read_csv(text) if "," in start[0] else read_dump(text)
 
 
 def read_csv(text: str) -> RowsByChip:
     """Rows of comma-separated values, below a line with the names x, y, key, mask and route in any order. Numbers are decimal, or
     hexadecimal behind 0x. ValueError where the names are others or a line has no such numbers."""
-    lines = [line for line in csv.reader(io.StringIO(text), skipinitialspace=True)]
+    lines = lines_of_csv(text)
     names = [it.strip() for it in lines[0]] if lines else []
     if sorted(names) != sorted(COLUMNS):
         raise ValueError(f"the first line names {', '.join(names) or 'nothing'}, and not {', '.join(COLUMNS)}")
     return rows_of(((i, dict(zip(names, map(str.strip, line))), len(line)) for i, line in enumerate(lines) if i and line), 10)
 
 
+def lines_of_csv(text: str) -> List[List[str]]:
+    """The items of each line, which may end with a carriage return, a line feed, or both."""
+    reader = csv.reader(io.StringIO(text_of("read_csv: text", text), newline=None), skipinitialspace=True, strict=True)
+    try:
+        return list(reader)
+    except csv.Error as error:
+        raise ValueError(f"line {reader.line_num}: {error}") from None
+
+
 def read_dump(text: str) -> RowsByChip:
     """Rows of a dump: a line for each, with the chip in decimal numbers and then key, mask and route in hexadecimal digits. ValueError
     where a line has no such numbers."""
-    lines = ((i, line.split()) for i, line in enumerate(text.splitlines()))
+    lines = ((i, line.split()) for i, line in enumerate(text_of("read_dump: text", text).splitlines()))
     return rows_of(((i, dict(zip(COLUMNS, line)), len(line)) for i, line in lines if line), 16)
 
 
@@ -376,14 +489,15 @@ def read_network(text: str) -> Network:
     - `trees`, which may be absent: an object that has, by the names of nets, lists of links [x, y, link].
 
     Keys and masks are numbers, or text as "0x1000". ValueError says of other text where it is none."""
-    whole = json.loads(text)
+    whole = json_in("read_network: text", text, once)
     members(whole, "", ("machine", "places", "nets"), ("trees",))
     part = whole["machine"]
     names = ("width", "height", "wrap", "sdram", "dead_chips", "dead_cores", "dead_links")
     members(part, "machine", names[:2], names[2:])
-    lists = [[tuple(it) for it in listed(part.get(name), f"machine.{name}", (list,))] for name in names[4:]]
+    lists: List[List[Any]] = [[tuple(it) for it in listed(part.get(name), f"machine.{name}", (list,))] for name in names[4:]]
+    wrap = part.get("wrap")
     try:
-        machine = Machine(part["width"], part["height"], part.get("wrap") or False, part.get("sdram"), *lists)
+        machine = Machine(part["width"], part["height"], False if wrap is None else wrap, part.get("sdram"), lists[0], lists[1], lists[2])
     except TypeError as error:
         raise ValueError(str(error)) from None
     members(whole["places"], "places", (), None)
@@ -397,9 +511,22 @@ def read_network(text: str) -> Network:
     return Network(machine, places, nets, {}, {name: links_of_text(links, f"trees.{name}") for name, links in trees.items()})
 
 
+def once(pairs: List[Tuple[str, Any]]) -> Dict[str, Any]:
+    """The members of an object. ValueError where one stands twice."""
+    found: Dict[str, Any] = {}
+    for name, value in pairs:
+        if name in found:
+            raise ValueError(f"the member {name} stands twice in one object")
+        found[name] = value
+    return found
+
+
 def links_of_text(value: Any, path: str) -> List[Tuple[int, int, int]]:
     """The links that a JSON value has."""
-    return [(x, y, d) for x, y, d in (listed(it, path, (int,), 3) for it in listed(value, path, (list,)))]
+    try:
+        return links_in(path, listed(value, path, (list,)))
+    except TypeError as error:
+        raise ValueError(str(error)) from None
 
 
 def net_of(part: Any, path: str) -> KeyedNet:
@@ -421,8 +548,8 @@ def word_in(value: Any, path: str) -> int:
     if isinstance(value, int) and not isinstance(value, bool):
         return value
     try:
-        return number_in(value)
-    except (TypeError, ValueError):
+        return number_in(str(value))
+    except ValueError:
         raise ValueError(f"{path}: no number: {value!r}") from None
 
 
@@ -454,11 +581,15 @@ def listed(value: Any, path: str, kinds: Tuple[type, ...], count: Optional[int] 
 def write_network(network: Network) -> str:
     """A network as JSON text, without its tables."""
     nets: List[Dict[str, Any]] = []
+    one("write_network: network", network, Network)
+    network.spots()
+    for name in (*network.places, *(it.name for it in network.nets), *network.trees):
+        text_of("write_network: a name", name)
     for it in network.nets:
         blocks = [[f"0x{key:08x}", f"0x{mask:08x}"] for key, mask in it.blocks]
         nets.append({"name": it.name, "source": it.source, "targets": list(it.targets), "blocks": blocks})
     places = {name: list(place) for name, place in network.places.items()}
     whole: Dict[str, Any] = {"machine": network.machine.as_json(), "places": places, "nets": nets}
     if network.trees:
-        whole["trees"] = {name: [list(link) for link in links] for name, links in network.trees.items()}
+        whole["trees"] = {name: [list(it) for it in links_in(f"Network.trees[{name!r}]", links)] for name, links in network.trees.items()}
     return json.dumps(whole)

@@ -1,7 +1,7 @@
 """The grid of a machine's chips: which are live, and where links lead."""
 from __future__ import annotations
 
-from typing import Iterator, Optional
+from typing import Dict, Iterator, Optional, Tuple
 
 from .jobs import Chip, Machine
 from .reports import LINKS
@@ -28,6 +28,8 @@ class Grid:
         self.dead_chips = {(x, y) for x, y in machine.dead_chips}
         self.dead_cores = {(x, y, core) for x, y, core in machine.dead_cores}
         self.dead_links = {(x, y, link) for x, y, link in machine.dead_links}
+        # Where links lead, as far as somebody asked.
+        self._ends: Dict[Chip, Tuple[Optional[Chip], ...]] = {}
 
     def chips(self) -> Iterator[Chip]:
         """All chips, dead or live, by x, then y."""
@@ -50,6 +52,16 @@ class Grid:
 
     def next_chip(self, chip: Chip, link: int) -> Optional[Chip]:
         """The chip to which packets go by a link; None where it is not live: one of its ends is dead, or it is listed dead at one."""
+        return self.ends_of(chip)[link]
+
+    def ends_of(self, chip: Chip) -> Tuple[Optional[Chip], ...]:
+        """The chips to which packets go by the six links of a chip; None where one is not live."""
+        found = self._ends.get(chip)
+        if found is None:
+            found = self._ends[chip] = tuple(self._live_end(chip, link) for link in range(6))
+        return found
+
+    def _live_end(self, chip: Chip, link: int) -> Optional[Chip]:
         end = self.far(chip, link)
         if end is None or not self.is_live(chip) or not self.is_live(end):
             return None

@@ -5,7 +5,7 @@ import json
 from dataclasses import dataclass, field
 from typing import Any, Callable, Dict, List, Optional, Sequence, Tuple
 
-from .kinds import all_of, lists_of_numbers, numbers, one, shown, text, texts, truth, whole, whole_or_none
+from .kinds import all_of, json_in, links, lists_of_numbers, numbers, one, shown, text, texts, truth, whole, whole_or_none
 from .members import LAST_VERSION, refuse, slips_of
 
 Chip = Tuple[int, int]
@@ -13,7 +13,8 @@ Chip = Tuple[int, int]
 
 @dataclass
 class Machine:
-    """A grid of chips. `dead_cores` are (x, y, core) and `dead_links` (x, y, link), links 0 to 5 from East anticlockwise."""
+    """A grid of chips. `dead_cores` are (x, y, core) and `dead_links` (x, y, link), links 0 to 5 from East anticlockwise, or their
+    letters: `E`, `NE`, `N`, `W`, `SW`, `S`."""
 
     width: int
     height: int
@@ -21,14 +22,14 @@ class Machine:
     sdram: Optional[int] = None
     dead_chips: Sequence[Chip] = ()
     dead_cores: Sequence[Tuple[int, int, int]] = ()
-    dead_links: Sequence[Tuple[int, int, int]] = ()
+    dead_links: Sequence[Tuple[int, int, Any]] = ()
 
     def __post_init__(self) -> None:
         self.width, self.height = whole("Machine.width", self.width), whole("Machine.height", self.height)
         self.wrap, self.sdram = truth("Machine.wrap", self.wrap), whole_or_none("Machine.sdram", self.sdram)
         self.dead_chips = [(x, y) for x, y in lists_of_numbers("Machine.dead_chips", self.dead_chips, "x y")]
         self.dead_cores = [(x, y, core) for x, y, core in lists_of_numbers("Machine.dead_cores", self.dead_cores, "x y core")]
-        self.dead_links = [(x, y, link) for x, y, link in lists_of_numbers("Machine.dead_links", self.dead_links, "x y link")]
+        self.dead_links = links("Machine.dead_links", self.dead_links)
 
     def as_json(self) -> Dict[str, Any]:
         found: Dict[str, Any] = {"width": self.width, "height": self.height, "wrap": self.wrap}
@@ -43,12 +44,12 @@ class Machine:
 @dataclass
 class Vertex:
     """What runs on one core: its bytes of the chip's shared memory, and the chip that it asks for, if any. Or, with `device`,
-    what hangs on a link that leads to no live chip: the chip's x and y, and the link's number. A device only takes packets."""
+    what hangs on a link that leads to no live chip: the chip's x and y, and the link's number or letters. A device only takes packets."""
 
     name: str
     sdram: int = 0
     at: Optional[Chip] = None
-    device: Optional[Tuple[int, int, int]] = None
+    device: Optional[Tuple[int, int, Any]] = None
 
     def __post_init__(self) -> None:
         self.name, self.sdram = text("Vertex.name", self.name), whole("Vertex.sdram", self.sdram)
@@ -56,7 +57,7 @@ class Vertex:
             x, y = numbers("Vertex.at", self.at, "x y")
             self.at = x, y
         if self.device is not None:
-            x, y, link = numbers("Vertex.device", self.device, "x y link")
+            x, y, link = numbers("Vertex.device", self.device, "x y link", True)
             self.device = x, y, link
 
     def as_json(self) -> Dict[str, Any]:
@@ -210,7 +211,7 @@ class Job:
     @classmethod
     def from_text(cls, text: str, lenient: bool = False) -> Job:
         """The job of a text. ValueError where it is not JSON, and as by `from_json`."""
-        return cls.from_json(json.loads(text), lenient)
+        return cls.from_json(json_in("Job.from_text: text", text), lenient)
 
     def member(self, path: str) -> Any:
         """The part of the job at a path of the program's, as `job.graph.nets[0].targets[1]`; None where it has no such part."""
@@ -255,7 +256,8 @@ class Parts:
 
     def whole(self, name: str) -> int:
         """A member that is a whole number."""
-        return self.kept(whole, name, self.value[name])
+        found: int = self.kept(whole, name, self.value[name])
+        return found
 
     def kept(self, of_kind: Callable[..., Any], name: str, *value: Any) -> Any:
         """A value that a function of `kinds` lets through."""
@@ -269,6 +271,10 @@ class Parts:
         there = {name: self.needed(name) for name in needed.split()}
         there.update((name, self.value[name]) for name in others.split() if not self.is_absent(name))
         try:
+            # (a job's text has links by their numbers alone)
+            for name, of_kind in (("dead_links", lists_of_numbers), ("device", numbers)):
+                if name in there:
+                    of_kind(f".{name}", there[name], "x y link")
             return made(**there)
         except TypeError as error:
             # (which begins with the class and the member)

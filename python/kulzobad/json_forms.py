@@ -58,10 +58,18 @@ def answer_of_class(answer: Any) -> Value:
     return {"answer": type(answer).__name__, **asdict(answer)}
 
 
-def refused_in_json(refused: Refused, lines: List[str]) -> Value:
-    """A refusal, with the lines that explain it."""
-    names = ("status", "kind", "line", "fault", "path", "name", "chip", "rows")
-    return {"refused": {**{name: getattr(refused, name) for name in names}, "explanation": lines}}
+# What a refusal has beside its status.
+NAMES = ("kind", "line", "fault", "path", "name", "chip", "rows")
+
+
+def refused_in_json(refused: Refused, status: int, lines: List[str]) -> Value:
+    """A refusal of the program, with the command's status and the lines that explain it."""
+    return {"refused": {"status": status, **{name: getattr(refused, name) for name in NAMES}, "explanation": lines}}
+
+
+def stopped_in_json(status: int, kind: str, line: str, more: List[str], **named: Any) -> Value:
+    """What else a command ends with, in the same form."""
+    return {"refused": {"status": status, **dict.fromkeys(NAMES), "kind": kind, "line": line, **named, "explanation": more}}
 
 
 def value_of(word: str, written: bytes) -> Any:

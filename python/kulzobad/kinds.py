@@ -6,7 +6,9 @@ import json
 import operator
 from collections.abc import Iterable, Mapping, Set
 from dataclasses import fields
-from typing import Any, List, Optional, Sequence, Tuple
+from typing import Any, Callable, Hashable, List, Optional, Sequence, Tuple, cast
+
+from .links import LINKS
 
 MOST_SHOWN = 60
 
@@ -23,7 +25,7 @@ class InHexadecimal:
     """A dataclass (with `repr=False`) that shows keys, masks, payloads and routes as the program's lines do."""
 
     def __repr__(self) -> str:
-        parts = ((it.name, getattr(self, it.name)) for it in fields(self))  # type: ignore[arg-type]
+        parts = ((it.name, getattr(self, it.name)) for it in fields(cast(Any, self)))
         return f"{type(self).__name__}({', '.join(f'{name}={in_digits(name, value)}' for name, value in parts)})"
 
 
@@ -70,6 +72,19 @@ def text(what: str, value: Any) -> str:
     return value
 
 
+def json_in(what: str, value: Any, made: Optional[Callable[[List[Tuple[str, Any]]], Any]] = None) -> Any:
+    """The value of JSON text, or of its bytes, with objects made of the list of their members, if that is given. ValueError where it is
+    none."""
+    if not isinstance(value, (str, bytes, bytearray)):
+        raise wrong(what, value, "a text")
+    try:
+        return json.loads(value, object_pairs_hook=made)
+    except ValueError as error:
+        raise ValueError(str(error)) from None
+    except RecursionError:
+        raise ValueError("it is nested too deep") from None
+
+
 def truth(what: str, value: Any) -> bool:
     """True or False."""
     if not isinstance(value, bool):
@@ -109,19 +124,66 @@ def texts(what: str, value: Any) -> Sequence[str]:
     return found
 
 
-def numbers(what: str, value: Any, names: str) -> Tuple[int, ...]:
-    """So many whole numbers as there are names, as in `x y link`."""
-    count = len(names.split())
-    found = items(what, value, f"({', '.join(names.split())})")
-    if len(found) != count:
-        raise wrong(what, value, f"({', '.join(names.split())})")
-    return tuple(whole(f"{what}[{i}]", item) for i, item in enumerate(found))
+def link(what: str, value: Any) -> int:
+    """The number of a link, which may be told by its letters."""
+    if isinstance(value, str) and value in LINKS:
+        return LINKS.index(value)
+    try:
+        return whole(what, value)
+    except TypeError:
+        raise wrong(what, value, f"the number of a link, or one of {', '.join(LINKS)}") from None
 
 
-def lists_of_numbers(what: str, value: Any, names: str) -> List[Tuple[int, ...]]:
+def numbers(what: str, value: Any, names: str, has_letters: bool = False) -> Tuple[int, ...]:
+    """So many whole numbers as there are names, as in `x y link`. With letters the link may be told by them."""
+    listed = names.split()
+    wanted = f"({', '.join(listed)})"
+    found = items(what, value, wanted)
+    if len(found) != len(listed):
+        raise wrong(what, value, wanted)
+    kinds = [link if has_letters and name == "link" else whole for name in listed]
+    return tuple(kind(f"{what}[{i}]", item) for i, (kind, item) in enumerate(zip(kinds, found)))
+
+
+def lists_of_numbers(what: str, value: Any, names: str, has_letters: bool = False) -> List[Tuple[int, ...]]:
     """A list of such entries."""
     wanted = f"a list of ({', '.join(names.split())})"
-    return [numbers(f"{what}[{i}]", item, names) for i, item in enumerate(items(what, value, wanted))]
+    return [numbers(f"{what}[{i}]", item, names, has_letters) for i, item in enumerate(items(what, value, wanted))]
+
+
+def links(what: str, value: Any) -> List[Tuple[int, int, int]]:
+    """A list of links: of each its chip's x and y, and its number or its letters."""
+    return [(x, y, d) for x, y, d in lists_of_numbers(what, value, "x y link", True)]
+
+
+def mapping(what: str, value: Any, wanted: str) -> Mapping[Any, Any]:
+    """A mapping, as one of chips to rows."""
+    if not isinstance(value, Mapping):
+        raise wrong(what, value, f"a mapping of {wanted}")
+    return value
+
+
+def chip_of(what: str, value: Any) -> Tuple[int, int]:
+    """A chip among the keys of a mapping: its x and y."""
+    x, y = numbers(f"{what}: the chip {shown(value)}", value, "x y")
+    return x, y
+
+
+def hashable(what: str, value: Any) -> Hashable:
+    """A name: anything that can be looked up, as text or a tuple."""
+    try:
+        hash(value)
+    except TypeError:
+        raise wrong(what, value, "a name, and so hashable") from None
+    return cast(Hashable, value)
+
+
+def attribute_of(what: str, value: Any, attribute: str) -> Any:
+    """What an object of another tool has under this name."""
+    try:
+        return getattr(value, attribute)
+    except AttributeError:
+        raise TypeError(f"{what} is {shown(value)}, and has no {attribute}") from None
 
 
 def all_of(what: str, value: Any, kind: type) -> List[Any]:

@@ -11,12 +11,12 @@ from collections import Counter
 from dataclasses import dataclass
 from typing import Any, Dict, Iterator, List, Optional, Tuple
 
-from .command import add_job, add_json, command, read_bytes, write
+from .command import FAULT, HINT, add_job, add_json, command, read_bytes, write
 from .explaining import MEMORY, lines_of
 from .grid import Grid
 from .json_faults import json_fault
 from .jobs import Chip, Job
-from .kinds import counted
+from .kinds import counted, wrong
 from .members import slips_of
 from .program import Refused, answer_to_text
 from .schema import problems, schema
@@ -56,6 +56,8 @@ def members_twice(text: str) -> List[str]:
 
 def remarks_on(data: bytes, lenient: bool = False, program: Optional[str] = None) -> List[Remark]:
     """All that is told of the text of a job."""
+    if not isinstance(data, bytes):
+        raise wrong("remarks_on: data", data, "bytes")
     fault = json_fault(data)
     if fault:
         return [Remark("fault", f"not JSON: {fault}")]
@@ -145,7 +147,7 @@ def add_command(commands: Any) -> None:
     """Adds the command `lint`."""
     more = (
         "Each line is a fault, with which the program or the package refuses the job, or a hint.\n"
-        "The status is 0 where there is no line, else 1.\n"
+        "The status is 0 where there is no line, 21 where there is a fault, and 22 where there are hints alone.\n"
     )
     parser = command(commands, "lint", "tell what is wrong with a job, or likely to be", "kulzobad lint job.json", run, more)
     add_job(parser)
@@ -159,4 +161,4 @@ def run(options: argparse.Namespace) -> int:
         write((json.dumps([{"kind": it.kind, "text": it.text} for it in remarks]) + "\n").encode(), options.out)
     else:
         write("".join(f"{it}\n" for it in remarks).encode(), options.out)
-    return 1 if remarks else 0
+    return FAULT if any(it.kind == "fault" for it in remarks) else HINT if remarks else 0

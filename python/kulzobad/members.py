@@ -8,7 +8,7 @@ import difflib
 from dataclasses import dataclass
 from typing import Any, Dict, Iterator, List, Optional, Tuple
 
-from .kinds import printable
+from .kinds import printable, text
 
 LAST_VERSION = 3
 
@@ -89,7 +89,7 @@ def slips_of(value: Any, path: str = "job", kind: str = "job", version: Optional
         return
     version = version_of(value) if version is None else version
     for name, part in value.items():
-        at = f"{path}.{printable(name)}"
+        at = f"{path}.{printable(text(path, name))}"
         if name not in MEMBERS[kind]:
             yield slip_of(at, kind, name)
         elif SINCE.get((kind, name), 1) > version:

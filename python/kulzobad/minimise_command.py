@@ -36,7 +36,6 @@ def add_command(commands: Any) -> None:
     parser.add_argument("tables", metavar="TABLES", help="the file of the rows; - is standard input")
     parser.add_argument("--target", metavar="N", type=int, default=0, help="the number of rows that will do (default: the least)")
     parser.add_argument("--form", choices=sorted(FORMS), help="write this form, and not that of TABLES")
-    parser.add_argument("-o", dest="out", metavar="FILE", help="the same as --out")
     add_out(parser)
     parser.add_argument("--program", metavar="SPIN_TABLES", help="the program to call, in place of the one that is found")
 

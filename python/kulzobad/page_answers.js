@@ -43,7 +43,7 @@ function shortList(items, most, made) {
 }
 const facts = pairs => make("dl", {}, pairs.filter(it => it).map(([term, ...said]) => [make("dt", {}, term), make("dd", {}, ...said)]));
 function table(heads, rows, numbers = []) {
-  const head = heads.map((it, i) => make("th", { scope: "col", class: numbers.includes(i) ? "n" : null }, it));
+  const head = heads.map((it, i) => it instanceof Node ? it : make("th", { scope: "col", class: numbers.includes(i) ? "n" : null }, it));
   return make("table", {}, make("thead", {}, make("tr", {}, head)), make("tbody", {}, rows));
 }
 /** A row of a table. A cell is what stands in it, or a list of that and its class. */
@@ -108,7 +108,7 @@ function answerChip(text) {
   const found = /^\s*\(?\s*(\d+)[\s,]+(\d+)\s*\)?\s*$/.exec(text), chip = found ? chipAt(+found[1], +found[2]) : chipOf(text);
   if (chip === null && found) return notFound(`The machine has no chip (${found[1]}, ${found[2]}).`);
   if (chip === null) return notFound(`No chip and no vertex is written ${text}.`);
-  by("overlay").append(hexagon(chip, "asked-round", 0.88), hexagon(chip, "asked", 0.88));
+  by("overlay").append(hexagon(chip, "asked-round", 0.96), hexagon(chip, "asked", 0.96));
   intoSight(chip);
   const here = (onChip.get(chip) || []).map(it => vertices[it]), cores = here.filter(it => it[2] < 18), rows = rowsAt(chip);
   const memory = cores.reduce((sum, it) => sum + it[3], 0);
@@ -233,14 +233,60 @@ function answerKey(text) {
   ];
 }
 
+// How the lists of the overview are sorted: by which column, and whether from the least on.
+const sortedBy = { chips: null, outputs: null, nets: null };
+
+/** The columns of the chips: each a head, what stands there, and the number by which it sorts. */
+function chipColumns(kind) {
+  const amounts = [
+    [kind.more || `${kind.unit}s`, chip => shown.counts[chip]], data.trees && ["rows", rowCount], passes && ["nets", chip => passes[chip]],
+    outcome && ["packets", SHOWN.links && SHOWN.links.cells], ["vertices", used], outcome && ["dumped", SHOWN.dumps.cells],
+  ];
+  const heads = { use: "nets", rows: "rows", links: "packets", dumps: "dumped" }, own = heads[shown.name];
+  const kept = amounts.filter((it, i) => it && (i === 0 ? !own || kind.unit === "vertex" : !(kind.unit === "vertex" && it[0] === "vertices")));
+  return [["Chip", chipLink, chip => -chip, false], ...kept.map(([head, of]) => [head, chip => of(chip).toLocaleString("en"), of, true])];
+}
+const hopsOfNet = net => data.trees && typeof net.source === "number" ? Math.max(0, data.trees[net.number].length / 8 - 1) : 0;
+function netColumns() {
+  const sent = net => outcome.nets[net.number][0];
+  return [
+    ["Net", netLink, net => -net.number, false], ["from", it => vertexLink(it.source)],
+    ["targets", it => it.targets.length, it => it.targets.length, true],
+    ...(data.trees ? [["hops", it => hopsOfNet(it).toLocaleString("en"), hopsOfNet, true]] : []),
+    ...(outcome ? [["packets", sent, sent, true], ["dumped", it => outcome.nets[it.number][2], it => outcome.nets[it.number][2], true],
+      ["traffic", it => (sent(it) * hopsOfNet(it)).toLocaleString("en"), it => sent(it) * hopsOfNet(it), true]] : []),
+    ["keys", it => make("span", { class: "mono" }, blockOf(it))],
+  ];
+}
+/** A list that is sorted by the column whose head is clicked: from the greatest on, and once more from the least on. */
+function sortedTable(name, columns, items, first, id) {
+  const box = make("div", { id });
+  const build = focus => {
+    const by_ = sortedBy[name] && columns.some(it => it[0] === sortedBy[name].head) ? sortedBy[name] : { head: first, isUp: false };
+    const of = columns.find(it => it[0] === by_.head)[2], sorted = items.map((it, i) => [of(it), i, it]);
+    sorted.sort((a, b) => (by_.isUp ? a[0] - b[0] : b[0] - a[0]) || a[1] - b[1]);
+    const heads = columns.map(([head, , value, isNumber]) => {
+      const isBy = head === by_.head, sort = () => { sortedBy[name] = { head, isUp: isBy && !by_.isUp }; build(head); };
+      const falls = isNumber !== by_.isUp, arrow = isBy ? falls ? " \u2193" : " \u2191" : "";
+      const inside = value ? make("button", { type: "button", "data-head": head, onclick: sort, title: `Sort by ${head}` }, head + arrow) : head;
+      return make("th", { scope: "col", class: isNumber ? "n" : null, "aria-sort": isBy ? falls ? "descending" : "ascending" : null }, inside);
+    });
+    const made = ([, , it]) => line(columns.map(([, of, , isNumber]) => [of(it), isNumber ? "n" : "names"]));
+    box.replaceChildren(...[longTable(heads, sorted, made, [])].flat());
+    if (focus) [...box.querySelectorAll("th button")].find(it => it.dataset.head === focus).focus();
+  };
+  build();
+  return box;
+}
+
 function answerOverview() {
   const kind = SHOWN[shown.name], devices = vertices.filter(it => it[2] >= 18).length;
-  const sorted = shown.counts.map((count, chip) => [count, chip]).filter(it => it[0]).sort((a, b) => b[0] - a[0] || a[1] - b[1]);
+  const busy = [...Array(chips).keys()].filter(chip => shown.counts[chip] || rowCount(chip) || used(chip)), columns = chipColumns(kind);
   const outs = { dumps: () => [...outcome.dumps], links: () => outcome.links.map(([chip, link, count]) => [chip, LINKS[link], count]) };
-  const busiest = outs[shown.name] ? outs[shown.name]().sort((a, b) => b[2] - a[2] || a[0] - b[0]) : [];
-  const chipRow = ([count, chip]) => line([chipLink(chip), [count, "n"]]);
-  const outRow = ([chip, out, count]) => line([chipLink(chip), out, [count, "n"]]);
-  const netRow = it => line([[netLink(it), "names"], [vertexLink(it.source), "names"], [it.targets.length, "n"], [blockOf(it), "mono"]]);
+  const busiest = outs[shown.name] ? outs[shown.name]() : [], what = shown.name === "dumps" ? "dump records" : "packets";
+  const outColumns = [["Chip", it => chipLink(it[0]), it => -it[0], false], ["Output", it => it[1]],
+    [what, it => it[2].toLocaleString("en"), it => it[2], true]];
+  const [most, longest] = longestTable();
   return [
     data.refusal && refusalPart(),
     data.verdict && verdictPart(),
@@ -250,21 +296,24 @@ function answerOverview() {
         many(chips - dead.size, "live chip")],
       ["Dead", [many(dead.size, "chip"), many(machine.deadLinks.length, "link"), many(machine.deadCores.length, "core")].join(", ")],
       ["Vertices", many(vertices.length, "vertex", "vertices"), devices ? `, ${many(devices, "device")} of them` : ""],
-      data.trees && ["Tables",
-        `${many(totalRows(), "row")}, at most ${longest()} on a chip${data.target === null ? "" : ` (target ${data.target})`}`],
+      data.trees && ["Tables", many(totalRows(), "row"),
+        most > 0 && make("span", { id: "longest" }, `, at most ${most.toLocaleString("en")} on a chip: `, chipLink(longest)),
+        data.target === null ? "" : ` (target ${data.target})`],
       outcome && ["Packets", `${many(outcome.packets, "packet")}; ${many(outcome.delivered, "copy", "copies")} delivered, `,
         `${outcome.dumped.toLocaleString("en")} dumped (${outcome.word})`],
       trace && ["Trace", make("a", { href: hrefOf("event", 0) }, many(trace.events.length, "event"))],
     ]),
-    sorted.length > 0 && [make("h3", {}, `Chips by ${kind.sorted || kind.title}`),
-      longTable(["Chip", kind.more || kind.unit + "s"], sorted, chipRow, [1])],
-    busiest.length > 0 && [make("h3", {}, "Outputs"),
-      longTable(["Chip", "Output", shown.name === "dumps" ? "dump records" : "packets"], busiest, outRow, [2])],
-    nets.length > 0 && [make("h3", {}, "Nets"), longTable(["Net", "from", "targets", "keys"], nets, netRow, [2])],
+    outcome && outcome.runs.length > 0 && runsPart(),
+    busy.length > 0 && [make("h3", {}, `Chips by ${kind.sorted || kind.title}`),
+      sortedTable("chips", columns, busy, { use: passes ? "nets" : null, rows: "rows", links: "packets", dumps: "dumped" }[shown.name] || columns[1][0], "chips")],
+    busiest.length > 0 && [make("h3", {}, "Outputs"), sortedTable("outputs", outColumns, busiest, what, "outputs")],
+    nets.length > 0 && [make("h3", {}, "Nets"), sortedTable("nets", netColumns(), nets, "Net", "nets")],
   ];
 }
 const totalRows = () => Object.values(data.tables).reduce((sum, it) => sum + it.length / 16, 0);
-const longest = () => Object.values(data.tables).reduce((most, it) => Math.max(most, it.length / 16), 0);
+/** How many rows the longest table has, and its chip. */
+const longestTable = () => Object.entries(data.tables || {}).reduce(([most, chip], [at_, it]) => it.length / 16 > most
+  ? [it.length / 16, Number(at_)] : [most, chip], [0, null]);
 /** A table that shows its first rows, and a hundred more when asked. */
 function longTable(heads, items, made, numbers, most = 12) {
   const whole = table(heads, items.slice(0, most).map(made), numbers);
@@ -282,6 +331,41 @@ function longTable(heads, items, made, numbers, most = 12) {
   });
   name();
   return [whole, more];
+}
+
+// ---- Runs with shorter queues, beside the one that is shown.
+
+/** A small mesh on which each chip is coloured by a count. */
+function smallMesh(counts, most) {
+  const { left, right, top, low } = bounds(), paths = new Map();
+  for (let chip = 0; chip < chips; chip++) {
+    const classes = dead.has(chip) ? "cell dead" : counts.get(chip) ? `cell h${levelOf(counts.get(chip), most)}` : "cell";
+    paths.set(classes, `${paths.get(classes) || ""}M${corners(...middle(chip), UNIT / Math.sqrt(3) * 0.94).replaceAll(" ", "L")}Z`);
+  }
+  return draw("svg", { viewBox: `${left} ${top} ${right - left} ${low - top}`, "aria-hidden": "true" },
+    [...paths].map(([classes, d]) => draw("path", { class: classes, d })));
+}
+/** The copies that each run dropped, as bars. */
+function barsOf(runs) {
+  const most = Math.max(1, ...runs.map(it => it.dumped)), width = 420, tall = 24 * runs.length + 4;
+  const bars = runs.flatMap((it, i) => [
+    draw("text", { x: 84, y: 24 * i + 17, "text-anchor": "end" }, `queue ${it.queue.toLocaleString("en")}`),
+    draw("rect", { class: "bar", x: 92, y: 24 * i + 5, width: 220 * it.dumped / most, height: 16 }),
+    draw("text", { x: 98 + 220 * it.dumped / most, y: 24 * i + 17 }, `${it.dumped.toLocaleString("en")} dumped`)]);
+  const words = runs.map(it => `queue ${it.queue}: ${it.delivered} delivered, ${it.dumped} dumped`).join("; ");
+  return draw("svg", { class: "chart", viewBox: `0 0 ${width} ${tall}`, width, height: tall, role: "img", "aria-label": words },
+    draw("line", { class: "base", x1: 92, y1: 0, x2: 92, y2: tall }), bars);
+}
+function runsPart() {
+  const runs = outcome.runs, most = Math.max(0, ...runs.flatMap(it => it.chips.map(([, count]) => count)));
+  const beside = runs.filter(it => it.dumped > 0).slice(-3).map(it => {
+    const [chip, count] = it.chips.reduce((best, next) => next[1] > best[1] ? next : best);
+    return make("figure", { class: "run" }, smallMesh(new Map(it.chips), most),
+      make("figcaption", {}, `queue ${it.queue}: at most ${count.toLocaleString("en")}, on `, chipLink(chip)));
+  });
+  return make("div", { id: "runs" }, make("h3", {}, "As queues get shorter"), barsOf(runs),
+    beside.length > 0 && make("p", { class: "elsewhere" }, `Where they are dropped, darker for more, up to ${many(most, "dump record")} on a chip:`),
+    beside.length > 0 && make("div", { class: "beside" }, beside));
 }
 
 function refusalPart() {
@@ -306,7 +390,7 @@ function verdictPart() {
   });
   const goesOn = it => it.outs.length ? make("span", {}, leavesBy(it)) : make("span", { class: "bad" }, "ends here");
   const wayRow = (it, i) => line([[i, "n"], chipLink(it.chip), portWord(it.port), decided(it), goesOn(it)], "way-step");
-  if (way.length) drawVisits(way, new Set());
+  if (way.length) drawVisits(way, new Set(), true);
   return [
     make("h2", {}, "What verify says of the tables"),
     make("p", { class: verdict.right ? "mono good" : "mono bad", id: "verdict" }, verdict.line),

@@ -4,7 +4,8 @@ tables of another tool, with what `verify` says of them.
 Chips are numbered by x, then y, vertices and nets by their lists. Tables, trees and live links are bytes in base64, so that a page
 opens quickly and reads of them what is asked for: of each row of a table three words of 32 bits (key, mask, route); of each visit of
 a tree the chip and the row (16 bits each, 65535: default routing), the port at which packets come in (6: from a core) and the links
-by which they leave (a byte each); of each chip, for its six links, the chip to which each leads (16 bits, 65535: none).
+by which they leave (a byte each); of each chip how many nets come by it (32 bits), and for its six links the chip to which each leads
+(16 bits, 65535: none).
 """
 from __future__ import annotations
 
@@ -12,8 +13,12 @@ import base64
 import json
 import re
 import struct
+import sys
+from array import array
 from collections import Counter
+from concurrent.futures import Future, ThreadPoolExecutor
 from dataclasses import dataclass
+from itertools import chain, combinations
 from typing import Any, Dict, Iterable, List, Mapping, Optional, Sequence, Tuple
 
 from .checks import Right
@@ -21,7 +26,9 @@ from .explaining import lines_of as lines_on
 from .formats import Network
 from .grid import Grid
 from .jobs import Chip, Job, Machine
+from .kinds import BrokenAnswer
 from .program import Refused, answer_to_text
+from .progress import showing
 from .reports import LINKS, Plan, Report, read
 from .stepping import UNSENT, bit_of, steps_of
 from .trees import Link, Lookup, lookups
@@ -32,6 +39,12 @@ from .walking import LOCAL, Visit, links_behind, walk
 NONE = 0xFFFF
 SDRAM = 134217728
 MOST_SHOWN = 400
+# How many copies a queue holds where the job does not say.
+QUEUE = 16
+# With which queues a job is run too, where these are shorter than its own.
+SHORTER = (4, 1)
+# How many of these runs there may be at once.
+MOST_RUNS = 4
 # Statuses of jobs that the program has read, and that can't be compiled.
 NO_ROOM, KEYS_OUT, CUT_OFF, TABLE_LONG = 5, 6, 7, 8
 
@@ -52,23 +65,27 @@ def value_of(text: bytes) -> Any:
 # ---- a job
 
 
-def page_data(text: bytes, word: str = "run", program: Optional[str] = None) -> Dict[str, Any]:
-    """All that the page of a job's text shows. `word` is what is done with its packets: `run` or `reinject`."""
+def page_data(text: bytes, word: str = "run", program: Optional[str] = None, queues: Optional[Sequence[int]] = None) -> Dict[str, Any]:
+    """All that the page of a job's text shows. `word` is what is done with its packets: `run` or `reinject`. A run is shown beside those
+    with queues of these lengths; where none are named, beside those of 4 and 1, where these are shorter than its own."""
     value = value_of(text)
     run = value.get("run") if isinstance(value, dict) else None
     has_packets, has_events = (isinstance(run, dict) and bool(run.get(name)) for name in ("packets", "events"))
-    try:
-        report = asked(word if has_packets else "tables", text, program)
-        traced = asked("trace", text, program) if has_events else None
-    except Refused as refused:
-        return refused_data(refused, value, program)
-    job = Job.from_json(value, lenient=True)
-    shown = shown_job(job, report.plan)
-    found = shown.data()
-    trees = shown.trees()
-    found["trees"] = [packed_tree(shown.grid, visits) for visits in trees]
-    if has_packets:
-        found["outcome"] = outcome_data(job, report, trees, word)
+    with ThreadPoolExecutor(MOST_RUNS) as pool:
+        others = runs_begun(value, queues, program, pool) if has_packets and word == "run" else {}
+        try:
+            report = asked(word if has_packets else "tables", text, program)
+            traced = asked("trace", text, program) if has_events else None
+        except Refused as refused:
+            return refused_data(refused, value, program)
+        job = Job.from_json(value, lenient=True)
+        shown = shown_job(job, report.plan)
+        found = shown.data()
+        trees = shown.trees()
+        found.update(trees_data(shown.grid, trees))
+        if has_packets:
+            found["outcome"] = outcome_data(job, report, trees, word)
+            found["outcome"]["runs"] = runs_data(job, report, others) if word == "run" else []
     if traced:
         found["trace"] = trace_data(job, traced)
     return found
@@ -130,10 +147,11 @@ class Shown:
     def trees(self) -> List[List[Visit]]:
         """The way of each net's first key from the net's source. What a device sends comes in by its link."""
         found = []
-        for net in self.nets:
-            x, y, core = self.spots[net.source]
-            port = core - 18 if core >= 18 else LOCAL
-            found.append(walk(self.grid, self.looks, net.blocks[0][0], (x, y), port) if net.blocks else [])
+        with showing("page: ways of nets"):
+            for net in self.nets:
+                x, y, core = self.spots[net.source]
+                port = core - 18 if core >= 18 else LOCAL
+                found.append(walk(self.grid, self.looks, net.blocks[0][0], (x, y), port) if net.blocks else [])
         return found
 
 
@@ -184,11 +202,24 @@ def packed_rows(rows: Iterable[Any]) -> str:
 
 def packed_tree(grid: Grid, visits: Iterable[Visit]) -> str:
     """A net's tree."""
-    parts = []
-    for visit in visits:
-        links = sum(1 << link for link in visit.links)
-        parts.append(struct.pack("<HHBB", number_in(grid, visit.chip), NONE if visit.row is None else visit.row, visit.port, links))
-    return based(b"".join(parts))
+    words = array("H")
+    for (x, y), port, row, links, _ in visits:
+        words.extend((x * grid.height + y, NONE if row is None else row, port | HIGH_BITS[links]))
+    if sys.byteorder == "big":
+        words.byteswap()
+    return based(words.tobytes())
+
+
+# The bits of links, by their numbers in order, as the higher byte of a word.
+HIGH_BITS = {links: sum(1 << (8 + link) for link in links) for count in range(7) for links in combinations(range(6), count)}
+
+
+def trees_data(grid: Grid, trees: Sequence[List[Visit]]) -> Dict[str, Any]:
+    """The trees, and how many nets come by each chip."""
+    with showing("page: trees of nets"):
+        passes = Counter(chain.from_iterable({it[0] for it in visits} for visits in trees))
+        counts = [passes[chip] for chip in grid.chips()]
+        return {"trees": [packed_tree(grid, visits) for visits in trees], "passes": based(struct.pack(f"<{len(counts)}I", *counts))}
 
 
 # ---- what came of packets and events
@@ -196,10 +227,13 @@ def packed_tree(grid: Grid, visits: Iterable[Visit]) -> str:
 
 def passed_links(job: Job, report: Report, trees: Mapping[str, List[Visit]]) -> Dict[Link, int]:
     """How many packets passed each link: those of all trees, without those behind which a copy was dropped."""
-    grid, passed = Grid(job.machine), Counter[Link]()
+    grid, passed, sent = Grid(job.machine), Counter[Link](), Counter[Tuple[Chip, Tuple[int, ...]]]()
     for net, count in Counter(it.net for it in job.packets).items():
         for visit in trees[net]:
-            passed.update({(*visit.chip, link): count for link in visit.links})
+            sent[visit[0], visit[3]] += count
+    for ((x, y), links), count in sent.items():
+        for link in links:
+            passed[x, y, link] += count
     for dump in report.dumps:
         if dump.out in LINKS:
             passed.subtract(links_behind(grid, trees[job.packets[dump.packet].net], (dump.x, dump.y), LINKS.index(dump.out)))
@@ -227,6 +261,45 @@ def outcome_data(job: Job, report: Report, trees: Sequence[List[Visit]], word: s
     }
 
 
+def runs_begun(value: Any, queues: Optional[Sequence[int]], program: Optional[str], pool: ThreadPoolExecutor) -> Dict[int, "Future[Copies]"]:
+    """Runs of the same job with queues of other lengths, by these. They go on while the rest of the page is made."""
+    own = value_or(value["run"].get("queue"), QUEUE)
+    if type(own) is not int:
+        return {}
+    others = {it for it in SHORTER if it < own} if queues is None else {it for it in queues if it != own}
+
+    def run(queue: int) -> Copies:
+        text = json.dumps({**value, "run": {**value["run"], "queue": queue}}).encode()
+        return copies_in(answer_to_text(["run"], text, program).decode())
+
+    return {queue: pool.submit(run, queue) for queue in sorted(others)}
+
+
+def runs_data(job: Job, report: Report, others: Mapping[int, "Future[Copies]"]) -> List[Dict[str, Any]]:
+    """The run, and the others of the same job: how many copies each delivered and dropped, and on which chips."""
+    with showing("page: run, with other queues"):
+        done = {queue: run.result() for queue, run in others.items()}
+    done[value_or(job.queue, QUEUE)] = len(report.deliveries), [(it.x, it.y) for it in report.dumps]
+    height = job.machine.height
+    return [
+        {"queue": queue, "delivered": delivered, "dumped": len(chips), "chips": sorted(Counter(x * height + y for x, y in chips).items())}
+        for queue, (delivered, chips) in sorted(done.items(), reverse=True)
+    ]
+
+
+# How many copies of a run arrived, and the chip of each that was dropped.
+Copies = Tuple[int, List[Chip]]
+
+
+def copies_in(text: str) -> Copies:
+    """How many copies the report of a run has that arrived, and the chip of each that was dropped. BrokenAnswer where it is none."""
+    end = re.fullmatch(r"end delivered (\d+) dumped (\d+) waiting 0 unsent 0", text[text.rfind("\n", 0, -1) + 1:-1])
+    chips = [(int(x), int(y)) for x, y in re.findall(r"^dump (\d+) (\d+) \S+ \d+$", text, re.M)]
+    if end is None or int(end[2]) != len(chips):
+        raise BrokenAnswer("the report of a run has not as many copies as its last line says")
+    return int(end[1]), chips
+
+
 def trace_data(job: Job, report: Report) -> Dict[str, Any]:
     """The events of a trace, which of them moved something, and what each changed: a copy's number, its packet, the kind of its
     place, and two numbers that belong to it (a chip and a port, a route, a core or an output's bit; or a vertex)."""
@@ -240,7 +313,7 @@ def trace_data(job: Job, report: Report) -> Dict[str, Any]:
             yield [number, copy.packet, copy.kind, *where]
 
     return {
-        "queue": value_or(job.queue, 16),
+        "queue": value_or(job.queue, QUEUE),
         "packets": [[nets[it.net], it.index] for it in job.packets],
         "copies": [[i, i, UNSENT, at[job.nets[nets[it.net]].source], 0] for i, it in enumerate(job.packets)],
         "events": job.events,
@@ -274,7 +347,7 @@ def plan_before(refused: Refused, value: Any, program: Optional[str]) -> Optiona
     if not isinstance(value, dict):
         return None
     is_read = refused.status in (NO_ROOM, KEYS_OUT, CUT_OFF, TABLE_LONG)
-    graph = {**value["graph"], "nets": []} if is_read else {"vertices": [], "nets": []}
+    graph: Dict[str, Any] = {**value["graph"], "nets": []} if is_read else {"vertices": [], "nets": []}
     if refused.status == NO_ROOM:
         names = [it["name"] for it in graph["vertices"]]
         graph["vertices"] = graph["vertices"][: names.index(refused.name)]
@@ -324,7 +397,7 @@ def verified_data(network: Network, program: Optional[str] = None) -> Dict[str, 
     looks = {chip: lookup_of(rows) for chip, rows in network.tables.items()}
     shown = Shown(network.machine, spots, {}, nets, network.tables, looks)
     found = shown.data()
-    found["trees"] = [packed_tree(shown.grid, visits) for visits in shown.trees()]
+    found.update(trees_data(shown.grid, shown.trees()))
     way: Sequence[Any] = getattr(verdict, "way", ())
     found["verdict"] = {
         "line": lines_of(verdict)[0],

@@ -90,21 +90,22 @@ function drawMesh() {
   const step = Math.max(machine.width, machine.height) > 24 ? 8 : 1;
   for (let x = 0; x < machine.width; x++) {
     const [cx, cy] = middle(chipAt(x, 0));
-    labels.append(draw("text", { x: cx, y: cy + UNIT * 0.87, class: x % step ? "axis fine" : "axis" }, x));
+    labels.append(draw("text", { x: cx, y: cy + UNIT * 0.87, class: x % step ? "axis column fine" : "axis column" }, x));
   }
   for (let y = 0; y < machine.height; y++) {
     const [cx, cy] = middle(chipAt(0, y));
-    labels.append(draw("text", { x: cx - UNIT * 0.75, y: cy + 9, class: y % step ? "axis fine" : "axis" }, y));
+    labels.append(draw("text", { x: cx - UNIT * 0.75, y: cy + 9, class: y % step ? "axis side fine" : "axis side" }, y));
   }
 }
 
-const numbers = [], coordinates = [];
+// The coordinates of a chip stand above its middle, and of a chip with arrows where they meet none.
+const numbers = [], coordinates = [], coordinatesAt = new Map(), COORDINATES = [-27, -35, 37, 30, -20];
 function addNumbers() {
   if (numbers.length || !chips) return;
   for (let chip = 0; chip < chips; chip++) {
     const [cx, cy] = middle(chip);
     numbers.push(draw("text", { x: cx, y: cy + 11, class: "number" }));
-    coordinates.push(draw("text", { x: cx, y: cy - 31, class: "place" }, xy(chip).join(", ")));
+    coordinates.push(draw("text", { x: cx, y: cy + COORDINATES[0], class: "place" }, xy(chip).join(", ")));
     by("labels").append(coordinates[chip], numbers[chip]);
   }
   showNumbers();
@@ -113,8 +114,10 @@ function addNumbers() {
 // ---- What the mesh shows by colour: for each chip a number, and for outputs too where there are such.
 
 const used = chip => (onChip.get(chip) || []).length;
+const passes = data.passes ? new Uint32Array(bytesOf(data.passes).buffer) : null;
 const SHOWN = {
-  use: { title: "what is used", sorted: "vertices", unit: "vertex", more: "vertices", cells: used },
+  use: passes ? { title: "what is used", sorted: "nets that come by", unit: "net comes by", more: "nets come by", cells: chip => passes[chip] }
+    : { title: "what is used", sorted: "vertices", unit: "vertex", more: "vertices", cells: used },
   rows: data.trees && { title: "rows of tables", unit: "row", cells: rowCount },
   deliveries: outcome && { title: "copies delivered", unit: "copy delivered", more: "copies delivered",
     cells: chip => deliveries.get(chip) || 0 },
@@ -154,11 +157,12 @@ function paint() {
   const kind = SHOWN[shown.name];
   cells.forEach((cell, chip) => {
     const part = onTree.get(chip), count = shown.counts[chip];
-    const amount = !count || kind.flows ? "" : shown.name === "use" ? "used" : `h${levelOf(count, shown.most)}`;
+    const amount = !count || kind.flows ? "" : `h${levelOf(count, shown.most)}`;
     cell.setAttribute("class", `cell ${part ? part.classes : dead.has(chip) ? "dead" : amount}`);
     const broken = deadCores.has(chip) && many(deadCores.get(chip).length, "dead core");
     const state = dead.has(chip) ? "dead" : many(count, kind.unit, kind.more);
-    const parts = [broken ? `${state}, ${broken}` : state, part && part.said, marks.get(chip)];
+    const here = kind.unit !== "vertex" && used(chip) > 0 && many(used(chip), "vertex", "vertices");
+    const parts = [broken ? `${state}, ${broken}` : state, here, part && part.said, marks.get(chip)];
     const said = `Chip ${at(chip)}: ${parts.filter(it => it).join("; ")}`;
     cell.setAttribute("aria-label", said);
     cell.firstChild.textContent = said;
@@ -168,12 +172,15 @@ function paint() {
   showLegend();
 }
 function showNumbers() {
-  const isPlain = shown.name === "use" || SHOWN[shown.name].flows;
+  const isPlain = SHOWN[shown.name].flows;
   numbers.forEach((label, chip) => {
-    const isOver = !isPlain && !onTree.size && levelOf(shown.counts[chip], shown.most) > 4;
+    const isOver = !isPlain && !onTree.size && levelOf(shown.counts[chip], shown.most) > 1;
     label.textContent = dead.has(chip) || !shown.counts[chip] || SHOWN[shown.name].flows ? "" : shown.counts[chip].toLocaleString("en");
     label.setAttribute("class", isOver ? "number over" : "number");
+    const y = coordinatesAt.has(chip) ? coordinatesAt.get(chip) : COORDINATES[0];
     coordinates[chip].setAttribute("class", dead.has(chip) ? "place in-dead" : isOver ? "place over" : "place");
+    coordinates[chip].setAttribute("visibility", y === undefined ? "hidden" : "visible");
+    if (y !== undefined) coordinates[chip].setAttribute("y", middle(chip)[1] + y);
   });
 }
 function showLegend() {
@@ -185,8 +192,6 @@ function showLegend() {
   if (onTree.size) {
     listed.push(swatch("root", "starts here"), swatch("target", "has vertices that get it"), swatch("way", "on the way, by a row"),
       swatch("way straight-on", "straight on: no row"), stroke("hop-line", "its packets"));
-  } else if (shown.name === "use") {
-    listed.push(swatch("used", "with vertices (their number)"), swatch("", "without"));
   } else {
     const [most, one, more, drawn] = kind.flows ? [shown.mostOfFlows, kind.flows, kind.flowsMore, stroke]
       : [shown.most, kind.unit, kind.more || kind.unit + "s", swatch];
@@ -199,6 +204,7 @@ function showLegend() {
     }
   }
   if (shown.name === "dumps" && shown.mostOfFlows) listed.push(stroke("flow h4 lost", "on the way to a link, thicker for more"));
+  if (by("astray").childElementCount) listed.push(stroke("astray-line", "goes astray"));
   if (dead.size) listed.push(swatch("dead", "dead"));
   if (machine.deadLinks.length) listed.push(stroke("broken", "dead link"));
   if (deadCores.size) listed.push(sign("0 0 30 30", draw("circle", { cx: 15, cy: 15, r: 8, class: "dead-core" }), "has dead cores"));
@@ -206,17 +212,83 @@ function showLegend() {
   by("legend").replaceChildren(...listed);
 }
 
-/** Words on a chip, in two lines at most. */
-function wordsOn(chip, words) {
-  const listed = words.filter(it => it), rest = listed.length > 5 ? [...listed.slice(2, 4), ".."] : listed.slice(2), [x, y] = middle(chip);
-  const lines = [listed.slice(0, 2).join(" "), rest.join(" ")].filter(it => it);
-  return lines.map((line, i) => draw("text", { x, y: y + 6 + 18 * (i - (lines.length - 1) / 2), class: "word tree-word" }, line));
+// ---- Ways over the mesh. Words keep clear of arrows: they stand where they meet none, or are left out, and the pointer tells them.
+
+// Where an arrow begins and ends, as shares of the way to a neighbour, and where one that leads nowhere does.
+const ARROW = [0.32, 0.68], OFF_PAPER = 0.58, NOWHERE = [0.26, 0.7], LETTER = 0.6;
+const PLACES = [0, -14, 14, -24, 24, -32, 32].flatMap(y => [0, -12, 12, -22, 22, -30, 30].map(x => [x, y]))
+  .sort((a, b) => Math.hypot(...a) - Math.hypot(...b));
+
+/** Whether a line from one point to another meets a box round a point. */
+function meetsBox([x, y], [ex, ey], cx, cy, wide, tall) {
+  let first = 0, last = 1;
+  for (const [start, step, low, high] of [[x, ex - x, cx - wide, cx + wide], [y, ey - y, cy - tall, cy + tall]]) {
+    if (Math.abs(step) < 1e-9) {
+      if (start < low || start > high) return false;
+    } else {
+      const [one, other] = [(low - start) / step, (high - start) / step].sort((a, b) => a - b);
+      [first, last] = [Math.max(first, one), Math.min(last, other)];
+    }
+  }
+  return first <= last;
+}
+/** Whether a box round a point lies inside a chip whose middle is 0, 0. */
+function isInside(x, y, wide, tall) {
+  const farX = Math.abs(x) + wide, farY = Math.abs(y) + tall;
+  return farX <= UNIT * 0.48 && farY + farX / Math.sqrt(3) <= UNIT / Math.sqrt(3) * 0.94;
+}
+/** The lines of an arrow on all of its chips: from the middle of the one that it leaves, in units. */
+function linesAt(chip, outs, port) {
+  const [cx, cy] = middle(chip), local = ([x, y]) => [x - cx, y - cy];
+  const leaving = outs.filter(out => out < 6).map(out => [local(toward(chip, out, 0.2)), local(toward(chip, out, 0.6))]);
+  return port < 6 ? [...leaving, [local(toward(chip, port, 0.6)), local(toward(chip, port, 1 - ARROW[1] - 0.04))]] : leaving;
+}
+/** Words on a chip, in one line or in several, where they meet none of these lines; nothing where they find no place. */
+function wordsOn(chip, choicesOf, lines) {
+  const [cx, cy] = middle(chip);
+  for (const words of choicesOf) {
+    const layouts = [[words.join(" ")], ...(words.length > 2 ? [[words.slice(0, 2).join(" "), words.slice(2).join(" ")]] : []), words];
+    for (const size of [20, 17]) for (const layout of layouts) {
+      const wide = Math.max(...layout.map(it => it.length)) * size * LETTER / 2, tall = layout.length * size / 2;
+      const found = PLACES.find(([x, y]) => isInside(x, y, wide, tall)
+        && !lines.some(([from, to]) => meetsBox(from, to, x, y, wide + 5, tall + 4)));
+      if (!found) continue;
+      const classes = size < 20 ? "word small tree-word" : "word tree-word";
+      return layout.map((line, i) => draw("text",
+        { "data-chip": chip, x: cx + found[0], y: cy + found[1] + size * (i - (layout.length - 1) / 2 + 0.36), class: classes }, line));
+    }
+  }
+  return [];
+}
+/** What stands on a chip of a tree, the best choice first. */
+function choicesFor(isFirst, row, outs) {
+  const cores = outs.filter(out => out >= 6).map(outWord), head = [isFirst && "source", row < 0 && "no row"].filter(it => it);
+  const short = cores.length > 1 ? [`${cores.length} cores`] : [];
+  const choices = [[...head, ...(cores.length > 6 ? short : cores)], [...head, ...short], head, cores, short];
+  return choices.filter(it => it.length);
 }
 
-/** Draws visits over the mesh: of a net, of a key, or of a verdict. */
-function drawVisits(visits, targets) {
-  const overlay = by("overlay"), words = [];
+/** A hop that goes astray, above all else: an arrow of its own colour and with a head of it; or a ring round the chip at which it ends. */
+function drawAstray(chip, out, lines, word) {
+  const group = by("astray");
+  if (out !== null && out < 6) {
+    const [[x1, y1], [x2, y2]] = NOWHERE.map(share => toward(chip, out, share));
+    group.append(draw("line", { x1, y1, x2, y2, class: "round" }),
+      draw("line", { x1, y1, x2, y2, class: "hop-line lost", "marker-end": "url(#tip-astray)" }));
+  } else {
+    group.append(hexagon(chip, "hop-lost-ring", 0.94));
+    for (const it of word ? wordsOn(chip, [[word]], lines) : []) {
+      it.setAttribute("class", "word");
+      group.append(it);
+    }
+  }
+}
+
+/** Draws visits over the mesh: of a net, of a key, or of a verdict, of which the last output is the one that goes astray. */
+function drawVisits(visits, targets, isVerdict = false) {
+  const overlay = by("overlay"), words = [], lines = new Map();
   onTree = new Map();
+  for (const { chip, port, outs } of visits) lines.set(chip, [...(lines.get(chip) || []), ...linesAt(chip, outs, port)]);
   visits.forEach(({ chip, port, row, outs }, i) => {
     const gets = outs.filter(out => out >= 6 || (ends[chip * 6 + out] === NONE && standing.has(chip * 32 + 18 + out)));
     const before = onTree.get(chip),
@@ -226,21 +298,35 @@ function drawVisits(visits, targets) {
       `leaves by ${outs.map(outWord).join(", ") || "nothing"}`];
     const said = parts.filter(it => it).join(", ");
     onTree.set(chip, { classes, said: before ? `${before.said}; again, ${said}` : said });
-    const listed = [i === 0 && "source", row < 0 && "no row", ...outs.filter(out => out >= 6).map(outWord)];
-    if (!before) words.push(...wordsOn(chip, listed));
+    const isLast = isVerdict && i === visits.length - 1;
+    if (!before) words.push(...wordsOn(chip, choicesFor(i === 0, row, isLast ? [] : outs), lines.get(chip)));
     for (const out of outs.filter(it => it < 6)) {
       const isEnd = ends[chip * 6 + out] === NONE, isLost = isEnd && !standing.has(chip * 32 + 18 + out);
+      if (isLost || isLast) {
+        drawAstray(chip, out, []);
+        continue;
+      }
       const [x, y] = xy(chip), isOff = chipAt(x + STEPS[out][0], y + STEPS[out][1]) === null;
-      const [x1, y1] = toward(chip, out, isEnd ? 0.16 : 0.27), [x2, y2] = toward(chip, out, isEnd ? 0.4 : isOff ? 0.58 : 0.73);
-      overlay.append(draw("line", { x1, y1, x2, y2, class: isLost ? "hop-line lost" : "hop-line", "marker-end": "url(#tip)" }));
+      const [x1, y1] = toward(chip, out, isEnd ? 0.22 : ARROW[0]), [x2, y2] = toward(chip, out, isEnd ? 0.42 : isOff ? OFF_PAPER : ARROW[1]);
+      overlay.append(draw("line", { x1, y1, x2, y2, class: "hop-line", "marker-end": "url(#tip)" }));
     }
+    if (isLast && !outs.some(it => it < 6)) drawAstray(chip, null, lines.get(chip), outs.map(outWord).join(" "));
   });
   by("labels").append(...words);
+  for (const [chip, met] of lines) {
+    const taken = words.filter(it => it.dataset.chip === String(chip)).map(it => Number(it.getAttribute("y")) - middle(chip)[1]);
+    // (below the middle is the dot of dead cores)
+    const free = COORDINATES.filter(y => y < 0 || !deadCores.has(chip));
+    coordinatesAt.set(chip, free.find(y => !met.some(([from, to]) => meetsBox(from, to, 0, y - 5, 24, 9))
+      && !taken.some(it => Math.abs(it - y) < 19)));
+  }
 }
 
 const marks = new Map((data.refusal ? data.refusal.marks : []).map(it => it));
 function clearOverlay() {
   onTree = new Map();
+  coordinatesAt.clear();
   by("overlay").replaceChildren(...[...marks.keys()].map(chip => hexagon(chip, "mark", 0.9)));
+  by("astray").replaceChildren();
   document.querySelectorAll(".tree-word").forEach(it => it.remove());
 }

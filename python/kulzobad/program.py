@@ -5,6 +5,7 @@ import json
 import os
 import re
 import subprocess
+import time
 from pathlib import Path
 from typing import Any, Dict, Iterable, List, Mapping, Optional, Tuple, Union
 
@@ -12,8 +13,8 @@ from .applications import Answer, Step, read_answers
 from .checks import Verdict, read_verdict
 from .images import Image, decode
 from .jobs import Chip, Job, part_at
-from .kinds import items, lists_of_numbers, one, shown, whole, wrong
-from .progress import SECONDS, is_shown, showing
+from .kinds import items, links, mapping, one, shown, whole, wrong
+from .progress import showing, tell
 from .reports import Plan, Report, Summary, read, read_summary
 
 REPOSITORY = Path(__file__).resolve().parents[2]
@@ -82,10 +83,13 @@ def program_of(program: Optional[str] = None) -> str:
 def call(words: List[str], text: bytes, program: Optional[str]) -> Tuple[int, bytes]:
     """The status of the program and what it wrote, for the words and the text that it reads."""
     path = program_of(program)
+    begun = time.monotonic()
     try:
         with subprocess.Popen([path, *words], stdin=subprocess.PIPE, stdout=subprocess.PIPE) as process:
             try:
-                return communicate(process, words, text)
+                status, written = communicate(process, words, text)
+                tell(f"{path} {' '.join(words)}: status {status}, {len(text)} bytes in, {len(written)} out, {time.monotonic() - begun:.2f} s")
+                return status, written
             except BaseException:
                 process.kill()
                 raise
@@ -96,20 +100,10 @@ def call(words: List[str], text: bytes, program: Optional[str]) -> Tuple[int, by
 
 
 def communicate(process: subprocess.Popen[bytes], words: List[str], text: bytes) -> Tuple[int, bytes]:
-    """Hands the text in and waits for the end; on a terminal it shows how long that takes."""
-    if not is_shown():
+    """Hands the text in and waits for the end; on a terminal it is shown how long that takes."""
+    with showing(" ".join(words)):
         written, _ = process.communicate(text)
-        return process.returncode, written
-    left: Optional[bytes] = text
-    with showing(" ".join(words)) as tick:
-        while True:
-            try:
-                written, _ = process.communicate(left, timeout=SECONDS)
-                return process.returncode, written
-            except subprocess.TimeoutExpired:
-                # (the rest of the text is handed in by the next call)
-                left = None
-                tick()
+    return process.returncode, written
 
 
 def answer(words: List[str], parts: Mapping[str, Any], program: Optional[str]) -> bytes:
@@ -196,15 +190,13 @@ def check(
     of nets, the links of each tree in any order, as (x, y, link); a net that it has not is one without links. Vertices and keys are
     placed as for `tables`; of `run` of the job nothing counts."""
     one("check: job", job, Job)
-    if not isinstance(trees, Mapping):
-        raise wrong("check: trees", trees, "a mapping of nets' names to lists of links")
-    unknown = set(trees) - {net.name for net in job.nets}
+    unknown = set(mapping("check: trees", trees, "nets' names to lists of links")) - {net.name for net in job.nets}
     if unknown:
-        raise ValueError(f"trees of nets that the job has not: {', '.join(sorted(unknown))}")
+        raise ValueError(f"trees of nets that the job has not: {', '.join(sorted(map(str, unknown)))}")
     data = image.data if isinstance(image, Image) else image
     if not isinstance(data, (bytes, bytearray, memoryview)):
         raise wrong("check: image", image, "an Image or its bytes")
     request: Dict[str, Any] = {"job": job.as_json(), "image": list(data)}
-    listed = (lists_of_numbers(f"check: trees[{net.name!r}]", trees.get(net.name, ()), "x y link") for net in job.nets)
+    listed = (links(f"check: trees[{net.name!r}]", trees.get(net.name, ())) for net in job.nets)
     request["trees"] = [[list(link) for link in links] for links in listed]
     return read_verdict(answer(["check"], {"job": request["job"], "in": request}, program).decode())

@@ -8,7 +8,7 @@ import functools
 import json
 import re
 from pathlib import Path
-from typing import Any, Dict, Iterator, List, Tuple
+from typing import Any, Callable, Dict, Iterator, List, Tuple
 
 from .kinds import shown_as_json
 
@@ -16,7 +16,7 @@ Schema = Dict[str, Any]
 
 STRICT, LENIENT = "job.schema.json", "job.lenient.schema.json"
 
-TYPES = {
+TYPES: Dict[str, Callable[[Any], bool]] = {
     "object": lambda value: isinstance(value, dict),
     "array": lambda value: isinstance(value, list),
     "string": lambda value: isinstance(value, str),

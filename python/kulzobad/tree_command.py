@@ -5,7 +5,7 @@ import argparse
 import json
 from typing import Any, List, Mapping
 
-from .command import add_job, command, read_job, write
+from .command import add_job, add_json, command, read_job, write
 from .grid import Grid
 from .jobs import Chip
 from .reports import LINKS
@@ -31,8 +31,8 @@ def add_command(commands: Any) -> None:
     )
     example = "kulzobad trees job.json\nkulzobad trees --json job.json"
     parser = command(commands, "trees", "the tree of each net of a job", example, run, more)
-    what = "write the member `trees` of a request to check: a list of [x, y, link] for each net"
-    parser.add_argument("--json", action="store_true", help=what)
+    what = "write the member `trees` of a request to check, a list of [x, y, link] for each net; or the refusal"
+    add_json(parser, what)
     add_job(parser)
 
 

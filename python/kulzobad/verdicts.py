@@ -2,11 +2,15 @@
 from __future__ import annotations
 
 from dataclasses import asdict, dataclass
-from typing import Any, Dict, List, Sequence, Union
+from typing import Any, Dict, List, Sequence, Union, cast
 
+from .checks import BadImage as BadImage
 from .checks import BadTree, Right, Verdict
+from .checks import OtherMachine as OtherMachine
+from .checks import Split as Split
+from .checks import Wrong as Wrong
 from .kinds import InHexadecimal
-from .walks import DIES, LOOPS, STRAYS, TWICE, Hops
+from .walks import DIES, LOOPS, STOPS, STRAYS, TWICE, Hops
 
 
 class Told(InHexadecimal, Verdict):
@@ -54,6 +58,16 @@ class Twice(Told):
 
 
 @dataclass(frozen=True, repr=False)
+class Stops(Told):
+    """The key comes to all targets, and to the chip that ends the way, too, where a row takes it and sends it nowhere. So a way of it
+    leads to no target, and no routing tree is like that."""
+
+    net: Any
+    key: int
+    way: Hops
+
+
+@dataclass(frozen=True, repr=False)
 class Misses(Told):
     """The key comes to no strangers, and not to this target. The way ends at the chip next to it, of those that the key comes to."""
 
@@ -82,7 +96,7 @@ class TooLong(Told):
     rows: int
 
 
-KINDS = {STRAYS: Strays, DIES: Dies, LOOPS: Loops, TWICE: Twice}
+KINDS = {STRAYS: Strays, DIES: Dies, LOOPS: Loops, TWICE: Twice, STOPS: Stops}
 
 
 # ---- notes
@@ -127,13 +141,22 @@ class OffTrees:
     rows: int
 
 
-Note = Union[Unmet, Foreign, Full, OffTrees]
+@dataclass(frozen=True)
+class Unfollowed:
+    """The net's keys are cut into too many parts to be followed, as `TooManyParts` says. So it isn't told which chips packets come to, and
+    notes of the kinds OffTrees and Foreign are left out."""
+
+    net: Any
+    bits: int
+
+
+Note = Union[Unmet, Foreign, Full, OffTrees, Unfollowed]
 
 
 # ---- as text
 
 
-WORDS = {Strays: "strays", Dies: "dies", Loops: "loops", Twice: "twice", Misses: "misses", OffTree: "off tree"}
+WORDS = {Strays: "strays", Dies: "dies", Loops: "loops", Twice: "twice", Misses: "misses", Stops: "stops", OffTree: "off tree"}
 
 
 def lines_of(verdict: Verdict) -> List[str]:
@@ -157,27 +180,30 @@ def lines_of(verdict: Verdict) -> List[str]:
 
 def value_of(said: Union[Verdict, Note]) -> Dict[str, Any]:
     """A verdict or a note as a JSON value: `answer` is its class, and the others are its fields. Names that JSON has not are text."""
-    found = asdict(said)  # type: ignore[call-overload]
+    found = asdict(cast(Any, said))
     return {"answer": type(said).__name__, **{name: it if isinstance(it, (int, str, list, tuple)) else str(it) for name, it in found.items()}}
 
 
 def note_lines(notes: Sequence[Note], all_of_them: bool = False) -> List[str]:
     """Notes as lines; of each kind the first alone, with how many there are, where not all are asked for."""
     found = []
-    for kind in (Full, Unmet, OffTrees, Foreign):
+    for kind in (Unfollowed, Full, Unmet, OffTrees, Foreign):
         of_kind = [it for it in notes if isinstance(it, kind)]
         for note in of_kind if all_of_them else of_kind[:1]:
             more = f" (and {len(of_kind) - 1} more like this)" if len(of_kind) > 1 and not all_of_them else ""
-            found.append(f"note at {note.x} {note.y} {told(note)}{more}")
+            found.append(f"note {told(note)}{more}")
     return found
 
 
 def told(note: Note) -> str:
-    """What a note says of its chip."""
+    """What a note says, of its chip or of its net."""
+    if isinstance(note, Unfollowed):
+        return f"net {note.net}: its keys are in too many parts, so chips that no packets come to are not told"
+    at = f"at {note.x} {note.y}"
     if isinstance(note, Full):
-        return f"{note.rows} rows: no entry is left for a board's own software"
+        return f"{at} {note.rows} rows: no entry is left for a board's own software"
     if isinstance(note, Unmet):
-        return f"row {note.row}: no net has a key of it"
+        return f"{at} row {note.row}: no net has a key of it"
     if isinstance(note, OffTrees):
-        return f"{note.rows} rows: no packets come there"
-    return f"row {note.row}: takes packets of {note.other}, and has keys of {note.net}, whose packets do not come there"
+        return f"{at} {note.rows} rows: no packets come there"
+    return f"{at} row {note.row}: takes packets of {note.other}, and has keys of {note.net}, whose packets do not come there"

@@ -5,7 +5,7 @@ import argparse
 import json
 from typing import Any
 
-from .command import BAD_JOB, Stopped, add_out, add_program, command, read_bytes, read_text, write
+from .command import BAD_JOB, NOT_RIGHT, Stopped, add_json, add_out, add_program, command, read_bytes, read_text, write
 from .formats import Network, network_of_job, read_network, read_rows
 from .images import MAGIC, decode
 from .jobs import Job
@@ -13,17 +13,15 @@ from .members import UnknownMembers
 from .verdicts import lines_of, note_lines, value_of
 from .verifying import Tables, Verifier
 
-NOT_RIGHT = 1
-
 MORE = (
     "NETWORK is JSON text: a machine, the places of vertices, and nets with their keys; or a job,\n"
     "whose places and keys are those that `tables` gives. TABLES has the rows: comma-separated\n"
-    "values below x,y,key,mask,route, or a dump of such lines with hexadecimal words, or the bytes\n"
-    "of an image.\n\n"
-    "The first line is `right`, with status 0, or what is amiss, with status 1: `strays`, `dies`,\n"
-    "`loops`, `twice` or `misses`, the net and the key. Then each hop of the key's way has a line:\n"
-    "the chip, the port by which the key came in, the row that takes it, counted from 0, and the\n"
-    "output by which the way goes on.\n"
+    "values below x,y,key,mask,route, or a dump of such lines with hexadecimal words, or what\n"
+    "`tables` or `run` writes, or the bytes of an image.\n\n"
+    "The first line is `right`, with status 0, or what is amiss, with status 20: `strays`, `dies`,\n"
+    "`loops`, `twice`, `misses` or `stops`, the net and the key. Then each hop of the key's way has\n"
+    "a line: the chip, the port by which the key came in, the row that takes it, counted from 0, and\n"
+    "the output by which the way goes on.\n"
 )
 
 
@@ -36,7 +34,7 @@ def add_command(commands: Any) -> None:
     parser.add_argument("tables", metavar="TABLES", help="the file of the rows; - is standard input")
     parser.add_argument("--lenient", action="store_true", help="ignore members of a job that its version has not, as the program does")
     parser.add_argument("--notes", action="store_true", help="write each note, and not the first of each kind alone")
-    parser.add_argument("--json", action="store_true", help="write the verdict and all notes as one JSON value")
+    add_json(parser, "write the verdict and all notes, or the refusal, as one line of JSON")
     add_out(parser)
     add_program(parser)
 

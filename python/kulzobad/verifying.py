@@ -18,8 +18,9 @@ What the program's `check` asks of a job, and so what is done here before it is 
 - `split` is its answer where the first row that meets a net's block takes some of its keys and not all: this it does not decide. Here
   each block is cut first by the rows that it meets on its way, always at the highest bit that the row cares for and the block does not.
   Where the answer still comes, the block is cut by the row that it names, and the rest is asked again. There are as many parts as rows
-  cut out of the net: few where nets have keys by population and neuron. A net of 2^32 keys, and rows that care for bits here and there,
-  may be millions.
+  cut out of the net: few where nets have keys by population and neuron. Where rows care for bits here and there, it may double with each
+  bit that rows care for and the net leaves open: 2 to the power of the number of these bits is the most. So cuts are counted, and so are
+  requests with bits in another order; beyond a bound of each the question is refused (`TooManyParts`).
 - A request has at most 4,096 nets, 16,384 vertices and 16 MiB. More goes into several requests, each with all rows; where all rows
   together are too many for a request, with those of the chips that the request's trees have; and of a block that is too much for one
   even then, with the rows that its keys meet, up to the first that takes all of them. The whole is right if all answers are.
@@ -34,20 +35,23 @@ source over the rows, and has its way.
 from __future__ import annotations
 
 from dataclasses import dataclass
-from operator import index
-from typing import Any, Dict, Hashable, Iterable, Iterator, List, Mapping, Optional, Sequence, Set, Tuple, Union
+from functools import reduce
+from operator import or_
+from typing import Any, Dict, Hashable, Iterable, Iterator, List, Mapping, NamedTuple, Optional, Sequence, Set, Tuple, Union
 
 from . import asking
-from .asking import ENTRIES, Batch, KnownNet, Part, Wire, Words, answer_to, bytes_of_rows, compact, layers, met
+from .asking import Batch, KnownNet, Part, Wire, Words, answer_to, bytes_of_rows, compact, layers, met
 from .blocks import USUAL, WORD, Block, Meeting, Order, block_of, blocks_of_range, cut, halves, order_of
 from .checks import BadImage, BadTree, Right, Split, Verdict, Wrong
 from .grid import Grid
 from .images import Image
 from .jobs import Chip, Machine, Net
-from .kinds import lists_of_numbers, numbers
-from .reports import LINKS, Table
+from .kinds import chip_of, hashable, items, lists_of_numbers, mapping, numbers, one, shown, whole, wrong
+from .kinds import links as links_in
+from .links import Links, Routes
+from .reports import ENTRIES, LINKS, Table
 from .trees import Link
-from .verdicts import KINDS, Foreign, Full, Misses, Note, OffTree, OffTrees, TooLong, Unmet
+from .verdicts import KINDS, Foreign, Full, Misses, Note, OffTree, OffTrees, TooLong, Unfollowed, Unmet
 from .walks import DEVICES, MISSES, Hops, Row, Spot, Walk, Walker, straight_on
 
 Name = Hashable
@@ -65,6 +69,37 @@ SPARE = 65536
 MOST_FOR_ROWS = 11 * 2**20
 # A block is cut into as many parts as this for its mask; where it would be more, bits change places.
 MOST_PARTS = 64
+# How often blocks are cut in two, all nets together: so often in any case, and so often for each row where that is more. A row under ones
+# followed by zeros cuts a block of that kind at most once for each of its bits.
+MOST_CUTS, CUTS_OF_A_ROW = 2**14, 32
+# How many requests there are at most whose bits have changed places.
+MOST_ORDERS = 512
+
+
+class TooManyParts(ValueError):
+    """Rows cut a block of the net's keys into too many parts to be asked for. `bits` is how many bits the block leaves open and rows that
+    have keys of it care for: with each of them the parts may double."""
+
+    def __init__(self, net: Any, bits: int) -> None:
+        super().__init__(
+            f"net {net!r} is not decided: rows cut its keys into too many parts. They care for {bits} bits that it leaves open, and with each"
+            " of these the parts may double"
+        )
+        self.net, self.bits = net, bits
+
+
+class Amiss(NamedTuple):
+    """What is amiss with a net, and the net's place in the list."""
+
+    place: int
+    what: Union[Verdict, TooManyParts]
+
+
+def first_of(one: Optional[Amiss], other: Optional[Amiss]) -> Optional[Amiss]:
+    """What is amiss with the earlier net of two; of one net the first."""
+    if one is None or other is None:
+        return one or other
+    return other if other.place < one.place else one
 
 
 @dataclass
@@ -79,7 +114,7 @@ class KeyedNet:
     @classmethod
     def counted(cls, name: Name, source: Name, targets: Sequence[Name], first: int, count: int) -> "KeyedNet":
         """A net with `count` keys from `first` on. ValueError where there are none, or some beyond 32 bits."""
-        return cls(name, source, targets, list(blocks_of_range(first, count)))
+        return cls(name, source, targets, blocks_of_range(whole("KeyedNet.counted: first", first), whole("KeyedNet.counted: count", count)))
 
 
 # ---- what is handed in
@@ -87,13 +122,27 @@ class KeyedNet:
 
 def number_of(name: Name, place: Place) -> Spot:
     """A place as numbers: a device's link is 18 and the link's number. ValueError where its letters are no link's."""
-    *chip, last = place
+    what = f"the place of {name!r}"
+    x, y, last = parts_of_place(what, place)
+    if isinstance(last, Links) or (isinstance(last, Routes) and last.is_link):
+        last = last.name
+    elif isinstance(last, Routes):
+        last = last.core
     if isinstance(last, str):
         if last not in LINKS:
             raise ValueError(f"{name!r} hangs on {last!r}, which is none of the links {', '.join(LINKS)}")
         last = DEVICES + LINKS.index(last)
-    x, y, number = numbers(f"the place of {name!r}", (*chip, last), "x y number")
+    x, y, number = numbers(what, (x, y, last), "x y number")
     return x, y, number
+
+
+def parts_of_place(what: str, place: Place) -> Sequence[Any]:
+    """The three parts of a place."""
+    wanted = "(x, y, core), or (x, y, link) with the letters of a device's link"
+    found = items(what, place, wanted)
+    if len(found) != 3:
+        raise wrong(what, place, wanted)
+    return found
 
 
 def spot_of(name: Name, place: Place, machine: Machine, grid: Grid) -> Spot:
@@ -115,8 +164,10 @@ def spot_of(name: Name, place: Place, machine: Machine, grid: Grid) -> Spot:
 
 def spots_of(machine: Machine, grid: Grid, places: Places) -> Dict[Any, Spot]:
     """The spots of all vertices. ValueError where one can't stand where it does, or two stand at one place."""
-    dead, taken, found = {tuple(it) for it in machine.dead_cores}, {}, {}
-    for name, place in places.items():
+    dead = {tuple(it) for it in machine.dead_cores}
+    taken: Dict[Spot, Any] = {}
+    found: Dict[Any, Spot] = {}
+    for name, place in mapping("places", places, "names of vertices to places").items():
         spot = spot_of(name, place, machine, grid)
         if spot in dead:
             raise ValueError(f"{name!r} stands on the dead core {spot[2]} of ({spot[0]}, {spot[1]})")
@@ -132,59 +183,100 @@ def known_nets(nets: Iterable[Union[KeyedNet, Net]], spots: Mapping[Any, Spot]) 
     one name."""
     found: List[KnownNet] = []
     names: Set[Any] = set()
-    for net in nets:
-        if net.name in names:
+    for i, net in enumerate(items("nets", nets, "a list of KeyedNet")):
+        if not isinstance(net, (KeyedNet, Net)):
+            raise wrong(f"nets[{i}]", net, "a KeyedNet, or a Net with `fixed`")
+        if hashable(f"nets[{i}].name", net.name) in names:
             raise ValueError(f"two nets are called {net.name!r}")
         names.add(net.name)
-        if isinstance(net, Net) and net.fixed is None:
-            raise ValueError(f"net {net.name!r} has no keys: `fixed` says which")
-        blocks = [net.fixed] if isinstance(net, Net) else list(net.blocks)
-        if isinstance(net.targets, str) or not net.targets or not blocks:
-            raise ValueError(f"net {net.name!r} needs a list of targets and a list of blocks of keys, with one of each at least")
-        for name in (net.source, *net.targets):
-            if name not in spots:
-                raise ValueError(f"{name!r}, of net {net.name!r}, has no place")
-        if len(set(net.targets)) >= asking.MOST_VERTICES:
-            raise ValueError(f"net {net.name!r} has more targets than a request can name: {len(net.targets)}")
-        targets = {spots[name]: name for name in net.targets}
-        found.append(KnownNet(len(found), net.name, spots[net.source], targets, [block_of(*it) for it in blocks]))
+        found.append(known_net(f"nets[{i}]", i, net, spots))
     return found
 
 
-def known_links(name: Any, links: Iterable[Link], grid: Grid) -> List[Link]:
+def known_net(what: str, place: int, net: Union[KeyedNet, Net], spots: Mapping[Any, Spot]) -> KnownNet:
+    """A net by the spots of its vertices."""
+    if isinstance(net, Net) and net.fixed is None:
+        raise ValueError(f"net {net.name!r} has no keys: `fixed` says which")
+    given = [net.fixed] if isinstance(net, Net) else net.blocks
+    blocks = [block_of(*it) for it in lists_of_numbers(f"{what}.blocks", given, "key mask")]
+    listed = () if isinstance(net.targets, str) else items(f"{what}.targets", net.targets, "a list of names")
+    if not listed or not blocks:
+        raise ValueError(f"net {net.name!r} needs a list of targets and a list of blocks of keys, with one of each at least")
+    for vertex in (net.source, *listed):
+        if hashable(f"{what}: a vertex", vertex) not in spots:
+            raise ValueError(f"{vertex!r}, of net {net.name!r}, has no place")
+    if len(set(listed)) >= asking.MOST_VERTICES:
+        raise ValueError(f"net {net.name!r} has more targets than a request can name: {len(set(listed))}")
+    return KnownNet(place, net.name, spots[net.source], {spots[it]: it for it in listed}, blocks)
+
+
+def known_trees(trees: Optional[Trees], nets: Sequence[KnownNet], grid: Grid) -> Dict[Any, List[Link]]:
+    """The links of trees by the names of nets. ValueError where a name is no net's, or a link none of the grid's."""
+    given = mapping("trees", {} if trees is None else trees, "names of nets to lists of links")
+    unknown = set(given) - {net.name for net in nets}
+    if unknown:
+        raise ValueError(f"trees of nets that are none: {', '.join(sorted(map(repr, unknown)))}")
+    return {net: known_links(net, it, grid) for net, it in given.items()}
+
+
+def known_links(net: Any, links: Iterable[Link], grid: Grid) -> List[Link]:
     """The links of a net's tree. ValueError where one is none of the grid's."""
-    found = []
-    for x, y, link in lists_of_numbers(f"the tree of {name!r}", links, "x y link"):
+    found = links_in(f"the tree of {net!r}", links)
+    for x, y, link in found:
         if not grid.has((x, y)) or not 0 <= link <= 5:
-            raise ValueError(f"the tree of {name!r} has ({x}, {y}, {link}), which is no link of the grid")
-        found.append((x, y, link))
+            raise ValueError(f"the tree of {net!r} has ({x}, {y}, {link}), which is no link of the grid")
     return found
 
 
-def words_of(row: Any) -> Words:
+def words_of(chip: Chip, place: int, row: Any) -> Words:
     """Key, mask and route of a row, which has them as items or under these names."""
-    key, mask, route = (row.key, row.mask, row.route) if hasattr(row, "route") else row
+    parts = row
+    if type(row) is not tuple:
+        try:
+            parts = row.key, row.mask, row.route
+        except AttributeError:
+            pass
+    if type(parts) is tuple and len(parts) == 3:
+        key, mask, route = parts
+        if type(key) is type(mask) is type(route) is int and 0 <= key <= WORD and 0 <= mask <= WORD and 0 <= route <= WORD:
+            return key, mask, route
+    what = f"row {place} of chip {chip}"
+    try:
+        key, mask, route = numbers(what, parts, "key mask route")
+    except TypeError:
+        raise TypeError(f"{what} is {shown(row)}, and should be a key, a mask and a route") from None
+    if min(key, mask, route) < 0 or max(key, mask, route) > WORD:
+        raise ValueError(f"{what} has no words of 32 bits: {shown(row)}")
     return key, mask, route
 
 
+def words_by_chip(tables: Tables) -> Dict[Chip, List[Words]]:
+    """Of each chip, by x and y, its rows as words."""
+    given = tables.tables if isinstance(tables, Image) else mapping("tables", tables, "chips to rows")
+    chips = {chip_of("tables", chip): rows for chip, rows in given.items()}
+    found: Dict[Chip, List[Words]] = {}
+    for chip, rows in chips.items():
+        listed = rows.rows if isinstance(rows, Table) else items(f"tables[{chip}]", rows, "a list of rows")
+        found[chip] = [words_of(chip, place, row) for place, row in enumerate(listed)]
+    return found
+
+
+def size_of(image: Image) -> str:
+    """An image's machine in words."""
+    return f"{image.width} by {image.height} chips {'with' if image.wrap else 'without'} wrap"
+
+
 def known_rows(tables: Tables, grid: Grid) -> Dict[Chip, List[Row]]:
-    """The rows that can match, by chip. ValueError where a chip lies outside the grid, or a row has words of more than 32 bits."""
+    """The rows that can match, by chip. ValueError where an image is of another machine, a chip lies outside the grid, or a row has words
+    of more than 32 bits."""
+    if isinstance(tables, Image) and (tables.width, tables.height, tables.wrap) != (grid.width, grid.height, grid.wrap):
+        made = Image(grid.width, grid.height, grid.wrap, b"")
+        raise ValueError(f"other machine: the image is of {size_of(tables)}, and the machine has {size_of(made)}")
     found: Dict[Chip, List[Row]] = {}
-    given = tables.tables if isinstance(tables, Image) else tables
-    for chip in sorted(given):
+    for chip, words in sorted(words_by_chip(tables).items()):
         if not grid.has(chip):
             raise ValueError(f"chip {chip} has rows, and lies outside the grid")
-        listed = given[chip]
-        rows = []
-        for place, row in enumerate(listed.rows if isinstance(listed, Table) else listed):
-            try:
-                key, mask, route = map(index, words_of(row))
-            except (TypeError, ValueError):
-                raise TypeError(f"row {place} of chip {chip} is {row!r}, and should be a key, a mask and a route") from None
-            if min(key, mask, route) < 0 or max(key, mask, route) > WORD:
-                raise ValueError(f"row {place} of chip {chip} has no words of 32 bits: {row!r}")
-            if not key & ~mask:
-                rows.append(Row(key, mask, route, place))
+        rows = [Row(key, mask, route, place) for place, (key, mask, route) in enumerate(words) if not key & ~mask]
         if rows:
             found[chip] = rows
     return found
@@ -206,15 +298,12 @@ class Verifier:
         trees: Optional[Trees] = None,
         program: Optional[str] = None,
     ) -> None:
-        self.machine, self.program = machine, program
+        self.machine, self.program = one("machine", machine, Machine), program
         self.grid = Grid(machine)
         self.spots = spots_of(machine, self.grid, places)
         self.nets = known_nets(nets, self.spots)
         self.rows = known_rows(tables, self.grid)
-        unknown = set(trees or ()) - {net.name for net in self.nets}
-        if unknown:
-            raise ValueError(f"trees of nets that are none: {', '.join(sorted(map(repr, unknown)))}")
-        self.trees = {name: known_links(name, links, self.grid) for name, links in (trees or {}).items()}
+        self.trees = known_trees(trees, self.nets, self.grid)
         self.walker = Walker(self.grid, self.rows, set(self.spots.values()))
         # How many requests were made, and how many parts they asked for.
         self.requests = self.asked = 0
@@ -228,6 +317,9 @@ class Verifier:
         # routing. It is whole once all nets were walked.
         self._takers: Dict[Chip, Dict[Optional[int], Set[int]]] = {}
         self._has_all_takers = self._are_rows_judged = False
+        # How often blocks were cut, how often that may be, and how many requests have their bits in another order.
+        self._cuts = self._orders = 0
+        self._most_cuts = max(MOST_CUTS, CUTS_OF_A_ROW * sum(map(len, self.rows.values())))
         # What is to be asked for in the usual order of bits, and what has other masks.
         self._usual = self._batch()
         self._others: List[Batch] = []
@@ -251,114 +343,140 @@ class Verifier:
 
     def parts_of(self, net: KnownNet, block: Block) -> Iterator[Union[Part, Verdict]]:
         """The parts of a block, each of which every row on its way takes or leaves as a whole, with their trees; and what is amiss in place
-        of the first part with which something is."""
-        ahead = [block]
-        while ahead:
-            block = ahead.pop()
-            walk = self.walk(net, block)
-            if walk.cut is not None:
-                ahead += reversed(halves(block, walk.cut.mask))
-            elif walk.fault:
-                found = self.told(net, block.key)
+        of the first part with which something is. TooManyParts where it is cut too often."""
+        for part, walk in self._walks_of(net, block):
+            if walk.fault:
+                found = self.told(net, part.key)
                 assert found is not None
                 yield found
                 return
-            else:
-                self._note_takers(net, walk)
-                came = straight_on(net.source)
-                yield Part(net, block, self.trees.get(net.name, walk.links), 1 << came if came >= 0 and walk.rows[0] is None else None)
+            self._note_takers(net, walk)
+            came = straight_on(net.source)
+            yield Part(net, part, self.trees.get(net.name, walk.links), 1 << came if came >= 0 and walk.rows[0] is None else None)
+
+    def _walks_of(self, net: KnownNet, block: Block) -> Iterator[Tuple[Block, Walk]]:
+        """The walks of a block's parts, each of which every row on its way takes or leaves as a whole."""
+        ahead = [block]
+        while ahead:
+            part = ahead.pop()
+            walk = self.walk(net, part)
+            if walk.cut is None:
+                yield part, walk
+                continue
+            self._cuts += 1
+            if self._cuts > self._most_cuts:
+                raise self._too_many(net, block)
+            ahead += reversed(halves(part, walk.cut.mask))
+
+    def _too_many(self, net: KnownNet, block: Block) -> TooManyParts:
+        """The refusal of a net of which this block has too many parts, with the number of bits by which these are cut."""
+        meeting = (row.mask for rows in self.rows.values() for row in rows if not (row.key ^ block.key) & row.mask & block.mask)
+        return TooManyParts(net.name, bin(reduce(or_, meeting, 0) & ~block.mask).count("1"))
 
     # -- the verdict
 
     def verdict(self) -> Verdict:
-        """`Right`, or what is amiss with the first net that something is amiss with."""
+        """`Right`, or what is amiss with the first net that something is amiss with. TooManyParts where rows cut a net into too many parts,
+        and nothing is amiss with a net before it."""
         for chip, rows in self.rows.items():
             if len(rows) > ENTRIES:
                 return TooLong(*chip, len(rows))
         self._judge_rows()
+        self._cuts = self._orders = 0
+        found = self._walk_all()
+        while self._usual.parts or self._others:
+            found = self._ask_usual(found) if self._usual.parts else self._ask_other(self._others[0], found)
+        if found is None:
+            return Right()
+        if isinstance(found.what, TooManyParts):
+            raise found.what
+        return found.what
+
+    def _walk_all(self) -> Optional[Amiss]:
+        """Walks the nets, and asks for their parts where there are many. What is amiss with one, if anything: the walks end with it."""
         for net in self.nets:
             for block in net.blocks:
                 found = self._take(net, block)
                 if found is not None:
                     return found
         self._has_all_takers = True
-        while self._usual.parts or self._others:
-            found = self._ask_usual() if self._usual.parts else self._ask_other(self._others[0])
-            if found is not None:
-                return found
-        return Right()
-
-    def _take(self, net: KnownNet, block: Block) -> Optional[Verdict]:
-        """Walks a block, and asks for its parts where there are many. What is amiss, if anything."""
-        for part in self.parts_of(net, block):
-            found = part if isinstance(part, Verdict) else self._add(part)
-            if found is not None:
-                return found
         return None
 
-    def _add(self, part: Part) -> Optional[Verdict]:
+    def _take(self, net: KnownNet, block: Block) -> Optional[Amiss]:
+        """Walks a block, and asks for its parts where there are many. What is amiss, if anything."""
+        try:
+            for part in self.parts_of(net, block):
+                found = Amiss(net.place, part) if isinstance(part, Verdict) else self._add(part)
+                if found is not None:
+                    return found
+        except TooManyParts as error:
+            return Amiss(net.place, error)
+        return None
+
+    def _add(self, part: Part) -> Optional[Amiss]:
         """Puts a part among those that are to be asked for, and asks for them where they are many."""
         opened = USUAL.opened(part.block.mask)
         if 1 << bin(opened).count("1") <= MOST_PARTS:
             self._usual.add(part, list(cut(part.block, opened)))
-            return self._ask_usual() if self._is_full(self._usual) else None
+            return self._ask_usual(None) if self._is_full(self._usual) else None
         batch = next((it for it in self._others if it.fits(part.block.mask)), None)
         if batch is None:
+            self._orders += 1
+            if self._orders > MOST_ORDERS:
+                uncut = next(it for it in part.net.blocks if part.block.key & it.mask == it.key and not it.mask & ~part.block.mask)
+                return Amiss(part.net.place, self._too_many(part.net, uncut))
             batch = self._batch()
             self._others.append(batch)
         batch.add(part, [part.block])
-        return self._ask_other(batch) if self._is_full(batch) else None
+        return self._ask_other(batch, None) if self._is_full(batch) else None
 
     def _is_full(self, batch: Batch) -> bool:
         return len(batch.parts) >= asking.MOST_NETS - MOST_PARTS or batch.is_over(self._room * 3 // 4)
 
-    def _ask_usual(self) -> Optional[Verdict]:
+    def _ask_usual(self, found: Optional[Amiss]) -> Optional[Amiss]:
         batch, self._usual = self._usual, self._batch()
-        return self._ask(batch.parts, USUAL)
+        return self._ask(batch.parts, USUAL, found)
 
-    def _ask_other(self, batch: Batch) -> Optional[Verdict]:
+    def _ask_other(self, batch: Batch, found: Optional[Amiss]) -> Optional[Amiss]:
         self._others.remove(batch)
-        return self._ask(batch.parts, order_of(list(batch.masks)))
+        return self._ask(batch.parts, order_of(list(batch.masks)), found)
 
-    def _ask(self, parts: Sequence[Part], order: Order) -> Optional[Verdict]:
-        """Asks for parts, in as many requests as they need. What is amiss, if anything."""
-        for layer in layers(parts, order):
+    def _ask(self, parts: Sequence[Part], order: Order, found: Optional[Amiss]) -> Optional[Amiss]:
+        """Asks for parts, in as many requests as they need, but for those that do not come before a net with which something was found
+        amiss. What is amiss with the first net."""
+        for layer in layers([it for it in parts if found is None or it.net.place < found.place], order):
             batch = self._batch()
             for part in layer:
                 batch.add(part, [part.block])
                 if batch.is_over(self._room) and len(batch.parts) > 1:
-                    found = self._decide(batch.parts[:-1], order)
-                    if found is not None:
-                        return found
+                    found = self._decide(batch.parts[:-1], order, found)
                     batch = self._batch()
                     batch.add(part, [part.block])
-            found = self._decide(batch.parts, order)
-            if found is not None:
-                return found
-        return None
+            found = self._decide(batch.parts, order, found)
+        return found
 
-    def _decide(self, parts: List[Part], order: Order) -> Optional[Verdict]:
-        """Asks for parts that one request has room for, again and again as long as one of them is split, which then is cut. What is amiss,
-        if anything."""
-        while parts:
+    def _decide(self, parts: List[Part], order: Order, found: Optional[Amiss]) -> Optional[Amiss]:
+        """Asks for parts that one request has room for, again and again: as long as one of them is split, which then is cut; and for those
+        of earlier nets, where one is amiss. What is amiss with the first net."""
+        while True:
+            parts = [it for it in parts if found is None or it.net.place < found.place]
+            if not parts:
+                return found
             rows = self._rows_for(parts)
             verdict = self._answer(parts, rows, order)
             if isinstance(verdict, Right):
-                return None
+                return found
             if not isinstance(verdict, (Split, Wrong, BadTree)):
                 raise RuntimeError(f"the program answers {verdict} to rows that it has taken")
             place = int(verdict.net[1:])
             part = parts[place]
-            if isinstance(verdict, Split):
-                row = rows[verdict.x, verdict.y][verdict.row]
-                parts = parts[:place] + parts[place + 1:]
-                for half in halves(part.block, row[1]):
-                    found = self._take(part.net, half)
-                    if found is not None:
-                        return found
+            if not isinstance(verdict, Split):
+                found = Amiss(part.net.place, self._amiss(part, verdict, order))
                 continue
-            return self._amiss(part, verdict, order)
-        return None
+            row = rows[verdict.x, verdict.y][verdict.row]
+            parts = parts[:place] + parts[place + 1:]
+            for half in halves(part.block, row[1]):
+                found = first_of(found, self._take(part.net, half))
 
     def _amiss(self, part: Part, verdict: Union[Wrong, BadTree], order: Order) -> Verdict:
         """What the program's answer says in terms of a way."""
@@ -388,20 +506,24 @@ class Verifier:
 
     def notes(self) -> List[Note]:
         """What `notes` says."""
-        self._walk_for_takers()
-        takers, meeting = self._takers, Meeting((block, net.place) for net in self.nets for block in net.blocks)
         found: List[Note] = []
+        try:
+            self._walk_for_takers()
+        except TooManyParts as error:
+            found.append(Unfollowed(error.net, error.bits))
+        is_followed = not found
+        takers, meeting = self._takers, Meeting((block, net.place) for net in self.nets for block in net.blocks)
         for chip, rows in self.rows.items():
             if len(rows) > ENTRIES - 1:
                 found.append(Full(*chip, len(rows)))
-            if chip not in takers:
+            if chip not in takers and is_followed:
                 found.append(OffTrees(*chip, len(rows)))
             here = takers.get(chip, {})
             come: Set[int] = set().union(*here.values())
             for row in rows:
                 nets = meeting.of(Block(row.key, row.mask))
                 if row.place in here:
-                    stranger = next((it for it in nets if it not in come), None)
+                    stranger = next((it for it in nets if it not in come), None) if is_followed else None
                     if stranger is not None:
                         found.append(Foreign(self.nets[stranger].name, *chip, row.place, self.nets[min(here[row.place])].name))
                 elif next(nets, None) is None:
@@ -409,17 +531,14 @@ class Verifier:
         return found
 
     def _walk_for_takers(self) -> None:
-        """Walks all nets, if that was not done."""
-        if not self._has_all_takers:
-            self._judge_rows()
-        for net in self.nets if not self._has_all_takers else ():
-            ahead = list(net.blocks)
-            while ahead:
-                block = ahead.pop()
-                walk = self.walk(net, block)
-                if walk.cut is not None:
-                    ahead += halves(block, walk.cut.mask)
-                else:
+        """Walks all nets, if that was not done. TooManyParts where one is cut too often."""
+        if self._has_all_takers:
+            return
+        self._judge_rows()
+        self._cuts = 0
+        for net in self.nets:
+            for block in net.blocks:
+                for _, walk in self._walks_of(net, block):
                     self._note_takers(net, walk)
         self._has_all_takers = True
 
@@ -467,7 +586,7 @@ class Verifier:
         if not self._has_all_rows:
             ends = {self.grid.far((x, y), d) for part in parts for x, y, d in part.links} | {part.net.source[:2] for part in parts}
             chips = [chip for chip in self.rows if chip in ends]
-        found = {chip: [row[:3] for row in self.rows[chip]] for chip in chips}
+        found: Dict[Chip, List[Words]] = {chip: [row[:3] for row in self.rows[chip]] for chip in chips}
         if len(parts) == 1 and self._is_too_large(parts[0]):
             found = {chip: list(met(rows, parts[0].block)) for chip, rows in found.items()}
         for part in parts:
@@ -515,9 +634,9 @@ def verify(
     and a route word, or an object with these names; or it is an image. `trees` has, by the names of nets, the links as (x, y, link) that a
     net's keys have to go by; of a net that it has not, any tree will do.
 
-    The answer is `Right()`, or it is false and names a key and its way: `Strays`, `Dies`, `Loops`, `Twice`, `Misses`, `OffTree`; or
-    `BadTree` of a tree that was given, or `TooLong`. ValueError where places, nets or rows are none on this machine, Refused where the
-    program takes no such machine."""
+    The answer is `Right()`, or it is false and names a key and its way: `Strays`, `Dies`, `Loops`, `Twice`, `Misses`, `Stops`,
+    `OffTree`; or `BadTree` of a tree that was given, or `TooLong`. ValueError where places, nets or rows are none on this machine, or where
+    they are not decided within its bounds; Refused where the program takes no such machine."""
     return Verifier(machine, places, nets, tables, trees, program).verdict()
 
 

@@ -1,8 +1,8 @@
 """The way of one key over tables, visit by visit, with the row that takes it at each."""
 from __future__ import annotations
 
-from dataclasses import dataclass
-from typing import Iterable, List, Mapping, Optional, Set, Tuple
+from functools import lru_cache
+from typing import Iterable, List, Mapping, NamedTuple, Optional, Sequence, Set, Tuple
 
 from .grid import Grid, opposite
 from .jobs import Chip
@@ -11,10 +11,12 @@ from .trees import Link, Lookup
 
 # A router's ports are numbered as its links, and this is the one of its own cores.
 LOCAL = 6
+# By port the links by which packets go straight on: those of a chip's own cores do not.
+STRAIGHT_ON: Sequence[Tuple[int, ...]] = [*((opposite(link),) for link in range(6)), ()]
+NO_ROWS: Lookup = {}
 
 
-@dataclass(frozen=True)
-class Visit:
+class Visit(NamedTuple):
     """A packet at a chip: the port at which it came in, the place of the row that takes it (None: default routing), the links by
     which it leaves, by number, and the cores that get it."""
 
@@ -27,18 +29,24 @@ class Visit:
 
 def row_of(lookup: Lookup, key: int) -> Optional[Tuple[int, Row]]:
     """The first row that matches a key, with its place: None where none does."""
-    matches = [rows[key & mask] for mask, rows in lookup.items() if key & mask in rows]
-    return min(matches, key=lambda match: match[0]) if matches else None
+    found = None
+    for mask, rows in lookup.items():
+        match = rows.get(key & mask)
+        if match is not None and (found is None or match[0] < found[0]):
+            found = match
+    return found
 
 
 def visit(looks: Mapping[Chip, Lookup], chip: Chip, port: int, key: int) -> Visit:
     """What the router of a chip does with a packet that comes in at a port."""
-    found = row_of(looks.get(chip, {}), key)
-    if found is None:
-        return Visit(chip, port, None, () if port == LOCAL else (opposite(port),), ())
-    place, row = found
-    links = tuple(link for link in range(6) if row.route >> link & 1)
-    return Visit(chip, port, place, links, tuple(core for core in range(18) if row.route >> (6 + core) & 1))
+    found = row_of(looks.get(chip, NO_ROWS), key)
+    return Visit(chip, port, None, STRAIGHT_ON[port], ()) if found is None else Visit(chip, port, found[0], *outputs_of(found[1].route))
+
+
+@lru_cache(maxsize=4096)
+def outputs_of(route: int) -> Tuple[Tuple[int, ...], Tuple[int, ...]]:
+    """The links and the cores of a route, by number."""
+    return tuple(link for link in range(6) if route >> link & 1), tuple(core for core in range(18) if route >> (6 + core) & 1)
 
 
 def walk(grid: Grid, looks: Mapping[Chip, Lookup], key: int, chip: Chip, port: int = LOCAL) -> List[Visit]:
@@ -47,16 +55,26 @@ def walk(grid: Grid, looks: Mapping[Chip, Lookup], key: int, chip: Chip, port: i
     visits: List[Visit] = []
     seen: Set[Tuple[Chip, int]] = set()
     ahead = [(chip, port)]
+    # (a large page has hundreds of thousands of visits, so the way straight on is gone in a loop of its own)
+    lookup_at, ends_at, note, made = looks.get, grid.ends_of, visits.append, tuple.__new__
     while ahead:
-        at, came = ahead.pop()
-        if (at, came) in seen:
-            continue
-        seen.add((at, came))
-        visits.append(visit(looks, at, came, key))
-        for link in reversed(visits[-1].links):
-            end = grid.next_chip(at, link)
-            if end is not None:
-                ahead.append((end, opposite(link)))
+        asked: Optional[Tuple[Chip, int]] = ahead.pop()
+        while asked is not None and asked not in seen:
+            seen.add(asked)
+            at, came = asked
+            lookup = lookup_at(at)
+            found = row_of(lookup, key) if lookup else None
+            asked = None
+            if found is not None:
+                links, cores = outputs_of(found[1].route)
+                note(Visit(at, came, found[0], links, cores))
+                ends = ends_at(at)
+                ahead += [(end, opposite(link)) for link in reversed(links) for end in (ends[link],) if end is not None]
+            else:
+                links = STRAIGHT_ON[came]
+                note(made(Visit, (at, came, None, links, ())))
+                end = ends_at(at)[links[0]] if links else None
+                asked = None if end is None else (end, came)
     return visits
 
 

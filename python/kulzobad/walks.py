@@ -107,8 +107,9 @@ class Hop:
 Hops = Tuple[Hop, ...]
 
 # What can be amiss: an output that nothing of the net stands at; a link that is not live; a chip that the packet has been at,
-# to go round from there again, or to be there a second time; and a target that nothing comes to.
-STRAYS, DIES, LOOPS, TWICE, MISSES = "strays", "dies", "loops", "twice", "misses"
+# to go round from there again, or to be there a second time; a target that nothing comes to; and, where all targets have theirs, a
+# chip behind the first at which a row sends the packet nowhere, so that the way there leads to no target.
+STRAYS, DIES, LOOPS, TWICE, MISSES, STOPS = "strays", "dies", "loops", "twice", "misses", "stops"
 
 
 @dataclass
@@ -165,9 +166,9 @@ class Walker:
 
     def walk(self, source: Spot, targets: Sequence[Spot], block: Block) -> Walk:
         """The walk of a block from its source, chip by chip as it spreads, by links before cores and each in their order. It ends at the
-        first thing that is amiss, or that makes a cut due."""
+        first thing that is amiss, or that makes a cut due; what misses or stops is told at the end."""
         walk, wanted, got = Walk([source[:2]], [-1], [straight_on(source)]), set(targets), set()
-        seen = {source[:2]: 0}
+        seen, stop = {source[:2]: 0}, None
         for at, chip in enumerate(walk.chips):
             row = self.row(chip, block)
             if row is not None and row.mask & ~block.mask:
@@ -176,6 +177,8 @@ class Walker:
             walk.rows.append(row)
             came = walk.came[at]
             route = row.route if row is not None else 1 << came if came >= 0 else 0
+            if row is not None and not route and stop is None:
+                stop = at
             ends = self.ends(chip)
             while route:
                 bit = (route & -route).bit_length() - 1
@@ -199,6 +202,8 @@ class Walker:
                     got.add(spot)
         if len(got) < len(wanted):
             self._missed(walk, next(it for it in targets if it not in got))
+        elif stop is not None:
+            walk.fault, walk.at = STOPS, stop
         return walk
 
     def _back(self, walk: Walk, at: int, link: int, end: int, block: Block) -> Walk:

@@ -5,7 +5,8 @@ import argparse
 import json
 from typing import Any, Iterator
 
-from .command import add_job, add_json, add_out, add_program, command, read_bytes, write
+from .command import add_force, add_job, add_json, add_out, add_program, command, keep_off_terminal
+from .command import read_bytes, write
 from .json_forms import answer_in_json
 from .members import Slip, refuse, slips_of, slips_of_request, slips_of_steps
 from .program import answer_to_text
@@ -32,11 +33,13 @@ def add_command(commands: Any) -> None:
     """Adds a command for each word."""
     for word, (what, summary) in WORDS.items():
         file = {"check": "request.json", "apps": "steps.json"}.get(word, "job.json")
-        out = " --out tables.img" if word == "compile" else ""
+        out = " -o tables.img" if word == "compile" else ""
         example = f"kulzobad {word} {file}{out}\nkulzobad {word} --json - < {file}"
         parser = command(commands, word, summary, example, run, MORE.get(word, ""))
         add_job(parser, what)
         add_json(parser)
+        if word == "compile":
+            add_force(parser)
     parser = command(
         commands, "gen", "make the job of a number, compile it, run it, and tell its numbers", "kulzobad gen 7", run_number,
         "The job has 200 vertices and 300 nets on a board of 48 chips; docs/formats.md says what is drawn.",
@@ -58,6 +61,8 @@ def slips_for(word: str, text: bytes) -> Iterator[Slip]:
 
 def run(options: argparse.Namespace) -> int:
     """Calls the program with the word and what the command's file has."""
+    if options.command == "compile" and not options.json:
+        keep_off_terminal(options)
     text = read_bytes(options.job)
     if not options.lenient:
         refuse(slips_for(options.command, text))

@@ -11,6 +11,8 @@ from kulzobad.reports import read
 from tests.test_cli import called
 
 EXAMPLES = Path(__file__).resolve().parents[2] / "examples"
+DOCS = (EXAMPLES.parent / "docs" / "pictures" / "board.json").is_file()
+SVG = "{http://www.w3.org/2000/svg}"
 KINDS = ("mesh", "tree", "rows", "copies")
 
 
@@ -19,6 +21,18 @@ def job_with_devices():
     devices = [Vertex("motor", device=(1, 1, 0)), Vertex("led", device=(0, 2, 3))]
     vertices = [Vertex("a"), *devices, *(Vertex(f"v{i}", at=(2, 0)) for i in range(9))]
     return Job(machine, vertices, [Net("n", "a", [it.name for it in vertices[1:]]), Net("m", "a", ["a"])], [Packet("n")])
+
+
+def star(side):
+    """A net from the middle of a grid to two cores of each chip."""
+    vertices = [Vertex("a", at=(side // 2, side // 2)), *(Vertex(f"v{x}.{y}.{i}", at=(x, y)) for x in range(side) for y in range(side) for i in (0, 1))]
+    return Job(Machine(side, side), vertices, [Net("n", "a", [it.name for it in vertices[1:]])], [Packet("n")])
+
+
+def is_in(corners, x, y):
+    """Whether a point lies inside a polygon whose corners go round one way."""
+    sides = [(bx - ax) * (y - ay) - (by - ay) * (x - ax) for (ax, ay), (bx, by) in zip(corners, [*corners[1:], corners[0]])]
+    return all(it >= 0 for it in sides) or all(it <= 0 for it in sides)
 
 
 def texts_of(svg):
@@ -64,6 +78,32 @@ class Pictures(unittest.TestCase):
         self.assertIn("1,1", words)
         self.assertIn("c1 c2", words)
 
+    def test_names_of_a_tree_can_be_read(self):
+        # (a page of text shows a picture at most 800 wide: letters are 11 high then, meet no arrow, and stand inside one chip)
+        job = Job.from_text((EXAMPLES.parent / "docs" / "pictures" / "board.json").read_text()) if DOCS else star(8)
+        tried = 0
+        for drawn, nets in ((job, [it.name for it in job.nets[::40]]), (star(3), ["n"]), (star(8), ["n"]), (star(12), ["n"])):
+            report = run(drawn)
+            for net in nets:
+                shapes = ElementTree.fromstring(draw("tree", drawn, report, net))
+                share = min(1.0, 800 / float(shapes.get("width")))
+                arrows = [[float(it.get(name)) for name in ("x1", "y1", "x2", "y2")] for it in shapes.iter(f"{SVG}line") if it.get("marker-end")][:-1]
+                hexagons = [[[float(part) for part in point.split(",")] for point in it.get("points").split()] for it in shapes.iter(f"{SVG}polygon")]
+                middles = [tuple(sum(axis) / 6 for axis in zip(*corners)) for corners in hexagons]
+                for text in shapes.iter(f"{SVG}text"):
+                    size, x, y = (float(text.get(name)) for name in ("font-size", "x", "y"))
+                    self.assertGreaterEqual(size * share, 11)
+                    inside = [corners for corners, middle in zip(hexagons, middles) if abs(middle[0] - x) + abs(middle[1] - y) < 45 * share]
+                    if text.get("text-anchor") != "middle" or not any(is_in(corners, x, y - size / 3) for corners in inside):
+                        continue
+                    half, tried = 0.3 * size * len(text.text), tried + 1
+                    box = [(x + dx, y + dy) for dx in (-half, half) for dy in (0, -0.7 * size)]
+                    self.assertTrue(any(all(is_in(corners, *point) for point in box) for corners in inside), text.text)
+                    for x1, y1, x2, y2 in arrows:
+                        points = [(x1 + (x2 - x1) * i / 40, y1 + (y2 - y1) * i / 40) for i in range(41)]
+                        self.assertFalse(any(x - half < px < x + half and y - 0.7 * size < py < y for px, py in points), text.text)
+        self.assertGreater(tried, 400)
+
     def test_names_are_text(self):
         job = Job(Machine(1, 1), [Vertex("<a&b>")], [Net('"]]>', "<a&b>", ["<a&b>"])], [Packet('"]]>')])
         for kind in KINDS:
@@ -105,7 +145,7 @@ class Commands(unittest.TestCase):
             try:
                 os.environ["PATH"] = folder
                 status, written, told = called("draw", "mesh", EXAMPLES / "fan_out.json", EXAMPLES / "fan_out.report", "--png")
-                self.assertEqual((status, written), (1, b""))
+                self.assertEqual((status, written), (127, b""))
                 self.assertIn("rsvg-convert", told)
                 tool = Path(folder, "rsvg-convert")
                 tool.write_text("#!/bin/sh\nread -r line; echo \"$*: $line\"\n")

@@ -6,11 +6,14 @@ import json
 import tempfile
 import unittest
 from pathlib import Path
+from unittest import mock
 
-from kulzobad import Job, KeyedNet, Machine, Net, Right, Row, Vertex, compile, tables, verify
+from kulzobad import Job, KeyedNet, Machine, Net, Packet, Right, Row, Vertex, compile, tables, verify
+from kulzobad import verifying
 from kulzobad.cli import main
 from kulzobad.formats import Network, Rig, RigEndpoint, RigEntry, RigMachine, RigNet, from_rig, network_of_job, read_csv, read_dump, read_network
 from kulzobad.formats import read_router_entries, read_rows, to_rig, write_csv, write_dump, write_network, write_router_entries
+from kulzobad.program import answer_to_text
 
 EAST, CORE_1 = Row(0x1000, 0xFFFFFFF0, 0x1), Row(0x1000, 0xFFFFFFF0, 0x80)
 ROWS = {(0, 0): (EAST,), (2, 1): (Row(0xDEADBEEF, 0xFFFFFFFF, 0xABCDEF), CORE_1)}
@@ -65,12 +68,27 @@ class Text(unittest.TestCase):
             self.assertEqual(read_rows(text), ROWS)
         self.assertEqual(read_rows(""), {})
 
+    def test_lines_of_values_end_in_any_way(self):
+        for end in ("\r", "\r\n"):
+            self.assertEqual(read_rows(self.csv.replace("\n", end)), ROWS)
+
+    def test_what_the_program_writes(self):
+        job = Job(Machine(4, 1), [Vertex("a", at=(0, 0)), Vertex("b", at=(3, 0))], [Net("n", "a", ["b"])], [Packet("n")])
+        rows = {chip: table.rows for chip, table in compile(job).tables.items()}
+        for word in ("tables", "run"):
+            text = answer_to_text([word], job.text().encode(), None).decode()
+            self.assertEqual(read_rows(text), rows)
+            for other in (text[:-1], text.replace("table 3 0 1", "table 3 0 2"), text.replace("table 0", "table 4"), text.replace("\n", "\r\n")):
+                with self.assertRaisesRegex(ValueError, r"^line \d+"):
+                    read_rows(other)
+
     def test_lines_that_are_none(self):
         for text, told in (
             ("x,y,key,mask\n0,0,1,1", "first line"), ("x,y,key,mask,route,core\n", "first line"), ("x,y,key,key,route\n", "first line"),
             (self.csv + "0,0,1,1\n", "line 5: 4 items"), (self.csv + "0,0,1,1,1,1\n", "line 5: 6 items"), (self.csv + "0,0,1,f,1\n", "line 5: no number: 'f'"),
             ("x,y,key,mask,route\n0,-1,1,1,1\n", "line 2: no number"), ("x,y,key,mask,route\n0,0,1_0,1,1\n", "line 2"),
-            ("x,y,key,mask,route\n0,0,\u0661,1,1\n", "line 2"), (self.dump + "0 0 1 1\n", "line 4"), ("0 0 1 1 1 1\n", "line 1"), ("a 0 1 1 1\n", "line 1"),
+            ("x,y,key,mask,route\n0,0,\u0661,1,1\n", "line 2"), (self.csv + "0,0,1,1," + "1" * 131073, "line 5: field larger than"),
+            (self.csv + '0,0,1,1,"1', "line 5: unexpected end"), (self.csv + "0,0,1,\0,1\n", "line 5"), (self.dump + "0 0 1 1\n", "line 4"), ("0 0 1 1 1 1\n", "line 1"), ("a 0 1 1 1\n", "line 1"),
         ):
             with self.assertRaisesRegex(ValueError, told):
                 read_rows(text)
@@ -199,13 +217,14 @@ class Networks(unittest.TestCase):
             ({**whole, "nets": [{"name": "n", "source": "eye", "targets": "left", "first": 1, "count": 1}]}, "targets"),
             ({**whole, "nets": [{"name": "n", "source": "eye", "targets": ["left"], "blocks": [["x", 1]]}]}, "no number: 'x'"),
             ({**whole, "nets": [{"name": "n", "source": "eye", "targets": ["left"], "blocks": [[1]]}]}, "list of 2"),
-            ({**whole, "trees": {"gain": [[0, 0]]}}, "list of 3"), ([], "no object"),
+            ({**whole, "trees": {"gain": [[0, 0, "X"]]}}, "trees.gain.*'X'"), ({**whole, "trees": {"gain": [[0, 0]]}}, "trees.gain.*and should be .x, y, link."), ([], "no object"),
         ]
         for value, told in spoiled:
             with self.assertRaisesRegex(ValueError, told):
                 read_network(json.dumps(value))
-        with self.assertRaises(ValueError):
-            read_network("{")
+        for text, told in (("{", "Expecting"), (self.text.replace('"left": [', '"eye": ['), "the member eye stands twice")):
+            with self.assertRaisesRegex(ValueError, told):
+                read_network(text)
 
     def test_the_network_of_a_job(self):
         job = Job(Machine(2, 1), [Vertex("a"), Vertex("b"), Vertex("led", device=(1, 0, 0))], [Net("n", "a", ["b", "led"], 3)])
@@ -248,20 +267,32 @@ class Command(unittest.TestCase):
 
     def test_the_way_of_a_key(self):
         status, out = self.called(Networks.text, self.rows + "1,1,9,0xffffffff,1\n")
-        self.assertEqual((status, out.splitlines()), (1, [
+        self.assertEqual((status, out.splitlines()), (20, [
             "dies spikes 00001000", "at 0 0 from L row 0 to E", "at 1 0 from W default to E", "at 2 0 from W row 0 to NE",
             "note at 1 1 row 0: no net has a key of it", "note at 1 1 1 rows: no packets come there",
         ]))
 
+    def test_a_question_that_is_not_decided(self):
+        bits = [(i, j) for i in range(4, 12) for j in range(16, 24)]
+        rows = "".join(f"0 0 0 {1 << i | 1 << j:x} 1\n" for i, j in bits) + "0 0 0 0 1\n2 0 0 0 a0\n"
+        text = Networks.text.replace('"0x1000", 4294967280', "0, 0").replace('[2, 1, "N"]', '[2, 0, "S"]')
+        with mock.patch.multiple(verifying, MOST_CUTS=30, CUTS_OF_A_ROW=0):
+            status, out = self.called(text, rows)
+        self.assertEqual((status, out.count("\n")), (4, 1))
+        self.assertIn("net 'spikes' is not decided: rows cut its keys into too many parts. They care for 16 bits", out)
+
     def test_tables_of_a_job(self):
         job = Job(Machine(2, 1), [Vertex("a"), Vertex("b", at=(1, 0))], [Net("n", "a", ["b"], 3)])
         self.assertEqual(self.called(job.text(), compile(job).data), (0, "right\n"))
-        self.assertEqual(self.called(job.text(), "0 0 0 0 000001\n"), (1, "dies n 00000000\nat 0 0 from L row 0 to E\nat 1 0 from W default to E\n"))
+        self.assertEqual(self.called(job.text(), answer_to_text(["tables"], job.text().encode(), None)), (0, "right\n"))
+        self.assertEqual(self.called(job.text(), "0 0 0 0 000001\n"), (20, "dies n 00000000\nat 0 0 from L row 0 to E\nat 1 0 from W default to E\n"))
 
     def test_files_that_are_none(self):
         for network, rows, told in (
             ("{", self.rows, "/network: Expecting"), (Networks.text, "0 0 1", "/rows: line 1"), ('{"graph": 1}', self.rows, "/network: "),
-            (Networks.text.replace("[2, 1,", "[2, 2,"), self.rows, "outside the grid"), (Networks.text, b"SPNT", "/rows: no image"),
+            (Networks.text.replace("[2, 1,", "[2, 2,"), self.rows, "outside the grid"), (Networks.text, "table 0 0 1\nend rows 0\n", "/rows: line 2 is"),
+            (Networks.text, b"SPNT\1\5\7\0\0\0", "other machine: the image is of 5 by 7 chips without wrap, and the machine has 3 by 2"),
+            (Networks.text, b"SPNT\1\3\2\2\0\0", "/rows: bad image 7: wrap is 2"), (Networks.text, b"SPNT", "/rows: bad image 4: the bytes end"),
         ):
             status, out = self.called(network, rows)
             self.assertEqual(status, 4)

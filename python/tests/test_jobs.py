@@ -1,9 +1,16 @@
 """Jobs as they are written and read: arguments of a wrong kind, members that are none, and trees."""
+import builtins
+import importlib
 import json
+import types
 import unittest
 from pathlib import Path
 
+import kulzobad
+from kulzobad import calls, events, steps
 from kulzobad import Job, Machine, Net, Packet, Refused, Right, UnknownMembers, Vertex
+from kulzobad.links import Links, Routes, routes_of, word_of
+from kulzobad.reports import cores_of, links_of
 from kulzobad import apps, check, collect, compile, decode, dump, encode, gen, inject, load, run, send, take, trees, unload
 from kulzobad.members import MEMBERS
 from kulzobad.schema import schema
@@ -37,7 +44,9 @@ class Kinds(unittest.TestCase):
             (lambda: Machine("8", 8), r"Machine\.width is '8'"),
             (lambda: Machine(8, 8, 1), r"Machine\.wrap is 1, and should be True or False"),
             (lambda: Machine(8, 8, dead_chips=(0, 1)), r"Machine\.dead_chips\[0\] is 0, and should be \(x, y\)"),
-            (lambda: Machine(8, 8, dead_links=[(0, 1, "E")]), r"Machine\.dead_links\[0\]\[2\] is 'E'"),
+            (lambda: Machine(8, 8, dead_links=[(0, 1, "e")]), r"Machine\.dead_links\[0\]\[2\] is 'e', and should be the number of a link, or one of E, NE, N, W, SW, S"),
+            (lambda: Machine(8, 8, dead_links=[(0, "1", 1)]), r"Machine\.dead_links\[0\]\[1\] is '1', and should be a whole number"),
+            (lambda: Vertex("a", device=(0, 0, "EE")), r"Vertex\.device\[2\] is 'EE', and should be the number of a link"),
             (lambda: Machine(8, 8, dead_cores={}), r"Machine\.dead_cores is \{\}, and should be a list of \(x, y, core\)"),
             (lambda: Job((8, 8)), r"Job\.machine is \(8, 8\), and should be a Machine"),
             (lambda: Job(Machine(1, 1), ["a"]), r"Job\.vertices\[0\] is 'a', and should be a Vertex"),
@@ -65,6 +74,22 @@ class Kinds(unittest.TestCase):
             (lambda: encode(Machine(1, 1), {(0, 0): [(1, 2)]}), r"encode: tables\[\(0, 0\)\]\[0\] is \(1, 2\), and should be \(key, mask"),
         ):
             with self.assertRaisesRegex(TypeError, told):
+                made()
+
+    def test_links_by_letters_and_by_names(self):
+        for i, name in enumerate(("E", "NE", "N", "W", "SW", "S")):
+            for link in (name, i, Links(i), Links[name], Routes[name]):
+                self.assertEqual(Machine(2, 2, dead_links=[(0, 1, link)]), Machine(2, 2, dead_links=[(0, 1, i)]))
+                self.assertEqual(Vertex("a", device=(0, 1, link)).as_json(), {"name": "a", "sdram": 0, "device": [0, 1, i]})
+                self.assertEqual(check(pair(), {"n": [(0, 0, link)]}, b"").net, "n")
+        self.assertEqual([it.opposite.name for it in Links], ["W", "SW", "S", "E", "NE", "N"])
+        for word in (0, 1, 0x820, 0xFFFFFF):
+            self.assertEqual([it.name for it in sorted(routes_of(word)) if it.is_link], links_of(word))
+            self.assertEqual([it.core for it in sorted(routes_of(word)) if not it.is_link], cores_of(word))
+            self.assertEqual(word_of(routes_of(word)), word)
+        self.assertEqual((word_of([0, Routes.C17]), routes_of(1 << 7)), (0x800001, {Routes.C1}))
+        for made in (lambda: word_of([24]), lambda: Routes.S.core):
+            with self.assertRaises(ValueError):
                 made()
 
     def test_values_are_kept_as_they_are(self):
@@ -118,6 +143,8 @@ class Texts(unittest.TestCase):
             (spoiled(machine=None), r"^job.machine is not there"),
             (spoiled(machine={"width": 1}), r"^job.machine.height is not there"),
             (spoiled(machine={"width": 1, "height": "1"}), r"^job.machine.height is '1', and should be a whole number"),
+            (spoiled(machine={"width": 1, "height": 1, "dead_links": [[0, 0, "E"]]}), r"^job.machine.dead_links\[0\]\[2\] is 'E', and should be a whole"),
+            (spoiled(version=3, graph={"vertices": [{"name": "a", "device": [0, 0, "E"]}], "nets": []}), r"^job.graph.vertices\[0\].device\[2\] is 'E'"),
             (spoiled(graph={"vertices": {}, "nets": []}), r"^job.graph.vertices is \{\}, and should be a list"),
             (spoiled(graph={"vertices": [3], "nets": []}), r"^job.graph.vertices\[0\] is 3, and should be an object"),
             (spoiled(graph={"vertices": [], "nets": [{"name": "n", "source": "a", "targets": "b"}]}), r"^job.graph.nets\[0\].targets is"),
@@ -137,6 +164,23 @@ class Texts(unittest.TestCase):
         for kind, part in parts.items():
             self.assertEqual(set(part["properties"]), set(MEMBERS[kind]), kind)
             self.assertIs(part["additionalProperties"], False)
+
+
+class Names(unittest.TestCase):
+    def test_a_dozen_stand_at_the_top(self):
+        self.assertEqual((len(set(kulzobad.__all__) - {"__version__"}), dir(kulzobad)), (12, sorted(kulzobad.__all__)))
+        self.assertEqual([it for it in kulzobad.__all__ if hasattr(builtins, it)], [])
+
+    def test_each_name_is_that_of_its_module(self):
+        for module, names in kulzobad._MOVED.items():
+            home = importlib.import_module(f"kulzobad.{module}")
+            for name in names.split():
+                self.assertIs(getattr(kulzobad, name), getattr(home, name))
+                self.assertNotIsInstance(getattr(home, name), types.ModuleType)
+        for module in (calls, events, steps):
+            self.assertEqual([it for it in module.__all__ if not hasattr(module, it)], [])
+        with self.assertRaises(AttributeError):
+            kulzobad.nothing
 
 
 class Trees(unittest.TestCase):

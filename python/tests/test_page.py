@@ -10,6 +10,7 @@ import re
 import sys
 import tempfile
 import unittest
+from collections import Counter
 from html.parser import HTMLParser
 from pathlib import Path
 
@@ -283,6 +284,46 @@ ROWS = """0 0 00001000 ffffffe0 000001
 2 1 00002000 fffffffc 000004
 """
 MENDED = "2 0 00001010 ffffffff 000080\n" + ROWS
+
+
+# Net `gain` goes straight on, out of the grid.
+DEAD_END = "".join(f"{line}\n" for line in ROWS.splitlines() if line != "2 1 00001000 ffffffe0 000080") + "2 1 00001000 fffffff0 000080\n"
+DEAD_END = DEAD_END.replace("2 0 00001000 ffffffe0 000084", "2 0 00001000 fffffff0 000084")
+
+# The words on chips that meet an arrow, and how many words there are.
+OVERLAPS = """(() => {
+    const words = [...document.querySelectorAll('.tree-word, #labels .place, #astray .word')].filter(it => it.textContent
+        && it.getAttribute('visibility') !== 'hidden' && getComputedStyle(it).display !== 'none');
+    const lines = [...document.querySelectorAll('#overlay .hop-line, #astray .hop-line')].map(it =>
+        ['x1', 'y1', 'x2', 'y2'].map(name => it[name].baseVal.value));
+    const met = words.filter(it => {
+        const box = it.getBBox();
+        return lines.some(([x1, y1, x2, y2]) => [...Array(41).keys()].some(i => {
+            const x = x1 + (x2 - x1) * i / 40, y = y1 + (y2 - y1) * i / 40;
+            return x > box.x && x < box.x + box.width && y > box.y + box.height * 0.2 && y < box.y + box.height * 0.85;
+        }));
+    });
+    return [met.map(it => it.textContent), words.length];
+})()"""
+
+
+def luminance(colour):
+    """How bright a colour is, as a style tells it."""
+    parts = [int(it) / 255 for it in re.findall(r"\d+", colour)[:3]]
+    linear = [it / 12.92 if it <= 0.04045 else ((it + 0.055) / 1.055) ** 2.4 for it in parts]
+    return sum(share * it for share, it in zip((0.2126, 0.7152, 0.0722), linear))
+
+
+def chunks(data, size):
+    """Bytes in parts of this size."""
+    return [data[at:at + size] for at in range(0, len(data), size)]
+
+
+def star():
+    """A net from the middle chip to several cores of each chip of a grid of 3 by 3."""
+    names = [f"v{x}{y}{i}" for x in range(3) for y in range(3) for i in range(3)]
+    vertices = [{"name": "a", "at": [1, 1]}, *({"name": name, "at": [int(name[1]), int(name[2])]} for name in names)]
+    return {"version": 1, "machine": {"width": 3, "height": 3}, "graph": {"vertices": vertices, "nets": [{"name": "n", "source": "a", "targets": names}]}}
 
 
 def spoiled(tables, draw):
@@ -699,6 +740,152 @@ class Pages(unittest.TestCase):
             self.asks("n", "spikes", "Net spikes")
             self.assertIn("272 keys", self.browser.texts("dl")[0])
             self.asks("c", "led", "Chip (2, 1)")
+
+    def network_page(self, name, network, rows, part=""):
+        """Opens the page of a network with these rows."""
+        read = read_network(json.dumps(network))
+        read.tables = read_rows(rows)
+        path = Path(self.folder.name) / f"{name}.html"
+        path.write_bytes(verified_page(read, "network.json").encode())
+        self.browser.open(path, part)
+        return self.browser
+
+    def contrast(self, one, other, of="fill", and_of="fill"):
+        """How much the colours of two elements differ, as the W3C counts it."""
+        styles = [f"getComputedStyle(document.querySelector({json.dumps(it)})).{name}" for it, name in ((one, of), (other, and_of))]
+        first, second = sorted(luminance(self.browser.ask(it)) for it in styles)
+        return (second + 0.05) / (first + 0.05)
+
+    def test_what_goes_astray_is_what_the_eye_falls_on(self):
+        line = "document.querySelector('#astray .hop-line')"
+        for rows, key, is_ring in ((ROWS, None, True), (DEAD_END, None, False), (DEAD_END, "0x1010", False)):
+            browser = self.network_page("astray", NETWORK, rows)
+            if key:
+                self.asks("k", key, "Key 00001010 (4112)")
+            self.assertEqual((browser.count("#astray polygon"), browser.count("#astray .hop-line")), (1, 0) if is_ring else (0, 1))
+            # (it is drawn last, so that nothing lies above it, and other hops are of another colour)
+            self.assertEqual(browser.ask("document.querySelector('#world').lastElementChild.id"), "astray")
+            what = "#astray polygon" if is_ring else "#astray .hop-line"
+            red = browser.ask(f"getComputedStyle(document.querySelector({what!r})).stroke")
+            self.assertRegex(red, r"rgb\(2\d\d, \d\d?, \d\d?\)")
+            self.assertNotEqual(browser.ask("getComputedStyle(document.querySelector('#overlay .hop-line')).stroke"), red)
+            if not is_ring:
+                self.assertEqual(browser.ask(f"{line}.getAttribute('marker-end')"), "url(#tip-astray)")
+                self.assertEqual(browser.ask("getComputedStyle(document.querySelector('#tip-astray path')).fill"), red)
+                widths = [browser.ask(f"parseFloat(getComputedStyle(document.querySelector('{it} .hop-line')).strokeWidth)") for it in ("#astray", "#overlay")]
+                self.assertGreater(*widths)
+            self.assertEqual(self.browser.count("#overlay .lost"), 0)
+
+    def test_words_and_coordinates_keep_clear_of_arrows(self):
+        tried = 0
+        for name, text, nets in (("board", BOARD.read_bytes(), ("n0", "n53", "n138", "n299")), ("star", text_of(star()), ("n",))):
+            browser = self.open(name, text)
+            for net in nets:
+                self.asks("n", net, f"Net {net}")
+                met, count = browser.ask(OVERLAPS)
+                self.assertEqual(met, [], net)
+                tried += count
+        self.assertGreater(tried, 40)
+        browser = self.network_page("clear", NETWORK, DEAD_END)
+        self.assertEqual(browser.ask(OVERLAPS)[0], [])
+
+    def test_what_is_used_stands_out(self):
+        job = {"version": 1, "machine": {"width": 64, "height": 64, "dead_chips": [[9, 9]]}, "graph": {
+            "vertices": [{"name": f"v{i}", "at": [i, i]} for i in range(9)],
+            "nets": [{"name": f"n{i}", "source": f"v{i}", "targets": [f"v{i - 1}"] if i else [f"v{j}" for j in range(9)]} for i in range(9)]}}
+        for scheme in ("light", "dark"):
+            self.browser.scheme(scheme)
+            browser = self.open("sparse", text_of(job))
+            levels = browser.ask("[...new Set([...document.querySelectorAll('#cells .cell')].map(it => it.className.baseVal))].sort()")
+            self.assertEqual(levels, ["cell ", "cell dead", "cell h4", "cell h6"])
+            for level in (1, 2, 3, 4, 5, 6):
+                browser.ask(f"document.querySelector('[data-chip=\"0\"]').setAttribute('class', 'cell h{level}')")
+                self.assertGreaterEqual(self.contrast("[data-chip='0']", "[data-chip='4095']"), 3, (scheme, level))
+            for box in ("#net", "#show", "#nearer"):
+                self.assertGreaterEqual(self.contrast(box, "body", "borderTopColor", "backgroundColor"), 3, (scheme, box))
+            browser = self.board("#show=rows")
+            kinds = "[...document.querySelectorAll('#labels .place')].map((it, i) => [it.className.baseVal, document.querySelectorAll('#cells .cell')[i].className.baseVal])"
+            for place, cell in {tuple(it) for it in browser.ask(kinds)}:
+                text, ground = (f"{kind}[class='{name}']" for kind, name in (("#labels text", place), ("#cells polygon", cell)))
+                self.assertGreaterEqual(self.contrast(text, ground), 3, (scheme, place, cell))
+        self.browser.scheme("light")
+
+    def test_lists_of_the_overview_sort(self):
+        browser, found = self.board("#show=rows"), page_data(BOARD.read_bytes())
+        rows = {int(chip): len(base64.b64decode(it)) // 12 for chip, it in found["tables"].items()}
+        at = [f"({chip // 8}, {chip % 8})" for chip in sorted(rows, key=lambda it: (-rows[it], it))]
+        listed = "[...document.querySelectorAll('#{0} tbody tr')].map(it => it.cells[{1}].textContent)"
+        self.assertEqual(browser.ask(listed.format("chips", 0)), at[:12])
+        self.assertEqual(browser.texts("#longest a"), at[:1])
+        browser.ask("document.querySelector('#longest a').click()")
+        self.shows(f"Chip {at[0]}")
+        self.goes("#show=rows")
+        packets = Counter()
+        for chip, _, count in found["outcome"]["links"]:
+            packets[chip] += count
+        hops = [sum(bin(it[5]).count("1") for it in chunks(base64.b64decode(tree), 6)) for tree in found["trees"]]
+        traffic = [sent * count for (sent, _, _), count in zip(found["outcome"]["nets"], hops)]
+        for name, head, column, wanted in (
+            ("chips", "packets", 3, sorted(packets.values())), ("nets", "hops", 3, sorted(hops)), ("nets", "traffic", 6, sorted(traffic)),
+        ):
+            for is_up in (False, True):
+                browser.ask(f"document.querySelector(\"#{name} [data-head='{head}']\").click()")
+                told = browser.ask(f"document.querySelector(\"#{name} [data-head='{head}']\").parentNode.ariaSort")
+                self.assertEqual(told, "ascending" if is_up else "descending")
+                shown = [int(it.replace(",", "")) for it in browser.ask(listed.format(name, column))]
+                if name == "nets" or not is_up:
+                    self.assertEqual(shown, (wanted if is_up else wanted[::-1])[:12], (head, is_up))
+                self.assertEqual(shown, sorted(shown, reverse=not is_up))
+            self.assertEqual(browser.ask("document.activeElement.dataset.head"), head)
+
+    def test_runs_stand_beside_each_other(self):
+        job = json.loads(BOARD.read_text())
+        for queues, wanted in ((None, (600, 4, 1)), ((8, 600, 2), (600, 8, 2)), ((), (600,))):
+            found = page_data(BOARD.read_bytes(), queues=queues)["outcome"]["runs"]
+            self.assertEqual([it["queue"] for it in found], list(wanted))
+            for it in found:
+                report = asked("run", text_of({**job, "run": {**job["run"], "queue": it["queue"]}}))
+                self.assertEqual((it["delivered"], it["dumped"]), (len(report.deliveries), len(report.dumps)))
+                self.assertEqual(dict(it["chips"]), Counter(dump.x * 8 + dump.y for dump in report.dumps))
+        self.assertEqual(page_data(BOARD.read_bytes(), "reinject")["outcome"]["runs"], [])
+        browser, runs = self.board(), page_data(BOARD.read_bytes())["outcome"]["runs"]
+        texts = [word for it in runs for word in (f"queue {it['queue']}", f"{it['dumped']} dumped")]
+        self.assertEqual(browser.texts("#runs .chart text"), texts)
+        widths = browser.ask("[...document.querySelectorAll('#runs .bar')].map(it => it.width.baseVal.value)")
+        self.assertEqual([round(it / widths[-1], 3) for it in widths], [round(it["dumped"] / runs[-1]["dumped"], 3) for it in runs])
+        at = [max(it["chips"], key=lambda chip: chip[1]) for it in runs if it["dumped"]]
+        self.assertEqual(browser.texts("#runs .run a"), [f"({chip // 8}, {chip % 8})" for chip, _ in at])
+        with tempfile.TemporaryDirectory() as folder:
+            self.assertEqual(called("page", BOARD, "--queues", "8,2", "-o", f"{folder}/a.html")[0], 0)
+            self.assertIn('"queue":8,', Path(folder, "a.html").read_text())
+            for spoiled_list in ("0", "8,", "x", "70000", "1,2,3,4,5", ""):
+                self.assertEqual(called("page", BOARD, "--queues", spoiled_list)[0], 64)
+
+    def test_nothing_is_cut_in_the_head_and_a_phone_has_the_answer_first(self):
+        # (what is written into a box is as wide as its letters, and may not be wider than the box inside)
+        cut = """[...document.querySelectorAll('header *')].filter(it => {
+            if (it.scrollWidth > it.clientWidth + 1 && getComputedStyle(it).overflow !== 'visible' && !it.closest('.unseen, ul')) return true;
+            if (!it.placeholder) return false;
+            const pen = document.createElement('canvas').getContext('2d'), style = getComputedStyle(it);
+            pen.font = style.font;
+            return pen.measureText(it.placeholder).width > it.clientWidth - parseFloat(style.paddingLeft) - parseFloat(style.paddingRight);
+        }).map(it => it.id || it.tagName)"""
+        facts = "document.querySelector('#facts').textContent"
+        inside = "[...document.querySelectorAll('header input, header button, header select')].every(it => it.getBoundingClientRect().right <= innerWidth)"
+        try:
+            for width in (1280, 1024, 390):
+                self.browser.sized(width, 800)
+                browser = self.board("#net=n53")
+                if width == 1280:
+                    self.assertEqual(browser.ask(cut), [])
+                self.assertIn("dumped", browser.ask(facts))
+                self.assertTrue(browser.ask(inside), width)
+                self.assertLessEqual(browser.ask("document.documentElement.scrollWidth"), width)
+                tops = browser.ask("['#answer', '#picture'].map(it => document.querySelector(it).getBoundingClientRect().top)")
+                self.assertEqual(tops[0] < tops[1], width == 390)
+            self.assertLess(tops[0], 250)
+        finally:
+            self.browser.sized(1280, 800)
 
     def test_the_largest_machine_opens(self):
         names = [f"v{i}" for i in range(4096)]

@@ -4,14 +4,17 @@ import contextlib
 import email
 import hashlib
 import io
+import json
 import os
 import pty
 import re
+import select
 import shutil
 import subprocess
 import sys
 import tarfile
 import tempfile
+import time
 import unittest
 import zipfile
 from pathlib import Path
@@ -19,7 +22,7 @@ from pathlib import Path
 import kulzobad
 from kulzobad import Job, Machine, Refused, gen, run
 from kulzobad.program import NoProgram, program_of
-from kulzobad.progress import is_shown, several, showing
+from kulzobad.progress import is_shown, several, showing, speak
 from kulzobad.versions import VERSION, version_text
 from tests.test_cli import called
 
@@ -66,6 +69,7 @@ class Found(unittest.TestCase):
         lines = version_text(program_of()).splitlines()
         self.assertEqual(lines[:2], [f"kulzobad {VERSION}", f"program {program_of()}"])
         self.assertEqual(called("--version")[0], 0)
+        self.assertEqual(kulzobad.__version__, VERSION)
 
     def test_an_answer_that_is_not_whole(self):
         with tempfile.TemporaryDirectory() as folder:
@@ -75,9 +79,9 @@ class Found(unittest.TestCase):
             job = b'{"version":1,"machine":{"width":1,"height":1},"graph":{"vertices":[],"nets":[]}}'
             for words in (("tables", "--json"), ("compile", "--json"), ("check", "--json", "--lenient"), ("apps", "--json"), ("trees",), ("draw", "mesh")):
                 status, written, told = called(*words, "-", "--program", program, given=job)
-                self.assertEqual((status, written, told.count("\n")), (1, b"", 1), words)
-            status, written, told = called("gen", "1", "--json", "--program", program)
-            self.assertEqual((status, written, told.count("\n")), (1, b"", 1))
+                self.assertEqual((status, written, told.count("\n")) if "--json" not in words else (status, json.loads(written)["refused"]["kind"], told),
+                                 (70, b"", 1) if "--json" not in words else (70, "not whole", ""), words)
+            self.assertEqual(called("gen", "1", "--json", "--program", program)[::2], (70, ""))
 
     def test_a_program_of_another_kind(self):
         with tempfile.TemporaryDirectory() as folder:
@@ -110,6 +114,31 @@ class Shown(unittest.TestCase):
         # (whatever the seconds are: a busy machine may take its time)
         shown = re.sub(r": \d+ s", ": 0 s", told.getvalue().replace("\r\x1b[K", "|"))
         self.assertEqual(shown, "|kulzobad: tables, 1 of 2: 0 s||kulzobad: run, 2 of 2: 0 s|")
+
+    def test_work_of_python_is_shown_too_and_nothing_where_somebody_asked_for_quiet(self):
+        for is_quiet, wanted in ((False, r"\A(\|kulzobad: page: ways of nets: \d+ s)+\|\Z"), (True, r"\A\Z")):
+            with contextlib.redirect_stderr(Terminal()) as told:
+                speak(is_quiet=is_quiet)
+                try:
+                    with showing("page"), showing("page: ways of nets"):
+                        time.sleep(1.2)
+                finally:
+                    speak()
+            self.assertRegex(told.getvalue().replace("\r\x1b[K", "|"), wanted)
+
+    def test_each_command_is_shown_while_it_works(self):
+        # (also while it waits for what it reads; a busy machine may take its time)
+        kept, terminal = pty.openpty()
+        try:
+            words = [sys.executable, "-m", "kulzobad", "trees", "-"]
+            with subprocess.Popen(words, cwd=PACKAGE.parent, stdin=subprocess.PIPE, stdout=subprocess.DEVNULL, stderr=terminal) as process:
+                is_there = select.select([kept], [], [], 60)[0]
+                process.communicate(b"[]")
+            self.assertTrue(is_there)
+            self.assertRegex(os.read(kept, 10000), rb"\A(\r\x1b\[Kkulzobad: trees: [1-9]\d* s)+\r\x1b\[K")
+        finally:
+            os.close(kept)
+            os.close(terminal)
 
     def test_a_program_that_is_ended_by_a_signal(self):
         with tempfile.TemporaryDirectory() as folder:
@@ -165,6 +194,43 @@ class Built(unittest.TestCase):
         self.assertIn("Typing :: Typed", told.get_all("Classifier"))
         self.assertTrue(told.get_payload().startswith("# kulzobad\n"))
         self.assertIn("Apache License", building.text_of("LICENSE"))
+
+    def test_a_release_is_tagged(self):
+        root = PACKAGE.parents[1]
+        with tempfile.TemporaryDirectory() as folder:
+            scripts = ("tools/release.py", "tools/proved.py", "tools/compile.py")
+            for name in (*scripts, "python/building.py", "python/pyproject.toml", "CHANGELOG.md"):
+                Path(folder, name).parent.mkdir(exist_ok=True)
+                shutil.copy(root / name, Path(folder, name))
+            Path(folder, ".gitignore").write_text("dist/\n__pycache__/\n")
+
+            def git(*words):
+                known = ["-c", "user.name=a", "-c", "user.email=a@b", "-c", "commit.gpgsign=false", "-c", "tag.gpgsign=false"]
+                return subprocess.run(["git", *known, *words], cwd=folder, capture_output=True, text=True, check=True).stdout.strip()
+
+            def tagged():
+                known = {**os.environ, "GIT_AUTHOR_NAME": "a", "GIT_AUTHOR_EMAIL": "a@b", "GIT_COMMITTER_NAME": "a", "GIT_COMMITTER_EMAIL": "a@b"}
+                words = [sys.executable, "tools/release.py", "--tag"]
+                done = subprocess.run(words, cwd=folder, env=known, capture_output=True, text=True, check=False)
+                return done.returncode, done.stdout
+
+            git("init", "-q")
+            git("add", "-A")
+            git("commit", "-qm", "first")
+            commit = git("rev-parse", "HEAD")
+            self.assertEqual(tagged(), (1, f"FAILED: dist/ has no wheel of {VERSION}: make it by tools/release.py\n"))
+            Path(folder, "dist").mkdir()
+            for made_from, status in (("another", 1), (f"{commit} with changes", 1), (commit, 0), (commit, 1)):
+                with zipfile.ZipFile(f"{folder}/dist/kulzobad-{VERSION}-py3-none-linux_x86_64.whl", "w") as wheel:
+                    wheel.writestr("kulzobad/compiled/built.json", json.dumps({"commit": made_from}))
+                self.assertEqual(tagged()[0], status, made_from)
+            self.assertEqual((git("tag"), git("rev-parse", f"v{VERSION}^{{commit}}")), (f"v{VERSION}", commit))
+            git("tag", "-d", f"v{VERSION}")
+            Path(folder, "more").write_text("")
+            self.assertEqual(tagged()[0], 1)
+            Path(folder, "more").unlink()
+            Path(folder, "CHANGELOG.md").write_text("# Changes\n\n## 0.1.0\n")
+            self.assertEqual(tagged(), (1, f"FAILED: CHANGELOG.md has no part on {VERSION}\n"))
 
     def test_an_archive_of_sources_builds_the_same_wheel(self):
         with tempfile.TemporaryDirectory() as folder:

@@ -14,6 +14,8 @@ from tests.test_cli import called
 
 EXAMPLES = Path(__file__).resolve().parents[2] / "examples"
 THREE = ("short_tables", "trace_full_queue", "fan_out")
+# Two vertices and a net of two keys.
+HEAD = "place a 0 0 1\nplace b 1 0 18\nkeys n 00000000 fffffffe\n"
 
 
 def written(report):
@@ -79,8 +81,8 @@ class Whole(unittest.TestCase):
             ("end rows 1\n", r"line 1 is 'end rows 1': before it are 0"),
             (end + end, "line 2 is .*: it comes behind the last line"),
             ("end rows 0\n" + end, "line 2 is .*: it comes behind the last line"),
-            ("got a 0 00000000 -\n" + end, "line 2 is .*: before it are 1, 0, 0"),
-            ("got a 0 00000000 -\nend rows 0\n", "line 2 is .*: so ends the text of tables"),
+            (HEAD + "got a 0 00000001 -\n" + end, "line 5 is .*: before it are 1, 0, 0"),
+            (HEAD + "got a 0 00000001 -\nend rows 0\n", "line 5 is .*: so ends the text of tables"),
             ("table 0 0 2\n00000000 ffffffff 000001\nend rows 1\n", "line 3 is 'end rows 1': it is no row"),
             ("table 0 0 2\n00000000 ffffffff 000001\n", "line 3 is not there: the report was cut off"),
             ("table 0 0 0\nend rows 0\n", "line 1 is .*: a line of table has another form"),
@@ -94,6 +96,51 @@ class Whole(unittest.TestCase):
         ):
             with self.assertRaisesRegex(ValueError, told):
                 read(text)
+
+    def test_each_report_of_the_program_is_read(self):
+        count = 0
+        for words in sorted(EXAMPLES.glob("*.words")):
+            text = words.with_suffix(".report").read_text(errors="replace")
+            if words.read_text().strip() in ("run", "reinject", "trace", "tables") and words.with_suffix(".status").read_text().strip() == "0":
+                count += 1
+                self.assertEqual(list(written(read(text))), text.splitlines()[:-1], words.name)
+        self.assertGreater(count, 20)
+
+    def test_lines_out_of_their_order(self):
+        ends = "end delivered {} dumped {} waiting {} unsent 0\n"
+        for last, lines in (
+            ("2 0 0", ["got a 0 00000000 -", "got b 0 00000000 -"]),
+            ("2 0 0", ["got b 0 00000000 -", "got a 1 00000001 00000007"]),
+            ("0 2 0", ["dump 0 0 E 1", "dump 0 0 S 1"]), ("0 2 0", ["dump 0 0 S 1", "dump 0 0 c1 1"]), ("0 2 0", ["dump 0 0 c2 1", "dump 0 0 c10 1"]),
+            ("0 2 0", ["dump 0 1 E 1", "dump 1 0 E 1"]), ("0 2 0", ["dump 1 0 E 1", "dump 0 0 E 2"]), ("0 2 0", ["dump 9 0 E 2", "dump 10 0 E 2"]),
+            ("0 0 2", ["wait 1 at 0 0 in S", "wait 1 at 0 0 in L"]), ("0 0 2", ["wait 1 at 0 0 in L", "wait 1 at 0 0 hand E"]),
+            ("0 0 2", ["wait 1 at 0 0 hand S", "wait 1 at 0 0 hand c0"]), ("0 0 2", ["wait 1 at 0 0 hand c3", "wait 1 at 0 0 core 1"]),
+            ("0 0 2", ["wait 1 at 0 0 core 1", "wait 1 at 1 0 core 18"]), ("0 0 2", ["wait 1 at 3 0 in E", "wait 2 at 0 0 in E"]),
+        ):
+            end = ends.format(*last.split())
+            read(HEAD + "\n".join([*lines, end]))
+            for other in (lines[::-1], lines[:1] * 2):
+                with self.assertRaisesRegex(ValueError, f"line 5 is '{other[1]}': it does not come after the line"):
+                    read(HEAD + "\n".join([*other, end]))
+
+    def test_lines_that_no_program_writes(self):
+        end = "end delivered 0 dumped 0 waiting 0 unsent 0\n"
+        for line, told in (
+            ("place c 0 0 0", "cores 1 to 17"), ("place c 0 0 24", "cores 1 to 17"), ("place c 64 0 1", "no machine has a chip"),
+            ("place c 0 64 1", "no machine has"), ("place c 0 0 1", "stands there"), ("keys m 00000001 fffffffe", "outside the mask"),
+            ("keys m 00000000 00000001", "not ones followed by zeros"), ("keys m 00000000 fffffffd", "not ones followed by zeros"),
+            ("keys m 00000001 ffffffff", "has some of these keys"), ("keys m 00000000 00000000", "has some of these keys"),
+            ("table 64 0 1", "no machine has a chip"), ("table 0 0 1025", "1,024 entries"), ("got c 0 00000000 -", "no line of place has this vertex"),
+            ("got a 0 00000002 -", "no net has this key"), ("dump 0 64 E 0", "no machine has a chip"), ("wait 0 at 64 0 in E", "no machine has a chip"),
+            ("wait 0 at 0 0 core 2", "no vertex stands there"), ("wait 0 at 1 0 core 1", "no vertex stands there"),
+        ):
+            head = HEAD.rpartition("keys")[0] if line.startswith("place") else HEAD
+            with self.assertRaisesRegex(ValueError, f"^line {head.count(chr(10)) + 1} is '{line}': .*{told}"):
+                read(f"{head}{line}\n{end}")
+        for row, told in (("00000001 fffffffe 000001", "outside the mask"), ("00000000 ffffffff 000000", "the route is 0")):
+            with self.assertRaisesRegex(ValueError, f"^line 5 is '{row}': .*{told}"):
+                read(f"{HEAD}table 0 0 1\n{row}\n{end}")
+        read(HEAD + "keys m 00000002 ffffffff\nkeys o 80000000 80000000\ntable 63 63 1\n00000000 00000000 ffffff\n" + end)
 
     def test_a_broken_report_gives_no_picture(self):
         with tempfile.TemporaryDirectory() as folder:
@@ -110,7 +157,7 @@ class Whole(unittest.TestCase):
                         draw_command.run(options)
                         out.unlink()
                     except Stopped as stopped:
-                        self.assertEqual((stopped.status, out.exists()), (1, False))
+                        self.assertEqual((stopped.status, out.exists()), (4, False))
 
     def test_the_picture_of_a_broken_report_by_the_script(self):
         script = EXAMPLES.parent / "tools" / "picture.py"

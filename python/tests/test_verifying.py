@@ -1,12 +1,14 @@
 """Tables are verified: each answer by hand, and by the program. Random tables are those of tools/verify_trials.py."""
+import itertools
 import random
 import unittest
 from unittest import mock
 
-from kulzobad import BadTree, Job, Machine, Net, Refused, Right, Vertex, asking, compile, tables, verifying
+from kulzobad import BadTree, Job, Machine, Net, Refused, Right, Vertex, asking, check, compile, encode, tables, verifying
 from kulzobad.blocks import USUAL, WORD, Block, Meeting, Order, block_of, blocks_of_range, cut, halves, order_of
-from kulzobad.verdicts import Dies, Foreign, Full, Loops, Misses, OffTree, OffTrees, Strays, TooLong, Twice, Unmet, lines_of, note_lines, value_of
-from kulzobad.verifying import KeyedNet, Verifier, notes, verify
+from kulzobad.links import Links, Routes
+from kulzobad.verdicts import Dies, Foreign, Full, Loops, Misses, OffTree, OffTrees, Stops, Strays, TooLong, Twice, Unfollowed, Unmet, lines_of, note_lines, value_of
+from kulzobad.verifying import KeyedNet, TooManyParts, Verifier, notes, verify
 from kulzobad.walks import Hop
 
 E, NE, N, W, SW, S = (1 << link for link in range(6))
@@ -141,6 +143,42 @@ class Verdicts(unittest.TestCase):
         verdict = verify(Machine(2, 2), {"a": (0, 0, 1), "b": (1, 1, 1)}, [KeyedNet("n", "a", ["b"], [self.key])], tables)
         self.assertEqual(verdict, Twice("n", 0x50, (Hop(0, 0, "L", 0, "N"), Hop(0, 1, "S", 0, "E"), Hop(1, 1, "W", 0, None))))
 
+    def test_a_way_that_leads_to_no_target(self):
+        tables = {(0, 0): [(*self.key, E | core(2))], (1, 0): [(*self.key, 0)]}
+        nets, places = [KeyedNet("n", "a", ["c"], [self.key])], {"a": (0, 0, 1), "c": (0, 0, 2)}
+        verdict = verify(self.machine, places, nets, tables)
+        self.assertEqual(verdict, Stops("n", 0x50, (Hop(0, 0, "L", 0, "E"), Hop(1, 0, "W", 0, None))))
+        # (the program says so of the tree: its end has no target)
+        job = Job(self.machine, [Vertex("a", at=(0, 0)), Vertex("c", at=(0, 0))], [Net("n", "a", ["c"], 16, self.key)])
+        self.assertEqual(check(job, {"n": [(0, 0, 0)]}, encode(self.machine, {(0, 0): tables[0, 0]})), BadTree("n"))
+        tables[1, 0].insert(0, (0x5F, WORD, 0))
+        self.assertEqual(verify(self.machine, places, nets, tables).key, 0x50)
+        tables[0, 0].insert(0, (0x50, 0xFFFFFFF8, core(2)))
+        self.assertEqual(verify(self.machine, places, nets, tables).key, 0x58)
+
+    def test_the_first_net_with_anything_amiss_is_told(self):
+        # (three nets from chip to chip, each with a tree; what is amiss with one of them is found by walks, by `bad tree` or by `wrong`)
+        machine = Machine(2, 2)
+        places = {f"s{i}": (0, 0, i + 1) for i in range(3)} | {f"t{i}": (1, 1, i + 1) for i in range(3)}
+        for masks in ([0xFFFFFFF0] * 3, [0xFFFFFFF0, 0x0FF00FF0, 0xFFFF0F0F]):
+            blocks = [(i << 8 & mask | i << 4 & mask | i << 20 & mask, mask) for i, mask in enumerate(masks)]
+            nets = [KeyedNet(f"n{i}", f"s{i}", [f"t{i}"], [block]) for i, block in enumerate(blocks)]
+            good = {(0, 0): [(*it, E) for it in blocks], (1, 0): [(*it, N) for it in blocks]}
+            good[1, 1] = [(*it, core(i + 1)) for i, it in enumerate(blocks)]
+            trees = {net.name: [(0, 0, 0), (1, 0, 2)] for net in nets}
+            self.assertEqual(verify(machine, places, nets, good, trees), Right())
+            for kinds in itertools.product((None, Strays, BadTree, OffTree), repeat=3):
+                rows, given = {chip: list(listed) for chip, listed in good.items()}, dict(trees)
+                for i, kind in enumerate(kinds):
+                    if kind is Strays:
+                        rows[1, 1][i] = (*blocks[i], core(17))
+                    elif kind:
+                        given[f"n{i}"] = [(0, 0, 0)] if kind is BadTree else [(0, 0, 2), (0, 1, 0)]
+                verdict = verify(machine, places, nets, rows, given)
+                first = next((i for i, kind in enumerate(kinds) if kind), None)
+                self.assertEqual(type(verdict), Right if first is None else kinds[first], kinds)
+                self.assertEqual(getattr(verdict, "net", None), None if first is None else f"n{first}", kinds)
+
     def test_rows_that_take_parts_of_a_net(self):
         # (even keys by the first row, which the program alone would leave open)
         parts = [(0x50, 0xFFFFFFF1, E), (0x51, 0xFFFFFFFF, E), (0x50, 0xFFFFFFF0, E)]
@@ -257,6 +295,8 @@ class Verdicts(unittest.TestCase):
         for place in ((0, 0, 1.0), (0, 0), "N"):
             with self.assertRaises(TypeError):
                 verify(machine, {"a": place}, [], {})
+        for named, spot in ((Links.N, (0, 0, 20)), (Routes.N, (0, 0, 20)), ("N", (0, 0, 20)), (20, (0, 0, 20)), (Routes.C5, (0, 0, 5)), (5, (0, 0, 5))):
+            self.assertEqual(Verifier(machine, {"a": (0, 0, named)}, [], {}).spots, {"a": spot})
         with self.assertRaisesRegex(ValueError, "live link"):
             verify(Machine(2, 1), {"led": (0, 0, "E")}, [], {})
         with self.assertRaisesRegex(ValueError, "one place"):
@@ -336,19 +376,57 @@ class Requests(unittest.TestCase):
         rows[chip] = [(key + 1, WORD, row.route), (key + 2, WORD, row.route), *table]
         verifier = self.verifier(rows)
         links = self.verifier().walk(net, net.blocks[0]).links
-        self.assertIsNone(verifier._ask([verifying.Part(net, net.blocks[0], links, None)], USUAL))
+        self.assertIsNone(verifier._ask([verifying.Part(net, net.blocks[0], links, None)], USUAL, None))
         self.assertEqual(verifier.verdict(), Right())
         self.assertGreater(verifier.asked, 40 + 1)
         rows[chip][1] = (key + 2, WORD, row.route ^ core(1))
         verifier = self.verifier(rows)
-        found = verifier._ask([verifying.Part(net, net.blocks[0], links, None)], USUAL) or verifier.verdict()
+        found = verifier._ask([verifying.Part(net, net.blocks[0], links, None)], USUAL, None)
+        found = found.what if found else verifier.verdict()
         self.assertEqual((found.net, found.key, found.way[0].row), (net.name, key + 2, 1))
+
+    def scattered(self, count, last=()):
+        """Rows of two chips that care for bits here and there, all of them right, and what is the matter behind them."""
+        dice = random.Random(4)
+        masks = [sum(1 << bit for bit in dice.sample(range(32), 6)) for _ in range(count)]
+        rows = [(dice.randrange(2**32) & mask, mask, E) for mask in masks]
+        tables = {(0, 0): [*rows, (0, 0, E)], (1, 0): [*last, (0, 0, core(1))]}
+        nets = [KeyedNet("m", "a", ["b"], [(0x10, WORD)]), KeyedNet("n", "a", ["b"], [(0, 0x00000001)])]
+        return Verifier(Machine(2, 1), {"a": (0, 0, 1), "b": (1, 0, 1)}, nets, tables)
+
+    def test_parts_that_double_with_each_bit(self):
+        verifier = self.scattered(2)
+        self.assertEqual((verifier.verdict(), verifier.notes()), (Right(), []))
+        for limits in ({"MOST_CUTS": 40}, {"MOST_ORDERS": 3}):
+            with mock.patch.multiple(verifying, CUTS_OF_A_ROW=1, **limits):
+                verifier = self.scattered(5)
+                with self.assertRaisesRegex(TooManyParts, "net 'n' is not decided") as caught:
+                    verifier.verdict()
+                bits = {bit for row in verifier.rows[0, 0] for bit in range(1, 32) if row.mask >> bit & 1 and not row.key & row.mask & 1}
+                self.assertEqual(caught.exception.bits, len(bits))
+                told = verifier.notes()
+                if "MOST_CUTS" in limits:
+                    self.assertEqual([it for it in told if not isinstance(it, Unmet)], [Unfollowed("n", caught.exception.bits)])
+                    self.assertEqual(note_lines(told)[:1], ["note net n: its keys are in too many parts, so chips that no packets come to are not told"])
+                # (what is amiss with an earlier net comes first)
+                self.assertEqual(self.scattered(5, [(0x10, WORD, core(2))]).verdict().net, "m")
+                verifier = self.scattered(5)
+                verifier.trees["m"] = []
+                self.assertEqual(verifier.verdict(), BadTree("m"))
+        with self.assertRaises(TooManyParts):
+            self.scattered(12).verdict()
+
+    def test_a_row_may_cut_at_each_of_its_bits(self):
+        rows = [(i << 20, WORD, E) for i in range(1000)]
+        with mock.patch.multiple(verifying, MOST_CUTS=1):
+            verifier = Verifier(Machine(2, 1), {"a": (0, 0, 1), "b": (1, 0, 1)}, [KeyedNet("n", "a", ["b"], [(0, 0)])], {(0, 0): [*rows, (0, 0, E)], (1, 0): [(0, 0, core(1))]})
+            self.assertEqual(verifier.verdict(), Right())
 
     def test_a_tree_that_a_walk_can_not_have_found(self):
         verifier = self.verifier()
         net = next(it for it in verifier.nets if any(spot[:2] != it.source[:2] for spot in it.targets))
         with self.assertRaises(RuntimeError):
-            verifier._ask([verifying.Part(net, net.blocks[0], [], None)], USUAL)
+            verifier._ask([verifying.Part(net, net.blocks[0], [], None)], USUAL, None)
 
 
 class Notes(unittest.TestCase):

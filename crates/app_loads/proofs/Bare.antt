@@ -5,7 +5,7 @@ use Rattle.std.proofs.lemmas.Bool.{cases_lt, leb-false, leb-true}
 use Rattle.std.proofs.lemmas.Bool.Decides.{nat_tests}
 use Rattle.std.specs.List.{slice_get, Contains}
 use Rattle.std.proofs.lemmas.List.{get_or-replicate, length-replicate, length-append, get_or_append_left, get_or-append_right}
-use Rattle.std.proofs.lemmas.List.Elements.{All-nil}
+use Rattle.std.proofs.lemmas.List.Elements.{All-nil, All-replicate}
 use Rattle.std.proofs.lemmas.Option.{slice_get-get_or, slice_get_within, get_or_from_slice_get, same_Some}
 use Rattle.spin_base.proofs.Members.{Contains-none}
 use Rattle.spin_base.proofs.Gathering.{gathered_nothing}
@@ -28,7 +28,9 @@ use Rattle.app_loads.specs.declared.loaded.LoadedApp.{LoadedApp}
 use Rattle.app_loads.specs.Host.{Free, Host, asked_of}
 use Rattle.app_loads.specs.Regions.{all_free, open_regions, chip_count, region_size, IsFreeBeside}
 use Rattle.app_loads.specs.Applications.{AreApps}
+use Rattle.mesh_drain.specs.Draining.{SendAlone}
 use Rattle.app_loads.specs.Opening.{bare_mesh, bare_host}
+use Rattle.app_loads.proofs.Resting.{rest_alone}
 
 -- ---- copies
 
@@ -214,3 +216,17 @@ pub made_apps : (m : Description) (q : ℕ) (mesh : State) (regions : List Free)
     (let h : Host = record { mesh = mesh; regions = regions; apps = apps; packets = 0 } in AreApps h)
 made_apps m q mesh regions apps is_mesh are_open none whole =
     subst AreApps (sym (bare_is m q mesh regions apps is_mesh are_open none)) (bare_apps m q (subst IsMesh is_mesh whole))
+
+-- no copy waits, and no vertex has packets unsent
+pub bare_alone : (u : Setup) → SendAlone [] (empty_mesh u)
+bare_alone u = rest_alone (empty_mesh u) (record {
+  waits = record {
+    inputs_empty = All-replicate (λ (q : List McCopy). q ≡ []) (7 * (u.machine.width * u.machine.height)) [] refl;
+    hands_empty = All-replicate (λ (h : Option Hand). h ≡ None) (u.machine.width * u.machine.height) None refl;
+    cores_empty = All-replicate (λ (q : List McCopy). q ≡ []) (length u.spots) [] refl;
+  };
+  all_sent = All-replicate (λ (q : List McCopy). q ≡ []) (length u.spots) [] refl;
+})
+
+pub bare_mesh_alone : (m : Description) (capacity : ℕ) → SendAlone [] (bare_mesh m capacity)
+bare_mesh_alone m capacity = bare_alone (bare_mesh m capacity).setup

@@ -2,11 +2,14 @@ pub mod Alike
 mod AppNets
 mod Bare
 mod Delivered
+mod Earlier
 mod FewClaims
 mod FewSpots
+mod GroupLaws
 mod Holes
 mod Hosts
 mod JoinLaws
+mod Kept
 mod Keeping
 mod LeavingLeast
 mod LeavingLedger

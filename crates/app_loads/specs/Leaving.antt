@@ -65,8 +65,8 @@ is_record_of app r = is_packet_of app r.copy.packet
 
 -- The deliveries and dump records of the application's packets, and those of all others, each in the order in which they came.
 pub record IsPartedBy (app : LoadedApp) (s : State) (parted : Parted) : Type 0 where
-  pub delivered : parted.ended.delivered ≡ filter (is_delivery_of app) s.delivered
-  pub dumped : parted.ended.dumped ≡ filter (is_record_of app) s.dumped
+  pub delivered : parted.left.delivered ≡ filter (is_delivery_of app) s.delivered
+  pub dumped : parted.left.dumped ≡ filter (is_record_of app) s.dumped
   pub others_delivered : parted.delivered ≡ filter (λ d. not (is_delivery_of app d)) s.delivered
   pub others_dumped : parted.dumped ≡ filter (λ r. not (is_record_of app r)) s.dumped
 

@@ -12,12 +12,16 @@ pub mod Alike
 pub mod Applications
 pub mod Claims
 pub mod Counting
+pub mod Earlier
+pub mod Grouping
+pub mod Groups
 pub mod Host
 pub mod Inner
 pub mod Joining
 pub mod Leaving
 pub mod Loading
 pub mod Opening
+pub mod Parting
 pub mod Plans
 pub mod Regions
 pub mod Removing

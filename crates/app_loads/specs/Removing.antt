@@ -10,6 +10,7 @@ use Rattle.mesh_drain.specs.Draining.{SendAlone}
 use Rattle.app_loads.specs.declared.answers.Ended.{Ended}
 use Rattle.app_loads.specs.declared.answers.UnloadErr.{UnloadErr}
 use Rattle.app_loads.specs.declared.answers.UnloadErr.TheVariants.{NotLoaded, Waiting, Memory}
+use Rattle.app_loads.specs.declared.leaving.Left.{Left}
 use Rattle.app_loads.specs.declared.loaded.LoadedApp.{LoadedApp}
 use Rattle.app_loads.specs.declared.loaded.Range.{Range}
 use Rattle.app_loads.specs.Leaving.{IsLeastUnderWay, is_delivery_of, is_record_of, mesh_without}
@@ -33,6 +34,13 @@ pub record CanLeaveFrom (s : State) (regions : List Region) (senders : Option (L
 pub record HasLeft (app : LoadedApp) (old : State) (ended : Ended) (new : State) : Type 0 where
   pub delivered : ended.delivered ≡ filter (is_delivery_of app) old.delivered
   pub dumped : ended.dumped ≡ filter (is_record_of app) old.dumped
+  pub mesh : new ≡ mesh_without app new.setup.tables old
+  pub cleared : AreUnused old.setup.machine app.ranges old.setup.tables new.setup.tables
+
+-- the same of a mesh of which no delivery is held apart
+pub record HasLeftMesh (app : LoadedApp) (old : State) (left : Left) (new : State) : Type 0 where
+  pub delivered : left.delivered ≡ filter (is_delivery_of app) old.delivered
+  pub dumped : left.dumped ≡ filter (is_record_of app) old.dumped
   pub mesh : new ≡ mesh_without app new.setup.tables old
   pub cleared : AreUnused old.setup.machine app.ranges old.setup.tables new.setup.tables
 

@@ -1,10 +1,11 @@
 // What loading and unloading answer.
-use spin_base::{Chip, Delivery, DumpRec, Seq};
+use crate::deliveries::Deliveries;
+use spin_base::{Chip, DumpRec, Seq};
 
 /// What an application leaves when it is unloaded: its deliveries and its dump records, each in the order in which they came.
 #[derive(Drop)]
 pub struct Ended {
-    pub delivered: Seq<Delivery>,
+    pub delivered: Deliveries,
     pub dumped: Seq<DumpRec>,
 }
 

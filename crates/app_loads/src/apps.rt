@@ -8,9 +8,9 @@ ghost use Rattle.app_loads.specs.Inner.{HaveRoomForOne, IsInBoth};
 ghost use Rattle.app_loads.specs.Opening.{bare_host};
 
 use crate::loaded::LoadedApp;
+use crate::meshes::KeptMesh;
 use crate::opening::{bare_mesh, open_regions};
 use machine_desc::Machine;
-use mesh_core::Mesh;
 use range_store::Ranges;
 use spin_base::{Memory, Seq, Spot};
 use std::alloc::Global;
@@ -23,7 +23,7 @@ use std::marker::Model;
 #[derive(Drop)]
 pub struct Apps {
     // It is there but while it is changed.
-    pub(crate) mesh: Option<Mesh>,
+    pub(crate) mesh: Option<KeptMesh>,
     // The regions, by their numbers.
     pub(crate) regions: Vec<Ranges>,
     pub(crate) apps: Vec<LoadedApp>,
@@ -63,12 +63,12 @@ impl Apps {
         let regions = open_regions(alloc, machine)?;
         let mesh = bare_mesh(alloc, machine, queue)?;
         Ok(Apps {
-            mesh: Some(mesh),
+            mesh: Some(KeptMesh::new(alloc, mesh)),
             regions,
             apps: Vec::new(alloc),
             numbers: Vec::new(alloc),
             packets: 0,
-            senders: None,
+            senders: Some(Seq::new(alloc)),
         })
     }
 

@@ -1,13 +1,18 @@
 // All copies brought to their targets.
-ghost use Rattle.std.specs.Prelude.{IfSome, OnOk};
+ghost use Rattle.std.specs.Prelude.{◌≡◌, ◌≢◌, ◌<◌, ◌∷◌, [], List, Some, IfSome, OnOk, length, slice_get, slice_set};
+ghost use Rattle.spin_base.specs.declared.copies.McCopy.{McCopy as Copy};
 ghost use Rattle.mesh_core.specs.Expected.{IsAtRest};
-ghost use Rattle.mesh_drain.specs.Draining.{IsMoved, SendAlone};
+ghost use Rattle.mesh_drain.specs.Draining.{IsMoved, IsReachedDropless, MeetsSomeLedger, SendAlone};
 ghost use Rattle.app_loads.specs.Applications.{AreApps};
-ghost use Rattle.app_loads.specs.Running.{CanDrain, HasMovedMesh};
+ghost use Rattle.app_loads.specs.Earlier.{with_earlier};
+ghost use Rattle.app_loads.specs.Grouping.{all_grouped};
+ghost use Rattle.app_loads.specs.Running.{CanDrain, HasMovedMesh, IsClean};
 
 use crate::apps::Apps;
+use crate::groups::Groups;
+use crate::meshes::{KeptMesh, keep, restore};
 use mesh_core::Mesh;
-use mesh_drain::{drain, drain_from};
+use mesh_drain::{drain, drain_from, send_first};
 use spin_base::{Memory, Seq};
 use std::alloc::Global;
 
@@ -36,7 +41,7 @@ impl Apps {
 // where all went well.
 fn drain_known(
     alloc: Global,
-    mesh: &mut Mesh,
+    mesh: &mut KeptMesh,
     senders: &mut Option<Seq<usize>>,
 ) -> Result<(), Memory>
     requires { CanDrain mesh.old senders.old }
@@ -45,9 +50,86 @@ fn drain_known(
     ensures known { IfSome senders.new (λ vertices. SendAlone vertices mesh.new) }
 {
     match senders.take() {
-        Some(vertices) => drain_from(alloc, mesh, vertices.as_slice())?,
-        None => drain(alloc, mesh)?,
+        Some(vertices) => drain_known_from(alloc, mesh, vertices.as_slice())?,
+        None => drain_whole(alloc, mesh)?,
     }
     *senders = Some(Seq::new(alloc));
     Ok(())
+}
+
+// The same for any mesh.
+fn drain_whole(alloc: Global, mesh: &mut KeptMesh) -> Result<(), Memory>
+    requires { MeetsSomeLedger mesh.old }
+    ensures at_rest { OnOk result (IsAtRest mesh.new) }
+    ensures moved { IsMoved mesh.old mesh.new }
+{
+    restore(alloc, &mut mesh.mesh, &mut mesh.earlier)?;
+    drain(alloc, &mut mesh.mesh)
+}
+
+// The same for a mesh on which no copy waits, and no vertex but these has packets unsent. Where none was dropped, each packet's
+// deliveries are held apart as soon as it has arrived: so no list of all deliveries is made.
+fn drain_known_from(alloc: Global, mesh: &mut KeptMesh, vertices: &[usize]) -> Result<(), Memory>
+    requires kept { MeetsSomeLedger mesh.old }
+    requires alone { SendAlone vertices.now mesh.old }
+    ensures at_rest { OnOk result (IsAtRest mesh.new) }
+    ensures moved { IsMoved mesh.old mesh.new }
+{
+    if mesh.mesh.dumped().is_empty() {
+        keep(alloc, &mut mesh.mesh, &mut mesh.earlier)?;
+        send_each(alloc, &mut mesh.mesh, &mut mesh.earlier, vertices)
+    } else {
+        restore(alloc, &mut mesh.mesh, &mut mesh.earlier)?;
+        drain_from(alloc, &mut mesh.mesh, vertices)
+    }
+}
+
+// These vertices send all their packets, one after the other.
+fn send_each(
+    alloc: Global,
+    mesh: &mut Mesh,
+    earlier: &mut Groups,
+    vertices: &[usize],
+) -> Result<(), Memory>
+    requires clean { IsClean (all_grouped earlier.old) mesh.old }
+    requires alone { SendAlone vertices.now mesh.old }
+    ensures at_rest { OnOk result (IsAtRest mesh.new) }
+    ensures reached { IsReachedDropless (with_earlier (all_grouped earlier.old) mesh.old)
+        (with_earlier (all_grouped earlier.new) mesh.new) }
+{
+    for vertex in vertices {
+        send_all(alloc, mesh, earlier, *vertex as u32)?;
+    }
+    Ok(())
+}
+
+// A vertex sends all its packets, one after the other.
+fn send_all(alloc: Global, mesh: &mut Mesh, earlier: &mut Groups, vertex: u32) -> Result<(), Memory>
+    requires clean { IsClean (all_grouped earlier.old) mesh.old }
+    requires there { vertex < length mesh.old.setup.spots }
+    ensures reached { IsReachedDropless (with_earlier (all_grouped earlier.old) mesh.old)
+        (with_earlier (all_grouped earlier.new) mesh.new) }
+    ensures clean { OnOk result (IsClean (all_grouped earlier.new) mesh.new) }
+    ensures unsent { OnOk result (mesh.new.unsent ≡ slice_set mesh.old.unsent vertex []) }
+{
+    'packets: while !mesh.unsent(vertex).is_empty() {
+        send_one(alloc, mesh, earlier, vertex)?;
+    }
+    Ok(())
+}
+
+// A vertex sends its first packet, whose deliveries are held apart.
+fn send_one(alloc: Global, mesh: &mut Mesh, earlier: &mut Groups, vertex: u32) -> Result<(), Memory>
+    requires clean { IsClean (all_grouped earlier.old) mesh.old }
+    requires there { vertex < length mesh.old.setup.spots }
+    requires some { slice_get mesh.old.unsent vertex ≢ Some [] }
+    ensures reached { IsReachedDropless (with_earlier (all_grouped earlier.old) mesh.old)
+        (with_earlier (all_grouped earlier.new) mesh.new) }
+    ensures clean { OnOk result (IsClean (all_grouped earlier.new) mesh.new) }
+    ensures unsent { OnOk result ((copy : Copy) (rest : List Copy)
+        → slice_get mesh.old.unsent vertex ≡ Some (copy ∷ rest) →
+        mesh.new.unsent ≡ slice_set mesh.old.unsent vertex rest) }
+{
+    send_first(alloc, mesh, vertex)?;
+    keep(alloc, mesh, earlier)
 }

@@ -5,16 +5,22 @@ ghost use Rattle.mesh_core.specs.State.{IsMesh};
 ghost use Rattle.app_loads.specs.Running.{AreKnownIn};
 ghost use Rattle.app_loads.specs.Leaving.{is_packet_of, is_delivery_of, is_record_of, IsPartedBy, IsLeastUnderWay, NoneUnderWay, lesser_of, own_packet, least_own_packet, packet_numbers_of, held_packets, unsent_numbers};
 
-use crate::answers::Ended;
 use crate::loaded::LoadedApp;
 use mesh_core::{Hand, MeshParts};
 use spin_base::{Delivery, DumpRec, Fifo, McCopy, Memory, Seq};
 use std::alloc::Global;
 
+/// What an application leaves: deliveries and dump records.
+#[derive(Drop)]
+pub struct Left {
+    pub delivered: Seq<Delivery>,
+    pub dumped: Seq<DumpRec>,
+}
+
 /// What an application leaves, and the deliveries and dump records of all others, which stay with the mesh.
 #[derive(Drop)]
 pub struct Parted {
-    pub ended: Ended,
+    pub left: Left,
     pub delivered: Seq<Delivery>,
     pub dumped: Fifo<DumpRec>,
 }
@@ -26,7 +32,7 @@ pub fn part(alloc: Global, parts: &MeshParts, app: &LoadedApp) -> Result<Parted,
     let (delivered, others_delivered) = part_deliveries(alloc, parts.delivered.as_slice(), app)?;
     let (dumped, others_dumped) = part_records(alloc, parts.dumped.as_slice(), app)?;
     Ok(Parted {
-        ended: Ended { delivered, dumped },
+        left: Left { delivered, dumped },
         delivered: others_delivered,
         dumped: Fifo::from_seq(others_dumped),
     })
@@ -83,7 +89,7 @@ fn push_where<T: Copy>(list: &mut Seq<T>, item: T, belongs: bool) -> Result<(), 
 }
 
 // Whether a packet number is one of the application's.
-fn is_packet_of(app: &LoadedApp, packet: u32) -> bool
+pub fn is_packet_of(app: &LoadedApp, packet: u32) -> bool
     ensures { result ≡ is_packet_of app.now packet }
 {
     packet >= app.first && ((packet - app.first) as usize) < app.plan.packets.len()

@@ -9,11 +9,15 @@
 mod answers;
 mod apps;
 mod claims;
+mod deliveries;
 mod drains;
+mod group;
+mod groups;
 pub mod laws;
 mod leaving;
 mod loaded;
 mod loads;
+mod meshes;
 mod opening;
 mod places;
 mod plans;
@@ -25,6 +29,7 @@ mod unloads;
 
 pub use answers::{Ended, LoadErr, LoadRefusal, UnloadErr};
 pub use apps::Apps;
+pub use deliveries::Deliveries;
 pub use loaded::{Claim, LoadedApp, Range};
 pub use places::Region;
 pub use plans::{AppNet, AppPlan};

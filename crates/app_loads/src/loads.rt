@@ -12,6 +12,7 @@ use crate::answers::{LoadErr, LoadRefusal};
 use crate::apps::{Apps, add, put, reserve_one};
 use crate::claims::claims_of;
 use crate::loaded::{Claim, LoadedApp, Range};
+use crate::meshes::KeptMesh;
 use crate::plans::AppPlan;
 use crate::regions::{give_all, take_all};
 use crate::rows::{tables_of, write_rows};
@@ -70,12 +71,12 @@ impl Apps {
 // The plan's application, with its ranges taken, and its rows and packets on the mesh. After a refusal all is as before.
 fn join(
     alloc: Global,
-    mesh: Mesh,
+    mesh: KeptMesh,
     regions: &mut [Ranges],
     number: u32,
     first: u32,
     plan: &AppPlan,
-) -> (Mesh, Result<LoadedApp, LoadErr>)
+) -> (KeptMesh, Result<LoadedApp, LoadErr>)
     requires { CanJoin mesh regions.old first plan.now }
     ensures served { IfOk result.1 (λ app.
         IsServedApp mesh.setup.machine regions.old number first plan.now app regions.new) }
@@ -182,8 +183,19 @@ fn blocks_of(
     Ok(blocks)
 }
 
+// The same of a mesh whose earlier deliveries are held apart.
+fn settle(alloc: Global, mesh: KeptMesh, app: &LoadedApp) -> (KeptMesh, Result<(), Memory>)
+    requires { CanSettle mesh app.now }
+    ensures settled { OnOk result.1 (IsSettled app.now mesh result.0) }
+    ensures refused { OnErr result.1 (result.0 ≡ mesh) }
+{
+    let KeptMesh { mesh, earlier } = mesh;
+    let (mesh, settled) = settle_mesh(alloc, mesh, app);
+    (KeptMesh { mesh, earlier }, settled)
+}
+
 // Puts the application's rows and packets on the mesh. After a refusal the mesh is as before.
-fn settle(alloc: Global, mesh: Mesh, app: &LoadedApp) -> (Mesh, Result<(), Memory>)
+fn settle_mesh(alloc: Global, mesh: Mesh, app: &LoadedApp) -> (Mesh, Result<(), Memory>)
     requires { CanSettle mesh app.now }
     ensures settled { OnOk result.1 (IsSettled app.now mesh result.0) }
     ensures refused { OnErr result.1 (result.0 ≡ mesh) }

@@ -8,8 +8,9 @@ ghost use Rattle.app_loads.specs.Joining.{AreAllSent};
 ghost use Rattle.app_loads.specs.Sending.{AreCleared, AreSources, AreWithSources, CanAdd, CanSend, IsSameBeside, IsSendingFrom};
 
 use crate::loaded::LoadedApp;
+use crate::meshes::KeptMesh;
 use crate::plans::AppNet;
-use mesh_core::{Mesh, MeshSetup, Queue};
+use mesh_core::{MeshSetup, Queue};
 use spin_base::{Fifo, McCopy, Memory, Out, Seq, Spot};
 use std::alloc::Global;
 
@@ -84,7 +85,11 @@ fn clear(alloc: Global, unsent: &mut [Fifo<McCopy>], sources: &[usize])
 }
 
 // The vertices that may have packets unsent, with those of the nets' sources, where they are known and there is memory to add these.
-pub fn with_sources(senders: Option<Seq<usize>>, mesh: &Mesh, nets: &[AppNet]) -> Option<Seq<usize>>
+pub fn with_sources(
+    senders: Option<Seq<usize>>,
+    mesh: &KeptMesh,
+    nets: &[AppNet],
+) -> Option<Seq<usize>>
     ensures { IfSome result (AreWithSources mesh.now nets.now senders) }
 {
     let mut vertices = senders?;
@@ -95,7 +100,7 @@ pub fn with_sources(senders: Option<Seq<usize>>, mesh: &Mesh, nets: &[AppNet]) -
 }
 
 // The vertex on a spot at the back of the list, if there is one.
-fn push_source(vertices: &mut Seq<usize>, mesh: &Mesh, source: Spot) -> Result<(), Memory>
+fn push_source(vertices: &mut Seq<usize>, mesh: &KeptMesh, source: Spot) -> Result<(), Memory>
     ensures { OnOk result (vertices.new ≡ vertices.old
         ++ option_to_list (vertex_behind mesh.now.setup.spots source.chip (Core source.core))) }
 {

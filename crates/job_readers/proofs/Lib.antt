@@ -4,6 +4,7 @@ pub mod ItemSteps
 mod FollowingSteps
 pub mod EntryLengths
 mod PlaceSteps
+mod SlotSteps
 mod BlockSteps
 mod GraphSteps
 mod RunSteps

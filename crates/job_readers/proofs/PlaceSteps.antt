@@ -70,7 +70,7 @@ some_is : (o : Option ℕ) → is_some o ≡ true → (j : ℕ) × (o ≡ Some j
 some_is None e = absurd cc
 some_is (Some j) e = (j, refl)
 
-none_is : (o : Option ℕ) → is_some o ≡ false → o ≡ None
+pub none_is : (o : Option ℕ) → is_some o ≡ false → o ≡ None
 none_is None e = refl
 none_is (Some j) e = absurd cc
 

@@ -139,7 +139,7 @@ fn each_vertex(
     ensures valid { IfOk result (λ vs. All IsValidVertex vs) }
     ensures devices { IfOk result (λ vs. AllPairs HaveDifferentDevices vs) }
 {
-    let mut names = Names::new(alloc);
+    let mut names = Names::new(alloc, items.len())?;
     let mut devices = Devices::new(alloc);
     let mut vertices = Seq::new(alloc);
     for (i, item) in items.iter().enumerate() {
@@ -364,7 +364,7 @@ fn each_net(
     ensures sources { IfOk result (λ ns. All (HasSendingSource among.now.vertices.now) ns) }
     ensures fixed { IfOk result (λ ns. AllPairs AreFixedApart ns) }
 {
-    let mut names = Names::new(alloc);
+    let mut names = Names::new(alloc, items.len())?;
     let mut blocks = Vec::new(alloc);
     let mut nets = Seq::new(alloc);
     for (i, item) in items.iter().enumerate() {
@@ -413,7 +413,7 @@ pub(crate) fn names_of_vertices<'a>(
     requires { length vertices.now ≤ 16384 }
     ensures { IfOk result (λ names. names ≡ vertex_names_of vertices.now) }
 {
-    let mut names = Names::new(alloc);
+    let mut names = Names::new(alloc, vertices.len())?;
     for vertex in vertices {
         names = names.with(vertex.name.as_str())?;
     }

@@ -1,25 +1,35 @@
 // Names in the order of a list, looked up in a map.
-ghost use Rattle.std.specs.Prelude.{◌≡◌, ◌<◌, [], ◌∷◌, ◌++◌, length, option_map, unwrap_or, map, IfOk};
+ghost use Rattle.std.specs.Prelude.{◌≡◌, ◌<◌, ◌≤◌, [], ◌∷◌, ◌++◌, length, option_map, unwrap_or, map, IfOk};
 ghost use Rattle.serde_json.specs.View.{view};
 ghost use Rattle.job_text.specs.Reading.{GivesOrFaults, IsFirstFault};
 ghost use Rattle.job_text.specs.Fields.{text_value};
 ghost use Rattle.job_text.specs.declared.faults.JobFault.TheVariants.{UnknownName, DoubleName, Clash};
 ghost use Rattle.job_readers.specs.Places.{name_place_in, reference_faults, reference_value, new_name_faults};
 ghost use Rattle.job_readers.specs.GraphPart.{name_value};
+ghost use Rattle.job_readers.specs.Indexed.{slot_for};
 ghost use Rattle.job_text.specs.Paths.{path_text};
 
 use job_text::{JobFault, Path, TextErr, member, text_in};
 use serde_json::Value;
 use spin_base::Memory;
 use std::alloc::Global;
-use std::collections::HashMap;
+use std::collections::BTreeMap;
+use std::hash::{FoldHasher, Hasher};
 use std::marker::Model;
 
-// The names of a list, in its order. Contracts see the list; a map tells the first place of each name.
+// So many slots there are for each name that is to come: most names then have one of their own.
+const SLOTS: usize = 4;
+
+// A slot that no name has.
+const EMPTY: u32 = u32::MAX;
+
+// The names of a list, in its order. Contracts see the list. A word of its bytes tells a name's slot. The first name of a slot has
+// it; each later one stands in an ordered map. So names whose words are alike cost a logarithm.
 #[derive(Drop)]
 pub(crate) struct Names<'a> {
     said: Vec<&'a str>,
-    places: HashMap<&'a str, u32>,
+    slots: Vec<u32>,
+    crowded: BTreeMap<&'a str, u32>,
 }
 
 impl<'a> Model for Names<'a> {
@@ -34,41 +44,78 @@ impl<'a> Model for Names<'a> {
 }
 
 impl<'a> Names<'a> {
-    // No name.
-    pub(crate) fn new(alloc: Global) -> Names<'a>
-        ensures { result ≡ [] }
+    // No name, and slots for so many.
+    pub(crate) fn new(alloc: Global, count: usize) -> Result<Names<'a>, Memory>
+        requires { count ≤ 4294967296 }
+        ensures { IfOk result (λ names. names ≡ []) }
     {
-        Names {
+        Ok(Names {
             said: Vec::new(alloc),
-            places: HashMap::new(alloc),
-        }
+            slots: vec![in alloc; EMPTY; SLOTS * count + 1]?,
+            crowded: BTreeMap::new(alloc),
+        })
     }
 
     // The first place of a name.
     pub(crate) fn place(&self, name: &str) -> Option<u32>
         ensures { result ≡ name_place_in self.now name.now }
     {
-        self.places.get(name).copied()
+        let at = self.slots[slot_of(name, self.slots.len())];
+        let said = self.said.get(at as usize)?;
+        if *said == name {
+            return Some(at);
+        }
+        self.crowded.get(name).copied()
     }
 
     // The names, and one more at the end.
     pub(crate) fn with(self, name: &'a str) -> Result<Names<'a>, Memory>
-        requires { length self < 4294967296 }
+        requires { length self < 4294967295 }
         ensures { IfOk result (λ names. names ≡ self.entry ++ name.now ∷ []) }
     {
         let known = self.place(name).is_some();
         let Names {
             mut said,
-            mut places,
+            mut slots,
+            mut crowded,
         } = self;
         let count = said.len() as u32;
         said.push(name)?;
         if known {
-            return Ok(Names { said, places });
+            return Ok(Names {
+                said,
+                slots,
+                crowded,
+            });
         }
-        places.insert(name, count)?;
-        Ok(Names { said, places })
+        let slot = slot_of(name, slots.len());
+        if slots[slot] == EMPTY {
+            slots[slot] = count;
+            return Ok(Names {
+                said,
+                slots,
+                crowded,
+            });
+        }
+        crowded.insert(name, count)?;
+        Ok(Names {
+            said,
+            slots,
+            crowded,
+        })
     }
+}
+
+// The slot of a name, by a word of its bytes.
+#[tactic(auto, unfolding(crate::specs::Indexed::slot_for))]
+fn slot_of(name: &str, slots: usize) -> usize
+    requires { 0 < slots }
+    ensures within { result < slots }
+    ensures slot { result ≡ slot_for slots name.now }
+{
+    let mut hasher = FoldHasher::default();
+    hasher.write(name.as_bytes());
+    hasher.finish() as usize % slots
 }
 
 // The error of a name that refers to nothing.

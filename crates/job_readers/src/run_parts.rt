@@ -122,7 +122,7 @@ fn names_of_nets<'a>(alloc: Global, nets: &'a [Net]) -> Result<Names<'a>, Memory
     requires { length nets.now ≤ 4096 }
     ensures { IfOk result (λ names. names ≡ net_names nets.now) }
 {
-    let mut names = Names::new(alloc);
+    let mut names = Names::new(alloc, nets.len())?;
     for net in nets {
         names = names.with(net.name.as_str())?;
     }

@@ -145,6 +145,14 @@ impl Mesh {
         push_at(&mut self.unsent, vertex as usize, copy)
     }
 
+    /// Takes another list of deliveries, and hands back the one that it had. It takes constant time and no memory.
+    pub fn swap_delivered(&mut self, delivered: Seq<Delivery>) -> Seq<Delivery>
+        ensures delivered { result ≡ self.old.delivered }
+        ensures mesh { self.new ≡ record self.old { delivered = delivered } }
+    {
+        std::mem::replace(&mut self.delivered, delivered)
+    }
+
     /// The copies that vertex `v` has not sent yet, in order.
     pub fn unsent(&self, v: u32) -> &[McCopy]
         requires { v < length self.now.setup.spots }

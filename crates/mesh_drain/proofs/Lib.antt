@@ -1,10 +1,10 @@
-mod Frame
+pub mod Frame
 pub mod Moving
 mod Opened
 pub mod Packets
 mod Ports
 pub mod Progress
 mod Steps
-mod Turns
+pub mod Turns
 mod Unsent
 pub mod Senders

@@ -1,5 +1,5 @@
 -- Meshes that can be drained, and what is reached by events (this project's own).
-use Rattle.std.specs.Prelude.{◌≡◌, ◌<◌, ◌≤◌, ℕ, List, ◌∷◌, All, Contains, Some, length, slice_get}
+use Rattle.std.specs.Prelude.{◌≡◌, ◌≢◌, ◌<◌, ◌≤◌, ℕ, List, [], ◌∷◌, All, Contains, Some, length, slice_get}
 use Rattle.spin_base.specs.declared.copies.Event.{Event}
 use Rattle.spin_base.specs.declared.copies.McCopy.{McCopy}
 use Rattle.machine_desc.specs.declared.nets.NetPlan.{NetPlan}
@@ -23,6 +23,12 @@ pub record MeetsSomeLedger (s : State) : Type 0 where
 pub record MaySend (s : State) : Type 0 where
   pub kept : MeetsSomeLedger s
   pub quiet : NothingWaits s
+
+-- Besides, the vertex is there, and has a packet unsent.
+pub record CanSendFirst (s : State) (v : ℕ) : Type 0 where
+  pub may : MaySend s
+  pub there : v < length s.setup.spots
+  pub some : slice_get s.unsent v ≢ Some []
 
 -- A mesh is reached from another by events of which none drops a copy.
 pub record IsReachedDropless (before after : State) : Type 0 where

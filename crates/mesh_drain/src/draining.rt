@@ -7,7 +7,7 @@ ghost use Rattle.spin_base.specs.declared.copies.Event.TheVariants.{Collect};
 ghost use Rattle.machine_desc.specs.Live.{index_of};
 ghost use Rattle.mesh_core.specs.Step.{after_event};
 ghost use Rattle.mesh_core.specs.Expected.{IsAtRest, NothingWaits};
-ghost use Rattle.mesh_drain.specs.Draining.{MaySend, MeetsSomeLedger, IsReachedDropless, IsMoved, DropsNoneWhereRoomy, SendAlone};
+ghost use Rattle.mesh_drain.specs.Draining.{CanSendFirst, MaySend, MeetsSomeLedger, IsReachedDropless, IsMoved, DropsNoneWhereRoomy, SendAlone};
 ghost use Rattle.mesh_drain.specs.UnderWay.{work, outs_in, next_place, MaySendFrom, WaitsAlone, IsServing};
 
 use crate::settling::settle;
@@ -52,6 +52,23 @@ pub fn drain_from(alloc: Global, mesh: &mut Mesh, vertices: &[usize]) -> Result<
         send_all(mesh, &mut waiting, *vertex as u32)?;
     }
     Ok(())
+}
+
+/// A vertex sends its first packet, which is brought to its targets. It moves what it moves.
+///
+/// # Errors
+///
+/// `Memory` where memory runs out. Each copy is then where some events brought it.
+pub fn send_first(alloc: Global, mesh: &mut Mesh, vertex: u32) -> Result<(), Memory>
+    requires { CanSendFirst mesh.old vertex }
+    ensures reached { IsReachedDropless mesh.old mesh.new }
+    ensures quiet { OnOk result (NothingWaits mesh.new) }
+    ensures unsent { OnOk result ((copy : Copy) (rest : List Copy)
+        → slice_get mesh.old.unsent vertex ≡ Some (copy ∷ rest) →
+        mesh.new.unsent ≡ slice_set mesh.old.unsent vertex rest) }
+{
+    let mut waiting = Vec::new(alloc);
+    send_packet(mesh, &mut waiting, vertex)
 }
 
 // All vertices send all their packets, one after the other.

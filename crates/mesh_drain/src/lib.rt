@@ -11,5 +11,5 @@ mod opening;
 mod settling;
 mod waiting;
 
-pub use draining::{drain, drain_from};
+pub use draining::{drain, drain_from, send_first};
 pub use opening::open_mesh;

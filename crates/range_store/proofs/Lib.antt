@@ -1,3 +1,4 @@
+mod Beginnings
 mod GiveLemmas
 pub mod HolePlaces
 mod RunLemmas

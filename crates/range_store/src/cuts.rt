@@ -5,6 +5,7 @@ ghost use Rattle.range_store.specs.Regions.{AreRuns, IsFirstFit, HasNoFit, has_r
 ghost use Rattle.range_store.specs.Fits.{FitsAt, IsLeastIn, NoneIn};
 ghost use Rattle.range_store.specs.declared.holes.Hole.{Hole};
 
+use crate::begins::begin_before;
 use crate::holes::Hole;
 use spin_base::Memory;
 
@@ -47,19 +48,24 @@ fn fit_in(hole: &Hole, claim: Claim) -> Option<u64>
     }
 }
 
-/// The hole in which a range lies.
+/// The hole in which a range lies: it can only be the last that begins at the range's place or before it.
 pub(crate) fn hole_with(holes: &[Hole], place: u64, size: u64) -> Option<usize>
     requires runs { AreRuns 0 4294967296 holes.now }
+    requires within { place + size ≤ 4294967296 }
     ensures at { IfSome result (λ at. FitsAt holes.now at place size) }
     ensures none { IfNone result (is_hole_range holes.now place size ≡ false) }
 {
-    for (at, hole) in holes.iter().enumerate() {
-        let end = hole.place + hole.len;
-        if hole.place <= place && place <= end && size <= end - place {
-            return Some(at);
-        }
+    let count = begin_before(holes, place + 1);
+    if count == 0 {
+        return None;
     }
-    None
+    let at = count - 1;
+    let hole = holes[at];
+    if place + size <= hole.place + hole.len {
+        Some(at)
+    } else {
+        None
+    }
 }
 
 /// Takes a range out of the hole in which it lies.

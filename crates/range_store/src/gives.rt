@@ -5,6 +5,7 @@ ghost use Rattle.range_store.specs.Regions.{AreRuns, is_free, in_range, hole_end
 ghost use Rattle.range_store.specs.Fits.{AreNeighbours};
 ghost use Rattle.range_store.specs.declared.holes.Hole.{Hole};
 
+use crate::begins::begin_before;
 use crate::holes::Hole;
 
 /// A range that comes back.
@@ -60,29 +61,15 @@ pub(crate) fn put_back(holes: &mut Vec<Hole>, span: Span)
 
 /// How many holes begin before a range, and the holes that end where it begins and begin where it ends.
 fn neighbours(holes: &[Hole], place: u64, end: u64) -> (usize, Option<Hole>, Option<Hole>)
+    requires runs { AreRuns 0 4294967296 holes.now }
     ensures { AreNeighbours holes.now place end result.0 result.1 result.2 }
 {
-    let at = first_from(holes, place);
+    let at = begin_before(holes, place);
     (
         at,
         hole_that_ends(holes, at, place),
         hole_that_begins(holes, at, end),
     )
-}
-
-/// How many holes begin before a place.
-fn first_from(holes: &[Hole], place: u64) -> usize
-    ensures within { result ≤ length holes.now }
-    ensures before { (k : ℕ) (h : Hole) → k < result → slice_get holes.now k ≡ Some h
-        → h.place < place }
-    ensures first { (h : Hole) → slice_get holes.now result ≡ Some h → place ≤ h.place }
-{
-    for (at, hole) in holes.iter().enumerate() {
-        if place <= hole.place {
-            return at;
-        }
-    }
-    holes.len()
 }
 
 /// The hole before one of the list, if it ends at a place.

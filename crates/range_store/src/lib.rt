@@ -6,6 +6,7 @@
 //! The rules are this project's own.
 #![tactic(auto)]
 
+mod begins;
 mod cuts;
 mod gives;
 mod holes;

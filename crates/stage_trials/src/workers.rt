@@ -1,20 +1,16 @@
-// Two workers compile a net over a line of four chips, each waiting at the gate for the other.
-ghost use Rattle.app_graph.specs.ValidGraph.{IsValidGraph};
-
-use job_readers::Job;
-use par_compile::{CompileRequest, compile, image_of};
-use spin_base::{Gate, Seq};
-use spin_input::job_of_text;
+// Two workers of a job compile a net over a line of four chips, each waiting at the gate for the other.
+use mesh_round::RoundGate;
+use spin_base::{Gate, MemSink, MemSource, Room, Seq};
+use spin_top::spin;
 use std::alloc::Global;
 use std::mem;
 use std::sync::Wait;
-use std::sync::atomic::{AtomicBool, Ordering};
+use std::sync::atomic::{AtomicBool, AtomicU64, Ordering};
 use std::thread::Threads;
-use table_load::encode;
 
-// A net of one key from an end of the line to the other.
+// A net of one key from an end of the line to the other, and two workers.
 const LINE: &str =
-    "{\"version\":1,\"machine\":{\"width\":4,\"height\":1},\"graph\":{\"vertices\":[{\"name\":\"a\",\"at\":[0,0]},{\"name\":\"b\",\"at\":[3,0]}],\"nets\":[{\"name\":\"n\",\"source\":\"a\",\"targets\":[\"b\"]}]}}";
+    "{\"version\":1,\"machine\":{\"width\":4,\"height\":1},\"graph\":{\"vertices\":[{\"name\":\"a\",\"at\":[0,0]},{\"name\":\"b\",\"at\":[3,0]}],\"nets\":[{\"name\":\"n\",\"source\":\"a\",\"targets\":[\"b\"]}]},\"run\":{\"workers\":2}}";
 
 // The image of the line's tables: a row at chip (0,0) that leads East, and one at chip (3,0) that leads to core 1. The chips
 // between pass the net's packets on by default.
@@ -23,6 +19,9 @@ const IMAGE: [u8; 42] = [
     0, 0, 3, 0, 1, 0, 0, 0, 0, 0, 0xff, 0xff, 0xff, 0xff, 0x80, 0, 0, 0,
 ];
 
+// More bytes than the job or its image has.
+const AMPLE: u32 = 4096;
+
 // A gate at which workers 0 and 1 wait for each other before they cover, each for so many looks at most.
 #[derive(Drop)]
 struct Meeting {
@@ -30,7 +29,21 @@ struct Meeting {
     first: AtomicBool,
     second: AtomicBool,
     missed: AtomicBool,
+    /// How often a worker entered.
+    entries: AtomicU64,
 }
+
+impl Meeting {
+    // Whether both entered, once each and nobody else did, and neither missed the other.
+    fn was_held(&self) -> bool {
+        self.first.load(Ordering::SeqCst)
+            && self.second.load(Ordering::SeqCst)
+            && !self.missed.load(Ordering::SeqCst)
+            && self.entries.load(Ordering::SeqCst) == 2
+    }
+}
+
+impl RoundGate for Meeting {}
 
 impl Gate for Meeting {
     fn enter(&self, phase: u32, worker: u32, _step: u32) {
@@ -42,6 +55,7 @@ impl Gate for Meeting {
         } else {
             (&self.second, &self.first)
         };
+        self.entries.fetch_add(1, Ordering::SeqCst);
         mine.store(true, Ordering::SeqCst);
         for _ in 0..self.looks {
             if other.load(Ordering::SeqCst) {
@@ -52,64 +66,55 @@ impl Gate for Meeting {
     }
 }
 
-// The bytes of the image of a job, compiled by two workers. What is made on the way is forgotten, so that the test owes no proof of
+// The status of a command, which leaves its bytes in the sink. What came of the call is forgotten, so that the test owes no proof of
 // taking it apart.
-fn image_bytes<R: Threads + Wait + Sync>(
+fn status<R: Threads + Wait + Sync>(
     rt: &R,
     alloc: Global,
-    job: &Job,
+    words: &[String],
+    source: &mut MemSource,
+    sink: &mut MemSink,
     gate: &Meeting,
-) -> Option<Seq<u8>>
-    requires { IsValidGraph job.now.graph }
-{
-    let request = CompileRequest {
-        machine: &job.machine,
-        graph: &job.graph,
-        target: 1024,
-        workers: 2,
-    };
-    let plan = match compile(rt, alloc, &request, gate) {
-        Ok(plan) => plan,
-        Err(error) => {
-            mem::forget(error);
-            return None;
-        }
-    };
-    let image = image_of(alloc, &job.machine, &plan.tables);
-    mem::forget(plan);
-    let Ok(image) = image else {
-        return None;
-    };
-    let bytes = encode(alloc, &image);
-    mem::forget(image);
-    bytes.ok()
+) -> u8 {
+    let outcome = spin(rt, alloc, words, source, sink, gate);
+    let status = outcome.status;
+    mem::forget(outcome);
+    status
 }
 
-// Whether that of the line is the image above.
+// The status of `compile` of the line under this gate, and the sink with its bytes.
+fn compiled<R: Threads + Wait + Sync>(
+    rt: &R,
+    alloc: Global,
+    gate: &Meeting,
+) -> Option<(u8, MemSink)> {
+    let word = String::from_str(alloc, "compile").ok()?;
+    let words = vec![in alloc; word].ok()?;
+    let bytes = LINE.as_bytes().to_vec(alloc).ok()?;
+    let mut source = MemSource::new(Seq::from_vec(bytes), AMPLE, Seq::new(alloc));
+    let room = Room::over(Seq::new(alloc), u64::from(AMPLE)).ok()?;
+    let mut sink = MemSink::new(room, AMPLE, Seq::new(alloc));
+    let status = status(rt, alloc, words.as_slice(), &mut source, &mut sink, gate);
+    Some((status, sink))
+}
+
+// Whether it gives the image above.
 fn gives_the_image<R: Threads + Wait + Sync>(rt: &R, alloc: Global, gate: &Meeting) -> bool {
-    let job = match job_of_text(alloc, LINE.as_bytes()) {
-        Ok(job) => job,
-        Err(refusal) => {
-            mem::forget(refusal);
-            return false;
-        }
-    };
-    let bytes = image_bytes(rt, alloc, &job, gate);
-    mem::forget(job);
-    match bytes {
-        Some(bytes) => bytes.as_slice() == IMAGE.as_slice(),
+    match compiled(rt, alloc, gate) {
+        Some((status, sink)) => status == 0 && sink.as_slice() == IMAGE.as_slice(),
         None => false,
     }
 }
 
 #[test]
-fn two_workers_meet_at_the_gate_and_the_image_is_that_of_the_line(rt: HostRuntime) {
+fn two_workers_of_a_job_meet_at_the_gate_and_the_image_is_that_of_the_line(rt: HostRuntime) {
     let gate = Meeting {
         looks: 100_000_000,
         first: AtomicBool::new(false),
         second: AtomicBool::new(false),
         missed: AtomicBool::new(false),
+        entries: AtomicU64::new(0),
     };
     let is_right = gives_the_image(&rt, rt.alloc(), &gate);
-    assert!(rt; is_right && !gate.missed.load(Ordering::SeqCst));
+    assert!(rt; is_right && gate.was_held());
 }

@@ -15,7 +15,7 @@ use Rattle.job_readers.proofs.graph_parts.each_net.Goals as goal
 
 pub returns-in_err-net-clause-read : goal.returns-in_err-net-clause-read
 returns-in_err-net-clause-read c =
-    let p = err_from_is_err_and c.from_residual.result c.from_residual.ensures.1 in
+    let p = err_from_is_err_and c.from_residual-in_err-net.result c.from_residual-in_err-net.ensures.1 in
     let xs = c.args.items.now in
     let f = next_net_faults c.args.version c.args.among.now.vertices.now in
     let value = net_value c.args.version c.args.among.now.vertices.now in
@@ -40,8 +40,8 @@ loop-i-preserved c =
     record {
       left = following-more view xs c.loop-i.i c.index-items-i.result (omega arith) c.index-items-i.is f value ns (path_text c.args.path.now) (item_at (path_text c.args.path.now) c.loop-i.i) (following_faults f value [] (path_text c.args.path.now) 0 (map view xs)) refl c.push.new.self pushed_value (sym same ∙ c.in_ok-net.ensures.read.0) c.loop-i.invariant.left;
       read = values-more view xs c.loop-i.i c.index-items-i.result (omega arith) c.index-items-i.is value ns c.push.new.self c.loop-i.invariant.read pushed_value;
-      counted = rw (c.in_ok-names.ensures, length-append) (omega arith);
-      called = net_names_more ns c.push.new.self n c.loop-i.names c.in_ok-names.names c.said_name.result.now pushed c.loop-i.invariant.called c.in_ok-names.ensures said;
+      counted = rw (c.in_ok-names-2.ensures, length-append) (omega arith);
+      called = net_names_more ns c.push.new.self n c.loop-i.names c.in_ok-names-2.names c.said_name.result.now pushed c.loop-i.invariant.called c.in_ok-names-2.ensures said;
       held = blocks_more ns c.push.new.self n c.loop-i.blocks.items c.put_behind.new.others.items pushed c.loop-i.invariant.held c.in_ok-put_behind.ensures;
       valid = rw pushed (All-push (IsValidNet (length vertices)) ns n c.loop-i.invariant.valid c.in_ok-net.ensures.valid);
       sources = rw pushed (All-push (HasSendingSource vertices) ns n c.loop-i.invariant.sources c.in_ok-net.ensures.sends);

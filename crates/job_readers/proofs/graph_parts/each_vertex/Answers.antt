@@ -15,7 +15,7 @@ use Rattle.job_readers.proofs.graph_parts.each_vertex.Goals as goal
 
 pub returns-in_err-vertex-clause-read : goal.returns-in_err-vertex-clause-read
 returns-in_err-vertex-clause-read c =
-    let p = err_from_is_err_and c.from_residual.result c.from_residual.ensures.1 in
+    let p = err_from_is_err_and c.from_residual-in_err-vertex.result c.from_residual-in_err-vertex.ensures.1 in
     let xs = c.args.items.now in
     let f = next_vertex_faults c.args.version in
     let value = vertex_value c.args.version in
@@ -37,8 +37,8 @@ loop-i-preserved c =
     record {
       left = following-more view xs c.loop-i.i c.index-items-i.result (omega arith) c.index-items-i.is f value vs (path_text c.args.path.now) (item_at (path_text c.args.path.now) c.loop-i.i) (following_faults f value [] (path_text c.args.path.now) 0 (map view xs)) refl c.push.new.self pushed_value (sym same ∙ c.in_ok-vertex.ensures.read.0) c.loop-i.invariant.left;
       read = values-more view xs c.loop-i.i c.index-items-i.result (omega arith) c.index-items-i.is value vs c.push.new.self c.loop-i.invariant.read pushed_value;
-      counted = rw (c.in_ok-names.ensures, length-append) (omega arith);
-      named = names_more vs c.push.new.self v c.loop-i.names c.in_ok-names.names c.said_name.result.now pushed c.loop-i.invariant.named c.in_ok-names.ensures said;
+      counted = rw (c.in_ok-names-2.ensures, length-append) (omega arith);
+      named = names_more vs c.push.new.self v c.loop-i.names c.in_ok-names-2.names c.said_name.result.now pushed c.loop-i.invariant.named c.in_ok-names-2.ensures said;
       hung = devices_more vs c.push.new.self v c.loop-i.devices c.in_ok-devices.devices pushed c.loop-i.invariant.hung c.in_ok-devices.ensures;
       valid = rw pushed (All-push IsValidVertex vs v c.loop-i.invariant.valid c.in_ok-vertex.ensures.valid);
       different = different_more vs c.push.new.self v c.loop-i.devices pushed c.loop-i.invariant.hung c.in_ok-vertex.ensures.fresh c.loop-i.invariant.different;

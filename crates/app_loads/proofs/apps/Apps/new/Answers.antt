@@ -1,19 +1,23 @@
-use Rattle.std.proofs.Common.{◌∙◌, ap, refl, sym}
+use Rattle.std.proofs.Common.{◌∙◌, [], ap, refl, subst, sym}
+use Rattle.mesh_core.specs.State.{IsMesh}
+use Rattle.mesh_drain.specs.Draining.{SendAlone}
 use Rattle.app_loads.specs.Inner.{numbers_of}
 use Rattle.app_loads.specs.Taking.{frees}
-use Rattle.app_loads.proofs.Bare.{made_apps}
+use Rattle.app_loads.proofs.Bare.{bare_mesh_alone, made_apps}
 use Rattle.app_loads.proofs.apps.Apps.new.Goals as goal
 
 pub invariant_of-result : goal.invariant_of-result
-invariant_of-result c = record {
-  there = refl;
-  apps = made_apps c.args.machine.now c.args.queue c.in_ok-mesh.mesh (frees c.in_ok-regions.regions.items) c.new.result.items c.in_ok-mesh.ensures.bare c.in_ok-regions.ensures c.new.ensures.items
-      c.in_ok-mesh.ensures.valid;
-  numbers = c.new-2.ensures.items ∙ ap numbers_of (sym c.new.ensures.items);
-  rest = tt;
-}
+invariant_of-result c =
+    let bare = c.new.ensures ∙ c.in_ok-mesh.ensures.bare in
+    record {
+      there = refl;
+      apps = made_apps c.args.machine.now c.args.queue c.new.result (frees c.in_ok-regions.regions.items) c.new-2.result.items bare c.in_ok-regions.ensures c.new-2.ensures.items
+          (subst IsMesh (sym c.new.ensures) c.in_ok-mesh.ensures.valid);
+      numbers = c.new-3.ensures.items ∙ ap numbers_of (sym c.new-2.ensures.items);
+      rest = subst (λ vertices. SendAlone vertices c.new.result) (sym c.new-4.ensures) (subst (SendAlone []) (sym bare) (bare_mesh_alone c.args.machine.now c.args.queue));
+    }
 
 pub returns-clause-apps : goal.returns-clause-apps
 returns-clause-apps c =
-    made_apps c.args.machine.now c.args.queue c.in_ok-mesh.mesh (frees c.in_ok-regions.regions.items) c.new.result.items c.in_ok-mesh.ensures.bare c.in_ok-regions.ensures c.new.ensures.items
-    c.in_ok-mesh.ensures.valid
+    made_apps c.args.machine.now c.args.queue c.new.result (frees c.in_ok-regions.regions.items) c.new-2.result.items (c.new.ensures ∙ c.in_ok-mesh.ensures.bare) c.in_ok-regions.ensures c.new-2.ensures.items
+    (subst IsMesh (sym c.new.ensures) c.in_ok-mesh.ensures.valid)

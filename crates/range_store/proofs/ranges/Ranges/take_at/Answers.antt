@@ -1,11 +1,12 @@
-use Rattle.std.proofs.Common.{subst, ap, sym, ◌∙◌, ◌&&◌, not}
+use Rattle.std.proofs.Common.{arith, subst, ap, sym, ◌∙◌, ◌&&◌, not}
+use Rattle.range_store.specs.Views.{Region}
 use Rattle.range_store.specs.Fits.{FitsAt}
 use Rattle.range_store.specs.Regions.{AreRuns, holes_without, is_free, in_range, is_hole_range}
 use Rattle.range_store.proofs.RunLemmas.{widen, cut_is, fits_any}
 use Rattle.range_store.proofs.ranges.Ranges.take_at.Goals as goal
 
 pub hole_with-requires : goal.hole_with-requires
-hole_with-requires c = record { runs = subst (AreRuns 0 4294967296) (sym c.as_slice.ensures.value) (widen 0 c.self.inside.size 4294967296 c.self.inside.holes.items c.self.invariant.1 c.self.invariant.0) }
+hole_with-requires c = record { runs = subst (AreRuns 0 4294967296) (sym c.as_slice.ensures.value) (widen 0 c.self.inside.size 4294967296 c.self.inside.holes.items c.self.invariant.1 c.self.invariant.0); within = omega (arith, c.requires.within, c.self.invariant.0, ap (λ (r : Region). r.size) c.self.view_is) }
 
 pub cut_out-requires-clause-runs : goal.cut_out-requires-clause-runs
 cut_out-requires-clause-runs c = widen 0 c.self.inside.size 4294967296 c.self.inside.holes.items c.self.invariant.1 c.self.invariant.0

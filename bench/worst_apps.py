@@ -1,0 +1,104 @@
+"""Times the worst that a user can do with `apps`, at sizes that double: by what factor the time grows tells how it depends on the size.
+
+    python3 bench/worst_apps.py [--program PROGRAM] [--beside OTHER] [--runs RUNS] [--doublings COUNT] [--limit MIB] [KIND[=SIZE] ..]
+
+PROGRAM is out/spin where none is named; OTHER is run in turn with it, and is what it is compared with. Each kind is run at a SIZE, and at
+COUNT sizes more, each twice the one before; without a SIZE the first is a size that takes a part of a second. A program that wants more
+than MIB of memory, 4,096 where no number is given, ends with status 9. Told are processor time, wall-clock time and peak memory of each
+size, and the factor by which the processor time grew. Without KINDs all are run.
+
+    kept_unloads     a million deliveries that no unload has handed back, and so many loads and unloads of an empty graph
+    own_unloads      the same, where each of these applications has a packet, a run comes between, and all are unloaded from the first on
+    kept_deliveries  one net to 16,383 vertices and so many packets: a run, and an unload
+    long_pairs       so many loads and unloads of one net along a serpentine of live links through 64 by 64 chips
+    long_nets        one load of so many such nets
+    small_pairs      so many loads and unloads of four vertices and two nets on 64 by 64 chips
+"""
+import argparse
+import json
+
+from in_turn import MEBI, add_programs, programs_of, show
+from worst import NOTHING, SMALL, application, serpentine
+
+FIRST = 256
+
+
+def one_net(targets, packets):
+    """A net from the first vertex to all others."""
+    vertices = [{"name": f"v{i}"} for i in range(targets + 1)]
+    net = {"name": "n", "source": "v0", "targets": [f"v{i + 1}" for i in range(targets)]}
+    return application(vertices, [net], [{"net": "n", "index": 0}] * packets)
+
+
+def kept(others):
+    return [["load", 0, one_net(1000, 1000)], ["run"], *others]
+
+
+def pairs(size, job):
+    return [step for i in range(1, size + 1) for step in (["load", i, job], ["unload", i])]
+
+
+def kept_unloads(size):
+    return kept(pairs(size, NOTHING))
+
+
+def own_unloads(size):
+    small = one_net(1, 1)
+    loads = [step for i in range(1, size + 1) for step in (["load", i, small], ["run"])]
+    return kept([*loads, *(["unload", i] for i in range(1, size + 1))])
+
+
+def kept_deliveries(size):
+    return [["load", 0, one_net(16383, size)], ["run"], ["unload", 0]]
+
+
+def long_pairs(size):
+    """The machine is that of the first job."""
+    job = serpentine(1, 1024)
+    return [["load", 0, job], ["unload", 0], *pairs(size, {**job, "machine": NOTHING["machine"]})]
+
+
+def long_nets(size):
+    return [["load", 0, serpentine(size, 1024)]]
+
+
+def small_pairs(size):
+    return pairs(size, SMALL)
+
+
+# Of each kind what makes its steps, and the first size.
+KINDS = {
+    "kept_unloads": (kept_unloads, FIRST),
+    "own_unloads": (own_unloads, FIRST),
+    "kept_deliveries": (kept_deliveries, FIRST),
+    "long_pairs": (long_pairs, 64),
+    "long_nets": (long_nets, 64),
+    "small_pairs": (small_pairs, FIRST),
+}
+
+
+def main():
+    parser = argparse.ArgumentParser(description="Times the worst of applications (see the head of this file).")
+    parser.add_argument("kinds", nargs="*", metavar="KIND[=SIZE]", help=", ".join(KINDS))
+    parser.add_argument("--doublings", type=int, default=2, help="how often the size is doubled")
+    parser.add_argument("--limit", type=int, default=4096, help="MiB of memory that a program may take")
+    add_programs(parser, 3)
+    asked = parser.parse_args()
+    programs = programs_of(asked)
+    for kind in asked.kinds or KINDS:
+        name, _, size = kind.partition("=")
+        if name not in KINDS or not (size == "" or size.isdigit()):
+            parser.error(f"{kind} is no kind, or its size no number")
+        make, first = KINDS[name]
+        before = None
+        for doubling in range(asked.doublings + 1):
+            count = int(size or first) << doubling
+            text = json.dumps(make(count), separators=(",", ":")).encode()
+            spent = show(f"{name}={count}: {len(text) / 1e6:.2f} MB", programs, ["apps"], text, asked.runs, asked.limit * MEBI)
+            if before:
+                print("  times " + ", ".join(f"{now / was:.2f}" for now, was in zip(spent, before)))
+            before = spent
+
+
+if __name__ == "__main__":
+    main()

@@ -1,0 +1,203 @@
+-- Deliveries that came earlier change nothing of what events do, and where no copy waits, all that is unsent keeps its ledger without
+-- them.
+use Rattle.std.proofs.Common.{◌≡◌, ℕ, ◌/◌, ◌%◌, ◌≤◌, ◌&&◌, Bool, true, false, List, [], ◌∷◌, ◌++◌, count_by, refl, sym, ap, ◌∙◌, subst, arith, inl, inr, Option, None, Some, if◌then◌else◌, not}
+use Rattle.std.specs.Prelude.{unwrap_or, slice_set, is_some}
+use Rattle.std.specs.List.{slice_get, Contains}
+use Rattle.std.proofs.lemmas.Bool.{eq-eqb}
+use Rattle.std.proofs.lemmas.List.{append_assoc, append-nil}
+use Rattle.std.proofs.lemmas.List.Elements.{Contains-append_left}
+use Rattle.std.proofs.lemmas.Option.{same_Some}
+use Rattle.spin_base.proofs.Counts.{count_by-append, count_by-cons}
+use Rattle.spin_base.proofs.Gathering.{among_gathered, gathered_of_none}
+use Rattle.spin_base.proofs.Members.{Among, among_map, contains_among}
+use Rattle.spin_base.specs.declared.chips.Chip.{Chip}
+use Rattle.spin_base.specs.declared.chips.Spot.{Spot}
+use Rattle.spin_base.specs.declared.chips.Port.{Port}
+use Rattle.spin_base.specs.declared.chips.Port.TheVariants.{Local}
+use Rattle.spin_base.specs.declared.copies.Delivery.{Delivery}
+use Rattle.spin_base.specs.declared.copies.Event.{Event}
+use Rattle.spin_base.specs.declared.copies.Event.TheVariants.{Inject, Take, Send, Dump, Collect}
+use Rattle.spin_base.specs.declared.copies.McCopy.{McCopy}
+use Rattle.spin_base.specs.declared.routes.Out.{Out}
+use Rattle.spin_base.specs.Hops.{onward}
+use Rattle.machine_desc.specs.Branch.{Exit}
+use Rattle.machine_desc.specs.Live.{chip_of, index_of}
+use Rattle.machine_desc.specs.NetsOn.{vertex_at}
+use Rattle.machine_desc.specs.declared.nets.NetPlan.{NetPlan}
+use Rattle.mesh_core.specs.declared.places.Did.{Did}
+use Rattle.mesh_core.specs.declared.places.Did.TheVariants.{Moved, Idle}
+use Rattle.mesh_core.specs.Expected.{NothingWaits}
+use Rattle.mesh_core.specs.Ledger.{Label, MeetsLedger, all_hand_marks, core_marks, delivered_marks, dumped_marks, hand_marks, input_marks, marks_at, marks_of, port_of, unsent_marks}
+use Rattle.mesh_core.specs.State.{State, Hand, IsMesh, Queue, behind, input, core, nowhere, queue_at}
+use Rattle.mesh_core.specs.Step.{after_event, after_events, after_serving, answer, collect_of, dump_of, has_room_behind, inject_of, push_behind, send_of, serves, step_of, take_of}
+use Rattle.mesh_core.specs.Trail.{Mark, Station, in_queue, at_core, is_packet_on_trail, on_trail, unsent}
+use Rattle.mesh_core.proofs.LedgerLaw.{one_net}
+use Rattle.mesh_drain.specs.Draining.{IsReachedDropless, MeetsSomeLedger}
+use Rattle.app_loads.specs.Earlier.{with_earlier}
+
+-- ---- events
+
+module _ (ds : List Delivery) where
+  abbrev we : State → State
+  we s = with_earlier ds s
+
+  abbrev later : Option State → Option State
+  later (Some s) = Some (we s)
+  later None = None
+
+  chosen : (b : Bool) (t u : State) → t ≡ we u → (if b then Some t else None) ≡ later (if b then Some u else None)
+  chosen true t u is = ap Some is
+  chosen false t u is = refl
+
+  pushed : (s : State) (q : Queue) (k : McCopy) → push_behind (we s) q k ≡ we (push_behind s q k)
+  pushed s (input i) k = refl
+  pushed s (core v) k = refl
+  pushed s nowhere k = refl
+
+  roomy : (s : State) (q : Queue) → has_room_behind (we s) q ≡ has_room_behind s q
+  roomy s (input i) = refl
+  roomy s (core v) = refl
+  roomy s nowhere = refl
+
+  injected : (s : State) (v : ℕ) (spot : Option Spot) (q : Option (List McCopy)) → inject_of (we s) v spot q ≡ later (inject_of s v spot q)
+  injected s v (Some spot) (Some (k ∷ rest)) =
+      chosen (has_room_behind s (input (queue_at s.setup.machine spot.chip Local))) _ (push_behind (record s { unsent = slice_set s.unsent v rest }) (input (queue_at s.setup.machine spot.chip Local)) k) refl
+  injected s v (Some spot) (Some []) = refl
+  injected s v (Some spot) None = refl
+  injected s v None q = refl
+
+  taken : (s : State) (c : Chip) (port : Port) (hand : Option (Option Hand)) (q : Option (List McCopy)) → take_of (we s) c port hand q ≡ later (take_of s c port hand q)
+  taken s c port (Some None) (Some (k ∷ rest)) = chosen _ _ _ refl
+  taken s c port (Some None) (Some []) = refl
+  taken s c port (Some None) None = refl
+  taken s c port (Some (Some h)) q = refl
+  taken s c port None q = refl
+
+  sent : (s : State) (c : Chip) (o : Out) (hand : Option (Option Hand)) → send_of (we s) c o hand ≡ later (send_of s c o hand)
+  sent s c o (Some (Some h)) =
+      let next = after_serving s c o h in
+      let q = behind s.setup c o in
+      ap (λ b. if serves s c o (Some (Some h)) && b then Some (push_behind (we next) q (onward h.copy)) else None) (roomy s q)
+      ∙ chosen (serves s c o (Some (Some h)) && has_room_behind s q) (push_behind (we next) q (onward h.copy)) (push_behind next q (onward h.copy)) (pushed next q (onward h.copy))
+  sent s c o (Some None) = refl
+  sent s c o None = refl
+
+  dropped : (s : State) (c : Chip) (o : Out) (hand : Option (Option Hand)) → dump_of (we s) c o hand ≡ later (dump_of s c o hand)
+  dropped s c o (Some (Some h)) =
+      let next = after_serving s c o h in
+      let q = behind s.setup c o in
+      let made : State = record next { dumped = next.dumped ++ record { chip = c; out = o; copy = h.copy } ∷ [] } in
+      ap (λ b. if serves s c o (Some (Some h)) && not b then Some (we made) else None) (roomy s q) ∙ chosen (serves s c o (Some (Some h)) && not (has_room_behind s q)) (we made) made refl
+  dropped s c o (Some None) = refl
+  dropped s c o None = refl
+
+  collected : (s : State) (v : ℕ) (q : Option (List McCopy)) → collect_of (we s) v q ≡ later (collect_of s v q)
+  collected s v (Some (k ∷ rest)) =
+      ap (λ (l : List Delivery). Some (record s { cores = slice_set s.cores v rest; delivered = l })) (append_assoc ds s.delivered (record { vertex = v; copy = k } ∷ []))
+  collected s v (Some []) = refl
+  collected s v None = refl
+
+  stepped : (s : State) (e : Event) → step_of (we s) e ≡ later (step_of s e)
+  stepped s (Inject v) = injected s v (slice_get s.setup.spots v) (slice_get s.unsent v)
+  stepped s (Take c port) = taken s c port (slice_get s.hands (index_of s.setup.machine c)) (slice_get s.inputs (queue_at s.setup.machine c port))
+  stepped s (Send c o) = sent s c o (slice_get s.hands (index_of s.setup.machine c))
+  stepped s (Dump c o) = dropped s c o (slice_get s.hands (index_of s.setup.machine c))
+  stepped s (Collect v) = collected s v (slice_get s.cores v)
+
+  later_is : (o : Option State) → is_some (later o) ≡ is_some o
+  later_is (Some t) = refl
+  later_is None = refl
+
+  later_or : (o : Option State) (s : State) → unwrap_or (later o) (we s) ≡ we (unwrap_or o s)
+  later_or (Some t) s = refl
+  later_or None s = refl
+
+  pub event_with : (s : State) (e : Event) → after_event (we s) e ≡ we (after_event s e)
+  event_with s e = ap (λ o. unwrap_or o (we s)) (stepped s e) ∙ later_or (step_of s e) s
+
+  pub answer_with : (s : State) (e : Event) → answer (we s) e ≡ answer s e
+  answer_with s e = ap answer_by (ap is_some (stepped s e) ∙ later_is (step_of s e))
+    where
+      answer_by : Bool → Did
+      answer_by b = if b then Moved else Idle
+
+  pub events_with : (s : State) (es : List Event) → after_events (we s) es ≡ we (after_events s es)
+  events_with s [] = refl
+  events_with s (e ∷ es) = ap (λ t. after_events t es) (event_with s e) ∙ events_with (after_event s e) es
+
+  pub reached_with : (s t : State) → IsReachedDropless s t → IsReachedDropless (we s) (we t)
+  reached_with s t reached = record { events = reached.events; dropless = reached.dropless; is = ap we reached.is ∙ sym (events_with s reached.events) }
+
+-- ---- the ledger
+
+-- a test that an item passes is passed at least once
+pub passes_once : {X : Type 0} (p : X → Bool) (xs : List X) (x : X) → Among x xs → p x ≡ true → 1 ≤ count_by p xs
+passes_once p [] x a passes = absurd a
+passes_once p (y ∷ ys) x (inl is) passes =
+    let one = count_by-cons p y ys in
+    let here : (if p y then 1 else 0) ≡ 1 = ap (λ b. one_if b) (ap p (sym is) ∙ passes) in
+    omega (arith, one, here)
+  where
+    one_if : Bool → ℕ
+    one_if b = if b then 1 else 0
+passes_once p (y ∷ ys) x (inr a) passes = let one = count_by-cons p y ys in let rest = passes_once p ys x a passes in omega (arith, one, rest)
+
+module _ (ds : List Delivery) (s : State) (nets : List NetPlan) (labels : ℕ → Label)
+    (l : MeetsLedger (with_earlier ds s) nets labels) (quiet : NothingWaits s) (none_delivered : s.delivered ≡ []) (none_dumped : s.dumped ≡ []) where
+  only_unsent : marks_of s ≡ unsent_marks s ++ ([] ++ ([] ++ ([] ++ ([] ++ []))))
+  only_unsent =
+      let inputs : input_marks s ≡ [] = gathered_of_none (λ i copies. marks_at (in_queue (chip_of s.setup.machine (i / 7)) (port_of (i % 7))) copies) [] (λ j. refl) 0 s.inputs quiet.inputs_empty in
+      let hands : all_hand_marks s ≡ [] = gathered_of_none (λ i h. hand_marks (chip_of s.setup.machine i) h) None (λ j. refl) 0 s.hands quiet.hands_empty in
+      let cores : core_marks s ≡ [] = gathered_of_none (λ v copies. marks_at (at_core v) copies) [] (λ j. refl) 0 s.cores quiet.cores_empty in
+      rw (inputs, hands, cores, none_delivered, none_dumped) refl
+
+  own : marks_of s ≡ unsent_marks s
+  own = only_unsent ∙ append-nil (unsent_marks s)
+
+  abbrev behind_unsent : List Mark
+  behind_unsent = input_marks s ++ (all_hand_marks s ++ (core_marks s ++ (delivered_marks (with_earlier ds s) ++ dumped_marks s)))
+
+  in_own : (k : Mark) → Contains (marks_of s) k → Contains (unsent_marks s) k
+  in_own k has = subst (λ m. Contains m k) own has
+
+  in_whole : (k : Mark) → Contains (marks_of s) k → Contains (marks_of (with_earlier ds s)) k
+  in_whole k has = Contains-append_left (unsent_marks s) behind_unsent k (in_own k has)
+
+  -- an unsent copy is at its vertex
+  stands : (k : Mark) → Contains (unsent_marks s) k → (v : ℕ) × (k.station ≡ unsent v)
+  stands k has =
+      let found = among_gathered (λ v copies. marks_at (unsent v) copies) k s.unsent (contains_among k (unsent_marks s) has) in
+      let copy = among_map (λ (c : McCopy). let m : Mark = record { copy = c; station = unsent found.0 } in m) k found.1 found.3 in
+      (found.0, ap (λ (m : Mark). m.station) copy.2)
+
+  -- what is unsent has every trail of its net before it
+  each_trail : (from to hop : ℕ) (other : ℕ) (branch also : List Exit) (v : ℕ) (st : Station) → st ≡ unsent v → on_trail from to branch hop st ≡ on_trail from other also hop st
+  each_trail from to hop other branch also v st is =
+      subst (λ x. on_trail from to branch hop x ≡ on_trail from other also hop x) (sym is) refl
+
+  pub own_ledger : MeetsLedger s nets labels
+  own_ledger = record {
+    nets_stand = l.nets_stand;
+    labelled = λ k has. l.labelled k (in_whole k has);
+    on_a_trail = λ k has. l.on_a_trail k (in_whole k has);
+    once_on_each = λ k has net in_nets key target branch from to way.
+        let on = l.on_a_trail k (in_whole k has) in
+        let one : on.0 ≡ net = one_net nets l.nets_stand.disjoint on.0 net on.1 in_nets k.copy.key on.2 key in
+        let begins : Some on.3.2 ≡ Some from = sym on.3.4.begins ∙ (ap (λ (n : NetPlan). vertex_at s.setup.spots n.source) one ∙ way.begins) in
+        let at = stands k (in_own k has) in
+        let passes : on_trail from to branch k.copy.hop k.station ≡ true =
+        each_trail from to k.copy.hop on.3.3 branch on.3.1 at.0 k.station at.1
+        ∙ subst (λ f. on_trail f on.3.3 on.3.1 k.copy.hop k.station ≡ true) (same_Some on.3.2 from begins) on.3.5 in
+        let p : Mark → Bool = is_packet_on_trail k.copy.packet from to branch in
+        let test : p k ≡ true = ap (λ b. b && on_trail from to branch k.copy.hop k.station) (eq-eqb k.copy.packet k.copy.packet refl) ∙ passes in
+        let some = passes_once p (unsent_marks s) k (contains_among k (unsent_marks s) (in_own k has)) test in
+        let all : count_by p (unsent_marks s ++ behind_unsent) ≡ 1 = l.once_on_each k (in_whole k has) net in_nets key target branch from to way in
+        let split = count_by-append p (unsent_marks s) behind_unsent in
+        let here : count_by p (marks_of s) ≡ count_by p (unsent_marks s) = ap (count_by p) own in
+        omega (arith, some, all, split, here);
+  }
+
+-- where no copy waits, and none was delivered or dropped but earlier, a mesh meets a ledger without the earlier deliveries
+pub kept_without : (ds : List Delivery) (s : State) → MeetsSomeLedger (with_earlier ds s) → IsMesh s → NothingWaits s → s.delivered ≡ [] → s.dumped ≡ [] → MeetsSomeLedger s
+kept_without ds s kept mesh quiet delivered dumped =
+    record { mesh = mesh; nets = kept.nets; labels = kept.labels; right = kept.right; ledger = own_ledger ds s kept.nets kept.labels kept.ledger quiet delivered dumped }

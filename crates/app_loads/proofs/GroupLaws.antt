@@ -1,0 +1,196 @@
+-- Deliveries held in groups.
+use Rattle.std.proofs.Common.{◌≡◌, ◌≢◌, ℕ, zero, suc, ◌+◌, ◌-◌, ◌<◌, ◌≤◌, Bool, true, false, not, ◌&&◌, ◌||◌, List, [], ◌∷◌, ◌++◌, length, refl, sym, ap, ◌∙◌, subst, arith, cond, inl, inr, leb, ltb, Some, Result, Ok, Err, IfOk, OnErr}
+use Rattle.std.specs.List.{All, filter, list_any, slice_get, slice_index_or, slice_set}
+use Rattle.std.proofs.lemmas.Bool.{and_from, and_parts, cases_Bool, cases_lt, false≢true, le-leb, leb-true, lt-ltb, ltb-true, not-false, not-true, or_parts}
+use Rattle.std.proofs.lemmas.Grind.{flat_map-append}
+use Rattle.std.proofs.lemmas.List.{append_assoc, append-nil, length-append, map-append}
+use Rattle.std.proofs.lemmas.List.Elements.{All-append, All-cons, All-head, All-map, All-nil, All-tail, All-weaker, filter-append}
+use Rattle.std.proofs.lemmas.List.Filters.{length-filter_both}
+use Rattle.std.proofs.lemmas.Option.{same_Some, slice_get-get_or}
+use Rattle.spin_base.proofs.Pairs.{All-flat_map}
+use Rattle.spin_base.specs.declared.copies.Delivery.{Delivery}
+use Rattle.app_loads.specs.declared.group.Arrival.{Arrival}
+use Rattle.app_loads.specs.declared.group.Group.TheInside.{Inside}
+use Rattle.app_loads.specs.declared.group.Sent.{Sent}
+use Rattle.app_loads.specs.declared.loaded.LoadedApp.{LoadedApp}
+use Rattle.app_loads.specs.Grouping.{Grouped, HasPut, IsAtLeast, IsAtMost, all_grouped, is_mixed_group, is_others_group, is_own_group}
+use Rattle.app_loads.specs.Groups.{IsBetween, IsGroup, arrival_of, deliveries_at, deliveries_in, delivery_of, grouped_of, sent_of}
+use Rattle.app_loads.specs.Leaving.{is_delivery_of, is_packet_of}
+
+-- ---- one group
+
+-- a delivery more of the only packet
+pub extended : (p : Sent) (arrivals : List Arrival) (d : Delivery) → p ≡ sent_of d → deliveries_in (p ∷ []) (arrivals ++ arrival_of d ∷ []) ≡ deliveries_in (p ∷ []) arrivals ++ d ∷ []
+extended p arrivals d is =
+    append-nil (deliveries_at (arrivals ++ arrival_of d ∷ []) p)
+    ∙ (map-append (delivery_of p) arrivals (arrival_of d ∷ [])
+    ∙ (ap (λ (x : Delivery). deliveries_at arrivals p ++ x ∷ []) (ap (λ q. delivery_of q (arrival_of d)) is)
+    ∙ ap (λ l. l ++ d ∷ []) (sym (append-nil (deliveries_at arrivals p)))))
+
+pub first_of : (sent : List Sent) (arrivals : List Arrival) (d : Delivery) → sent ≡ sent_of d ∷ [] → arrivals ≡ arrival_of d ∷ [] → deliveries_in sent arrivals ≡ d ∷ []
+first_of sent arrivals d sent_is arrivals_are = ap (λ l. deliveries_in l arrivals) sent_is ∙ ap (λ l. deliveries_in (sent_of d ∷ []) l) arrivals_are
+
+pub more_of : (sent : List Sent) (arrivals more : List Arrival) (d : Delivery) → sent ≡ sent_of d ∷ [] → more ≡ arrivals ++ arrival_of d ∷ [] → deliveries_in sent more ≡ deliveries_in sent arrivals ++ d ∷ []
+more_of sent arrivals more d sent_is more_is =
+    ap (λ l. deliveries_in l more) sent_is
+    ∙ (ap (λ l. deliveries_in (sent_of d ∷ []) l) more_is
+    ∙ (extended (sent_of d) arrivals d refl ∙ ap (λ l. deliveries_in l arrivals ++ d ∷ []) (sym sent_is)))
+
+-- a packet more that came to the same vertices
+pub joined : (sent : List Sent) (q : Sent) (arrivals other : List Arrival) → other ≡ arrivals → deliveries_in (sent ++ q ∷ []) arrivals ≡ deliveries_in sent arrivals ++ deliveries_in (q ∷ []) other
+joined sent q arrivals other same =
+    flat_map-append (deliveries_at arrivals) sent (q ∷ []) ∙ ap (λ x. deliveries_in sent arrivals ++ deliveries_in (q ∷ []) x) (sym same)
+
+pub joined_of : (sent all own : List Sent) (q : Sent) (arrivals other : List Arrival) → all ≡ sent ++ q ∷ [] → own ≡ q ∷ [] → other ≡ arrivals →
+    deliveries_in all arrivals ≡ deliveries_in sent arrivals ++ deliveries_in own other
+joined_of sent all own q arrivals other all_is own_is same =
+    ap (λ l. deliveries_in l arrivals) all_is ∙ (joined sent q arrivals other same ∙ ap (λ l. deliveries_in sent arrivals ++ deliveries_in l other) (sym own_is))
+
+-- the packets lie between lesser and greater numbers too, and so does one more
+pub between_more : (sent all : List Sent) (q : Sent) (least greatest low high : ℕ) → all ≡ sent ++ q ∷ [] → All (IsBetween least greatest) sent → IsAtMost low least q.packet → IsAtLeast high greatest q.packet →
+    All (IsBetween low high) all
+between_more sent all q least greatest low high all_is between at_most at_least =
+    subst (All (IsBetween low high)) (sym all_is)
+    (All-append (IsBetween low high) sent (q ∷ [])
+    (All-weaker (IsBetween least greatest) (IsBetween low high)
+    (λ p is. let l = at_most.first in let h = at_least.first in let a = is.low in let b = is.high in record { low = omega (arith, l, a); high = omega (arith, h, b) }) sent between)
+    (All-cons (IsBetween low high) q [] (record { low = at_most.second; high = at_least.second }) (All-nil (IsBetween low high))))
+
+module _ (app : LoadedApp) (g : Inside) (is : IsGroup g) where
+  -- what holds of all numbers between the least and the greatest holds of all deliveries
+  of_all : (P : ℕ → Type 0) → ((n : ℕ) → g.least ≤ n → n ≤ g.greatest → P n) → All (λ (d : Delivery). P d.copy.packet) (deliveries_in g.sent g.arrivals)
+  of_all P holds =
+      All-flat_map (λ (d : Delivery). P d.copy.packet) (deliveries_at g.arrivals) g.sent
+      (All-weaker (IsBetween g.least g.greatest) (λ p. All (λ (d : Delivery). P d.copy.packet) (deliveries_at g.arrivals p))
+      (λ p between. All-map (λ (d : Delivery). P d.copy.packet) (delivery_of p) g.arrivals (λ i d below. holds p.packet between.low between.high)) g.sent is.between)
+
+  abbrev end : ℕ
+  end = app.first + length app.plan.packets
+
+  is_one : (n : ℕ) → app.first ≤ n → n < end → is_packet_of app n ≡ true
+  is_one n low high = and_from _ _ (le-leb app.first n low) (lt-ltb n end high)
+
+  bounds : (n : ℕ) → is_packet_of app n ≡ true → (app.first ≤ n) × (n < end)
+  bounds n one = let parts = and_parts _ _ one in (leb-true app.first n parts.0, ltb-true n end parts.1)
+
+  pub own_all : is_own_group app (grouped_of g) ≡ true → All (λ (d : Delivery). is_delivery_of app d ≡ true) (deliveries_in g.sent g.arrivals)
+  own_all own =
+      let parts = and_parts _ _ own in
+      let low = (bounds g.least parts.0).0 in
+      let high = (bounds g.greatest parts.1).1 in
+      of_all (λ n. is_packet_of app n ≡ true) (λ n above below. is_one n (omega (arith, low, above)) (omega (arith, high, below)))
+
+  before : (n : ℕ) → n < app.first → is_packet_of app n ≡ false
+  before n low = elim (cases_Bool (is_packet_of app n)) [ inr none ↦ none | inl one ↦ (let b = (bounds n one).0 in absurd (omega (arith, b, low))) ]
+
+  behind : (n : ℕ) → end ≤ n → is_packet_of app n ≡ false
+  behind n high = elim (cases_Bool (is_packet_of app n)) [ inr none ↦ none | inl one ↦ (let b = (bounds n one).1 in absurd (omega (arith, b, high))) ]
+
+  -- a number that is none of the application's, and not before its first one, is behind them
+  past : (n : ℕ) → app.first ≤ n → is_packet_of app n ≡ false → end ≤ n
+  past n low none = elim (cases_lt n end) [ inr high ↦ high | inl below ↦ absurd (false≢true (sym none ∙ is_one n low below)) ]
+
+  pub others_all : is_others_group app (grouped_of g) ≡ true → All (λ (d : Delivery). is_delivery_of app d ≡ false) (deliveries_in g.sent g.arrivals)
+  others_all others = elim (cases_Bool (ltb g.greatest app.first)) [
+    | inl low ↦ (let b = ltb-true g.greatest app.first low in of_all (λ n. is_packet_of app n ≡ false) (λ n above below. before n (omega (arith, b, below))))
+    | inr not_low ↦
+        let parts = and_parts (leb app.first g.least) (not (is_packet_of app g.least)) (sym (ap (λ b. b || (leb app.first g.least && not (is_packet_of app g.least))) not_low) ∙ others) in
+        let b = past g.least (leb-true app.first g.least parts.0) (not-true (is_packet_of app g.least) parts.1) in
+        of_all (λ n. is_packet_of app n ≡ false) (λ n above below. behind n (omega (arith, b, above)))
+  ]
+
+-- a group that is not mixed, and not the application's, is of others
+pub not_own : (app : LoadedApp) (g : Grouped) → is_mixed_group app g ≡ false → is_own_group app g ≡ false → is_others_group app g ≡ true
+not_own app g unmixed own = not-false (is_others_group app g) (sym (ap (λ b. not b && not (is_others_group app g)) own) ∙ unmixed)
+
+-- ---- groups
+
+-- deliveries that were put into the last group, or not, were so into all
+pub put_last : (b : Bool) (gs : List Grouped) (n : ℕ) (g new : Grouped) (more : List Delivery) → slice_get gs n ≡ Some g → length gs ≡ n + 1 → HasPut b g.deliveries more new.deliveries →
+    HasPut b (all_grouped gs) more (all_grouped (slice_set gs n new))
+put_last b [] n g new more at long put = absurd (omega (arith, long))
+put_last true (h ∷ []) zero g new more at long put =
+    let same : h ≡ g = same_Some h g at in
+    ap (λ l. l ++ []) put ∙ (append-nil (g.deliveries ++ more) ∙ ap (λ l. l ++ more) (sym (append-nil g.deliveries) ∙ ap (λ (x : Grouped). x.deliveries ++ []) (sym same)))
+put_last false (h ∷ []) zero g new more at long put = ap (λ l. l ++ []) (put ∙ ap (λ (x : Grouped). x.deliveries) (sym (same_Some h g at)))
+put_last b (h ∷ k ∷ gs) zero g new more at long put = absurd (omega (arith, long))
+put_last true (h ∷ gs) (suc n) g new more at long put =
+    ap (λ l. h.deliveries ++ l) (put_last true gs n g new more at (omega (arith, long)) put) ∙ sym (append_assoc h.deliveries (all_grouped gs) more)
+put_last false (h ∷ gs) (suc n) g new more at long put = ap (λ l. h.deliveries ++ l) (put_last false gs n g new more at (omega (arith, long)) put)
+
+-- the deliveries of a group at the back come last
+pub grouped_push : (gs : List Grouped) (g : Grouped) → all_grouped (gs ++ g ∷ []) ≡ all_grouped gs ++ g.deliveries
+grouped_push gs g = flat_map-append (λ (x : Grouped). x.deliveries) gs (g ∷ []) ∙ ap (λ l. all_grouped gs ++ l) (append-nil g.deliveries)
+
+-- all pass a test, or none
+pub all_pass : {X : Type 0} (p : X → Bool) (xs : List X) → All (λ x. p x ≡ true) xs → filter p xs ≡ xs
+all_pass p [] all = refl
+all_pass p (x ∷ xs) all = ap (λ b. cond b (x ∷ filter p xs) (filter p xs)) (All-head (λ y. p y ≡ true) x xs all) ∙ ap (λ l. x ∷ l) (all_pass p xs (All-tail (λ y. p y ≡ true) x xs all))
+
+pub none_pass : {X : Type 0} (p : X → Bool) (xs : List X) → All (λ x. p x ≡ false) xs → filter p xs ≡ []
+none_pass p [] all = refl
+none_pass p (x ∷ xs) all = ap (λ b. cond b (x ∷ filter p xs) (filter p xs)) (All-head (λ y. p y ≡ false) x xs all) ∙ none_pass p xs (All-tail (λ y. p y ≡ false) x xs all)
+
+-- what was put into the last of so many groups was put into all
+pub last_put : (b : Bool) (gs : List Grouped) (count : ℕ) (g new : Grouped) (more : List Delivery) → count ≡ length gs → count ≢ 0 → g ≡ slice_index_or gs (count - 1) g →
+    HasPut b g.deliveries more new.deliveries → HasPut b (all_grouped gs) more (all_grouped (slice_set gs (count - 1) new))
+last_put b gs count g new more long some value put =
+    let below : count - 1 < length gs = omega (arith, long, some) in
+    put_last b gs (count - 1) g new more (slice_get-get_or gs (count - 1) g below ∙ ap Some (sym value)) (omega (arith, long, some)) put
+
+pub last_put_if : {E : Type 0} (r : Result Bool E) (gs : List Grouped) (count : ℕ) (g new : Grouped) (more : List Delivery) → count ≡ length gs → count ≢ 0 → g ≡ slice_index_or gs (count - 1) g →
+    IfOk r (λ put. HasPut put g.deliveries more new.deliveries) → IfOk r (λ put. HasPut put (all_grouped gs) more (all_grouped (slice_set gs (count - 1) new)))
+last_put_if (Ok b) gs count g new more long some value put = last_put b gs count g new more long some value put
+last_put_if (Err e) gs count g new more long some value put = tt
+
+pub last_same_if : {X E : Type 0} (r : Result X E) (gs : List Grouped) (count : ℕ) (g new : Grouped) → count ≡ length gs → count ≢ 0 → g ≡ slice_index_or gs (count - 1) g →
+    OnErr r (new.deliveries ≡ g.deliveries) → OnErr r (all_grouped (slice_set gs (count - 1) new) ≡ all_grouped gs)
+last_same_if (Ok x) gs count g new long some value same = tt
+last_same_if (Err e) gs count g new long some value same = last_put false gs count g new [] long some value same
+
+-- ---- parting
+
+-- what passes of a group is put behind what was put before
+pub put_group : (p : Delivery → Bool) (own g rest all put : List Delivery) → own ++ filter p (g ++ rest) ≡ filter p all → put ≡ own ++ filter p g → put ++ filter p rest ≡ filter p all
+put_group p own g rest all put is put_is =
+    ap (λ l. l ++ filter p rest) put_is ∙ (append_assoc own (filter p g) (filter p rest) ∙ (ap (λ l. own ++ l) (sym (filter-append p g rest)) ∙ is))
+
+-- there is still room for the rest
+pub room_still : (gs rest : List Grouped) (g : Grouped) (n put cap kept : ℕ) → gs ≡ g ∷ rest → n + length gs ≤ cap → put ≤ n + 1 → kept ≡ cap → put + length rest ≤ kept
+room_still gs rest g n put cap kept is room one same = let long = ap length is in omega (arith, long, room, one, same)
+
+-- none of the rest passes, where none passes
+pub none_of_rest : {X : Type 0} (p : X → Bool) (gs rest : List X) (g : X) → gs ≡ g ∷ rest → list_any p gs ≡ false → list_any p rest ≡ false
+none_of_rest p gs rest g is none = (or_parts (p g) (list_any p rest) (sym (ap (list_any p) is) ∙ none)).1
+
+module _ (p : Delivery → Bool) (all own others : List Delivery) (count left : ℕ) (counted : count ≡ length all) (so_far : left + length own ≡ count) where
+  abbrev q : Delivery → Bool
+  q d = not (p d)
+
+  both : length (filter p all) + length (filter q all) ≡ length all
+  both = length-filter_both p q (λ d. refl) all
+
+  -- of a group that is left, no more pass than are left
+  pub few_more : (g rest : List Delivery) (n : ℕ) → own ++ filter p (g ++ rest) ≡ filter p all → n ≡ length (filter p g) → n ≤ left
+  few_more g rest n own_is n_is =
+      let whole = ap length own_is in
+      let split = length-append own (filter p (g ++ rest)) in
+      let parts = ap length (filter-append p g rest) in
+      let sum = length-append (filter p g) (filter p rest) in
+      let most = both in
+      omega (arith, counted, so_far, whole, split, parts, sum, most, n_is)
+
+  -- and when it is put, the rest are still counted
+  pub still_counted : (g rest put : List Delivery) (n : ℕ) → own ++ filter p (g ++ rest) ≡ filter p all → put ≡ own ++ filter p g → n ≡ length (filter p g) → (left - n) + length put ≡ count
+  still_counted g rest put n own_is put_is n_is =
+      let few = few_more g rest n own_is n_is in
+      let sum = ap length put_is ∙ length-append own (filter p g) in
+      omega (arith, so_far, few, sum, n_is)
+
+  -- at the end those that are left are the others
+  pub left_others : own ++ [] ≡ filter p all → others ++ [] ≡ filter q all → left ≡ length others
+  left_others own_is others_are =
+      let a = ap length (sym (append-nil own) ∙ own_is) in
+      let b = ap length (sym (append-nil others) ∙ others_are) in
+      let most = both in
+      omega (arith, counted, so_far, a, b, most)

@@ -1,0 +1,211 @@
+-- A mesh whose earlier deliveries are held apart, seen as one mesh.
+use Rattle.std.proofs.Common.{◌≡◌, Bool, ℕ, ◌+◌, ◌^◌, ◌<◌, not, List, [], ◌++◌, length, refl, sym, ap, ◌∙◌, subst, inl, inr, arith, Option, None, Some, Result, Ok, Err, OnErr, OnOk, map}
+use Rattle.std.specs.Prelude.{IfSome}
+use Rattle.std.specs.List.{Contains, filter}
+use Rattle.std.proofs.lemmas.List.{map-append}
+use Rattle.std.proofs.lemmas.List.Sums.{count_by-le-length, length-filter}
+use Rattle.std.proofs.lemmas.List.Elements.{All-nil, filter-append}
+use Rattle.spin_base.proofs.Members.{Among, among_contains, among_either, among_left, among_map, among_right, contains_among}
+use Rattle.spin_base.specs.declared.copies.Delivery.{Delivery}
+use Rattle.range_store.specs.Views.{Region}
+use Rattle.mesh_core.specs.Expected.{IsAtRest, NothingWaits}
+use Rattle.mesh_core.specs.HasRun.{DropsNone}
+use Rattle.mesh_core.specs.Ledger.{all_hand_marks, core_marks, delivered_marks, dumped_marks, input_marks, marks_of, unsent_marks}
+use Rattle.mesh_core.specs.State.{State, IsMesh}
+use Rattle.mesh_core.specs.Trail.{Mark, IsUnderWayAt, delivered}
+use Rattle.mesh_drain.specs.Draining.{IsMoved, IsReachedDropless, MaySend, MeetsSomeLedger, SendAlone}
+use Rattle.mesh_drain.proofs.Frame.{dumped_reached, kept_reached}
+use Rattle.app_loads.specs.declared.answers.Ended.{Ended}
+use Rattle.app_loads.specs.declared.answers.UnloadErr.{UnloadErr}
+use Rattle.app_loads.specs.declared.answers.UnloadErr.TheVariants.{NotLoaded, Waiting, Memory}
+use Rattle.app_loads.specs.declared.leaving.Left.{Left}
+use Rattle.app_loads.specs.declared.loaded.LoadedApp.{LoadedApp}
+use Rattle.app_loads.specs.Earlier.{with_earlier}
+use Rattle.app_loads.specs.Joining.{CanSettle, IsSettled}
+use Rattle.app_loads.specs.Leaving.{NoneUnderWay, WaitsIn, is_delivery_of, mesh_without}
+use Rattle.app_loads.specs.Removing.{CanLeaveFrom, HasLeft, HasLeftMesh, IsWhyHere}
+use Rattle.app_loads.specs.Running.{IsClean}
+use Rattle.app_loads.proofs.Earlier.{kept_without, reached_with}
+use Rattle.app_loads.proofs.LeftMesh.{mesh_with}
+
+-- what follows where a call was answered
+pub ok_then : {X E : Type 0} {P Q : Type 0} (r : Result X E) → (P → Q) → OnOk r P → OnOk r Q
+ok_then (Ok x) f p = f p
+ok_then (Err e) f p = tt
+
+pub err_then : {X E : Type 0} {P Q : Type 0} (r : Result X E) → (P → Q) → OnErr r P → OnErr r Q
+err_then (Ok x) f p = tt
+err_then (Err e) f p = f p
+
+-- ---- the same mesh, whose deliveries are held otherwise
+
+pub same_mesh : (xs ys : List Delivery) (s t : State) → t ≡ record s { delivered = t.delivered } → ys ++ t.delivered ≡ xs ++ s.delivered → with_earlier ys t ≡ with_earlier xs s
+same_mesh xs ys s t is all = ap (λ (u : State). record u { delivered = ys ++ t.delivered }) is ∙ ap (λ l. record s { delivered = l }) all
+
+quiet_still : (s t : State) → t ≡ record s { delivered = t.delivered } → NothingWaits s → NothingWaits t
+quiet_still s t is quiet = subst NothingWaits (sym is) (record { inputs_empty = quiet.inputs_empty; hands_empty = quiet.hands_empty; cores_empty = quiet.cores_empty })
+
+-- it is the whole one, where none are held apart
+pub whole_is : (xs ys : List Delivery) (s t : State) → t ≡ record s { delivered = t.delivered } → ys ++ t.delivered ≡ xs ++ s.delivered → ys ≡ [] → t ≡ with_earlier xs s
+whole_is xs ys s t is all none = ap (λ l. with_earlier l t) (sym none) ∙ same_mesh xs ys s t is all
+
+pub alone_still : (s t : State) (vertices : List ℕ) → t ≡ record s { delivered = t.delivered } → SendAlone vertices s → SendAlone vertices t
+alone_still s t vertices is alone = subst (SendAlone vertices) (sym is) (record {
+  quiet = record { inputs_empty = alone.quiet.inputs_empty; hands_empty = alone.quiet.hands_empty; cores_empty = alone.quiet.cores_empty };
+  there = alone.there;
+  others = alone.others;
+})
+
+pub moved_as : (a s t b : State) → s ≡ a → b ≡ t → IsMoved s t → IsMoved a b
+moved_as a s t b from to moved = subst (λ x. IsMoved x b) from (subst (IsMoved s) (sym to) moved)
+
+-- a mesh after nothing
+pub moved_none : (s t : State) → t ≡ s → IsMoved s t
+moved_none s t is = record { events = []; is = is; dropless = λ quiet. All-nil DropsNone; no_record = λ quiet. ap (λ (u : State). u.dumped) is }
+
+module _ (ds : List Delivery) where
+  abbrev we : State → State
+  we s = with_earlier ds s
+
+  -- ---- what holds of the mesh with its earlier deliveries holds without them
+
+  pub mesh_own : (s : State) → IsMesh (we s) → IsMesh s
+  mesh_own s mesh = mesh_with (we s) s.setup.tables s.delivered s.dumped mesh refl
+
+  pub can_settle_own : (s : State) (app : LoadedApp) → CanSettle (we s) app → CanSettle s app
+  can_settle_own s app can = record { loaded = can.loaded; apart = can.apart; numbers = can.numbers; vertices = can.vertices; none = can.none; long = can.long }
+
+  pub alone_own : (s : State) (vertices : List ℕ) → SendAlone vertices (we s) → SendAlone vertices s
+  alone_own s vertices alone = record {
+    quiet = record { inputs_empty = alone.quiet.inputs_empty; hands_empty = alone.quiet.hands_empty; cores_empty = alone.quiet.cores_empty };
+    there = alone.there;
+    others = alone.others;
+  }
+
+  known_own : (s : State) (senders : Option (List ℕ)) → IfSome senders (λ vertices. SendAlone vertices (we s)) → IfSome senders (λ vertices. SendAlone vertices s)
+  known_own s None known = tt
+  known_own s (Some vertices) known = alone_own s vertices known
+
+  pub can_leave_own : (s : State) (regions : List Region) (senders : Option (List ℕ)) (app : LoadedApp) → CanLeaveFrom (we s) regions senders app → CanLeaveFrom s regions senders app
+  can_leave_own s regions senders app leave = record {
+    can = record { others = leave.can.others; taken = leave.can.taken; few = leave.can.few; long = leave.can.long };
+    known = known_own s senders leave.known;
+  }
+
+  -- ---- and the other way round
+
+  pub settled_with : (app : LoadedApp) (s t : State) → IsSettled app s t → IsSettled app (we s) (we t)
+  settled_with app s t settled = record { mesh = ap we settled.mesh; sent = settled.sent; written = settled.written }
+
+  pub alone_with : (s : State) (vertices : List ℕ) → SendAlone vertices s → SendAlone vertices (we s)
+  alone_with s vertices alone = record {
+    quiet = record { inputs_empty = alone.quiet.inputs_empty; hands_empty = alone.quiet.hands_empty; cores_empty = alone.quiet.cores_empty };
+    there = alone.there;
+    others = alone.others;
+  }
+
+  pub rest_with : (s : State) → IsAtRest s → IsAtRest (we s)
+  rest_with s rest = record {
+    waits = record { inputs_empty = rest.waits.inputs_empty; hands_empty = rest.waits.hands_empty; cores_empty = rest.waits.cores_empty };
+    all_sent = rest.all_sent;
+  }
+
+  pub left_with : (app : LoadedApp) (others : List Delivery) (s t : State) (left : Left) (ended : Ended) (own : List Delivery) → HasLeftMesh app s left t →
+      own ≡ filter (is_delivery_of app) ds → others ≡ filter (λ d. not (is_delivery_of app d)) ds → ended.delivered ≡ own ++ left.delivered → ended.dumped ≡ left.dumped →
+      HasLeft app (we s) ended (with_earlier others t)
+  left_with app others s t left ended own has own_is others_is delivered_is dumped_is = record {
+    delivered = delivered_is ∙ (ap (λ l. l ++ left.delivered) own_is
+        ∙ (ap (λ l. filter (is_delivery_of app) ds ++ l) has.delivered ∙ sym (filter-append (is_delivery_of app) ds s.delivered)));
+    dumped = dumped_is ∙ has.dumped;
+    mesh = ap (λ (u : State). record u { delivered = others ++ u.delivered }) has.mesh
+        ∙ ap (λ l. record (mesh_without app t.setup.tables s) { delivered = l })
+        (ap (λ l. l ++ filter (λ d. not (is_delivery_of app d)) s.delivered) others_is ∙ sym (filter-append (λ d. not (is_delivery_of app d)) ds s.delivered));
+    cleared = has.cleared;
+  }
+
+  -- ---- what is under way
+
+  abbrev mapped : Delivery → Mark
+  mapped d = record { copy = d.copy; station = delivered d.vertex }
+
+  inside : {X : Type 0} (x : X) (xs ys zs : List X) → (Among x ys → Among x zs) → Among x (xs ++ ys) → Among x (xs ++ zs)
+  inside x xs ys zs more a = elim (among_either x xs ys a) [ inl left ↦ among_left x xs zs left | inr right ↦ among_right x xs zs (more right) ]
+
+  -- the marks up to the deliveries are the same
+  past_copies : (s : State) (k : Mark) (ys zs : List Mark) → (Among k ys → Among k zs) → Among k (unsent_marks s ++ (input_marks s ++ (all_hand_marks s ++ (core_marks s ++ ys)))) →
+      Among k (unsent_marks s ++ (input_marks s ++ (all_hand_marks s ++ (core_marks s ++ zs))))
+  past_copies s k ys zs more =
+      inside k (unsent_marks s) _ _ (inside k (input_marks s) _ _ (inside k (all_hand_marks s) _ _ (inside k (core_marks s) ys zs more)))
+
+  own_delivered : (s : State) → delivered_marks (we s) ≡ map mapped ds ++ delivered_marks s
+  own_delivered s = map-append mapped ds s.delivered
+
+  pub has_with : (s : State) (k : Mark) → Contains (marks_of s) k → Contains (marks_of (we s)) k
+  has_with s k has =
+      among_contains k (marks_of (we s))
+      (past_copies s k (delivered_marks s ++ dumped_marks s) (delivered_marks (we s) ++ dumped_marks s)
+      (λ a. elim (among_either k (delivered_marks s) (dumped_marks s) a) [
+        | inl left ↦ among_left k (delivered_marks (we s)) (dumped_marks s) (subst (Among k) (sym (own_delivered s)) (among_right k (map mapped ds) (delivered_marks s) left))
+        | inr right ↦ among_right k (delivered_marks (we s)) (dumped_marks s) right
+      ]) (contains_among k (marks_of s) has))
+
+  pub has_own : (s : State) (k : Mark) → IsUnderWayAt k.station → Contains (marks_of (we s)) k → Contains (marks_of s) k
+  has_own s k under has =
+      among_contains k (marks_of s)
+      (past_copies s k (delivered_marks (we s) ++ dumped_marks s) (delivered_marks s ++ dumped_marks s)
+      (λ a. elim (among_either k (delivered_marks (we s)) (dumped_marks s) a) [
+        | inl left ↦ (let d = among_map mapped k (ds ++ s.delivered) left in absurd (subst (λ (m : Mark). IsUnderWayAt m.station) d.2 under))
+        | inr right ↦ among_right k (delivered_marks s) (dumped_marks s) right
+      ]) (contains_among k (marks_of (we s)) has))
+
+  waits_with : (s : State) (app : LoadedApp) (n : ℕ) → WaitsIn s app n → WaitsIn (we s) app n
+  waits_with s app n waits = (waits.0, (waits.1.0, has_with s waits.1.0 waits.1.1, waits.1.2, waits.1.3))
+
+  waits_own : (s : State) (app : LoadedApp) (n : ℕ) → WaitsIn (we s) app n → WaitsIn s app n
+  waits_own s app n waits = (waits.0, (waits.1.0, has_own s waits.1.0 waits.1.3 waits.1.1, waits.1.2, waits.1.3))
+
+  pub none_with : (s : State) (app : LoadedApp) → NoneUnderWay s app → NoneUnderWay (we s) app
+  none_with s app none n waits = none n (waits_own s app n waits)
+
+  pub why_with : (s : State) (app : LoadedApp) (cause : UnloadErr) → IsWhyHere s app cause → IsWhyHere (we s) app cause
+  why_with s app NotLoaded why = why
+  why_with s app (Waiting packet) why = (waits_with s app packet why.0, λ other waits. why.1 other (waits_own s app other waits))
+  why_with s app Memory why = why
+
+-- ---- a clean mesh
+
+-- deliveries are held apart
+pub clean_kept : (xs ys : List Delivery) (s t : State) → MeetsSomeLedger (with_earlier xs s) → NothingWaits s → s.dumped ≡ [] → t ≡ record s { delivered = t.delivered } →
+    ys ++ t.delivered ≡ xs ++ s.delivered → t.delivered ≡ [] → IsClean ys t
+clean_kept xs ys s t kept quiet none is all delivered_all = record {
+  kept = subst MeetsSomeLedger (sym (same_mesh xs ys s t is all)) kept;
+  quiet = quiet_still s t is quiet;
+  none_delivered = delivered_all;
+  none_dumped = ap (λ (u : State). u.dumped) is ∙ none;
+}
+
+pub may_send : (xs : List Delivery) (s : State) → IsClean xs s → MaySend s
+may_send xs s clean = record { kept = kept_without xs s clean.kept (mesh_own xs s clean.kept.mesh) clean.quiet clean.none_delivered clean.none_dumped; quiet = clean.quiet }
+
+-- a packet was sent, and its deliveries are held apart
+module _ (xs ys : List Delivery) (s t u : State) (clean : IsClean xs s) (reached : IsReachedDropless s t)
+    (is : u ≡ record t { delivered = u.delivered }) (all : ys ++ u.delivered ≡ xs ++ t.delivered) where
+  pub sent_reached : IsReachedDropless (with_earlier xs s) (with_earlier ys u)
+  sent_reached = subst (IsReachedDropless (with_earlier xs s)) (sym (same_mesh xs ys t u is all)) (reached_with xs s t reached)
+
+  pub sent_clean : NothingWaits t → u.delivered ≡ [] → IsClean ys u
+  sent_clean quiet none = record {
+    kept = kept_reached (with_earlier xs s) (with_earlier ys u) clean.kept sent_reached;
+    quiet = quiet_still t u is quiet;
+    none_delivered = none;
+    none_dumped = ap (λ (v : State). v.dumped) is ∙ (dumped_reached s t reached ∙ clean.none_dumped);
+  }
+
+-- those that pass are no more
+pub few_own : (p : Delivery → Bool) (xs ys own late : List Delivery) → own ≡ filter p xs → late ≡ filter p ys → length xs + length ys < 2 ^ 64 → length own + length late < 2 ^ 64
+few_own p xs ys own late own_is late_is fits =
+    let a = ap length own_is ∙ length-filter p xs in
+    let b = ap length late_is ∙ length-filter p ys in
+    let c = count_by-le-length p xs in
+    let d = count_by-le-length p ys in
+    omega (arith, a, b, c, d, fits)

@@ -1,0 +1,15 @@
+use Rattle.std.proofs.Common.{◌∙◌, refl}
+use Rattle.app_loads.specs.Earlier.{with_earlier}
+use Rattle.app_loads.specs.Grouping.{all_grouped}
+use Rattle.mesh_drain.proofs.Senders.{moved_of_reached}
+use Rattle.app_loads.proofs.Kept.{moved_as, same_mesh}
+use Rattle.app_loads.proofs.drains.drain_known_from.Goals as goal
+
+-- src/drains.rt:72:1
+pub returns-in_ok-keep-clause-moved : goal.returns-in_ok-keep-clause-moved
+returns-in_ok-keep-clause-moved c =
+    let before = with_earlier (all_grouped c.keep.new.earlier) c.keep.new.mesh in
+    let after = with_earlier (all_grouped c.send_each.new.earlier) c.send_each.new.mesh in
+    moved_as c.args.mesh.now before after after
+    (same_mesh (all_grouped c.mesh.inside.earlier) (all_grouped c.keep.new.earlier) c.mesh.inside.mesh c.keep.new.mesh c.keep.ensures.mesh c.keep.ensures.all ∙ c.mesh.view_is)
+    refl (moved_of_reached before after c.send_each.ensures.reached)

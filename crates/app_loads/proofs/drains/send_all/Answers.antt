@@ -1,0 +1,45 @@
+use Rattle.mesh_drain.proofs.Frame.{reached_none, reached_then}
+use Rattle.mesh_drain.proofs.Turns.{all_sent_there, as_before, is_none, is_some', one_less, there_still, was_there}
+use Rattle.app_loads.specs.Earlier.{with_earlier}
+use Rattle.app_loads.specs.Grouping.{all_grouped}
+use Rattle.app_loads.proofs.drains.send_all.Goals as goal
+
+pub packets-init : goal.packets-init
+packets-init c = record {
+  reached = reached_none (with_earlier (all_grouped c.args.earlier.now) c.args.mesh.now);
+  clean = c.requires.clean;
+  unsent = as_before c.args.mesh.now c.args.vertex;
+}
+
+pub unsent-requires : goal.unsent-requires
+unsent-requires c =
+    there_still (with_earlier (all_grouped c.args.earlier.now) c.args.mesh.now) (with_earlier (all_grouped c.packets.earlier) c.packets.mesh) c.args.vertex c.packets.invariant.reached c.requires.there
+
+pub send_one-requires-clause-there : goal.send_one-requires-clause-there
+send_one-requires-clause-there c =
+    there_still (with_earlier (all_grouped c.args.earlier.now) c.args.mesh.now) (with_earlier (all_grouped c.packets.earlier) c.packets.mesh) c.args.vertex c.packets.invariant.reached c.requires.there
+
+pub packets-smaller : goal.packets-smaller
+packets-smaller c =
+    (one_less c.args.mesh.now.unsent c.packets.mesh.unsent c.send_one.new.mesh.unsent c.args.vertex c.packets.invariant.unsent.0 c.unsent.result.now
+    c.packets.invariant.unsent.1 c.unsent.ensures (is_some' c.unsent.result.now c.packets-test.ensures) c.in_ok-send_one.ensures.unsent).1
+
+pub packets-preserved : goal.packets-preserved
+packets-preserved c = record {
+  reached = reached_then (with_earlier (all_grouped c.args.earlier.now) c.args.mesh.now) (with_earlier (all_grouped c.packets.earlier) c.packets.mesh)
+      (with_earlier (all_grouped c.send_one.new.earlier) c.send_one.new.mesh) c.packets.invariant.reached c.send_one.ensures.reached;
+  clean = c.in_ok-send_one.ensures.clean;
+  unsent = (one_less c.args.mesh.now.unsent c.packets.mesh.unsent c.send_one.new.mesh.unsent c.args.vertex c.packets.invariant.unsent.0 c.unsent.result.now
+      c.packets.invariant.unsent.1 c.unsent.ensures (is_some' c.unsent.result.now c.packets-test.ensures) c.in_ok-send_one.ensures.unsent).0;
+}
+
+pub returns-clause-unsent : goal.returns-clause-unsent
+returns-clause-unsent c =
+    all_sent_there c.args.mesh.now.unsent c.packets.mesh.unsent c.args.vertex c.packets.invariant.unsent.0 c.unsent.result.now
+    (was_there (with_earlier (all_grouped c.args.earlier.now) c.args.mesh.now) c.args.vertex c.requires.clean.kept c.requires.there) c.packets.invariant.unsent.1 c.unsent.ensures
+    (is_none c.unsent.result.now c.packets-test.ensures)
+
+pub returns-in_err-send_one-clause-reached : goal.returns-in_err-send_one-clause-reached
+returns-in_err-send_one-clause-reached c =
+    reached_then (with_earlier (all_grouped c.args.earlier.now) c.args.mesh.now) (with_earlier (all_grouped c.packets.earlier) c.packets.mesh)
+    (with_earlier (all_grouped c.send_one.new.earlier) c.send_one.new.mesh) c.packets.invariant.reached c.send_one.ensures.reached

@@ -1,0 +1,50 @@
+use Rattle.std.proofs.Common.{arith}
+use Rattle.mesh_drain.proofs.Frame.{reached_none, reached_then}
+use Rattle.mesh_drain.proofs.Packets.{few_spots}
+use Rattle.mesh_drain.proofs.Senders.{one_less_sender, rest_from, sender_there}
+use Rattle.mesh_drain.proofs.Turns.{was_there}
+use Rattle.app_loads.specs.Earlier.{with_earlier}
+use Rattle.app_loads.specs.Grouping.{all_grouped}
+use Rattle.app_loads.proofs.Kept.{alone_with}
+use Rattle.app_loads.proofs.drains.send_each.Goals as goal
+
+pub overflow_cast-vertex : goal.overflow_cast-vertex
+overflow_cast-vertex c =
+    let few = few_spots (with_earlier (all_grouped c.args.earlier.now) c.args.mesh.now) c.requires.clean.kept in
+    let below = c.requires.alone.there c.loop-vertex.vertex-index 0 c.loop-vertex-test.true in
+    omega (arith, few, below)
+
+pub loop-vertex-init : goal.loop-vertex-init
+loop-vertex-init c = record {
+  reached = reached_none (with_earlier (all_grouped c.args.earlier.now) c.args.mesh.now);
+  clean = c.requires.clean;
+  unsent = c.requires.alone.others;
+}
+
+pub send_all-requires-clause-there : goal.send_all-requires-clause-there
+send_all-requires-clause-there c =
+    sender_there (with_earlier (all_grouped c.args.earlier.now) c.args.mesh.now) (with_earlier (all_grouped c.loop-vertex.earlier) c.loop-vertex.mesh) c.args.vertices.now c.loop-vertex.vertex-index _
+    (alone_with (all_grouped c.args.earlier.now) c.args.mesh.now c.args.vertices.now c.requires.alone) c.loop-vertex.invariant.reached c.loop-vertex-test.true
+
+pub loop-vertex-preserved : goal.loop-vertex-preserved
+loop-vertex-preserved c =
+    let below =
+    sender_there (with_earlier (all_grouped c.args.earlier.now) c.args.mesh.now) (with_earlier (all_grouped c.loop-vertex.earlier) c.loop-vertex.mesh) c.args.vertices.now c.loop-vertex.vertex-index _
+    (alone_with (all_grouped c.args.earlier.now) c.args.mesh.now c.args.vertices.now c.requires.alone) c.loop-vertex.invariant.reached c.loop-vertex-test.true
+    in
+    record {
+      reached = reached_then (with_earlier (all_grouped c.args.earlier.now) c.args.mesh.now) (with_earlier (all_grouped c.loop-vertex.earlier) c.loop-vertex.mesh)
+          (with_earlier (all_grouped c.send_all.new.earlier) c.send_all.new.mesh) c.loop-vertex.invariant.reached c.send_all.ensures.reached;
+      clean = c.in_ok-send_all.ensures.clean;
+      unsent = one_less_sender c.loop-vertex.mesh.unsent c.send_all.new.mesh.unsent c.args.vertices.now c.loop-vertex.vertex-index _ c.loop-vertex-test.true
+          (was_there (with_earlier (all_grouped c.loop-vertex.earlier) c.loop-vertex.mesh) _ c.loop-vertex.invariant.clean.kept below) c.in_ok-send_all.ensures.unsent c.loop-vertex.invariant.unsent;
+    }
+
+pub returns-clause-at_rest : goal.returns-clause-at_rest
+returns-clause-at_rest c =
+    rest_from c.args.mesh.now c.loop-vertex.mesh c.args.vertices.now c.loop-vertex.vertex-index c.loop-vertex-test.false c.loop-vertex.invariant.clean.quiet c.loop-vertex.invariant.unsent
+
+pub returns-in_err-send_all-clause-reached : goal.returns-in_err-send_all-clause-reached
+returns-in_err-send_all-clause-reached c =
+    reached_then (with_earlier (all_grouped c.args.earlier.now) c.args.mesh.now) (with_earlier (all_grouped c.loop-vertex.earlier) c.loop-vertex.mesh)
+    (with_earlier (all_grouped c.send_all.new.earlier) c.send_all.new.mesh) c.loop-vertex.invariant.reached c.send_all.ensures.reached

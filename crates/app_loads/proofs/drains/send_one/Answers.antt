@@ -1,0 +1,26 @@
+use Rattle.std.proofs.Common.{◌∙◌, ap}
+use Rattle.mesh_core.specs.State.{State}
+use Rattle.app_loads.specs.Grouping.{all_grouped}
+use Rattle.app_loads.proofs.Earlier.{reached_with}
+use Rattle.app_loads.proofs.Kept.{may_send, ok_then, sent_clean, sent_reached}
+use Rattle.app_loads.proofs.drains.send_one.Goals as goal
+
+pub send_first-requires : goal.send_first-requires
+send_first-requires c = record { may = may_send (all_grouped c.args.earlier.now) c.args.mesh.now c.requires.clean; there = c.requires.there; some = c.requires.some }
+
+pub returns-in_err-send_first-clause-reached : goal.returns-in_err-send_first-clause-reached
+returns-in_err-send_first-clause-reached c = reached_with (all_grouped c.args.earlier.now) c.args.mesh.now c.send_first.new.mesh c.send_first.ensures.reached
+
+pub returns-clause-reached : goal.returns-clause-reached
+returns-clause-reached c =
+    sent_reached (all_grouped c.args.earlier.now) (all_grouped c.keep.new.earlier) c.args.mesh.now c.send_first.new.mesh c.keep.new.mesh c.requires.clean c.send_first.ensures.reached c.keep.ensures.mesh c.keep.ensures.all
+
+pub returns-clause-clean : goal.returns-clause-clean
+returns-clause-clean c =
+    ok_then c.keep.result
+    (sent_clean (all_grouped c.args.earlier.now) (all_grouped c.keep.new.earlier) c.args.mesh.now c.send_first.new.mesh c.keep.new.mesh c.requires.clean c.send_first.ensures.reached c.keep.ensures.mesh c.keep.ensures.all
+    c.in_ok-send_first.ensures.quiet) c.keep.ensures.none
+
+pub returns-clause-unsent : goal.returns-clause-unsent
+returns-clause-unsent c =
+    ok_then c.keep.result (λ none copy rest at. ap (λ (s : State). s.unsent) c.keep.ensures.mesh ∙ c.in_ok-send_first.ensures.unsent copy rest at) c.keep.ensures.none

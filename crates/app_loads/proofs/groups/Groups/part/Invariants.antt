@@ -1,0 +1,20 @@
+use Rattle.std.proofs.Common.{◌≡◌, ◌+◌, ◌≤◌, ◌++◌, false, length, not}
+use Rattle.std.specs.List.{filter, list_any}
+use Rattle.std.specs.Prelude.{vec_capacity, vec_len}
+use Rattle.std.specs.Vec.Iter.{into_iter_items}
+use Rattle.app_loads.specs.Grouping.{all_grouped, is_mixed_group}
+use Rattle.app_loads.specs.Leaving.{is_delivery_of}
+use Rattle.app_loads.proofs.groups.Groups.part.Given as goal
+
+-- what is in the lists and what is left are all, and there is room for what is left
+abbrev pub invariant-loop-group : goal.invariant-loop-group
+invariant-loop-group l =
+    goal.iterator-loop-group.can_next l.group-iterator
+    × goal.iterator-loop-group.is_finite l.group-iterator
+    × (all_grouped l.own.items ++ filter (is_delivery_of l.app) (all_grouped (into_iter_items l.group-iterator)) ≡ filter (is_delivery_of l.app) (all_grouped l.fn.self))
+    × (all_grouped l.others.items ++ filter (λ d. not (is_delivery_of l.app d)) (all_grouped (into_iter_items l.group-iterator))
+    ≡ filter (λ d. not (is_delivery_of l.app d)) (all_grouped l.fn.self))
+    × (l.others_count + length (all_grouped l.own.items) ≡ l.count)
+    × (vec_len l.own + length (into_iter_items l.group-iterator) ≤ vec_capacity l.own)
+    × (vec_len l.others + length (into_iter_items l.group-iterator) ≤ vec_capacity l.others)
+    × (list_any (is_mixed_group l.app) (into_iter_items l.group-iterator) ≡ false)

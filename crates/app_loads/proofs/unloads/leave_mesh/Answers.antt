@@ -1,0 +1,62 @@
+use Rattle.std.proofs.Common.{◌∙◌, ◌<◌, sym, subst, List, length}
+use Rattle.std.specs.Prelude.{IfSome}
+use Rattle.std.proofs.lemmas.List.Elements.{All-weaker}
+use Rattle.mesh_core.specs.InParts.{state_in}
+use Rattle.mesh_core.specs.State.{State, IsMesh}
+use Rattle.mesh_drain.specs.Draining.{SendAlone}
+use Rattle.app_loads.specs.declared.loaded.Range.{Range}
+use Rattle.app_loads.specs.Leaving.{IsLeastUnderWay}
+use Rattle.app_loads.specs.Regions.{IsRangeWithin}
+use Rattle.app_loads.specs.Taking.{HaveRoom}
+use Rattle.app_loads.proofs.LeftMesh.{can_clear, parted_whole, taken_still}
+use Rattle.app_loads.proofs.unloads.leave_mesh.Goals as goal
+
+pub least_waiting-requires : goal.least_waiting-requires
+least_waiting-requires c = record {
+  mesh = subst IsMesh (sym c.take_apart-parts.ensures.parts) c.take_apart-parts.ensures.mesh;
+  known = subst (λ (s : State). IfSome c.args.senders.now (λ vertices. SendAlone vertices s)) (sym c.take_apart-parts.ensures.parts) c.requires.known;
+}
+
+pub put_together-requires : goal.put_together-requires
+put_together-requires c = subst IsMesh (sym c.take_apart-parts.ensures.parts) c.take_apart-parts.ensures.mesh
+
+pub put_together-requires-in-Err : goal.put_together-requires-in-Err
+put_together-requires-in-Err c = subst IsMesh (sym c.take_apart-parts.ensures.parts) c.take_apart-parts.ensures.mesh
+
+pub returns-in-Some-clause-why : goal.returns-in-Some-clause-why
+returns-in-Some-clause-why c = subst (λ (s : State). IsLeastUnderWay s c.args.app.now c.in-Some.packet) c.take_apart-parts.ensures.parts c.in-Some.ensures.some
+
+pub returns-in-Some-clause-mesh_refused : goal.returns-in-Some-clause-mesh_refused
+returns-in-Some-clause-mesh_refused c = c.put_together.ensures ∙ c.take_apart-parts.ensures.parts
+
+pub make_ready-requires : goal.make_ready-requires
+make_ready-requires c = record {
+  there = All-weaker (IsRangeWithin c.args.mesh.setup.machine (length c.args.regions.now)) (λ (r : Range). r.region < length c.args.regions.now) (λ r within. within.there) c.args.app.now.ranges c.requires.can.taken.within;
+  few = c.requires.can.few;
+}
+
+pub returns-in-Err-clause-back : goal.returns-in-Err-clause-back
+returns-in-Err-clause-back c = c.make_ready.ensures.same
+
+pub give_all-requires : goal.give_all-requires
+give_all-requires c = record {
+  taken = (
+    c.args.mesh.setup.machine,
+    c.requires.can.others,
+    taken_still c.args.mesh.setup.machine c.requires.can.others c.args.app.now.ranges c.as_slice.result.now c.args.regions.now c.make_ready.new.regions c.make_ready.ensures.same c.as_slice.ensures c.requires.can.taken,
+  );
+  room = subst (λ (l : List Range). HaveRoom l c.make_ready.new.regions) (sym c.as_slice.ensures) c.in-Ok.ensures.room;
+}
+
+pub uninstall-requires : goal.uninstall-requires
+uninstall-requires c =
+    can_clear (state_in c.parts.inside) c.args.mesh (c.parts.view_is ∙ c.take_apart-parts.ensures.parts) c.take_apart-parts.ensures.mesh c.args.regions.now c.args.app.now c.requires.can c.as_slice-in-Ok.result.now c.as_slice-in-Ok.ensures
+
+pub put_together-requires-in-Ok : goal.put_together-requires-in-Ok
+put_together-requires-in-Ok c =
+    parted_whole (state_in c.parts.inside) c.args.mesh (c.parts.view_is ∙ c.take_apart-parts.ensures.parts) c.take_apart-parts.ensures.mesh c.uninstall.new.setup c.in-Ok.parted.delivered c.in-Ok.parted.dumped c.uninstall.ensures.setup c.uninstall.ensures.cleared.all
+
+pub returns-in-Ok-clause-given : goal.returns-in-Ok-clause-given
+returns-in-Ok-clause-given c others taken =
+    c.give_all.ensures.free c.args.mesh.setup.machine others
+    (taken_still c.args.mesh.setup.machine others c.args.app.now.ranges c.as_slice.result.now c.args.regions.now c.make_ready.new.regions c.make_ready.ensures.same c.as_slice.ensures taken)

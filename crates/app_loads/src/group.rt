@@ -1,0 +1,250 @@
+// Deliveries of packets that came to the same vertices.
+ghost use Rattle.std.specs.Prelude.{◌≡◌, ◌++◌, ◌∷◌, [], All, IfOk, IfSome, OnOk, OnErr, length, map, true, false};
+ghost use Rattle.spin_base.specs.declared.copies.Delivery.{Delivery as ADelivery};
+ghost use Rattle.app_loads.specs.Grouping.{HasPut, IsAtLeast, IsAtMost, is_others_group, is_own_group};
+ghost use Rattle.app_loads.specs.Groups.{arrival_of, deliveries_at, deliveries_in, delivery_of, sent_of};
+ghost use Rattle.app_loads.specs.Leaving.{is_delivery_of};
+
+use crate::leaving::is_packet_of;
+use crate::loaded::LoadedApp;
+use spin_base::{Delivery, McCopy, Memory, Seq};
+use std::alloc::Global;
+use std::marker::Model;
+
+// Where a copy came, and how many routers it had passed.
+#[derive(Clone, Copy)]
+pub struct Arrival {
+    pub vertex: u32,
+    pub hop: u32,
+}
+
+// What all copies of a packet have in common.
+#[derive(Clone, Copy)]
+pub struct Sent {
+    pub packet: u32,
+    pub key: u32,
+    pub payload: Option<u32>,
+}
+
+// Packets, each of which came to the same vertices by as many routers, with the least and the greatest of their numbers.
+#[derive(Drop)]
+pub struct Group {
+    sent: Seq<Sent>,
+    arrivals: Seq<Arrival>,
+    count: usize,
+    least: u32,
+    greatest: u32,
+}
+
+impl Model for Group {
+    ghost use Rattle.app_loads.specs.Grouping.{Grouped};
+
+    ghost Value = { Grouped };
+
+    ghost use Rattle.app_loads.specs.Groups.{grouped_of, IsGroup};
+
+    ghost view = { grouped_of };
+
+    ghost invariant = { IsGroup };
+}
+
+impl Group {
+    // The group of one delivery.
+    pub fn of(alloc: Global, delivery: Delivery) -> Result<Group, Memory>
+        ensures { IfOk result (λ group. group.deliveries ≡ delivery ∷ []) }
+    {
+        let mut sent = Seq::new(alloc);
+        sent.push(sent_of(delivery))?;
+        let mut arrivals = Seq::new(alloc);
+        arrivals.push(arrival_of(delivery))?;
+        Ok(Group {
+            sent,
+            arrivals,
+            count: 1,
+            least: delivery.copy.packet,
+            greatest: delivery.copy.packet,
+        })
+    }
+
+    // How many deliveries it has.
+    pub fn len(&self) -> usize
+        ensures { result ≡ length self.now.deliveries }
+    {
+        self.count
+    }
+
+    // Puts a delivery at the back, where it is one of the only packet.
+    pub fn extend(&mut self, delivery: Delivery) -> Result<bool, Memory>
+        ensures put { IfOk result (λ put.
+            HasPut put self.old.deliveries (delivery ∷ []) self.new.deliveries) }
+        ensures refused { OnErr result (self.new.deliveries ≡ self.old.deliveries) }
+    {
+        if !is_only(self.sent.as_slice(), delivery) {
+            return Ok(false);
+        }
+        let Some(count) = self.count.checked_add(1) else {
+            return Err(Memory);
+        };
+        self.arrivals.push(arrival_of(delivery))?;
+        self.count = count;
+        Ok(true)
+    }
+
+    // Puts another group's deliveries at the back, where it has one packet, which came to the same vertices.
+    pub fn join(&mut self, other: &Group) -> bool
+        ensures { HasPut result self.old.deliveries other.now.deliveries self.new.deliveries }
+    {
+        let Some(sent) = only(other.sent.as_slice()) else {
+            return false;
+        };
+        if !are_same(self.arrivals.as_slice(), other.arrivals.as_slice()) {
+            return false;
+        }
+        let Some(count) = self.count.checked_add(other.count) else {
+            return false;
+        };
+        if self.sent.push(sent).is_err() {
+            return false;
+        }
+        self.count = count;
+        self.least = lesser(self.least, sent.packet);
+        self.greatest = greater(self.greatest, sent.packet);
+        true
+    }
+
+    // Whether the least and the greatest packet are the application's: so all are.
+    pub fn is_own(&self, app: &LoadedApp) -> bool
+        ensures own { result ≡ is_own_group app.now self.now }
+        ensures all { result ≡ true
+            → All (λ d. is_delivery_of app.now d ≡ true) self.now.deliveries }
+    {
+        is_packet_of(app, self.least) && is_packet_of(app, self.greatest)
+    }
+
+    // Whether both come before the application's packets, or both behind them: so none is the application's.
+    pub fn is_others(&self, app: &LoadedApp) -> bool
+        ensures others { result ≡ is_others_group app.now self.now }
+        ensures none { result ≡ true
+            → All (λ d. is_delivery_of app.now d ≡ false) self.now.deliveries }
+    {
+        self.greatest < app.first || (app.first <= self.least && !is_packet_of(app, self.least))
+    }
+
+    // Puts the deliveries at the back of a list.
+    pub fn push_to(&self, list: &mut Seq<Delivery>) -> Result<(), Memory>
+        ensures { OnOk result (list.new ≡ list.old ++ self.now.deliveries) }
+    {
+        push_packets(self.sent.as_slice(), self.arrivals.as_slice(), list)
+    }
+}
+
+// Puts the deliveries of packets at the back of a list.
+fn push_packets(sent: &[Sent], arrivals: &[Arrival], list: &mut Seq<Delivery>) -> Result<(), Memory>
+    ensures { OnOk result (list.new ≡ list.old ++ deliveries_in sent.now arrivals.now) }
+{
+    for packet in sent {
+        push_packet(*packet, arrivals, list)?;
+    }
+    Ok(())
+}
+
+// Puts a packet's deliveries at the back of a list.
+fn push_packet(sent: Sent, arrivals: &[Arrival], list: &mut Seq<Delivery>) -> Result<(), Memory>
+    ensures { OnOk result (list.new ≡ list.old ++ deliveries_at arrivals.now sent) }
+{
+    for arrival in arrivals {
+        list.push(delivery_of(sent, *arrival))?;
+    }
+    Ok(())
+}
+
+// Whether both lists have the same places, where one is not answered no for nothing.
+fn are_same(arrivals: &[Arrival], others: &[Arrival]) -> bool
+    ensures { result ≡ true → others.now ≡ arrivals.now }
+{
+    if arrivals.len() != others.len() {
+        return false;
+    }
+    for (at, arrival) in arrivals.iter().enumerate() {
+        if !is_same(*arrival, others[at]) {
+            return false;
+        }
+    }
+    true
+}
+
+fn is_same(a: Arrival, b: Arrival) -> bool
+    ensures { result ≡ true → b ≡ a }
+{
+    a.vertex == b.vertex && a.hop == b.hop
+}
+
+fn lesser(a: u32, b: u32) -> u32
+    ensures { IsAtMost result a b }
+{
+    if a < b { a } else { b }
+}
+
+fn greater(a: u32, b: u32) -> u32
+    ensures { IsAtLeast result a b }
+{
+    if a < b { b } else { a }
+}
+
+// The packet, where there is one alone.
+fn only(sent: &[Sent]) -> Option<Sent>
+    ensures { IfSome result (λ p. sent.now ≡ p ∷ []) }
+{
+    if sent.len() == 1 { Some(sent[0]) } else { None }
+}
+
+// Whether there is one packet alone, of which the delivery is.
+fn is_only(sent: &[Sent], delivery: Delivery) -> bool
+    ensures { result ≡ true → sent.now ≡ sent_of delivery ∷ [] }
+{
+    match only(sent) {
+        Some(sent) => is_of(sent, delivery),
+        None => false,
+    }
+}
+
+fn sent_of(delivery: Delivery) -> Sent
+    ensures { result ≡ sent_of delivery }
+{
+    Sent {
+        packet: delivery.copy.packet,
+        key: delivery.copy.key,
+        payload: delivery.copy.payload,
+    }
+}
+
+fn arrival_of(delivery: Delivery) -> Arrival
+    ensures { result ≡ arrival_of delivery }
+{
+    Arrival {
+        vertex: delivery.vertex,
+        hop: delivery.copy.hop,
+    }
+}
+
+fn delivery_of(sent: Sent, arrival: Arrival) -> Delivery
+    ensures { result ≡ delivery_of sent arrival }
+{
+    Delivery {
+        vertex: arrival.vertex,
+        copy: McCopy {
+            packet: sent.packet,
+            key: sent.key,
+            payload: sent.payload,
+            hop: arrival.hop,
+        },
+    }
+}
+
+fn is_of(sent: Sent, delivery: Delivery) -> bool
+    ensures { result ≡ true → sent ≡ sent_of delivery }
+{
+    sent.packet == delivery.copy.packet
+        && sent.key == delivery.copy.key
+        && sent.payload == delivery.copy.payload
+}

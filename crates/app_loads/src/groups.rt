@@ -1,0 +1,222 @@
+// Groups of deliveries, one after the other.
+ghost use Rattle.std.specs.Prelude.{◌≡◌, ◌≤◌, ◌+◌, ◌++◌, ◌∷◌, [], IfOk, OnOk, OnErr, filter, length, not, vec_capacity, vec_len, true, false};
+ghost use Rattle.std.specs.List.{list_any};
+ghost use Rattle.spin_base.specs.declared.copies.Delivery.{Delivery as ADelivery};
+ghost use Rattle.app_loads.specs.Grouping.{CanHoldOne, HasPut, all_grouped, is_mixed_group};
+ghost use Rattle.app_loads.specs.Leaving.{is_delivery_of};
+ghost use Rattle.app_loads.specs.Parting.{HasRoomFor};
+
+use crate::group::Group;
+use crate::loaded::LoadedApp;
+use spin_base::{Delivery, Memory, Seq};
+use std::alloc::Global;
+use std::marker::Model;
+
+// Two lists with room for groups: those of an application, and those of all others.
+#[derive(Drop)]
+pub struct Room {
+    pub own: Vec<Group>,
+    pub others: Vec<Group>,
+}
+
+// Deliveries, in the order in which they came, and how many they are.
+#[derive(Drop)]
+pub struct Groups {
+    pub groups: Vec<Group>,
+    pub count: usize,
+}
+
+impl Model for Groups {
+    ghost use Rattle.std.specs.Prelude.{List, length, ◌≡◌};
+    ghost use Rattle.app_loads.specs.Grouping.{Grouped, all_grouped};
+
+    ghost Value = { List Grouped };
+
+    ghost view = { λ g. g.groups.items };
+
+    ghost invariant = { λ g. g.count ≡ length (all_grouped g.groups.items) };
+}
+
+impl Groups {
+    // No delivery.
+    pub fn new(alloc: Global) -> Groups
+        ensures { result ≡ [] }
+    {
+        Groups {
+            groups: Vec::new(alloc),
+            count: 0,
+        }
+    }
+
+    // How many deliveries there are.
+    pub fn len(&self) -> usize
+        ensures { result ≡ length (all_grouped self.now) }
+    {
+        self.count
+    }
+
+    // Puts a delivery at the back. After a refusal the same were delivered as before.
+    pub fn push(&mut self, alloc: Global, delivery: Delivery) -> Result<(), Memory>
+        ensures put { OnOk result (all_grouped self.new ≡ all_grouped self.old ++ delivery ∷ []) }
+        ensures refused { OnErr result (all_grouped self.new ≡ all_grouped self.old) }
+    {
+        let Some(count) = self.count.checked_add(1) else {
+            return Err(Memory);
+        };
+        push_last(alloc, &mut self.groups, delivery)?;
+        self.count = count;
+        Ok(())
+    }
+
+    // Puts all deliveries at the back of a list.
+    pub fn push_to(&self, list: &mut Seq<Delivery>) -> Result<(), Memory>
+        ensures { OnOk result (list.new ≡ list.old ++ all_grouped self.now) }
+    {
+        push_groups(&self.groups, list)
+    }
+
+    // Whether it is not known of some group that it has the application's packets alone, or none of them.
+    pub fn mixes(&self, app: &LoadedApp) -> bool
+        ensures { result ≡ list_any (is_mixed_group app.now) self.now }
+    {
+        self.groups.iter().any(|group| is_mixed(group, app))
+    }
+
+    // Room for all groups in each of two lists.
+    pub fn room(&self, alloc: Global) -> Result<Room, Memory>
+        ensures { IfOk result (HasRoomFor self.now) }
+    {
+        let count = self.groups.len();
+        Ok(Room {
+            own: Vec::with_capacity(alloc, count)?,
+            others: Vec::with_capacity(alloc, count)?,
+        })
+    }
+
+    // The deliveries of the application's packets, and those of all others.
+    pub fn part(self, app: &LoadedApp, room: Room) -> (Groups, Groups)
+        requires unmixed { list_any (is_mixed_group app.now) self ≡ false }
+        requires holds { HasRoomFor self room }
+        ensures own { all_grouped result.0 ≡ filter (is_delivery_of app.now) (all_grouped self) }
+        ensures others { all_grouped result.1
+            ≡ filter (λ d. not (is_delivery_of app.now d)) (all_grouped self) }
+    {
+        let Groups { groups, count } = self;
+        let Room {
+            mut own,
+            mut others,
+        } = room;
+        let mut others_count = count;
+        for group in groups {
+            others_count -= put_by(group, app, &mut own, &mut others);
+        }
+        (
+            Groups {
+                groups: own,
+                count: count - others_count,
+            },
+            Groups {
+                groups: others,
+                count: others_count,
+            },
+        )
+    }
+}
+
+// Puts the deliveries of groups at the back of a list.
+fn push_groups(groups: &[Group], list: &mut Seq<Delivery>) -> Result<(), Memory>
+    ensures { OnOk result (list.new ≡ list.old ++ all_grouped groups.now) }
+{
+    for group in groups {
+        group.push_to(list)?;
+    }
+    Ok(())
+}
+
+// Whether neither is known of a group: that it has the application's packets alone, or none of them.
+fn is_mixed(group: &Group, app: &LoadedApp) -> bool
+    ensures { result ≡ is_mixed_group app.now group.now }
+{
+    !group.is_own(app) && !group.is_others(app)
+}
+
+// Puts a group into one of two lists: that of the application's, or that of all others. How many of its deliveries are the application's.
+fn put_by(group: Group, app: &LoadedApp, own: &mut Vec<Group>, others: &mut Vec<Group>) -> usize
+    requires unmixed { is_mixed_group app.now group ≡ false }
+    requires room { CanHoldOne (vec_len own.old) (vec_capacity own.old) (vec_len others.old)
+        (vec_capacity others.old) }
+    ensures own { all_grouped own.new.items
+        ≡ all_grouped own.old.items ++ filter (is_delivery_of app.now) group.deliveries }
+    ensures others { all_grouped others.new.items ≡ all_grouped others.old.items
+        ++ filter (λ d. not (is_delivery_of app.now d)) group.deliveries }
+    ensures count { result ≡ length (filter (is_delivery_of app.now) group.deliveries) }
+    ensures own_length { vec_len own.new ≤ vec_len own.old + 1 }
+    ensures others_length { vec_len others.new ≤ vec_len others.old + 1 }
+    ensures own_room { vec_capacity own.new ≡ vec_capacity own.old }
+    ensures others_room { vec_capacity others.new ≡ vec_capacity others.old }
+{
+    if group.is_own(app) {
+        let count = group.len();
+        own.push_reserved(group);
+        count
+    } else {
+        // It is of others then.
+        let is_others = group.is_others(app);
+        prove!(is_others);
+        others.push_reserved(group);
+        0
+    }
+}
+
+// Puts a delivery at the back: into the last group, where it is of the same packet.
+fn push_last(alloc: Global, groups: &mut Vec<Group>, delivery: Delivery) -> Result<(), Memory>
+    ensures put { OnOk result (all_grouped groups.new.items
+        ≡ all_grouped groups.old.items ++ delivery ∷ []) }
+    ensures refused { OnErr result (all_grouped groups.new.items ≡ all_grouped groups.old.items) }
+{
+    if extend_last(groups, delivery)? {
+        return Ok(());
+    }
+    join_last(groups);
+    groups.push(Group::of(alloc, delivery)?)?;
+    Ok(())
+}
+
+// Puts a delivery into the last group, where it is of its only packet.
+fn extend_last(groups: &mut Vec<Group>, delivery: Delivery) -> Result<bool, Memory>
+    ensures put { IfOk result (λ put. HasPut put (all_grouped groups.old.items) (delivery ∷ [])
+        (all_grouped groups.new.items)) }
+    ensures refused { OnErr result (all_grouped groups.new.items ≡ all_grouped groups.old.items) }
+{
+    let count = groups.len();
+    if count == 0 {
+        return Ok(false);
+    }
+    groups[count - 1].extend(delivery)
+}
+
+// Makes one group of the last two, where the last has one packet, which came to the same vertices.
+fn join_last(groups: &mut Vec<Group>)
+    ensures { all_grouped groups.new.items ≡ all_grouped groups.old.items }
+{
+    let Some(last) = groups.pop() else {
+        return;
+    };
+    if !joins_last(groups, &last) {
+        groups.push_reserved(last);
+    }
+}
+
+// Puts a group's deliveries into the last group of a list, where that is the same for its packet.
+fn joins_last(groups: &mut Vec<Group>, more: &Group) -> bool
+    ensures joined { HasPut result (all_grouped groups.old.items) more.now.deliveries
+        (all_grouped groups.new.items) }
+    ensures length { vec_len groups.new ≡ vec_len groups.old }
+    ensures room { vec_capacity groups.new ≡ vec_capacity groups.old }
+{
+    let count = groups.len();
+    if count == 0 {
+        return false;
+    }
+    groups[count - 1].join(more)
+}
