@@ -11,8 +11,7 @@ use Rattle.table_rules.specs.Rows.{KeepsRoutes, first_with, takes_key}
 use Rattle.table_rules.specs.Shortened.{IsShortenedTo}
 use Rattle.table_readers.specs.declared.asking.GivenTable.{GivenTable}
 use Rattle.table_text.specs.declared.writing.ShortTable.{ShortTable}
-use Rattle.spin_base.specs.declared.blocks.ChipTable.{ChipTable}
-use Rattle.tables_top.specs.Shorter.{AreBeside, AreShorter, IsShorterTable, KeepsTable, as_given, entry_at, more, none, shortened}
+use Rattle.tables_top.specs.Shorter.{AreBeside, AreShorter, IsShorterTable, KeepsTable, as_given, entry_at, more, none, short_at, shortened}
 
 -- ---- lists beside each other
 
@@ -41,8 +40,7 @@ first_entry (r ∷ rows) k row first = by_test (takes_key k r) first
     by_test false same = first_entry rows k row same
 
 -- the table of rows that keep the routes of those given
-keeps_table : (given : GivenTable) (rows : List RoutedBlock) (kept : Bool) → KeepsRoutes given.rows rows → length rows ≤ length given.rows
-    → KeepsTable given (record { table = record { chip = given.chip; entries = map entry_at rows }; kept = kept })
+keeps_table : (given : GivenTable) (rows : List RoutedBlock) (kept : Bool) → KeepsRoutes given.rows rows → length rows ≤ length given.rows → KeepsTable given (short_at given.chip rows kept)
 keeps_table given rows kept keeps few = record {
   chip = refl;
   no_longer = omega (arith, length-map rows entry_at, few);
@@ -51,22 +49,22 @@ keeps_table given rows kept keeps few = record {
       record { entry = entry_at way.row; first = first_entry rows k way.row way.first; by = way.by };
 }
 
--- a table with this chip and these entries is that one
-same_short : (short : ShortTable) (given : GivenTable) (rows : List RoutedBlock) → short.table.chip ≡ given.chip → short.table.entries ≡ map entry_at rows
-    → short ≡ record { table = record { chip = given.chip; entries = map entry_at rows }; kept = short.kept }
-same_short short given rows chip entries =
-    let table : short.table ≡ record { chip = given.chip; entries = map entry_at rows } =
-    ap (λ c. let t : ChipTable = record { chip = c; entries = short.table.entries } in t) chip ∙ ap (λ es. let t : ChipTable = record { chip = given.chip; entries = es } in t) entries in
-    ap (λ t. let s : ShortTable = record { table = t; kept = short.kept } in s) table
+-- The rows that were shortened, by the slice that they were read from and the one that they were put from.
+pub short_made : (target : ℕ) (given : GivenTable) (read rows put : List RoutedBlock) (short : ShortTable) → read ≡ given.rows → put ≡ rows
+    → IsShortenedTo target 262144 read rows → KeepsRoutes read rows → length rows ≤ length read → short ≡ short_at given.chip put false → IsShorterTable target given short
+short_made target given read rows put short same same_rows shorter keeps few is =
+    let here : short ≡ short_at given.chip rows false = is ∙ ap (λ r. short_at given.chip r false) same_rows in
+    subst (IsShorterTable target given) (sym here) (record {
+      shorter = shortened rows (subst (λ l. IsShortenedTo target 262144 l rows) same shorter);
+      keeps = keeps_table given rows false (subst (λ l. KeepsRoutes l rows) same keeps) (subst (λ (l : List RoutedBlock). length rows ≤ length l) same few);
+    })
 
-pub short_made : (target : ℕ) (given : GivenTable) (rows : List RoutedBlock) (table : ChipTable) → IsShortenedTo target 262144 given.rows rows → KeepsRoutes given.rows rows → length rows ≤ length given.rows
-    → table.chip ≡ given.chip → table.entries ≡ map entry_at rows → IsShorterTable target given (record { table = table; kept = false })
-short_made target given rows table shorter keeps few chip entries =
-    subst (IsShorterTable target given) (sym (same_short (record { table = table; kept = false }) given rows chip entries))
-    (record { shorter = shortened rows shorter; keeps = keeps_table given rows false keeps few })
-
-pub short_kept : (target : ℕ) (given : GivenTable) (table : ChipTable) → target < length given.rows → HasTooManyPieces 262144 [] given.rows
-    → table.chip ≡ given.chip → table.entries ≡ map entry_at given.rows → IsShorterTable target given (record { table = table; kept = true })
-short_kept target given table long many chip entries =
-    subst (IsShorterTable target given) (sym (same_short (record { table = table; kept = true }) given given.rows chip entries))
-    (record { shorter = as_given long many; keeps = keeps_table given given.rows true (λ k row small first. record { row = row; first = first; by = refl }) (omega arith) })
+-- the rows as they were given
+pub short_kept : (target : ℕ) (given : GivenTable) (read put : List RoutedBlock) (short : ShortTable) → read ≡ given.rows → put ≡ given.rows
+    → target < length read → HasTooManyPieces 262144 [] read → short ≡ short_at given.chip put true → IsShorterTable target given short
+short_kept target given read put short same same_rows long many is =
+    let here : short ≡ short_at given.chip given.rows true = is ∙ ap (λ r. short_at given.chip r true) same_rows in
+    subst (IsShorterTable target given) (sym here) (record {
+      shorter = as_given (subst (λ (l : List RoutedBlock). target < length l) same long) (subst (HasTooManyPieces 262144 []) same many);
+      keeps = keeps_table given given.rows true (λ k row small first. record { row = row; first = first; by = refl }) (omega arith);
+    })

@@ -2,6 +2,7 @@
 use Rattle.std.specs.Prelude.{◌≡◌, ℕ, ◌<◌, ◌≤◌, ◌^◌, Bool, true, false, nat_lt, List, [], ◌∷◌, Some, find, length, map}
 use Rattle.std.specs.List.{list_any}
 use Rattle.spin_base.specs.declared.blocks.Entry.{Entry}
+use Rattle.spin_base.specs.declared.chips.Chip.{Chip}
 use Rattle.spin_base.specs.declared.routes.Route.{Route}
 use Rattle.spin_base.specs.Lookup.{matches}
 use Rattle.table_rules.specs.declared.rows.RoutedBlock.{RoutedBlock}
@@ -15,12 +16,14 @@ use Rattle.table_text.specs.declared.writing.ShortTable.{ShortTable}
 abbrev pub entry_at : RoutedBlock → Entry
 entry_at r = record { key = r.block.key; mask = r.block.mask; route = r.route }
 
+-- the table of a chip with these rows, and whether it is as it was given
+abbrev pub short_at : Chip → List RoutedBlock → Bool → ShortTable
+short_at chip rows kept = record { table = record { chip = chip; entries = map entry_at rows }; kept = kept }
+
 -- A table is shortened, its rows cut into at most 262,144 pieces. Where they would be more, it is as it was given, and said to be so.
 pub data IsShorter (target : ℕ) (given : GivenTable) : ShortTable → Type 0 where
-  shortened : (rows : List RoutedBlock) → IsShortenedTo target 262144 given.rows rows
-      → IsShorter target given (record { table = record { chip = given.chip; entries = map entry_at rows }; kept = false })
-  as_given : target < length given.rows → HasTooManyPieces 262144 [] given.rows
-      → IsShorter target given (record { table = record { chip = given.chip; entries = map entry_at given.rows }; kept = true })
+  shortened : (rows : List RoutedBlock) → IsShortenedTo target 262144 given.rows rows → IsShorter target given (short_at given.chip rows false)
+  as_given : target < length given.rows → HasTooManyPieces 262144 [] given.rows → IsShorter target given (short_at given.chip given.rows true)
 
 -- there is a first entry that matches the key, and it has the route
 pub record IsSentBy (entries : List Entry) (k : ℕ) (route : Route) : Type 0 where

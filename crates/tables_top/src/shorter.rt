@@ -1,8 +1,8 @@
 // Shorter tables, one for each given.
-ghost use Rattle.std.specs.Prelude.{◌≡◌, IfOk, map};
-ghost use Rattle.tables_top.specs.Shorter.{AreShorter, IsShorterTable, entry_at, is_long_table, has_long_table};
+ghost use Rattle.std.specs.Prelude.{◌≡◌, IfOk};
+ghost use Rattle.tables_top.specs.Shorter.{AreShorter, IsShorterTable, entry_at, is_long_table, has_long_table, short_at};
 
-use spin_base::{ChipTable, Entry, Memory, ROUTER_ENTRIES, Seq};
+use spin_base::{Chip, ChipTable, Entry, Memory, ROUTER_ENTRIES, Seq};
 use std::alloc::Global;
 use table_readers::GivenTable;
 use table_rules::{RoutedBlock, shorten_rows};
@@ -32,30 +32,26 @@ fn shorter_table(alloc: Global, target: u32, given: &GivenTable) -> Result<Short
     ensures { IfOk result (IsShorterTable target given.now) }
 {
     match shorten_rows(alloc, given.rows.as_slice(), target, ROOM)? {
-        Some(rows) => {
-            let table = chip_table(alloc, given, rows.as_slice())?;
-            Ok(ShortTable { table, kept: false })
-        }
-        None => {
-            let table = chip_table(alloc, given, given.rows.as_slice())?;
-            Ok(ShortTable { table, kept: true })
-        }
+        Some(rows) => short_table(alloc, given.chip, rows.as_slice(), false),
+        None => short_table(alloc, given.chip, given.rows.as_slice(), true),
     }
 }
 
-// The table of the chip with these rows.
-fn chip_table(alloc: Global, given: &GivenTable, rows: &[RoutedBlock]) -> Result<ChipTable, Memory>
-    ensures chip { IfOk result (λ t. t.chip ≡ given.now.chip) }
-    ensures entries { IfOk result (λ t. t.entries ≡ map entry_at rows.now) }
+// The table of a chip with these rows.
+fn short_table(
+    alloc: Global,
+    chip: Chip,
+    rows: &[RoutedBlock],
+    kept: bool,
+) -> Result<ShortTable, Memory>
+    ensures { IfOk result (λ short. short ≡ short_at chip rows.now kept) }
 {
     let mut entries = Seq::new(alloc);
     for row in rows {
         entries.push(entry_at(*row))?;
     }
-    Ok(ChipTable {
-        chip: given.chip,
-        entries,
-    })
+    let table = ChipTable { chip, entries };
+    Ok(ShortTable { table, kept })
 }
 
 // The entry that a row is.
