@@ -67,14 +67,14 @@ fn made_of<S: Source>(alloc: Global, source: &mut S) -> Result<Made, Refusal>
     ensures err { IfErr result (HasNoTables (reading_of S.left S.faults source.old source.new)) }
 {
     let input: TablesInput = read_input(alloc, source)?;
-    match made(alloc, &input.asked) {
+    match make(alloc, &input.asked) {
         Ok(made) => Ok(made),
         Err(Memory) => Err(Refusal::Memory),
     }
 }
 
 // The shorter tables and their text.
-fn made(alloc: Global, asked: &Asked) -> Result<Made, Memory>
+fn make(alloc: Global, asked: &Asked) -> Result<Made, Memory>
     ensures tables { IfOk result (λ made. AreShorter asked.now.target asked.now.tables made.tables) }
     ensures text { IfOk result (λ made. made.text ≡ flat_map short_lines made.tables) }
 {
