@@ -1,6 +1,6 @@
 -- One table more, and what its entries keep.
-use Rattle.std.proofs.Common.{◌≡◌, ℕ, ◌+◌, ◌<◌, ◌≤◌, Bool, true, false, cond, List, [], ◌∷◌, ◌++◌, length, get_or, take, map, Some, refl, sym, ap, ◌∙◌, subst, arith}
-use Rattle.std.specs.Prelude.{find}
+use Rattle.std.proofs.Common.{◌≡◌, ℕ, ◌+◌, ◌<◌, ◌≤◌, Bool, true, false, cond, List, [], ◌∷◌, ◌++◌, length, get_or, take, map, Option, Some, None, refl, sym, ap, ◌∙◌, subst, arith}
+use Rattle.std.specs.Prelude.{IfSome, MatchOption, find}
 use Rattle.std.proofs.lemmas.List.{length-map, take_all, take_more}
 use Rattle.std.proofs.lemmas.Option.{none-some, same_Some}
 use Rattle.spin_base.specs.declared.blocks.Entry.{Entry}
@@ -33,11 +33,12 @@ tables_all target tables i short past so_far = subst (λ l. AreShorter target l 
 
 first_entry : (rows : List RoutedBlock) (k : ℕ) (row : RoutedBlock) → first_with rows k ≡ Some row → find (λ (e : Entry). matches e k) (map entry_at rows) ≡ Some (entry_at row)
 first_entry [] k row first = absurd (none-some row first)
-first_entry (r ∷ rows) k row first = by_test (takes_key k r) first
+first_entry (r ∷ rows) k row first = by_test (first_entry rows k row) (takes_key k r) first
   where
-    by_test : (b : Bool) → cond b (Some r) (first_with rows k) ≡ Some row → cond b (Some (entry_at r)) (find (λ (e : Entry). matches e k) (map entry_at rows)) ≡ Some (entry_at row)
-    by_test true same = ap (λ x. Some (entry_at x)) (same_Some r row same)
-    by_test false same = first_entry rows k row same
+    by_test : (first_with rows k ≡ Some row → find (λ (e : Entry). matches e k) (map entry_at rows) ≡ Some (entry_at row)) → (b : Bool) → cond b (Some r) (first_with rows k) ≡ Some row
+        → cond b (Some (entry_at r)) (find (λ (e : Entry). matches e k) (map entry_at rows)) ≡ Some (entry_at row)
+    by_test behind true same = ap (λ x. Some (entry_at x)) (same_Some r row same)
+    by_test behind false same = behind same
 
 -- the table of rows that keep the routes of those given
 keeps_table : (given : GivenTable) (rows : List RoutedBlock) (kept : Bool) → KeepsRoutes given.rows rows → length rows ≤ length given.rows → KeepsTable given (short_at given.chip rows kept)
@@ -49,22 +50,27 @@ keeps_table given rows kept keeps few = record {
       record { entry = entry_at way.row; first = first_entry rows k way.row way.first; by = way.by };
 }
 
+-- What shortening rows tells of them, and of those that it gives, if any.
+pub record AreToldOf (target : ℕ) (read : List RoutedBlock) (new : Option (List RoutedBlock)) : Type 0 where
+  pub rows : MatchOption new ((target < length read) × HasTooManyPieces 262144 [] read) (IsShortenedTo target 262144 read)
+  pub routes : IfSome new (KeepsRoutes read)
+  pub few : IfSome new (λ (rows : List RoutedBlock). length rows ≤ length read)
+
 -- The rows that were shortened, by the slice that they were read from and the one that they were put from.
-pub short_made : (target : ℕ) (given : GivenTable) (read rows put : List RoutedBlock) (short : ShortTable) → read ≡ given.rows → put ≡ rows
-    → IsShortenedTo target 262144 read rows → KeepsRoutes read rows → length rows ≤ length read → short ≡ short_at given.chip put false → IsShorterTable target given short
-short_made target given read rows put short same same_rows shorter keeps few is =
+pub short_made : (target : ℕ) (given : GivenTable) (read put : List RoutedBlock) (new : Option (List RoutedBlock)) (rows : List RoutedBlock) (short : ShortTable)
+    → AreToldOf target read new → new ≡ Some rows → read ≡ given.rows → put ≡ rows → short ≡ short_at given.chip put false → IsShorterTable target given short
+short_made target given read put new rows short told some same same_rows is =
     let here : short ≡ short_at given.chip rows false = is ∙ ap (λ r. short_at given.chip r false) same_rows in
-    subst (IsShorterTable target given) (sym here) (record {
-      shorter = shortened rows (subst (λ l. IsShortenedTo target 262144 l rows) same shorter);
-      keeps = keeps_table given rows false (subst (λ l. KeepsRoutes l rows) same keeps) (subst (λ (l : List RoutedBlock). length rows ≤ length l) same few);
-    })
+    let all : AreToldOf target given.rows (Some rows) = subst (λ l. AreToldOf target l (Some rows)) same (subst (AreToldOf target read) some told) in
+    subst (IsShorterTable target given) (sym here) (record { shorter = shortened rows all.rows; keeps = keeps_table given rows false all.routes all.few })
 
 -- the rows as they were given
-pub short_kept : (target : ℕ) (given : GivenTable) (read put : List RoutedBlock) (short : ShortTable) → read ≡ given.rows → put ≡ given.rows
-    → target < length read → HasTooManyPieces 262144 [] read → short ≡ short_at given.chip put true → IsShorterTable target given short
-short_kept target given read put short same same_rows long many is =
+pub short_kept : (target : ℕ) (given : GivenTable) (read put : List RoutedBlock) (new : Option (List RoutedBlock)) (short : ShortTable)
+    → AreToldOf target read new → new ≡ None → read ≡ given.rows → put ≡ given.rows → short ≡ short_at given.chip put true → IsShorterTable target given short
+short_kept target given read put new short told no_rows same same_rows is =
     let here : short ≡ short_at given.chip given.rows true = is ∙ ap (λ r. short_at given.chip r true) same_rows in
+    let all : AreToldOf target given.rows None = subst (λ l. AreToldOf target l None) same (subst (AreToldOf target read) no_rows told) in
     subst (IsShorterTable target given) (sym here) (record {
-      shorter = as_given (subst (λ (l : List RoutedBlock). target < length l) same long) (subst (HasTooManyPieces 262144 []) same many);
+      shorter = as_given all.rows.0 all.rows.1;
       keeps = keeps_table given given.rows true (λ k row small first. record { row = row; first = first; by = refl }) (omega arith);
     })

@@ -51,7 +51,7 @@ pub fn minimise<S: Source, K: Sink>(
         result }
 {
     if !words.is_empty() {
-        return write_line(Refusal::Usage, USAGE.as_bytes(), sink);
+        return write_words(Refusal::Usage, USAGE, sink);
     }
     match made_of(alloc, source) {
         Ok(made) => write_text(made, sink),
@@ -143,8 +143,17 @@ fn write_where_made<K: Sink>(
 {
     match line {
         Ok(line) => write_line(refusal, line.as_slice(), sink),
-        Err(Memory) => write_line(Refusal::Memory, OUT_OF_MEMORY.as_bytes(), sink),
+        Err(Memory) => write_words(Refusal::Memory, OUT_OF_MEMORY, sink),
     }
+}
+
+// Writes words, which tell a refusal.
+fn write_words<K: Sink>(refusal: Refusal, words: &str, sink: &mut K) -> Outcome
+    ensures status { result.status ≡ outcome_status result.refusal result.tables }
+    ensures told { IsTold (sending_of K.written K.faults sink.old sink.new)
+        words.now refusal result }
+{
+    write_line(refusal, words.as_bytes(), sink)
 }
 
 // Writes a line, which tells a refusal.
