@@ -4,15 +4,16 @@
     python3 tools/proved.py              says whether proved.sum is that of the sources as they stand; status 1 where it is not
     python3 tools/proved.py --write      writes it, where the gate has proved these sources here: run .ci/run before
     python3 tools/proved.py --sum        prints the checksum
-    python3 tools/proved.py --program    prints where the program is that `rt ci` compiled of these sources, if there is one
+    python3 tools/proved.py --program [NAME]    prints where the program (spin, or that name) is that `rt ci` compiled of these sources,
+                                                if there is one
     python3 tools/proved.py --gate SUM   .ci/run says so: `rt ci` has just proved the sources that had this checksum when it began
 
 The checksum is of crates.txt, of all files below crates/*/src, and of the kit: its KIT-ID, and the sources of its libraries that the
 program is compiled of. Specs and proofs are no part of it. They say why these sources are safe; what is compiled does not depend on
 them. tools/compile.py leaves checks out of a program where proved.sum is that of its sources, and keeps them elsewhere.
 
-What the gate proved is noted in out/proved.sum, with the checksum of the program that `rt ci` compiled of it
-(crates/spin_mesh/out/spin_mesh); tools/release.py packs that program where it is still there.
+What the gate proved is noted in out/proved.sum, with the checksums of the programs that `rt ci` compiled of it
+(crates/spin_mesh/out/spin_mesh, and so on); tools/release.py packs those programs where they are still there.
 """
 import hashlib
 import os
@@ -24,7 +25,7 @@ sys.path.insert(0, f"{ROOT}/tools")
 import compile as launcher  # noqa: E402
 
 NOTED = f"{ROOT}/out/proved.sum"
-PROGRAM = f"{ROOT}/crates/spin_mesh/out/spin_mesh"
+PROGRAMS = {name: f"{ROOT}/crates/{crate}/out/{crate}" for name, crate in (("spin", "spin_mesh"), ("spin_tables", "spin_tables"))}
 
 
 def sum_now():
@@ -36,30 +37,31 @@ def kit_name():
 
 
 def noted():
-    """The checksum of what the gate proved here, and that of the program that it made."""
-    return tuple((launcher.text_of(NOTED).split() + ["", ""])[:2])
+    """The checksum of what the gate proved here, and those of the programs that it made."""
+    sources, *made = launcher.text_of(NOTED).split() or [""]
+    return sources, dict(it.split("=", 1) for it in made if "=" in it)
 
 
-def sum_of_program():
+def sum_of_program(name):
     try:
-        with open(PROGRAM, "rb") as program:
+        with open(PROGRAMS[name], "rb") as program:
             return hashlib.sha256(program.read()).hexdigest()
     except OSError:
         return ""
 
 
-def proved_program():
+def proved_program(name="spin"):
     """The program that `rt ci` compiled of these sources, which it had proved; none where there is none of them."""
-    sources, program = noted()
-    return PROGRAM if program and program == sum_of_program() and sources == sum_now() else None
+    sources, made = noted()
+    return PROGRAMS[name] if made.get(name) and made[name] == sum_of_program(name) and sources == sum_now() else None
 
 
 def main(words):
     now = sum_now()
     if words == ["--sum"]:
         print(now)
-    elif words == ["--program"]:
-        print(proved_program() or "")
+    elif words[:1] == ["--program"] and set(words[1:]) <= set(PROGRAMS) and len(words) <= 2:
+        print(proved_program(*words[1:]) or "")
     elif words == ["--write"]:
         if noted()[0] != now:
             sys.exit("proved: .ci/run has not proved these sources in this clone")
@@ -70,7 +72,7 @@ def main(words):
             sys.exit("proved: the sources have changed since rt ci began")
         os.makedirs(f"{ROOT}/out", exist_ok=True)
         with open(NOTED, "w", encoding="utf-8") as file:
-            file.write(f"{now}\n{sum_of_program()}\n")
+            file.write("\n".join([now, *(f"{name}={sum_of_program(name)}" for name in PROGRAMS), ""]))
     elif words:
         sys.exit(__doc__)
     elif launcher.proved_sum(ROOT) != now:

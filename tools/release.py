@@ -53,15 +53,21 @@ def read(file):
         return data.read()
 
 
-def program_here():
+# Of each program words to which it has an answer, without input, and the answer's status.
+TRIED = {"spin": (["gen", "0"], 0), "spin_tables": ([], 4)}
+
+
+def program_here(name="spin"):
     """The program that is packed, with what is said of its checks."""
-    made = proved.proved_program()
+    made = proved.proved_program(name)
     if made:
         return made, "left out: rt ci compiled what it proved"
-    if subprocess.run([f"{ROOT}/spin", "gen", "0"], env=plain(), stdout=subprocess.DEVNULL, check=False).returncode:
-        sys.exit("release: the launcher gives no program")
-    with open(f"{ROOT}/out/spin.sum", encoding="utf-8") as kept:
-        return f"{ROOT}/out/spin", kept.read().splitlines()[-1].partition(" ")[2]
+    words, status = TRIED[name]
+    done = subprocess.run([f"{ROOT}/{name}", *words], env=plain(), stdin=subprocess.DEVNULL, stdout=subprocess.DEVNULL, check=False)
+    if done.returncode != status:
+        sys.exit(f"release: the launcher {name} gives no program")
+    with open(f"{ROOT}/out/{name}.sum", encoding="utf-8") as kept:
+        return f"{ROOT}/out/{name}", kept.read().splitlines()[-1].partition(" ")[2]
 
 
 def plain():
@@ -86,6 +92,7 @@ def make(folder):
     shutil.copy(program, f"{folder}/spin")
     told = json.dumps(built_from(checks), indent=1) + "\n"
     inside = [("kulzobad/compiled/built.json", told.encode()), ("kulzobad/compiled/spin", read(f"{folder}/spin"))]
+    inside.append(("kulzobad/compiled/spin_tables", read(program_here("spin_tables")[0])))
     wheel = building.write_wheel(folder, TAG, more=inside)
     with open(f"{folder}/SHA256SUMS", "w", encoding="utf-8") as sums:
         sums.writelines(f"{hashlib.sha256(read(f'{folder}/{name}')).hexdigest()}  {name}\n" for name in sorted(("spin", wheel)))
@@ -137,6 +144,11 @@ def failures_of_release(room, wheel, python):
         done = call(*words)
         if done.returncode != status or part not in done.stdout:
             yield f"kulzobad {' '.join(words)}: status {done.returncode}, {done.stdout[:200]}, {done.stderr[:200]}"
+    with open(f"{room}/tables.csv", "w", encoding="utf-8") as rows:
+        rows.write("x,y,key,mask,route\n0,0,0,0xffffffff,1\n0,0,1,0xffffffff,1\n")
+    shorter = call("minimise", "tables.csv").stdout
+    if shorter != b"x,y,key,mask,route\n0,0,0x00000000,0xfffffffe,0x000001\n":
+        yield f"kulzobad minimise gives {shorter!r}"
     told, known = call("--version").stdout.decode(), built_from(program_here()[1])
     for line in (*(f"{name} {known[name]}" for name in ("sources", "toolchain", "checks")), "not proved on this machine"):
         if line not in told:

@@ -31,15 +31,16 @@ from .versions import VERSION as __version__
 
 __all__ = ["Job", "KeyedNet", "Machine", "Net", "Packet", "Refused", "Vertex", "check", "run", "tables", "trees", "verify", "__version__"]
 
-# Names that the package had at its top at first, by the modules that have them now. They are still found here.
+# Names that are found here too, by the modules that have them. The package had them at its top at first, but for those of `minimise`.
 _MOVED = {
-    "calls": "apps compile explain gen notes reinject trace",
+    "calls": "apps compile explain gen minimise notes reinject trace",
     "events": "collect dump inject send take",
     "steps": "RUN AlreadyLoaded Answer CutOff KeysOut Loaded MemoryOut NoRoom NotLoaded Ran RowsOut Unloaded Waiting load unload",
     "reports": "Delivery Dump Keys Place Plan Report Row Summary Table Wait cores_of links_of",
     "images": "Image decode encode",
     "verdicts": "BadImage BadTree Dies Loops Misses OffTree OtherMachine Right Split Strays TooLong Twice Verdict Wrong",
     "kinds": "BrokenAnswer",
+    "minimising": "Minimised",
     "members": "Slip UnknownMembers",
     "program": "NoProgram",
 }

@@ -6,7 +6,7 @@ import json
 import sys
 from typing import Any, Dict, List, NoReturn, Optional, Sequence
 
-from . import draw_command, explain_command, help_command, linting, page, tree_command, verify_command, words
+from . import draw_command, explain_command, help_command, linting, minimise_command, page, tree_command, verify_command, words
 from .command import BAD_JOB, KINDS, NO_PROGRAM, NOT_WHOLE, STATUSES, STOPPED_BY_KEYS, USAGE, WRITE_FAULT
 from .command import Stopped, add_flags, status_of, write
 from .explaining import lines_of
@@ -25,6 +25,7 @@ COMMANDS = [
     tree_command,
     draw_command,
     verify_command,
+    minimise_command,
     page,
     help_command,
 ]

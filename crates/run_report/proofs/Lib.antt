@@ -1,4 +1,4 @@
-mod Gathering
+pub mod Gathering
 pub mod GotLines
 pub mod HexDigits
 mod Joining

@@ -31,4 +31,4 @@ pub use planned::PlannedGraph;
 pub use plans::plan_text;
 pub use reports::{Report, report_of};
 pub use summaries::summary_text;
-pub use texts::text_of;
+pub use texts::{put, put_chip_and_count, put_table, text_of};

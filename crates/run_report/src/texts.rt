@@ -146,7 +146,8 @@ fn put_tables(text: &mut Vec<u8>, tables: &[ChipTable]) -> Result<(), Memory>
     Ok(())
 }
 
-fn put_table(text: &mut Vec<u8>, table: &ChipTable) -> Result<(), Memory>
+/// Puts the lines of a table at the end: `table X Y N`, and a line `KEY MASK ROUTE` for each of its N rows.
+pub fn put_table(text: &mut Vec<u8>, table: &ChipTable) -> Result<(), Memory>
     ensures { OnOk result (text.new.items ≡ text.old.items ++ table_lines table.now) }
 {
     put_head(text, table)?;
@@ -160,8 +161,8 @@ fn put_head(text: &mut Vec<u8>, table: &ChipTable) -> Result<(), Memory>
     put_chip_and_count(text, table.chip, table.entries.len() as u64)
 }
 
-// A chip, and how many there are of what is told of it, at the end of a line.
-pub(crate) fn put_chip_and_count(text: &mut Vec<u8>, chip: Chip, count: u64) -> Result<(), Memory>
+/// Puts a chip, and how many there are of what is told of it, at the end of a line.
+pub fn put_chip_and_count(text: &mut Vec<u8>, chip: Chip, count: u64) -> Result<(), Memory>
     ensures { OnOk result (text.new.items ≡ text.old.items
         ++ (decimal chip.x ++ 32 ∷ (decimal chip.y ++ 32 ∷ (decimal count ++ 10 ∷ [])))) }
 {
@@ -408,8 +409,8 @@ fn put_payload(text: &mut Vec<u8>, payload: Option<u32>) -> Result<(), Memory>
     }
 }
 
-// Puts words at the end.
-pub(crate) fn put(text: &mut Vec<u8>, words: &str) -> Result<(), Memory>
+/// Puts words at the end.
+pub fn put(text: &mut Vec<u8>, words: &str) -> Result<(), Memory>
     ensures { OnOk result (text.new.items ≡ text.old.items ++ words.now) }
 {
     text.extend_from_slice(words.as_bytes())?;

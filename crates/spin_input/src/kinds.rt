@@ -12,15 +12,15 @@ use serde_json::Value;
 use spin_base::Seq;
 use std::alloc::Global;
 
-// What a source may be read as: the faults of a value, which input it is, and what holds of each input.
-pub(crate) trait Input: Drop {
+/// What a source may be read as: the faults of a value, which input it is, and what holds of each input.
+pub trait Input: Drop {
     ghost faults: { Data → List JobFault };
 
     ghost value_of: { Data → Self };
 
     ghost IsSound: { Self → Type 0 };
 
-    // The input that a value is.
+    /// The input that a value is, or its first fault.
     fn of_value(alloc: Global, value: &Value) -> Result<Self, TextErr>
         ensures read { GivesOrFaults (λ input. input) result (faults (view value.now))
             (value_of (view value.now)) }

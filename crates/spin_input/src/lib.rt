@@ -7,4 +7,5 @@
 mod kinds;
 mod reading;
 
-pub use reading::{job_of_text, read_job, read_request, read_steps};
+pub use kinds::Input;
+pub use reading::{job_of_text, read_input, read_job, read_request, read_steps};

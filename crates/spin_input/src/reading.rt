@@ -80,8 +80,13 @@ pub fn read_steps<S: Source>(alloc: Global, source: &mut S) -> Result<Seq<Step>,
     read_input(alloc, source)
 }
 
-// The input that all bytes are which the source has left.
-fn read_input<I: Input, S: Source>(alloc: Global, source: &mut S) -> Result<I, Refusal>
+/// The input of a kind that all bytes are which the source has left. It is read to its end, where nothing fails before.
+///
+/// # Errors
+///
+/// `ReadFault` where the source failed. `TooLong` where it gave more than 16,777,216 bytes. `NotJson` where the bytes are no
+/// JSON. `Job` with the first fault of the input. `Memory` where memory runs out.
+pub fn read_input<I: Input, S: Source>(alloc: Global, source: &mut S) -> Result<I, Refusal>
     ensures input { IfOk result (IsReadAs (input_in (input_of I.faults I.value_of))
         (reading_of S.left S.faults source.old source.new)) }
     ensures sound { IfOk result I.IsSound }

@@ -1,0 +1,80 @@
+// Shorter tables, one for each given.
+ghost use Rattle.std.specs.Prelude.{◌≡◌, IfOk};
+ghost use Rattle.tables_top.specs.Shorter.{AreShorter, IsShorterTable, entry_at, is_long_table, has_long_table, short_at};
+
+use spin_base::{Chip, ChipTable, Entry, Memory, ROUTER_ENTRIES, Seq};
+use std::alloc::Global;
+use table_readers::GivenTable;
+use table_rules::{RoutedBlock, shorten_rows};
+use table_text::ShortTable;
+
+/// Into how many pieces the rows of a table may be cut.
+const ROOM: u32 = 262144;
+
+// The shorter tables, in order.
+pub(crate) fn shorter_tables(
+    alloc: Global,
+    target: u32,
+    tables: &[GivenTable],
+) -> Result<Seq<ShortTable>, Memory>
+    ensures { IfOk result (AreShorter target tables.now) }
+{
+    let mut shorter = Seq::new(alloc);
+    for table in tables {
+        let short = shorter_table(alloc, target, table)?;
+        shorter.push(short)?;
+    }
+    Ok(shorter)
+}
+
+// The shorter table of one, or that table, where its rows would be cut into too many pieces.
+fn shorter_table(alloc: Global, target: u32, given: &GivenTable) -> Result<ShortTable, Memory>
+    ensures { IfOk result (IsShorterTable target given.now) }
+{
+    match shorten_rows(alloc, given.rows.as_slice(), target, ROOM)? {
+        Some(rows) => short_table(alloc, given.chip, rows.as_slice(), false),
+        None => short_table(alloc, given.chip, given.rows.as_slice(), true),
+    }
+}
+
+// The table of a chip with these rows.
+fn short_table(
+    alloc: Global,
+    chip: Chip,
+    rows: &[RoutedBlock],
+    kept: bool,
+) -> Result<ShortTable, Memory>
+    ensures { IfOk result (λ short. short ≡ short_at chip rows.now kept) }
+{
+    let mut entries = Seq::new(alloc);
+    for row in rows {
+        entries.push(entry_at(*row))?;
+    }
+    let table = ChipTable { chip, entries };
+    Ok(ShortTable { table, kept })
+}
+
+// The entry that a row is.
+fn entry_at(row: RoutedBlock) -> Entry
+    ensures { result ≡ entry_at row }
+{
+    Entry {
+        key: row.block.key,
+        mask: row.block.mask,
+        route: row.route,
+    }
+}
+
+// Whether the table has more entries than a router.
+fn is_long_table(short: &ShortTable) -> bool
+    ensures { result ≡ is_long_table short.now }
+{
+    short.table.entries.len() > ROUTER_ENTRIES
+}
+
+// Whether one of the tables has.
+pub(crate) fn has_long_table(tables: &[ShortTable]) -> bool
+    ensures { result ≡ has_long_table tables.now }
+{
+    tables.iter().any(|short| is_long_table(short))
+}
