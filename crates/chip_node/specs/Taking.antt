@@ -1,5 +1,5 @@
 -- What a look at a port of a router, and room for its outputs, tell (this project's own).
-use Rattle.std.specs.Prelude.{◌≡◌, ◌≢◌, ℕ, ◌≤◌, List, [], ◌∷◌, length, Bool, false, Option, Some, All, AllPairs, slice_get}
+use Rattle.std.specs.Prelude.{◌≡◌, ◌≢◌, ℕ, ◌≤◌, List, [], ◌∷◌, length, Option, Some, All, AllPairs, slice_get}
 use Rattle.spin_base.specs.declared.chips.Port.{Port}
 use Rattle.spin_base.specs.declared.routes.Out.{Out}
 use Rattle.spin_base.specs.declared.blocks.Entry.{Entry}
@@ -7,7 +7,7 @@ use Rattle.spin_base.specs.Outputs.{IsOutput}
 use Rattle.chip_node.specs.declared.ends.End.{End}
 use Rattle.chip_node.specs.declared.holdings.Holdings.{Holdings}
 use Rattle.chip_node.specs.declared.routers.Look.{Look}
-use Rattle.chip_node.specs.declared.routers.Look.TheVariants.{Took, Empty, Passed, NoRoom}
+use Rattle.chip_node.specs.declared.routers.Look.TheVariants.{Took, Empty, NoRoom}
 use Rattle.chip_node.specs.declared.routers.Taken.{Taken}
 use Rattle.chip_node.specs.declared.nodes.Behind.{Behind}
 use Rattle.chip_node.specs.declared.nodes.RouterNode.{RouterNode}
@@ -38,8 +38,7 @@ pub record TakesAt (cap patience : ℕ) (entries : List Entry) (r : RouterNode) 
   pub room : HasRoomForOuts cap r t.outs.items after
 
 -- a copy was taken at a port, with the outputs that lookup gives it there, and there is room at them; or nothing was done
-abbrev pub Looks : ℕ → ℕ → List Entry → RouterNode → Port → Bool → Holdings → Look → Holdings → Type 0
-Looks cap patience entries r port all before (Took t) after = TakesAt cap patience entries r port before t after
-Looks cap patience entries r port all before Empty after = Stays before after × IsIdleAt before.ends.items (port_place r.index port)
-Looks cap patience entries r port all before Passed after = Stays before after × (all ≡ false)
-Looks cap patience entries r port all before NoRoom after = Stays before after × (HasAmpleRoom cap before → ⊥)
+abbrev pub Looks : ℕ → ℕ → List Entry → RouterNode → Port → Holdings → Look → Holdings → Type 0
+Looks cap patience entries r port before (Took t) after = TakesAt cap patience entries r port before t after
+Looks cap patience entries r port before Empty after = Stays before after × IsIdleAt before.ends.items (port_place r.index port)
+Looks cap patience entries r port before NoRoom after = Stays before after × (HasAmpleRoom cap before → ⊥)

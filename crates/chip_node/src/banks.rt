@@ -13,9 +13,10 @@ use spin_base::{Delivery, McCopy, Port};
 use std::sync::Wait;
 
 impl CoreBank {
-    /// One turn: where the chip is marked for it, or all is looked at, offers the first unsent copy of one vertex once to the chip's injection queue, where there is one, and looks at the queues
-    /// of its vertices, from a start that goes round with the turn's number, until one gives a copy, which is logged. A refused offer
-    /// leaves the copy unsent, in its place. The chip's router is awake where a copy was sent. No clause says at which vertex it begins.
+    /// One turn: offers the first unsent copy of one vertex once to the chip's injection queue, where there is one and the chip is marked
+    /// for it or `all` says to look everywhere; and looks at the queues of its vertices, from a start that goes round with the turn's
+    /// number, until one gives a copy, which is logged. A refused offer leaves the copy unsent, in its place. The chip's router is awake
+    /// where a copy was sent. No clause says at which vertex it begins.
     pub fn turn<R: Wait>(
         &self,
         rt: &R,
@@ -37,8 +38,8 @@ impl CoreBank {
         both(sent, got)
     }
 
-    // Offers an unsent copy, where there may be one. Where there is none, none is marked any more. Where it was sent, the chip's router is
-    // awake, and its local port marked.
+    // Offers an unsent copy, where the chip is marked for it or all is looked at. Where there is none, the mark goes. Where one was sent,
+    // the chip's router is awake, and its local port marked.
     fn send_marked<R: Wait>(
         &self,
         rt: &R,
@@ -55,7 +56,7 @@ impl CoreBank {
             → CannotSend around.entry.capacity self.now hold.old }
         ensures ready { IsReadyBank around.entry.links.now self.now hold.new }
     {
-        if !all && !awake.has_mark(self.index, UNSENT) {
+        if !all && awake.marks(self.index) >> UNSENT & 1 == 0 {
             return Turn::Nothing;
         }
         let sent = self.send(rt, around, hold, number);

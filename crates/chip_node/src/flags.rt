@@ -60,10 +60,9 @@ impl Flags {
         }
     }
 
-    /// Whether a mark of the chip of an index stands.
-    pub(crate) fn has_mark(&self, index: u32, mark: u8) -> bool {
-        let index = index as usize;
-        index < CHIPS && self.marks[index] >> (mark % 8) & 1 == 1
+    /// The marks of the chip of an index, a bit each.
+    pub(crate) fn marks(&self, index: u32) -> u8 {
+        self.marks.get(index as usize).copied().unwrap_or(0)
     }
 
     /// From now on a mark of a chip stands.

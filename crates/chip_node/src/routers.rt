@@ -30,18 +30,16 @@ enum Look {
     Took(Taken),
     /// The queue was found empty.
     Empty,
-    /// Nobody looked, since the port isn't marked.
-    Passed,
     /// There may be no room for what the copy's turn needs.
     NoRoom,
 }
 
 impl RouterNode<'_> {
-    /// One turn: looks at the queues of its ports that are marked, or of all, from a start that goes round with the turn's number, until one gives a copy, and serves
-    /// each output that the table gives the copy at its port once, in order; none where its hop number is 4,294,967,295. It takes nothing
-    /// where there may be no room for what it would do. Where there is room and it looks at all its queues, it takes nothing only where each
-    /// of them is found empty.
-    /// Whoever takes what it sends is awake. No clause says at which queue it begins.
+    /// One turn: looks at the queues of its ports that are marked, or of all where `all` says so, from a start that goes round with the
+    /// turn's number, until one gives a copy, and serves each output that the table gives the copy at its port once, in order; none where
+    /// its hop number is 4,294,967,295. It takes nothing where there may be no room for what it would do. Where there is room and it looks
+    /// at all, it takes nothing only where each of its queues is found empty. Whoever takes what it sends is awake. No clause says at which
+    /// queue it begins.
     pub fn turn<R: Wait>(
         self,
         rt: &R,
@@ -59,24 +57,27 @@ impl RouterNode<'_> {
         ensures ends { AreEndsOf around.entry.links.now hold.new.ends.items }
     {
         let start = number % Port::COUNT;
+        let marks = awake.marks(self.index);
         let mut found = Turn::Nothing;
-        for step in 0..Port::COUNT {
-            let port = Port::ALL[((start + step) % Port::COUNT) as usize];
-            match self.look(rt, around, hold, awake, port, all) {
+        'ports: for step in 0..Port::COUNT {
+            let at = (start + step) % Port::COUNT;
+            if !all && marks >> at & 1 == 0 {
+                continue 'ports;
+            }
+            match self.look(rt, around, hold, awake, Port::ALL[at as usize]) {
                 Look::Took(taken) => {
                     self.serve_all(rt, around, hold, awake, taken.outs.as_slice(), taken.copy);
                     return Turn::Moved;
                 }
                 Look::Empty => {}
-                Look::Passed => {}
                 Look::NoRoom => found = Turn::Waits,
             }
         }
         found
     }
 
-    // Looks at the queue of a port, where that is marked or all are to be looked at: its first copy leaves it, where there is one and room
-    // for its turn. A lane that is found empty isn't marked any more.
+    // Looks at the queue of a port: its first copy leaves it, where there is one and room for its turn. A lane that is found empty isn't
+    // marked any more.
     fn look<R: Wait>(
         self,
         rt: &R,
@@ -84,17 +85,13 @@ impl RouterNode<'_> {
         hold: &mut Holdings,
         awake: &mut Flags,
         port: Port,
-        all: bool,
     ) -> Look
         requires { IsReadyRouter around.links.now self hold.old }
         ensures looks { Looks around.entry.capacity around.entry.patience self.entry.table.now
-            self.entry port all hold.old result hold.new }
+            self.entry port hold.old result hold.new }
         ensures ready { IsReadyRouter around.entry.links.now self.entry hold.new }
     {
         let number = port.number();
-        if !all && !awake.has_mark(self.index, number) {
-            return Look::Passed;
-        }
         let place = (Port::COUNT * self.index) as usize + usize::from(number);
         let Some(end) = hold.ends.get(place) else {
             return Look::Empty;

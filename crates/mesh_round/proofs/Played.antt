@@ -30,6 +30,7 @@ pub record IsReached (patience turns : ℕ) (m : State) (r : RaisedMesh) : Type 
   pub ready : MayGoOn mesh
   pub raised : IsRaisedFrom mesh 0 r
 
+-- a mesh that is split, before the first round
 pub begins : (patience turns : ℕ) (m : State) (r : RaisedMesh) → MayGoOn m → IsRaisedFrom m 0 r → IsReached patience turns m r
 begins patience turns m r ready raised = record { mesh = m; rounds = record { rounds = none; each = tt }; ready = ready; raised = raised }
 
@@ -41,12 +42,15 @@ at_pace pace own m r s told moved mesh raised same says plays =
 
 -- ---- the answer where a mesh may be at rest
 
+-- what holds of the mesh holds of an answer that is it
 pub answers : (P : State → Type 0) (answer : Result State (State × Memory)) (low m : State) → low ≡ m → P m → IfOk answer (λ n. n ≡ low) → IfOk answer P
 answers P answer low m same has = IfOk-weaker answer (λ n. n ≡ low) P (λ n is. subst P (sym (is ∙ same)) has)
 
+-- and of the mesh that comes back with a refusal
 pub refuses : (P : State → Type 0) (answer : Result State (State × Memory)) (low m : State) → low ≡ m → P m → IfErr answer (λ b. b.0 ≡ low) → IfErr answer (λ b. P b.0)
 refuses P answer low m same has = IfErr-weaker answer (λ b. b.0 ≡ low) (λ b. P b.0) (λ b is. subst P (sym (is ∙ same)) has)
 
+-- an answer that holds no copy is at rest
 pub rests_where_none : (answer : Result State (State × Memory)) → IfOk answer MayGoOn → IfOk answer (λ n. has_none n ≡ true) → IfOk answer IsAtRest
 rests_where_none (Ok n) ready is = rests n is ready.no_hand
 rests_where_none (Err b) ready is = is
@@ -59,6 +63,7 @@ module _ (law : IsLaw) (patience turns : ℕ) where
     no_hand = law.hands patience turns items m n ready.no_hand played;
   }
 
+  -- where a copy moved, something was done
   some_moved : (items : List Item) → IsNoted false items true → items ≡ [] → ⊥
   some_moved items (inl noted) nothing = cc
   some_moved items (inr some) nothing = some nothing
@@ -82,6 +87,7 @@ module _ (law : IsLaw) (patience turns : ℕ) where
   pub stood_still : (m : State) (s : RaisedMesh) → IsMesh m → PlaysTo patience turns m false s → IsRaisedFrom m 0 s
   stood_still m s mesh to = subst (λ (k : State). IsRaisedFrom k 0 s) (law.still patience turns to.items m to.mesh mesh to.played to.noted.1) to.raised
 
+  -- so a mesh that was reached is reached still
   pub stood_on : (m : State) (r s : RaisedMesh) (is : IsReached patience turns m r) → PlaysTo patience turns is.mesh false s → IsReached patience turns m s
   stood_on m r s is to = record { mesh = is.mesh; rounds = is.rounds; ready = is.ready; raised = stood_still is.mesh s is.ready.mesh to }
 
@@ -102,6 +108,7 @@ module _ (law : IsLaw) (patience turns : ℕ) where
         moved = λ some has. absurd (none_left m (subst (λ (k : State). has_none k ≡ true) same is) ready.no_hand has);
       }
 
+  -- the answer after such a round
   pub leads_at_rest : (m : State) (s : RaisedMesh) (answer : Result State (State × Memory)) → MayGoOn m → PlaysTo patience turns m false s
       → IfOk answer (λ n. n ≡ m) → IfOk answer (λ n. has_none n ≡ true) → IfOk answer (LeadsByRound patience turns m)
   leads_at_rest m s (Ok n) ready to same is = leads_nowhere m n s ready to same is

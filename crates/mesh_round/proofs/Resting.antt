@@ -1,5 +1,5 @@
--- A mesh without a copy in a queue or unsent is at rest, and any other has some.
-use Rattle.std.proofs.Common.{◌≡◌, ◌≢◌, ℕ, ◌+◌, suc, Bool, true, false, ◌&&◌, List, [], ◌∷◌, length, refl, sym, ◌∙◌, arith, inl, inr}
+-- A mesh without a copy in a queue or unsent is at rest.
+use Rattle.std.proofs.Common.{◌≡◌, ℕ, ◌+◌, true, ◌&&◌, List, [], ◌∷◌, length, refl, sym, ◌∙◌, arith, inl, inr}
 use Rattle.std.specs.List.{All, list_all, slice_index_or}
 use Rattle.std.proofs.lemmas.Bool.{and_parts, cases_lt, eqb-true}
 use Rattle.std.proofs.lemmas.List.{get_or_append_left, get_or-append-add, get_or_default, get_or_past}
@@ -21,18 +21,6 @@ all_empty (q ∷ qs) is =
     let parts = and_parts (holds_none q) (list_all holds_none qs) is in
     All-cons (λ q'. q' ≡ []) q qs (no_copies q parts.0) (all_empty qs parts.1)
 
--- a queue that holds a copy
-abbrev HoldsSome : List (List McCopy) → Type 0
-HoldsSome qs = (i : ℕ) × (slice_index_or qs i [] ≢ [])
-
-some_copy : (qs : List (List McCopy)) → list_all holds_none qs ≡ false → HoldsSome qs
-some_copy [] is = cc
-some_copy ([] ∷ qs) is = let rest = some_copy qs is in (suc rest.0, rest.1)
-some_copy ((k ∷ ks) ∷ qs) is = (0, apart)
-  where
-    apart : k ∷ ks ≡ [] → ⊥
-    apart same = cc
-
 pub rests : (s : State) → has_none s ≡ true → HasNoHand s → IsAtRest s
 rests s is no_hand =
     let a = and_parts (list_all holds_none s.inputs) (list_all holds_none s.cores && list_all holds_none s.unsent) is in
@@ -41,16 +29,6 @@ rests s is no_hand =
       waits = record { inputs_empty = all_empty s.inputs a.0; hands_empty = no_hand; cores_empty = all_empty s.cores b.0 };
       all_sent = all_empty s.unsent b.1;
     }
-
-pub has_some : (s : State) → has_none s ≡ false → HasSome s
-has_some s is = by_parts (list_all holds_none s.inputs) refl (list_all holds_none s.cores) refl (list_all holds_none s.unsent) refl is
-  where
-    by_parts : (a : Bool) → list_all holds_none s.inputs ≡ a → (b : Bool) → list_all holds_none s.cores ≡ b → (d : Bool) → list_all holds_none s.unsent ≡ d →
-        (a && (b && d)) ≡ false → HasSome s
-    by_parts false inputs b cores d unsent some = let of = some_copy s.inputs inputs in inl (input of.0, of.1)
-    by_parts true inputs false cores d unsent some = let of = some_copy s.cores cores in inl (core of.0, of.1)
-    by_parts true inputs true cores false unsent some = inr (some_copy s.unsent unsent)
-    by_parts true inputs true cores true unsent some = cc
 
 -- A mesh of which it is known that no queue holds a copy and that none is unsent.
 pub rests_with_none : (s : State) → HasNone s → HasNoHand s → IsAtRest s

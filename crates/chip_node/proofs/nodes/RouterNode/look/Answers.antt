@@ -21,9 +21,6 @@ returns-in_default-clause-looks g c =
     let at : 7 * c.args.self.index + c.from.result ≡ port_place c.args.self.index c.args.port = ap (λ n. 7 * c.args.self.index + n) (c.from.ensures ∙ c.number-number.ensures.number) in
     (stays_same c.args.hold.now, idle_past c.args.hold.now.ends.items c.deref.result.now _ _ c.deref.ensures.value at c.in_default.ensures.lookup.3)
 
-pub returns-then-not-has_mark-clause-looks : goal.returns-then-not-has_mark-clause-looks
-returns-then-not-has_mark-clause-looks g c = (stays_same c.args.hold.now, (let not = c.if-not-all.true in cc))
-
 pub returns-in-Nothing-clause-looks : goal.returns-in-Nothing-clause-looks
 returns-in-Nothing-clause-looks g c =
     let at : 7 * c.args.self.index + c.from.result ≡ port_place c.args.self.index c.args.port = ap (λ n. 7 * c.args.self.index + n) (c.from.ensures ∙ c.number-number.ensures.number) in

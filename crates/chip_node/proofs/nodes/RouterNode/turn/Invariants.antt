@@ -10,8 +10,8 @@ use Rattle.chip_node.proofs.GoingRound.{GoneBy}
 use Rattle.chip_node.proofs.nodes.RouterNode.turn.Given as goal
 
 -- nothing was done so far; where there is room and all are looked at, that is since the queues of the ports so far are empty
-abbrev pub invariant-loop-step : goal.invariant-loop-step
-invariant-loop-step g l = record {
+abbrev pub invariant-ports : goal.invariant-ports
+invariant-ports g l = record {
   stays : Stays l.fn.hold l.hold;
   ready : IsReadyRouter l.around.links.now l.self l.hold;
   none : l.found ≢ Moved;
