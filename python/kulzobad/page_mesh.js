@@ -20,8 +20,8 @@ function hexagon(chip, classes, share = 0.96) {
   return draw("polygon", { points: corners(...middle(chip), UNIT / Math.sqrt(3) * share), class: classes });
 }
 const cells = [];
-// How large the numbers beside a far mesh are seen.
-const FAR_AXIS = 12;
+// How large the numbers beside the mesh are seen at least.
+const LEAST_AXIS = 12;
 const view = { x: 0, y: 0, scale: 1, moved: false };
 
 function bounds() {
@@ -33,7 +33,7 @@ function place() {
   const size = UNIT * view.scale;
   by("mesh").classList.remove("far", "mid", "close", "near");
   by("mesh").classList.add(size < 24 ? "far" : size < 46 ? "mid" : size < 62 ? "close" : "near");
-  by("mesh").style.setProperty("--axis", `${(FAR_AXIS / view.scale).toFixed(0)}px`);
+  by("mesh").style.setProperty("--axis", `${(LEAST_AXIS / view.scale).toFixed(0)}px`);
   if (size >= 24) addNumbers();
 }
 function whole() {
