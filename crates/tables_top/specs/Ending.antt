@@ -30,8 +30,8 @@ pub record Sending : Type 0 where
   pub faults : ℕ
   pub faults' : ℕ
 
-abbrev pub sending_of : {K : Type 0} → (K → Option (List ℕ)) → (K → ℕ) → K → K → Sending
-sending_of sent faults old new = record { sent = sent old; sent' = sent new; faults = faults old; faults' = faults new }
+abbrev pub sent_through : {K : Type 0} → (K → Option (List ℕ)) → (K → ℕ) → K → K → Sending
+sent_through sent faults old new = record { sent = sent old; sent' = sent new; faults = faults old; faults' = faults new }
 
 -- A text was written whole, and no byte besides; and the call says what it says then. Or, at a fault of the sink, a proper prefix of
 -- it was written, and the call says that.

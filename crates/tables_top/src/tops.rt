@@ -4,7 +4,7 @@ ghost use Rattle.run_report.specs.Refusals.{line_of as line_of_refusal};
 ghost use Rattle.run_report.specs.declared.causes.Refusal.TheVariants.{Memory as NoMemory};
 ghost use Rattle.spin_input.specs.Inputs.{reading_of};
 ghost use Rattle.table_text.specs.Texts.{short_lines};
-ghost use Rattle.tables_top.specs.Ending.{AreMadeTables, EndsTables, HasNoTables, IsSentOut, IsTold, outcome_status, sending_of, tables_status};
+ghost use Rattle.tables_top.specs.Ending.{AreMadeTables, EndsTables, HasNoTables, IsSentOut, IsTold, outcome_status, sent_through, tables_status};
 ghost use Rattle.tables_top.specs.Shorter.{AreShorter};
 
 use crate::inputs::TablesInput;
@@ -47,7 +47,7 @@ pub fn minimise<S: Source, K: Sink>(
     ensures status { result.status ≡ outcome_status result.refusal result.tables }
     ensures ends { EndsTables (length words.now)
         (reading_of S.left S.faults source.old source.new)
-        (sending_of K.written K.faults sink.old sink.new)
+        (sent_through K.written K.faults sink.old sink.new)
         result }
 {
     if !words.is_empty() {
@@ -87,7 +87,7 @@ fn make(alloc: Global, asked: &Asked) -> Result<Made, Memory>
 fn write_text<K: Sink>(made: Made, sink: &mut K) -> Outcome
     ensures status { result.status ≡ outcome_status result.refusal result.tables }
     ensures tables { result.tables ≡ Some made.tables }
-    ensures sent { IsSentOut (sending_of K.written K.faults sink.old sink.new)
+    ensures sent { IsSentOut (sent_through K.written K.faults sink.old sink.new)
         made.text None result.refusal }
 {
     let Made { tables, text } = made;
@@ -120,9 +120,9 @@ fn status_of(tables: &[ShortTable]) -> u8
 // Writes the line of a refusal. Where there is no memory for it, that of want of memory is written.
 fn write_refusal<K: Sink>(alloc: Global, refusal: Refusal, sink: &mut K) -> Outcome
     ensures status { result.status ≡ outcome_status result.refusal result.tables }
-    ensures told { (IsTold (sending_of K.written K.faults sink.old sink.new)
+    ensures told { (IsTold (sent_through K.written K.faults sink.old sink.new)
         (line_of_refusal refusal) refusal result)
-        ⊎ (IsTold (sending_of K.written K.faults sink.old sink.new)
+        ⊎ (IsTold (sent_through K.written K.faults sink.old sink.new)
         (line_of_refusal NoMemory) NoMemory result) }
 {
     let line = line_of(alloc, &refusal);
@@ -137,8 +137,8 @@ fn write_where_made<K: Sink>(
 ) -> Outcome
     ensures status { result.status ≡ outcome_status result.refusal result.tables }
     ensures told { MatchResult line
-        (λ text. IsTold (sending_of K.written K.faults sink.old sink.new) text refusal result)
-        (λ _. IsTold (sending_of K.written K.faults sink.old sink.new)
+        (λ text. IsTold (sent_through K.written K.faults sink.old sink.new) text refusal result)
+        (λ _. IsTold (sent_through K.written K.faults sink.old sink.new)
         (line_of_refusal NoMemory) NoMemory result) }
 {
     match line {
@@ -150,7 +150,7 @@ fn write_where_made<K: Sink>(
 // Writes words, which tell a refusal.
 fn write_words<K: Sink>(refusal: Refusal, words: &str, sink: &mut K) -> Outcome
     ensures status { result.status ≡ outcome_status result.refusal result.tables }
-    ensures told { IsTold (sending_of K.written K.faults sink.old sink.new)
+    ensures told { IsTold (sent_through K.written K.faults sink.old sink.new)
         words.now refusal result }
 {
     write_line(refusal, words.as_bytes(), sink)
@@ -159,7 +159,7 @@ fn write_words<K: Sink>(refusal: Refusal, words: &str, sink: &mut K) -> Outcome
 // Writes a line, which tells a refusal.
 fn write_line<K: Sink>(refusal: Refusal, line: &[u8], sink: &mut K) -> Outcome
     ensures status { result.status ≡ outcome_status result.refusal result.tables }
-    ensures told { IsTold (sending_of K.written K.faults sink.old sink.new)
+    ensures told { IsTold (sent_through K.written K.faults sink.old sink.new)
         line.now refusal result }
 {
     let refusal = match write_all(sink, line) {
