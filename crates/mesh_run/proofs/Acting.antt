@@ -1,20 +1,18 @@
 -- What one turn of the actor at a place does to a share, and turns one after the other.
-use Rattle.std.proofs.Common.{◌≡◌, ◌≢◌, ◌⊎◌, ℕ, zero, suc, ◌+◌, ◌-◌, ◌*◌, ◌/◌, ◌%◌, ◌<◌, ◌≤◌, Bool, true, false, min, List, [], ◌∷◌, ◌++◌, length, take, drop, Option, None, Some, refl, sym, ap, ◌∙◌, subst, arith, inl, inr, append-nil}
-use Rattle.std.specs.List.{All, Contains, slice_get, slice_index_or}
+use Rattle.std.proofs.Common.{◌≡◌, ◌≢◌, ◌⊎◌, ℕ, zero, suc, ◌+◌, ◌*◌, ◌/◌, ◌%◌, ◌<◌, ◌≤◌, Bool, true, false, List, [], ◌∷◌, ◌++◌, length, take, drop, Option, None, Some, refl, sym, ap, ◌∙◌, subst, arith, inl, inr}
+use Rattle.std.specs.List.{All, slice_get, slice_index_or}
 use Rattle.std.proofs.lemmas.List.{length-take, length-drop}
-use Rattle.std.proofs.lemmas.List.Elements.{All-append, All-cons, All-contains, All-nil, All-weaker}
+use Rattle.std.proofs.lemmas.List.Elements.{All-append, All-nil, All-weaker}
 use Rattle.std.proofs.lemmas.Bool.{cases_eq}
 use Rattle.std.proofs.lemmas.Nat.{div-add-mod', mod_below}
-use Rattle.std.proofs.lemmas.Option.{slice_get_within, same_Some}
+use Rattle.std.proofs.lemmas.Option.{slice_get_within}
 use Rattle.spin_base.proofs.Outputs.{out_number_below}
 use Rattle.spin_base.proofs.Places.{All-each, both_none}
-use Rattle.spin_base.specs.declared.chips.Chip.{Chip}
-use Rattle.spin_base.specs.declared.chips.Port.{Port}
 use Rattle.spin_base.specs.declared.routes.Out.{Out}
 use Rattle.spin_base.specs.declared.routes.Out.TheVariants.{Link, Core}
 use Rattle.spin_base.specs.Links.{port_number}
 use Rattle.spin_base.specs.Outputs.{out_number, IsOutput}
-use Rattle.machine_desc.specs.Live.{chip_of, index_of, is_live_chip, IsInside}
+use Rattle.machine_desc.specs.Live.{chip_of, index_of, is_live_chip}
 use Rattle.machine_desc.proofs.Far.{live_inside}
 use Rattle.machine_desc.proofs.Live.{index_of-chip_of}
 use Rattle.link_queue.specs.declared.links.Link.{Link as QueueLink}
@@ -34,7 +32,7 @@ use Rattle.mesh_core.specs.State.{Setup}
 use Rattle.mesh_run.specs.declared.floors.Floor.{Floor}
 use Rattle.mesh_run.specs.declared.shares.Share.{Share}
 use Rattle.mesh_run.specs.Floors.{grid_size, IsBankOf, IsFloorOf}
-use Rattle.mesh_run.specs.Played.{place_behind, port_count, vertex_place, AreTurns, IsLiveIndex}
+use Rattle.mesh_run.specs.Played.{place_behind, port_count, IsLiveIndex}
 use Rattle.mesh_run.specs.Shares.{actor_of, bank_place, router_place, ActsAt, AreOf, DoesAt, IsInRun, IsNoted, IsShareOf, MovesAt, PlaysOne, PlaysRound, PlaysTurns, SharePlays}
 use Rattle.mesh_run.proofs.Apart.{not_to_itself, one_output}
 use Rattle.mesh_run.proofs.Turns.{IsNotOf, IsRouterOf, bank_by, bank_turns, routed_by, routed_some, routed_turns, turns_beside, turns_none, turns_on}

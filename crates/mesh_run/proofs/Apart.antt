@@ -1,6 +1,5 @@
 -- Places of queues: behind an output of a chip stands a queue that no other output leads to, and that no chip injects into.
-use Rattle.std.proofs.Common.{◌≡◌, ℕ, ◌<◌, Bool, true, false, List, [], length, ◌==◌, Option, Some, None, refl, sym, ap, ◌∙◌, subst, arith, ◌∷◌, inl}
-use Rattle.std.proofs.lemmas.Bool.{cond-true, cond-false, eq-eqb, ne_eqb}
+use Rattle.std.proofs.Common.{◌≡◌, ℕ, ◌<◌, true, false, List, [], length, Option, Some, None, refl, sym, ap, ◌∙◌, subst, arith, ◌∷◌, inl}
 use Rattle.std.proofs.lemmas.Option.{slice_get_within, same_Some}
 use Rattle.spin_base.proofs.Members.{Among}
 use Rattle.spin_base.specs.declared.chips.Chip.{Chip}

@@ -1,20 +1,19 @@
 -- Ends of links, dealt to shares and collected from them.
-use Rattle.std.proofs.Common.{◌≡◌, ◌≢◌, ◌⊎◌, ℕ, ◌+◌, ◌<◌, ◌≤◌, List, map, length, get_or, set, Option, None, Some, refl, sym, ap, ◌∙◌, subst, arith, inl, inr}
+use Rattle.std.proofs.Common.{◌≡◌, ℕ, ◌+◌, ◌<◌, ◌≤◌, List, map, length, get_or, set, Option, None, Some, refl, sym, ap, ◌∙◌, subst, arith, inl, inr}
 use Rattle.std.specs.List.{slice_get}
 use Rattle.std.proofs.lemmas.Bool.{cases_eq}
-use Rattle.std.proofs.lemmas.Option.{get_or_from_slice_get, none-some, same_Some, slice_get_within, slice_get-get_or}
-use Rattle.std.proofs.lemmas.List.{get_or-map, length-map, length-set, map-set, same_lists}
-use Rattle.spin_base.proofs.Places.{slice_get_there, slice_get-mapped, slice_get-set_same, slice_get-set_other, set-slice_get, unmapped}
-use Rattle.link_queue.specs.declared.links.Link.{Link}
+use Rattle.std.proofs.lemmas.Option.{get_or_from_slice_get, none-some, same_Some, slice_get_within}
+use Rattle.std.proofs.lemmas.List.{length-map, length-set, map-set, same_lists}
+use Rattle.spin_base.proofs.Places.{slice_get_there, slice_get-mapped, slice_get-set_same, slice_get-set_other, set-slice_get}
 use Rattle.link_queue.specs.declared.links.LinkEnds.{LinkEnds}
 use Rattle.link_queue.specs.declared.links.Tx.{Tx}
 use Rattle.link_queue.specs.declared.links.Rx.{Rx}
 use Rattle.chip_node.specs.declared.ends.End.{End}
-use Rattle.chip_node.specs.declared.ends.End.TheVariants.{Away, Own, Sends, Takes}
+use Rattle.chip_node.specs.declared.ends.End.TheVariants.{Away, Sends, Takes}
 use Rattle.mesh_run.specs.declared.homes.Cut.{Cut}
 use Rattle.mesh_run.specs.declared.shares.Share.{Share}
 use Rattle.mesh_run.specs.declared.standing.Standing.{Standing}
-use Rattle.mesh_run.specs.Crossing.{AreCuts, AreDealt, AreLaid, AreSameButEnds, Collects, Deals, HoldsCollected, HoldsNoEnds, IsLaid, IsOfCut, IsUncut, PutsEnd, SameButEnds}
+use Rattle.mesh_run.specs.Crossing.{AreCuts, AreLaid, AreSameButEnds, Deals, HoldsCollected, HoldsNoEnds, IsLaid, IsOfCut, PutsEnd, SameButEnds}
 use Rattle.mesh_run.specs.Split.{end_at, end_in}
 use Rattle.mesh_run.specs.Standing.{HoldsAll}
 use Rattle.mesh_run.proofs.Holding.{only_ends}

@@ -11,7 +11,7 @@ use Rattle.spin_base.specs.Links.{opposite_of}
 use Rattle.spin_base.specs.Outputs.{out_of}
 use Rattle.machine_desc.specs.Live.{far_of, is_live_link, IsInside, IsLiveLink}
 use Rattle.machine_desc.proofs.Far.{far_inside, far_back, live_ends, opposite_of-opposite}
-use Rattle.mesh_core.specs.State.{Setup, Queue, input, core, nowhere, behind, behind_link, core_queue_of, queue_at, vertex_behind}
+use Rattle.mesh_core.specs.State.{Setup, input, core, nowhere, behind, behind_link, core_queue_of, queue_at, vertex_behind}
 pub use Rattle.mesh_core.proofs.Keeping.{same_queue as one_port}
 use Rattle.mesh_core.proofs.Keeping.{same_input, same_core, input_is_no_core, input_is_somewhere, core_is_somewhere}
 use Rattle.spin_base.proofs.Spots.{same_link}

@@ -1,6 +1,6 @@
 -- Floors chip by chip: the vertices on a chip, the queues behind its outputs, and that there are few vertices.
-use Rattle.std.proofs.Common.{◌≡◌, ◌≢◌, Bool, true, false, ℕ, ◌+◌, ◌*◌, ◌<◌, ◌≤◌, List, [], ◌∷◌, ◌++◌, map, length, get_or, Option, Some, None, refl, sym, ap, ◌∙◌, subst, arith, suc, zero, append_assoc, length-append, inl, inr}
-use Rattle.std.specs.List.{All, AllPairs, Contains, slice_get}
+use Rattle.std.proofs.Common.{◌≡◌, ◌≢◌, Bool, true, false, ℕ, ◌+◌, ◌*◌, ◌<◌, ◌≤◌, List, [], ◌∷◌, ◌++◌, map, length, get_or, Option, Some, None, refl, sym, ap, ◌∙◌, subst, arith, suc, append_assoc, length-append, inl, inr}
+use Rattle.std.specs.List.{All, AllPairs, slice_get}
 use Rattle.std.specs.Option.{option_to_list}
 use Rattle.std.proofs.lemmas.Bool.{cases_eq, cases_lt}
 use Rattle.std.proofs.lemmas.Option.{get_or_from_slice_get, none-some, same_Some, slice_get_within}
@@ -14,7 +14,7 @@ use Rattle.spin_base.proofs.Members.{Among, Contains-at, among_contains, among_e
 use Rattle.spin_base.proofs.Places.{All-at, slice_get_there, slice_get-append_left, slice_get-push_cases, slice_get-pushed}
 use Rattle.spin_base.proofs.Outputs.{out_number_below, out_number_injective}
 use Rattle.machine_desc.specs.Description.{Description, HasSize}
-use Rattle.machine_desc.specs.Live.{chip_of, is_live_chip, IsInside, IsSite}
+use Rattle.machine_desc.specs.Live.{chip_of, is_live_chip, IsSite}
 use Rattle.machine_desc.specs.NetsOn.{vertex_at}
 use Rattle.machine_desc.proofs.Branches.{length_le_from_apart}
 use Rattle.mesh_core.specs.State.{Setup}

@@ -1,5 +1,5 @@
 -- How a mesh is split.
-use Rattle.std.proofs.Common.{◌≡◌, ◌≢◌, ℕ, ◌+◌, ◌*◌, ◌<◌, ◌≤◌, List, [], ◌++◌, map, length, replicate, get_or, Some, refl, sym, ap, ◌∙◌, subst, arith, inl, inr, length-append}
+use Rattle.std.proofs.Common.{◌≡◌, ◌≢◌, ℕ, ◌*◌, ◌<◌, ◌≤◌, List, [], ◌++◌, map, length, get_or, Some, sym, ap, ◌∙◌, subst, arith, inl, inr}
 use Rattle.std.specs.List.{All, slice_get}
 use Rattle.std.proofs.lemmas.Bool.{cases_lt}
 use Rattle.std.proofs.lemmas.Option.{slice_get_within, slice_get-get_or}
@@ -15,7 +15,6 @@ use Rattle.mesh_run.specs.declared.homes.Home.{Home}
 use Rattle.mesh_run.specs.declared.shares.Share.{Share}
 use Rattle.mesh_run.specs.Floors.{grid_size}
 use Rattle.mesh_run.specs.Homes.{AreCutsOf, AreHomesOf, AreShareRuns, IsShareTable}
-use Rattle.mesh_run.specs.Played.{port_count}
 use Rattle.mesh_run.specs.Split.{AreShared, cut_queues}
 use Rattle.mesh_run.specs.Splitting.{AreInside, FitHomes, HoldNothing, IsEmptyHand}
 use Rattle.mesh_run.proofs.FloorLaws.{few_chips, few_vertices}

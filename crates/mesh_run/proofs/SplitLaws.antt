@@ -1,5 +1,5 @@
 -- Queues and unsent copies that move between a mesh and shares.
-use Rattle.std.proofs.Common.{◌≡◌, ◌≢◌, ◌⊎◌, ℕ, ◌+◌, ◌-◌, ◌<◌, ◌≤◌, List, [], ◌∷◌, ◌++◌, map, length, replicate, take, get_or, set, Option, None, Some, refl, sym, ap, ◌∙◌, subst, arith, suc, zero, length-append, inl, inr}
+use Rattle.std.proofs.Common.{◌≡◌, ◌≢◌, ◌⊎◌, ℕ, ◌+◌, ◌-◌, ◌<◌, ◌≤◌, List, [], ◌∷◌, ◌++◌, length, replicate, get_or, set, Option, None, Some, refl, sym, ap, ◌∙◌, subst, arith, length-append, inl, inr}
 use Rattle.std.specs.List.{All, slice_get}
 use Rattle.std.proofs.lemmas.Bool.{cases_eq, cases_lt}
 use Rattle.std.proofs.lemmas.Option.{get_or_from_slice_get, none-some, same_Some, slice_get_within, slice_get-get_or}
@@ -9,15 +9,15 @@ use Rattle.spin_base.specs.WithRoom.{WithRoom}
 use Rattle.spin_base.specs.declared.copies.McCopy.{McCopy}
 use Rattle.spin_base.proofs.Places.{All-at, slice_get_there, slice_get-push_cases, slice_get-set_same, slice_get-set_other}
 use Rattle.chip_node.specs.declared.ends.End.{End}
-use Rattle.chip_node.specs.declared.ends.End.TheVariants.{Away, Own, Sends, Takes}
+use Rattle.chip_node.specs.declared.ends.End.TheVariants.{Away, Own}
 use Rattle.mesh_core.specs.State.{State}
 use Rattle.mesh_run.specs.declared.homes.Home.{Home}
 use Rattle.mesh_run.specs.declared.shares.Share.{Share}
-use Rattle.mesh_run.specs.Crossing.{AreSameButEnds, PutsEnd, SameButEnds}
+use Rattle.mesh_run.specs.Crossing.{AreSameButEnds, PutsEnd}
 use Rattle.mesh_run.specs.Homes.{run_start}
-use Rattle.mesh_run.specs.Split.{HaveNoLogs, HoldLanes, end_at, end_in, unsent_at, unsent_in}
-use Rattle.mesh_run.specs.Splitting.{AreSameButUnsent, AreSameHolds, AreSameRuns, FitHomes, HoldNothing, HoldVertices, IsEmptyHand, MayPutLane, MayTakeLane, MovesIn, MovesOut, PutsUnsent, SameButCopies, SameButUnsent, SetsQueue, SetsUnsent}
-use Rattle.mesh_run.proofs.CrossingLaws.{end_there, same_on, same_self}
+use Rattle.mesh_run.specs.Split.{end_at, end_in, unsent_at, unsent_in}
+use Rattle.mesh_run.specs.Splitting.{AreSameButUnsent, AreSameHolds, FitHomes, HoldNothing, IsEmptyHand, MayPutLane, MayTakeLane, MovesIn, MovesOut, PutsUnsent, SameButCopies, SameButUnsent, SetsQueue, SetsUnsent}
+use Rattle.mesh_run.proofs.CrossingLaws.{same_on, same_self}
 use Rattle.mesh_run.proofs.HomeLaws.{start_more}
 
 -- ---- one queue of a mesh

@@ -1,11 +1,11 @@
 -- What all shares did in a round, one share after the other.
-use Rattle.std.proofs.Common.{◌≡◌, ◌≢◌, ◌⊎◌, ℕ, zero, suc, ◌+◌, ◌*◌, ◌<◌, ◌≤◌, Bool, true, false, ◌||◌, List, [], ◌∷◌, ◌++◌, length, take, get_or, Option, None, Some, refl, sym, ap, ap₂, ◌∙◌, subst, arith, inl, inr, append-nil}
+use Rattle.std.proofs.Common.{◌≡◌, ◌≢◌, ◌⊎◌, ℕ, zero, suc, ◌+◌, ◌<◌, ◌≤◌, Bool, true, false, ◌||◌, List, [], ◌∷◌, ◌++◌, length, take, get_or, Option, None, Some, refl, sym, ap, ◌∙◌, subst, arith, inl, inr, append-nil}
 use Rattle.std.specs.List.{All, flat_map, list_any, slice_get, slice_index_or}
-use Rattle.std.proofs.lemmas.Bool.{cases_eq, cases_lt}
+use Rattle.std.proofs.lemmas.Bool.{cases_lt}
 use Rattle.std.proofs.lemmas.List.{get_or_default, take_all, take_more}
-use Rattle.std.proofs.lemmas.List.Elements.{All-append, All-cons, All-nil, All-weaker}
+use Rattle.std.proofs.lemmas.List.Elements.{All-append, All-nil, All-weaker}
 use Rattle.std.proofs.lemmas.Grind.{flat_map-append}
-use Rattle.std.proofs.lemmas.Option.{get_or_from_slice_get, slice_get_within, slice_get-get_or, same_Some}
+use Rattle.std.proofs.lemmas.Option.{get_or_from_slice_get, slice_get_within, slice_get-get_or}
 use Rattle.spin_base.proofs.Places.{both_none}
 use Rattle.spin_base.specs.declared.copies.McCopy.{McCopy}
 use Rattle.spin_base.specs.WithRoom.{WithRoom}
@@ -14,13 +14,13 @@ use Rattle.chip_node.specs.declared.ends.End.TheVariants.{Away, Own, Sends, Take
 use Rattle.chip_node.specs.declared.ends.InEnd.{InEnd}
 use Rattle.chip_node.specs.declared.ends.OutEnd.{OutEnd}
 use Rattle.chip_node.specs.Going.{EndGoes, Goes, LaneGoes, SenderGoes, TakerGoes}
-use Rattle.chip_node.specs.Items.{Item, entered, entered_by, left, left_by, lost_at, lost_by}
+use Rattle.chip_node.specs.Items.{Item, entered, left, lost_at}
 use Rattle.chip_node.proofs.Stays.{end_before}
 use Rattle.mesh_core.specs.State.{Setup}
 use Rattle.mesh_run.specs.declared.shares.Share.{Share}
 use Rattle.mesh_run.specs.Homes.{run_start, AreShareRuns}
 use Rattle.mesh_run.specs.Played.{AreTurns}
-use Rattle.mesh_run.specs.Shares.{actor_of, AreOf, IsInRun, IsNoted, SharePlays}
+use Rattle.mesh_run.specs.Shares.{actor_of, AreOf, IsInRun, IsNoted}
 use Rattle.mesh_run.specs.Split.{end_at, end_in}
 use Rattle.mesh_run.proofs.Turns.{IsNotOf, flat_map_none, turns_beside, turns_none}
 

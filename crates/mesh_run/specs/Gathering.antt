@@ -1,5 +1,5 @@
 -- What shares logged in a round, put at the ends of a mesh's lists (this project's own).
-use Rattle.std.specs.Prelude.{◌≡◌, ℕ, ◌+◌, ◌≤◌, Bool, true, false, List, [], length, All, Some, slice_get}
+use Rattle.std.specs.Prelude.{◌≡◌, ℕ, ◌≤◌, Bool, List, [], length, Some, slice_get}
 use Rattle.std.specs.List.{list_any, sum_by}
 use Rattle.mesh_run.specs.declared.gathering.MeshLogs.{MeshLogs}
 use Rattle.mesh_run.specs.declared.shares.Share.{Share}

@@ -1,6 +1,6 @@
 -- In which shares the two ends of each queue stand (this project's own).
 use Rattle.std.proofs.Common.{zero, suc}
-use Rattle.std.specs.Prelude.{◌≡◌, ◌≢◌, ◌⊎◌, ℕ, ◌+◌, ◌*◌, ◌<◌, ◌≤◌, List, [], ◌∷◌, ◌++◌, replicate, length, Option, Some, None, All, slice_get, slice_index_or}
+use Rattle.std.specs.Prelude.{◌≡◌, ◌≢◌, ◌⊎◌, ℕ, ◌+◌, ◌*◌, ◌<◌, ◌≤◌, List, [], ◌∷◌, ◌++◌, replicate, length, Option, Some, All, slice_get, slice_index_or}
 use Rattle.spin_base.specs.declared.routes.Out.{Out}
 use Rattle.spin_base.specs.Outputs.{out_number, IsOutput}
 use Rattle.machine_desc.specs.Live.{chip_of}
@@ -9,7 +9,7 @@ use Rattle.chip_node.specs.Items.{injection_place}
 use Rattle.mesh_run.specs.declared.homes.Cut.{Cut}
 use Rattle.mesh_run.specs.declared.homes.Home.{Home}
 use Rattle.mesh_run.specs.Floors.{grid_size}
-use Rattle.mesh_run.specs.Played.{port_count, place_behind, vertex_place, IsLiveIndex}
+use Rattle.mesh_run.specs.Played.{port_count, place_behind, IsLiveIndex}
 use Rattle.mesh_run.specs.Shares.{router_place, bank_place, IsInRun}
 
 -- Runs of so many places: each but the first begins where the one before ends, and the last ends with the last place.

@@ -1,6 +1,6 @@
 -- What a round on threads tells: what routers and banks did, as a list, and that it leads from one mesh to another. The definitions are
 -- this project's own.
-use Rattle.std.specs.Prelude.{◌≡◌, ◌≢◌, ℕ, ◌+◌, ◌*◌, ◌<◌, ◌≤◌, List, [], ◌++◌, map, length, Option, Some, None, All, slice_get, slice_index_or}
+use Rattle.std.specs.Prelude.{◌≡◌, ℕ, ◌+◌, ◌*◌, ◌<◌, ◌≤◌, List, [], ◌++◌, map, length, Option, Some, None, All, slice_get, slice_index_or}
 use Rattle.std.specs.List.{flat_map}
 use Rattle.spin_base.specs.declared.chips.Chip.{Chip}
 use Rattle.spin_base.specs.declared.chips.Spot.{Spot}
@@ -8,11 +8,11 @@ use Rattle.spin_base.specs.declared.chips.Port.{Port}
 use Rattle.spin_base.specs.declared.routes.Out.{Out}
 use Rattle.spin_base.specs.declared.copies.McCopy.{McCopy}
 use Rattle.spin_base.specs.Outputs.{IsOutput}
-use Rattle.machine_desc.specs.Live.{chip_of, index_of, is_live_chip, IsInside, IsLiveChip}
+use Rattle.machine_desc.specs.Live.{chip_of, index_of, IsLiveChip}
 use Rattle.mesh_core.specs.State.{Setup, State, Queue, input, core, nowhere, behind}
 use Rattle.mesh_core.specs.Step.{outputs}
 use Rattle.chip_node.specs.declared.ends.Served.TheVariants.{Dumped}
-use Rattle.chip_node.specs.Items.{Item, Service, took, served, sent, got, deliveries, entered, gettings, left, lost_at, records, sendings, sent_by, services, takings}
+use Rattle.chip_node.specs.Items.{Item, took, served, sent, got, deliveries, entered, gettings, left, lost_at, records, sendings, sent_by, services, takings}
 use Rattle.chip_node.specs.Going.{IsFullMoment}
 
 -- ---- places

@@ -1,5 +1,5 @@
 -- A mesh that is split, between rounds and over one (this project's own).
-use Rattle.std.specs.Prelude.{◌≡◌, ℕ, ◌≤◌, Bool, false, List, ◌++◌, length}
+use Rattle.std.specs.Prelude.{◌≡◌, ℕ, Bool, false, List, ◌++◌, length}
 use Rattle.link_queue.specs.declared.links.LinkEnds.{LinkEnds}
 use Rattle.mesh_core.specs.State.{State}
 use Rattle.chip_node.specs.Items.{Item}

@@ -1,5 +1,5 @@
 -- Room made in shares, which changes none of the copies that they hold (this project's own).
-use Rattle.std.specs.Prelude.{◌≡◌, ℕ, ◌≤◌, List, length, slice_get, Some}
+use Rattle.std.specs.Prelude.{◌≡◌, ℕ, List, length, slice_get, Some}
 use Rattle.spin_base.specs.WithRoom.{WithRoom}
 use Rattle.spin_base.specs.declared.copies.McCopy.{McCopy}
 use Rattle.chip_node.specs.declared.ends.End.{End}

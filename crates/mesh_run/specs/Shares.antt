@@ -1,5 +1,5 @@
 -- One worker's share of a mesh, and what its turns of a round do. The definitions are this project's own.
-use Rattle.std.specs.Prelude.{◌≡◌, ◌≢◌, ◌⊎◌, ℕ, ◌+◌, ◌*◌, ◌<◌, ◌≤◌, Bool, true, false, List, [], length, Option, Some, None, All}
+use Rattle.std.specs.Prelude.{◌≡◌, ◌≢◌, ◌⊎◌, ℕ, ◌+◌, ◌*◌, ◌<◌, ◌≤◌, Bool, true, false, List, [], length, Some, All}
 use Rattle.spin_base.specs.declared.routes.Out.{Out}
 use Rattle.machine_desc.specs.Live.{chip_of}
 use Rattle.mesh_core.specs.State.{Setup}

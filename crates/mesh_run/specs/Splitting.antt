@@ -3,7 +3,7 @@ use Rattle.std.specs.Prelude.{◌≡◌, ◌≢◌, ◌⊎◌, ℕ, ◌+◌, ◌
 use Rattle.spin_base.specs.WithRoom.{WithRoom}
 use Rattle.spin_base.specs.declared.copies.McCopy.{McCopy}
 use Rattle.link_queue.specs.declared.links.LinkEnds.{LinkEnds}
-use Rattle.mesh_core.specs.State.{Setup, State}
+use Rattle.mesh_core.specs.State.{State}
 use Rattle.chip_node.specs.declared.ends.End.{End}
 use Rattle.chip_node.specs.declared.ends.End.TheVariants.{Away, Own}
 use Rattle.chip_node.specs.declared.holdings.Holdings.{Holdings}

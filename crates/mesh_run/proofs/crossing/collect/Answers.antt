@@ -1,6 +1,5 @@
-use Rattle.std.proofs.Common.{◌≡◌, ◌<◌, List, length, get_or, set, Option, Some, refl, sym, ap, ◌∙◌, arith}
-use Rattle.std.specs.List.{slice_get}
-use Rattle.std.proofs.lemmas.Option.{same_Some, slice_get-get_or, slice_get_within}
+use Rattle.std.proofs.Common.{◌≡◌, get_or, set, Some, refl, sym, ap, ◌∙◌, arith}
+use Rattle.std.proofs.lemmas.Option.{same_Some, slice_get-get_or}
 use Rattle.link_queue.specs.declared.links.Tx.{Tx}
 use Rattle.link_queue.specs.declared.links.Rx.{Rx}
 use Rattle.chip_node.specs.declared.ends.End.{End}

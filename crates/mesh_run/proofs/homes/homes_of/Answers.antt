@@ -1,8 +1,8 @@
-use Rattle.std.proofs.Common.{◌≡◌, ◌+◌, ◌*◌, ◌<◌, ◌≤◌, ℕ, length, refl, sym, subst, arith}
+use Rattle.std.proofs.Common.{◌≡◌, ◌+◌, ◌*◌, ◌<◌, ℕ, length, subst, arith}
 use Rattle.std.proofs.lemmas.Option.{slice_get-get_or}
 use Rattle.mesh_run.specs.Floors.{grid_size}
 use Rattle.mesh_run.specs.Homes.{AreHomesTo}
-use Rattle.mesh_run.proofs.HomeLaws.{homes_all, homes_none, ports_more, senders_none, vertex_more}
+use Rattle.mesh_run.proofs.HomeLaws.{homes_all, homes_none, ports_more, vertex_more}
 use Rattle.mesh_run.proofs.homes.homes_of.Goals as goal
 
 pub loop-index-init : goal.loop-index-init

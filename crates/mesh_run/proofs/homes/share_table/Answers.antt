@@ -1,6 +1,5 @@
-use Rattle.std.proofs.Common.{◌≡◌, ◌≤◌, length, get_or, ap, sym, ◌∙◌, arith}
-use Rattle.mesh_run.specs.Homes.{run_start}
-use Rattle.mesh_run.proofs.HomeLaws.{run_all, run_from, run_more, run_none, table_all, table_none}
+use Rattle.std.proofs.Common.{arith}
+use Rattle.mesh_run.proofs.HomeLaws.{run_all, run_from, run_more, table_all, table_none}
 use Rattle.mesh_run.proofs.homes.share_table.Goals as goal
 
 pub loop-number-init : goal.loop-number-init

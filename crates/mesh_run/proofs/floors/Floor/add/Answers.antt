@@ -1,4 +1,4 @@
-use Rattle.std.proofs.Common.{◌≡◌, ◌*◌, ℕ, refl, ap, ◌∙◌, subst}
+use Rattle.std.proofs.Common.{◌*◌, ℕ, refl, ap, ◌∙◌, subst}
 use Rattle.spin_base.specs.declared.chips.Chip.{Chip}
 use Rattle.machine_desc.specs.Description.{Description}
 use Rattle.machine_desc.specs.Live.{chip_of, is_live_chip}

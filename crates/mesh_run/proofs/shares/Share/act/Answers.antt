@@ -1,4 +1,4 @@
-use Rattle.std.proofs.Common.{◌≡◌, ◌∙◌, ◌/◌, sym, refl}
+use Rattle.std.proofs.Common.{◌∙◌, ◌/◌, sym, refl}
 use Rattle.mesh_run.specs.Shares.{bank_place, router_place}
 use Rattle.mesh_run.proofs.Acting.{bank_acts, bank_keeps, even_place, half_below, in_place, live_index, live_some, odd_place, ready_bank, ready_router, router_acts, router_keeps, router_of}
 use Rattle.mesh_run.proofs.shares.Share.act.Goals as goal

@@ -1,4 +1,4 @@
-use Rattle.std.proofs.Common.{◌≤◌, ◌+◌, arith, refl, subst, sym}
+use Rattle.std.proofs.Common.{◌≤◌, ◌+◌, arith, subst, sym}
 use Rattle.mesh_run.specs.declared.shares.Share.{Share}
 use Rattle.mesh_run.specs.Shares.{IsShareOf}
 use Rattle.mesh_run.proofs.Acting.{each_more, each_none, each_past, OneEach}

@@ -1,4 +1,4 @@
-use Rattle.std.proofs.Common.{◌≤◌, ◌-◌, ℕ}
+use Rattle.std.proofs.Common.{◌≤◌, ◌-◌}
 use Rattle.mesh_run.specs.Floors.{IsFloorOf}
 use Rattle.mesh_run.specs.Shares.{IsShareOf}
 use Rattle.mesh_run.proofs.Acting.{OneEach}

@@ -1,4 +1,3 @@
-use Rattle.std.proofs.Common.{refl}
 use Rattle.mesh_run.proofs.Acting.{one_stays}
 use Rattle.mesh_run.proofs.shares.Share.turn_one.Goals as goal
 

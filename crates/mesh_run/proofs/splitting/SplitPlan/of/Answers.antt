@@ -1,16 +1,16 @@
-use Rattle.std.proofs.Common.{◌≡◌, ◌+◌, ◌*◌, ◌<◌, ◌≤◌, ◌++◌, ℕ, List, length, refl, sym, ap, ◌∙◌, subst, arith}
+use Rattle.std.proofs.Common.{◌≡◌, ◌+◌, ◌*◌, ◌≤◌, ◌++◌, ℕ, List, length, sym, ap, ◌∙◌, subst, arith}
 use Rattle.spin_base.specs.declared.copies.McCopy.{McCopy}
 use Rattle.std.specs.List.{All}
 use Rattle.std.proofs.lemmas.List.{length-map}
 use Rattle.machine_desc.specs.Description.{HasSize}
-use Rattle.mesh_core.specs.State.{Setup, State}
+use Rattle.mesh_core.specs.State.{State}
 use Rattle.mesh_run.specs.Floors.{IsFloorOf, grid_size}
 use Rattle.mesh_run.specs.declared.homes.Home.{Home}
 use Rattle.mesh_run.specs.Homes.{AreCutsOf, AreHomesOf, AreShareRuns, IsShareTable}
 use Rattle.mesh_run.specs.Queues.{AreUp}
 use Rattle.mesh_run.specs.Split.{cut_queues}
 use Rattle.mesh_run.specs.Splitting.{AreInside, HoldNothing}
-use Rattle.mesh_run.proofs.PlanLaws.{cuts_fit, cuts_inside, few_cuts, few_homes, plan_fits, plan_shared}
+use Rattle.mesh_run.proofs.PlanLaws.{cuts_fit, cuts_inside, few_homes, plan_fits, plan_shared}
 use Rattle.mesh_run.proofs.FloorLaws.{few_chips}
 use Rattle.mesh_run.proofs.splitting.SplitPlan.of.Goals as goal
 
