@@ -1,5 +1,5 @@
 // The mesh of a job: opened, after all its packets, or after all its events.
-ghost use Rattle.std.specs.Prelude.{◌≡◌, IfOk, Ok, OnOk, []};
+ghost use Rattle.std.specs.Prelude.{◌≡◌, ◌≤◌, IfOk, Ok, OnOk, []};
 ghost use Rattle.app_graph.specs.RunPart.{IsRunOf};
 ghost use Rattle.mesh_core.specs.State.{State, IsMesh};
 ghost use Rattle.mesh_core.specs.Step.{after_events, answers_of};
@@ -44,7 +44,7 @@ pub(crate) fn run_job<R: Threads + Wait + Sync, G: Gate>(
     // Read, so that what holds of each planned job is known here.
     let _job = planned.job;
     let mesh = open_job(alloc, planned)?;
-    let ran = run_out(rt, alloc, mesh, pace_of(planned), gate);
+    let ran = run_out(rt, alloc, mesh, pace_of(planned, workers_of(planned)), gate);
     mesh_alone(ran)
 }
 
@@ -64,19 +64,35 @@ pub(crate) fn reinject_job<R: Threads + Wait + Sync, G: Gate>(
     // Read, so that what holds of each planned job is known here.
     let _job = planned.job;
     let mesh = open_job(alloc, planned)?;
-    let ran = reinject(rt, alloc, mesh, pace_of(planned), gate);
+    let ran = reinject(rt, alloc, mesh, pace_of(planned, 1), gate);
     mesh_alone(ran)
 }
 
+// How many workers share the chips of a run: those that the job asks for, and no more than a round has turns. So for each turn at most
+// one thread is begun.
+fn workers_of(planned: &PlannedJob<'_>) -> u32
+    ensures some { 1 ≤ result }
+    ensures asked { result ≤ planned.now.job.run.workers }
+    ensures few { result ≤ planned.now.job.run.turns }
+{
+    let run = &planned.job.run;
+    if run.workers < run.turns {
+        run.workers
+    } else {
+        run.turns
+    }
+}
+
 // How the rounds of a job go.
-fn pace_of(planned: &PlannedJob<'_>) -> Pace
+fn pace_of(planned: &PlannedJob<'_>, workers: u32) -> Pace
+    requires { 1 ≤ workers }
     ensures patience { result.patience ≡ planned.now.job.run.patience }
     ensures turns { result.turns ≡ planned.now.job.run.turns }
 {
     let run = &planned.job.run;
     Pace {
         patience: run.patience,
-        workers: run.workers,
+        workers,
         turns: run.turns,
     }
 }
