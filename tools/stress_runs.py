@@ -7,7 +7,8 @@
 PROGRAM is ./spin where none is named. The jobs have up to 24 chips, some of them dead, as some links and cores are; up to 30
 vertices and 20 nets; 5 to 200 packets. One job in ten, or each with --large, has up to 144 chips, 100 vertices, 60 nets and 2,000
 packets. There are nets with fixed keys, and devices, also on tori with a side of 1. Queues hold one to 50 copies, most of them one
-to three; patience is 1 to 20. There are 2 to 64 workers, each a thread of its own with its share of the chips, and up to 64 turns.
+to three; patience is 1 to 20. Jobs ask for 2 to 64 workers and up to 64 turns;
+`run` has no more workers than turns, each a thread of its own with its share of the chips, and `reinject` has one.
 
 `run` may drop copies of such a job, and which ones depends on the order of turns, which nothing promises. So no bytes are
 compared but those of the places, keys and tables, which are to be those of tools/model.py. Each packet is followed over the tables
