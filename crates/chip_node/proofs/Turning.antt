@@ -15,9 +15,12 @@ use Rattle.chip_node.specs.Acting.{RoutesOne, ServesOuts, service_items}
 use Rattle.chip_node.specs.Going.{Goes, IsIdleAt, Stays}
 use Rattle.chip_node.specs.Items.{Item, port_place, took}
 use Rattle.chip_node.specs.Routing.{outputs_at}
+use Rattle.chip_node.specs.declared.routers.Look.{Look}
+use Rattle.chip_node.specs.declared.routers.Look.TheVariants.{Empty, NoRoom, Took}
+use Rattle.chip_node.specs.Taking.{Looks}
 use Rattle.chip_node.proofs.Flows.{goes_on, stays_goes}
 use Rattle.chip_node.proofs.GoingRound.{GoneBy, IsPlaceOf, gone_all}
-use Rattle.chip_node.proofs.Stays.{idle_before}
+use Rattle.chip_node.proofs.Stays.{idle_before, roomy_on, stays_on}
 
 -- a copy was taken after looks that did nothing, and each of its outputs was served
 pub routes_one : (cap patience : ℕ) (entries : List Entry) (r : RouterNode) (port : Port) (k : McCopy) (outs : List Out) (a b c d : Holdings) → Stays a b → Goes cap patience b (took r.index port k ∷ []) c
@@ -60,3 +63,15 @@ port_at (suc (suc (suc (suc zero)))) low = refl
 port_at (suc (suc (suc (suc (suc zero))))) low = refl
 port_at (suc (suc (suc (suc (suc (suc zero)))))) low = refl
 port_at (suc (suc (suc (suc (suc (suc (suc n))))))) low = absurd (omega arith)
+
+-- a look after nothing was done is a look
+pub looks_on : (cap patience : ℕ) (entries : List Entry) (r : RouterNode) (port : Port) (a b : Holdings) (look : Look) (c : Holdings) → Stays a b → Looks cap patience entries r port b look c → Looks cap patience entries r port a look c
+looks_on most patience entries r port a b (Took t) c s l = record {
+  goes = stays_goes most patience a b c _ s l.goes;
+  given = l.given;
+  numbered = l.numbered;
+  differ = l.differ;
+  room = l.room;
+}
+looks_on most patience entries r port a b Empty c s l = (stays_on a b c s l.0, idle_before a b _ s l.1)
+looks_on most patience entries r port a b NoRoom c s l = (stays_on a b c s l.0, λ roomy. l.1 (roomy_on most a b s roomy))

@@ -1,14 +1,14 @@
 // The ends of queues that routers and banks hold: a lane, or an end of a link with the place of that link.
-ghost use Rattle.std.specs.Prelude.{◌≡◌, IsTrue, IfSome, IfNone, MatchOption};
+ghost use Rattle.std.specs.Prelude.{◌≡◌, [], IsFalse, IsTrue, IfSome, IfNone, MatchOption};
 ghost use Rattle.link_queue.specs.Ends.{sending, taking};
 ghost use Rattle.link_queue.specs.Moves.{MatchOffered, TakesOffer, TakesCopy, FindsNothing};
 ghost use Rattle.chip_node.specs.Ends.{IsInEndOf, IsOutEndOf};
 ghost use Rattle.chip_node.specs.Offers.{RefusesOffers, IsServedAs};
-ghost use Rattle.chip_node.specs.Going.{EndHasRoom, IsEndOf, IsSending};
+ghost use Rattle.chip_node.specs.Going.{EndHasRoom, EndStays, IsEndOf, IsSending, TakerGoes};
 ghost use Rattle.chip_node.specs.Passing.{EndLacks, EndServes, EndTakes, IsSeen};
 
 use crate::lanes::Lane;
-use link_queue::{Link, Offered, Rx, Tx, offer, take};
+use link_queue::{Link, Offered, Rx, Tx, finds_nothing, offer, take};
 use spin_base::{McCopy, Shared};
 use std::sync::Wait;
 
@@ -60,6 +60,19 @@ impl InEnd {
         ensures end { IsInEndOf links.now self.new }
     {
         take(rt, &links[self.link as usize], &mut self.rx)
+    }
+}
+
+impl InEnd {
+    // Whether the end's link was found empty in this call.
+    pub(crate) fn finds_nothing(&mut self, links: &[Link]) -> bool
+        requires { IsInEndOf links.now self.old }
+        ensures yes { IsTrue result → FindsNothing (taking self.old.rx) (taking self.new.rx) }
+        ensures no { IsFalse result → TakerGoes [] self.old self.new }
+        ensures link { self.new.link ≡ self.old.link }
+        ensures end { IsInEndOf links.now self.new }
+    {
+        finds_nothing(&links[self.link as usize], &mut self.rx)
     }
 }
 
@@ -140,6 +153,21 @@ impl End {
             End::Takes(end) => end.take(rt, links),
             End::Away => None,
             End::Sends(_) => None,
+        }
+    }
+
+    // Whether the queue was found empty in this call, where another worker sends to it.
+    pub(crate) fn finds_nothing(&mut self, links: &[Link]) -> bool
+        requires { IsEndOf links.now self.old }
+        ensures yes { IsTrue result → EndLacks self.old self.new }
+        ensures no { IsFalse result → EndStays self.old self.new }
+        ensures end { IsEndOf links.now self.new }
+    {
+        match self {
+            End::Takes(end) => end.finds_nothing(links),
+            End::Own(_) => false,
+            End::Away => false,
+            End::Sends(_) => false,
         }
     }
 

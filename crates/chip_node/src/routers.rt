@@ -3,6 +3,7 @@ ghost use Rattle.std.specs.Prelude.{◌≡◌, ◌≢◌, ◌≤◌, ◌<◌, �
 ghost use Rattle.spin_base.specs.Outputs.{IsOutput, all_outs};
 ghost use Rattle.chip_node.specs.Acting.{IsIdleRouter, IsReadyRouter, RouterActs, ServesOuts, place_at_router, service_items};
 ghost use Rattle.chip_node.specs.Going.{AreEndsOf, Goes, HasAmpleRoom};
+ghost use Rattle.chip_node.specs.Items.{port_place};
 ghost use Rattle.chip_node.specs.Passing.{SendsBehind};
 ghost use Rattle.chip_node.specs.Taking.{HasRoomBehind, HasRoomForOuts, HasRoomIn, Looks};
 ghost use Rattle.chip_node.specs.declared.ends.Served.TheVariants.{Dumped};
@@ -111,18 +112,43 @@ impl RouterNode<'_> {
                     None => Look::Empty,
                 }
             }
-            Seen::Unknown => {
-                if !self.has_room_everywhere(around, hold) {
-                    return Look::NoRoom;
-                }
-                match hold.ends[place].take(rt, around.links) {
-                    Some(copy) => {
-                        let outs = outputs_of(self.table, port, copy);
-                        Look::Took(Taken { copy, outs })
-                    }
-                    None => Look::Empty,
-                }
+            Seen::Unknown => self.look_over(rt, around, hold, port),
+        }
+    }
+
+    // Looks at the link of a port: room is asked for only where the link wasn't found empty.
+    fn look_over<R: Wait>(self, rt: &R, around: Around, hold: &mut Holdings, port: Port) -> Look
+        requires ready { IsReadyRouter around.links.now self hold.old }
+        requires place { port_place self.index port < length hold.old.ends.items }
+        ensures looks { Looks around.entry.capacity around.entry.patience self.entry.table.now
+            self.entry port hold.old result hold.new }
+        ensures ready { IsReadyRouter around.entry.links.now self.entry hold.new }
+    {
+        let place = (Port::COUNT * self.index) as usize + usize::from(port.number());
+        if hold.ends[place].finds_nothing(around.links) {
+            return Look::Empty;
+        }
+        self.take_over(rt, around, hold, port)
+    }
+
+    // Takes the first copy of the link of a port, where there is room at each output.
+    fn take_over<R: Wait>(self, rt: &R, around: Around, hold: &mut Holdings, port: Port) -> Look
+        requires ready { IsReadyRouter around.links.now self hold.old }
+        requires place { port_place self.index port < length hold.old.ends.items }
+        ensures looks { Looks around.entry.capacity around.entry.patience self.entry.table.now
+            self.entry port hold.old result hold.new }
+        ensures ready { IsReadyRouter around.entry.links.now self.entry hold.new }
+    {
+        if !self.has_room_everywhere(around, hold) {
+            return Look::NoRoom;
+        }
+        let place = (Port::COUNT * self.index) as usize + usize::from(port.number());
+        match hold.ends[place].take(rt, around.links) {
+            Some(copy) => {
+                let outs = outputs_of(self.table, port, copy);
+                Look::Took(Taken { copy, outs })
             }
+            None => Look::Empty,
         }
     }
 

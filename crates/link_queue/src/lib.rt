@@ -15,6 +15,6 @@ mod ups;
 
 pub use known::Known;
 pub use links::{Link, LinkEnds, Offered, Rx, Tx};
-pub use moves::{offer, take};
+pub use moves::{finds_nothing, offer, take};
 pub use rests::{AtRest, rest};
 pub use ups::{link_down, link_up};

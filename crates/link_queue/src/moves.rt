@@ -1,5 +1,5 @@
 // An offer of the sender, and a take of the receiver.
-ghost use Rattle.std.specs.Prelude.{◌≡◌, ℕ, MatchOption};
+ghost use Rattle.std.specs.Prelude.{◌≡◌, ℕ, MatchOption, IsTrue, IsFalse};
 ghost use Rattle.link_queue.specs.declared.links.Link.{Link};
 ghost use Rattle.link_queue.specs.Ends.{IsTx, IsRx, cap_of, sending, taking};
 ghost use Rattle.link_queue.specs.Moves.{MatchOffered, TakesOffer, RefusesOffer, TakesCopy, FindsNothing};
@@ -42,4 +42,18 @@ pub fn take<R: Wait>(rt: &R, link: &Link, rx: &mut Rx) -> Option<McCopy>
             None
         }
     }
+}
+
+/// Whether the queue was found empty in this call. `true` leaves the end one note more, of how many copies it took.
+pub fn finds_nothing(link: &Link, rx: &mut Rx) -> bool
+    requires { IsRx link.now rx.old }
+    ensures yes { IsTrue result → FindsNothing (taking rx.old) (taking rx.new) }
+    ensures no { IsFalse result → taking rx.new ≡ taking rx.old }
+    ensures end { IsRx link.now rx.new }
+{
+    if !link.queue.is_empty_as::<Takes>(&mut rx.pass) {
+        return false;
+    }
+    let _ = link.queue.another::<NotesNone>(&mut rx.pass);
+    true
 }

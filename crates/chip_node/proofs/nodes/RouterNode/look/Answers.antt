@@ -31,9 +31,6 @@ returns-in-Nothing-clause-looks g c =
 pub returns-then-not-has_room-clause-looks : goal.returns-then-not-has_room-clause-looks
 returns-then-not-has_room-clause-looks g c = (stays_same c.args.hold.now, λ roomy. false≢true (c.if-not-has_room.ensures.no roomy))
 
-pub returns-then-not-has_room_everywhere-clause-looks : goal.returns-then-not-has_room_everywhere-clause-looks
-returns-then-not-has_room_everywhere-clause-looks g c = (stays_same c.args.hold.now, λ roomy. false≢true (c.if-not-has_room_everywhere.ensures.no roomy))
-
 pub returns-in-Some-take-clause-looks : goal.returns-in-Some-take-clause-looks
 returns-in-Some-take-clause-looks g c =
     let r = c.args.self in
@@ -87,54 +84,3 @@ returns-in-None-clause-ready g c =
     ready_router_on c.args.around.capacity c.args.around.patience c.args.around.links.now c.args.self c.args.hold.now _ _
     (goes_none c.args.around.capacity c.args.around.patience c.args.hold.now _ (returns-in-None-clause-looks g c).0)
     (All-set (IsEndOf c.args.around.links.now) c.args.hold.now.ends.items _ c.take.new.self c.in-None.ensures.end c.requires.ends) c.requires
-
-pub returns-in-Some-take-2-clause-looks : goal.returns-in-Some-take-2-clause-looks
-returns-in-Some-take-2-clause-looks g c =
-    let r = c.args.self in
-    let a = c.args.hold.now in
-    let at : 7 * r.index + c.from.result ≡ port_place r.index c.args.port = ap (λ n. 7 * r.index + n) (c.from.ensures ∙ c.number-number.ensures.number) in
-    let old = c.index_mut-in-Unknown.result.now in
-    let new = c.take-in-Unknown.new.self in
-    let long = ap length c.deref.ensures.value in
-    let inside = c.in-Some.ensures.lookup.3.0 in
-    let below : 7 * r.index + c.from.result < length a.ends.items = omega arith in
-    let stood = read_stands a.ends.items a.ends.items _ _ old refl at below c.index_mut-in-Unknown.ensures.value in
-    let w : Writes a.ends.items (set a.ends.items (7 * r.index + c.from.result) new) (port_place r.index c.args.port) old new = record { stood = stood; stands = ap (λ n. set a.ends.items n new) at } in
-    let given = c.outputs_of-outs-in-Some-take-2.ensures.given in
-    record {
-      goes = took_goes c.args.around.capacity c.args.around.patience r.index c.args.port c.in-Some-take-2.copy a _ old new w c.in-Some-take-2.ensures.some refl refl refl;
-      given = given;
-      numbered = c.outputs_of-outs-in-Some-take-2.ensures.numbered;
-      differ = c.outputs_of-outs-in-Some-take-2.ensures.differ;
-      room = room_kept c.args.around.capacity c.args.around.links.now r c.args.port _ a _ old new c.requires w refl
-          (subst (λ (l : List Out). HasRoomForOuts c.args.around.capacity r l a) (sym given)
-          (room_for_all c.args.around.capacity r.table.now r c.args.port c.in-Some-take-2.copy a (c.if-not-has_room_everywhere.ensures.yes refl)));
-    }
-
-pub returns-in-Some-take-2-clause-ready : goal.returns-in-Some-take-2-clause-ready
-returns-in-Some-take-2-clause-ready g c =
-    ready_router_on c.args.around.capacity c.args.around.patience c.args.around.links.now c.args.self c.args.hold.now _ _ (returns-in-Some-take-2-clause-looks g c).goes
-    (All-set (IsEndOf c.args.around.links.now) c.args.hold.now.ends.items _ c.take-in-Unknown.new.self c.in-Some-take-2.ensures.end c.requires.ends) c.requires
-
-pub returns-in-None-take-clause-looks : goal.returns-in-None-take-clause-looks
-returns-in-None-take-clause-looks g c =
-    let r = c.args.self in
-    let a = c.args.hold.now in
-    let at : 7 * r.index + c.from.result ≡ port_place r.index c.args.port = ap (λ n. 7 * r.index + n) (c.from.ensures ∙ c.number-number.ensures.number) in
-    let old = c.index_mut-in-Unknown.result.now in
-    let new = c.take-in-Unknown.new.self in
-    let long = ap length c.deref.ensures.value in
-    let inside = c.in-Some.ensures.lookup.3.0 in
-    let below : 7 * r.index + c.from.result < length a.ends.items = omega arith in
-    let stood = read_stands a.ends.items a.ends.items _ _ old refl at below c.index_mut-in-Unknown.ensures.value in
-    let w : Writes a.ends.items (set a.ends.items (7 * r.index + c.from.result) new) (port_place r.index c.args.port) old new = record { stood = stood; stands = ap (λ n. set a.ends.items n new) at } in
-    let lacks = c.in-None-take.ensures.none in (
-      stays_at a _ (port_place r.index c.args.port) old new w (end_stays_lacks old new lacks) refl refl refl,
-      idle_at a.ends.items (port_place r.index c.args.port) old stood (end_lacks_idle old new lacks),
-    )
-
-pub returns-in-None-take-clause-ready : goal.returns-in-None-take-clause-ready
-returns-in-None-take-clause-ready g c =
-    ready_router_on c.args.around.capacity c.args.around.patience c.args.around.links.now c.args.self c.args.hold.now _ _
-    (goes_none c.args.around.capacity c.args.around.patience c.args.hold.now _ (returns-in-None-take-clause-looks g c).0)
-    (All-set (IsEndOf c.args.around.links.now) c.args.hold.now.ends.items _ c.take-in-Unknown.new.self c.in-None-take.ensures.end c.requires.ends) c.requires

@@ -1,0 +1,63 @@
+use Rattle.std.proofs.Common.{◌≡◌, ◌+◌, ◌*◌, ◌<◌, List, length, set, refl, sym, ap, subst, ◌∙◌, arith}
+use Rattle.std.proofs.lemmas.Bool.{false≢true}
+use Rattle.std.proofs.lemmas.List.Elements.{All-set}
+use Rattle.spin_base.specs.declared.routes.Out.{Out}
+use Rattle.chip_node.specs.Going.{IsEndOf}
+use Rattle.chip_node.specs.Items.{port_place}
+use Rattle.chip_node.specs.Taking.{HasRoomForOuts}
+use Rattle.chip_node.proofs.EndSteps.{end_lacks_idle, end_stays_lacks}
+use Rattle.chip_node.proofs.Flows.{goes_none, ready_router_on}
+use Rattle.chip_node.proofs.Looking.{idle_at, read_stands, room_for_all, room_kept}
+use Rattle.chip_node.proofs.Placing.{stays_at, took_goes, Writes}
+use Rattle.chip_node.proofs.Stays.{stays_same}
+use Rattle.chip_node.proofs.nodes.RouterNode.take_over.Goals as goal
+
+pub returns-then-not-has_room_everywhere-clause-looks : goal.returns-then-not-has_room_everywhere-clause-looks
+returns-then-not-has_room_everywhere-clause-looks g c = (stays_same c.args.hold.now, λ roomy. false≢true (c.if-not-has_room_everywhere.ensures.no roomy))
+
+pub returns-in-Some-clause-looks : goal.returns-in-Some-clause-looks
+returns-in-Some-clause-looks g c =
+    let r = c.args.self in
+    let a = c.args.hold.now in
+    let at : 7 * r.index + c.from.result ≡ port_place r.index c.args.port = ap (λ n. 7 * r.index + n) (c.from.ensures ∙ c.number.ensures.number) in
+    let old = c.index_mut.result.now in
+    let new = c.take.new.self in
+    let below : 7 * r.index + c.from.result < length a.ends.items = subst (λ n. n < length a.ends.items) (sym at) c.requires.place in
+    let stood = read_stands a.ends.items a.ends.items _ _ old refl at below c.index_mut.ensures.value in
+    let w : Writes a.ends.items (set a.ends.items (7 * r.index + c.from.result) new) (port_place r.index c.args.port) old new = record { stood = stood; stands = ap (λ n. set a.ends.items n new) at } in
+    let given = c.outputs_of-outs.ensures.given in
+    record {
+      goes = took_goes c.args.around.capacity c.args.around.patience r.index c.args.port c.in-Some.copy a _ old new w c.in-Some.ensures.some refl refl refl;
+      given = given;
+      numbered = c.outputs_of-outs.ensures.numbered;
+      differ = c.outputs_of-outs.ensures.differ;
+      room = room_kept c.args.around.capacity c.args.around.links.now r c.args.port _ a _ old new c.requires.ready w refl
+          (subst (λ (l : List Out). HasRoomForOuts c.args.around.capacity r l a) (sym given)
+          (room_for_all c.args.around.capacity r.table.now r c.args.port c.in-Some.copy a (c.if-not-has_room_everywhere.ensures.yes refl)));
+    }
+
+pub returns-in-Some-clause-ready : goal.returns-in-Some-clause-ready
+returns-in-Some-clause-ready g c =
+    ready_router_on c.args.around.capacity c.args.around.patience c.args.around.links.now c.args.self c.args.hold.now _ _ (returns-in-Some-clause-looks g c).goes
+    (All-set (IsEndOf c.args.around.links.now) c.args.hold.now.ends.items _ c.take.new.self c.in-Some.ensures.end c.requires.ready.ends) c.requires.ready
+
+pub returns-in-None-clause-looks : goal.returns-in-None-clause-looks
+returns-in-None-clause-looks g c =
+    let r = c.args.self in
+    let a = c.args.hold.now in
+    let at : 7 * r.index + c.from.result ≡ port_place r.index c.args.port = ap (λ n. 7 * r.index + n) (c.from.ensures ∙ c.number.ensures.number) in
+    let old = c.index_mut.result.now in
+    let new = c.take.new.self in
+    let below : 7 * r.index + c.from.result < length a.ends.items = subst (λ n. n < length a.ends.items) (sym at) c.requires.place in
+    let stood = read_stands a.ends.items a.ends.items _ _ old refl at below c.index_mut.ensures.value in
+    let w : Writes a.ends.items (set a.ends.items (7 * r.index + c.from.result) new) (port_place r.index c.args.port) old new = record { stood = stood; stands = ap (λ n. set a.ends.items n new) at } in
+    let lacks = c.in-None.ensures.none in (
+      stays_at a _ (port_place r.index c.args.port) old new w (end_stays_lacks old new lacks) refl refl refl,
+      idle_at a.ends.items (port_place r.index c.args.port) old stood (end_lacks_idle old new lacks),
+    )
+
+pub returns-in-None-clause-ready : goal.returns-in-None-clause-ready
+returns-in-None-clause-ready g c =
+    ready_router_on c.args.around.capacity c.args.around.patience c.args.around.links.now c.args.self c.args.hold.now _ _
+    (goes_none c.args.around.capacity c.args.around.patience c.args.hold.now _ (returns-in-None-clause-looks g c).0)
+    (All-set (IsEndOf c.args.around.links.now) c.args.hold.now.ends.items _ c.take.new.self c.in-None.ensures.end c.requires.ready.ends) c.requires.ready
