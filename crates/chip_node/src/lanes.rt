@@ -4,7 +4,6 @@ ghost use Rattle.std.specs.Prelude.{◌≡◌, ◌+◌, ◌<◌, ◌≤◌, ◌�
 ghost use Rattle.spin_base.specs.declared.copies.McCopy.{McCopy};
 
 use spin_base::{Fifo, McCopy, Memory, Seq, Shared};
-use std::alloc::Global;
 use std::marker::Model;
 
 /// A queue of copies, first in first out, whose both ends one worker holds. Contracts see its `items`, front first, and a number
@@ -36,16 +35,6 @@ impl Model for Lane {
 }
 
 impl Lane {
-    /// A lane with no copy and no room.
-    pub fn new(alloc: Global) -> Lane
-        ensures { result.items ≡ [] }
-    {
-        Lane {
-            copies: Vec::new(alloc),
-            left: 0,
-        }
-    }
-
     /// The lane of a queue's copies. It takes no memory.
     pub fn of_queue(queue: Fifo<McCopy>) -> Lane
         ensures { result.items ≡ queue }
