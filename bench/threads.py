@@ -12,6 +12,9 @@ PROGRAM is out/spin, where none is named. OTHER runs the same jobs in turn with 
     few        100 packets on the torus of 8 by 6
     generated  the job of `gen 1`: 1,200 packets on 48 chips
 
+As placement fills chips, the vertices of these stand on a quarter of the chips, all in the first worker's share. So `near_spread`,
+`near_wide_spread` and `far_wide_spread` are the first three with vertices that ask for chips, four for each.
+
 In a cell stand the least seconds of the whole command by the clock, in brackets the same less the least of `tables`: reading,
 compiling and writing the plan are in every time. A cell ends with `!` where runs wrote other bytes than one another: where copies
 are dropped, they may. Behind each job stands what `tables` takes, and the most memory of all its runs. More workers than free processors show nothing of
@@ -49,6 +52,18 @@ def far_wide(packets, **run):
     return rounds.on_machine(SIDE, SIDE, True, rounds.named(count), nets, packets, **run)
 
 
+def spread(make):
+    """The job of a maker whose vertices ask for chips: as many on each chip as on any other."""
+    def made(packets, **run):
+        job = make(packets, **run)
+        width, height, vertices = job["machine"]["width"], job["machine"]["height"], job["graph"]["vertices"]
+        each = len(vertices) // (width * height)
+        for i, vertex in enumerate(vertices):
+            vertex["at"] = [i // each % width, i // each // width]
+        return job
+    return made
+
+
 def generated(_packets, **run):
     job = rounds.gen_reference.job(1)
     return {**job, "run": {**job["run"], **run}}
@@ -59,6 +74,9 @@ JOBS = {
     "near": (near, PACKETS, BOARD),
     "near_wide": (near_wide, PACKETS, WIDE),
     "far_wide": (far_wide, PACKETS, WIDE),
+    "near_spread": (spread(near), PACKETS, BOARD),
+    "near_wide_spread": (spread(near_wide), PACKETS, WIDE),
+    "far_wide_spread": (spread(far_wide), PACKETS, WIDE),
     "short": (near, PACKETS, LEAST),
     "few": (near, FEW, BOARD),
     "generated": (generated, 0, {}),
