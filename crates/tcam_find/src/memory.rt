@@ -65,7 +65,13 @@ impl Tcam {
     {
         let group = place as usize / LANES;
         Group::put(&mut self.groups, group, place as usize % LANES, e);
-        let (value, common) = in_common(group, self.used, self.values[group], self.common[group], e);
+        let (value, common) = in_common(
+            group,
+            self.used,
+            self.values[group],
+            self.common[group],
+            e,
+        );
         self.used = self.used.max(group + 1);
         self.values[group] = value;
         self.common[group] = common;

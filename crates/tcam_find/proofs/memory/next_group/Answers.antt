@@ -1,4 +1,4 @@
-use Rattle.std.proofs.Common.{◌≡◌, ℕ, ◌+◌, ◌*◌, eqb, false, bit_and, get_or, arith}
+use Rattle.std.proofs.Common.{◌≡◌, ◌+◌, ◌*◌, eqb, false, bit_and, get_or, arith}
 use Rattle.tcam_find.proofs.MemoryLemmas.{through_block}
 use Rattle.tcam_find.proofs.memory.next_group.Goals as goal
 

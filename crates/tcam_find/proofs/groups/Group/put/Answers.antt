@@ -1,4 +1,4 @@
-use Rattle.std.proofs.Common.{refl, sym, ap, ◌∙◌, slice_set}
+use Rattle.std.proofs.Common.{refl, ap, ◌∙◌, slice_set}
 use Rattle.std.proofs.lemmas.Option.{get_or_from_slice_get}
 use Rattle.tcam_find.specs.Memory.{entries_in}
 use Rattle.tcam_find.proofs.groups.Group.put.Goals as goal

@@ -1,4 +1,4 @@
-use Rattle.std.proofs.Common.{◌≡◌, ◌+◌, eqb, true, false, bit_and, get_or, sym, subst, arith}
+use Rattle.std.proofs.Common.{◌≡◌, ◌+◌, eqb, true, false, bit_and, get_or, subst, arith}
 use Rattle.tcam_find.proofs.MemoryLemmas.{route_found, route_missed}
 use Rattle.tcam_find.proofs.groups.Group.route_of.Goals as goal
 

@@ -1,4 +1,4 @@
-use Rattle.std.proofs.Common.{◌/◌, ◌%◌, ◌*◌, ◌+◌, length, arith, sym, subst, ap, ◌∙◌, slice_set}
+use Rattle.std.proofs.Common.{◌/◌, ◌%◌, ◌*◌, length, arith, sym, subst, ap, ◌∙◌, slice_set}
 use Rattle.std.proofs.lemmas.List.{length-set}
 use Rattle.spin_base.proofs.Places.{slice_get_there}
 use Rattle.tcam_find.specs.Memory.{HaveInCommon, NoneMatchesFrom, entries_of_groups}
@@ -10,14 +10,20 @@ invariant_of-self-inside c =
     let old = c.self.inside in
     let group = c.args.place / 8 in
     let at = slice_get_there old.groups group (omega arith) in
-    let put = c.put.ensures at.0 at.1 in
-    (omega (arith, old.few, c.max-self-inside.ensures),
-    (subst (NoneMatchesFrom c.max-self-inside.result) (sym put.2)
-    (rest_after old.groups group old.used c.max-self-inside.result put.0 (omega (arith, c.max-self-inside.ensures)) (omega (arith, c.max-self-inside.ensures)) old.rest),
-    (subst (λ gs. HaveInCommon gs (slice_set old.common group c.in_common-value.result.1) (slice_set old.values group c.in_common-value.result.0)) (sym put.2)
-    (common_after old.groups old.common old.values group (c.args.place % 8) old.used c.in_common-value.result.1 c.in_common-value.result.0
-    at.0 put.0 c.args.e at.1 put.1 (omega arith) (omega arith) old.rest old.others
-    c.in_common-value.ensures.of_entry c.in_common-value.ensures.of_others), tt)))
+    let put = c.put.ensures at.0 at.1 in (
+      omega (arith, old.few, c.max-self-inside.ensures),
+      (
+        subst (NoneMatchesFrom c.max-self-inside.result) (sym put.2)
+            (rest_after old.groups group old.used c.max-self-inside.result put.0 (omega (arith, c.max-self-inside.ensures)) (omega (arith, c.max-self-inside.ensures)) old.rest),
+        (
+          subst (λ gs. HaveInCommon gs (slice_set old.common group c.in_common-value.result.1) (slice_set old.values group c.in_common-value.result.0)) (sym put.2)
+              (common_after old.groups old.common old.values group (c.args.place % 8) old.used c.in_common-value.result.1 c.in_common-value.result.0
+              at.0 put.0 c.args.e at.1 put.1 (omega arith) (omega arith) old.rest old.others
+              c.in_common-value.ensures.of_entry c.in_common-value.ensures.of_others),
+          tt,
+        ),
+      ),
+    )
 
 pub returns-clause-one : goal.returns-clause-one
 returns-clause-one c =
