@@ -1,2 +1,3 @@
+mod CommonLemmas
 mod LaneLemmas
 pub mod MemoryLemmas

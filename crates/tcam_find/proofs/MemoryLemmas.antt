@@ -1,15 +1,20 @@
--- The entries of a memory whose keys, masks and routes stand in three rows.
-use Rattle.std.proofs.Common.{◌≡◌, ℕ, ◌+◌, ◌<◌, eqb, true, false, List, [], ◌∷◌, length, get_or, set, replicate, bit_and, refl, ap, ◌∙◌, subst, arith, zero, suc, Some, slice_get, drop, add-one, inl, inr, ◌-◌}
-use Rattle.std.proofs.lemmas.Bool.{cases_lt}
-use Rattle.std.proofs.lemmas.List.{get_or-replicate, length-replicate}
+-- The entries of a memory, which stand in groups of eight.
+use Rattle.std.proofs.Common.{◌≡◌, ℕ, ◌+◌, ◌*◌, ◌<◌, ◌≤◌, eqb, Bool, true, false, List, [], ◌∷◌, ◌++◌, length, get_or, set, replicate, bit_and, refl, sym, ap, ◌∙◌, subst, arith, zero, suc, Some, None, slice_get, ◌≢◌, ◌-◌, inl, inr}
+use Rattle.std.proofs.lemmas.Bool.{cases_lt, eqb-false, eqb-true}
+use Rattle.std.proofs.lemmas.List.{length-replicate, get_or-set_other, length-append, replicate-append-replicate, set-append_left, set-append_right}
+use Rattle.std.proofs.lemmas.List.Elements.{All-cons, All-head, All-nil, All-replicate, All-set, All-tail}
+use Rattle.std.proofs.lemmas.Grind.{get_or-set_at}
 use Rattle.std.specs.Int.Bits.{and_zero_r}
+use Rattle.spin_base.proofs.Places.{slice_get-append_left, slice_get-set_other, slice_get-set_same}
 use Rattle.spin_base.specs.declared.routes.Route.{Route}
 use Rattle.spin_base.specs.declared.chips.Port.{Port}
 use Rattle.spin_base.specs.declared.blocks.Entry.{Entry}
 use Rattle.spin_base.specs.declared.sizes.TheConstants.{ROUTER_ENTRIES}
-use Rattle.spin_base.specs.Lookup.{lookup, matches}
+use Rattle.spin_base.specs.Lookup.{default_route, lookup, matches}
 use Rattle.spin_base.specs.Outputs.{nothing}
-use Rattle.tcam_find.specs.Memory.{NoneMatchesFrom, entries_of, empty_memory, unused}
+use Rattle.tcam_find.specs.declared.groups.Group.{Group}
+use Rattle.tcam_find.specs.Lanes.{first_route}
+use Rattle.tcam_find.specs.Memory.{HaveInCommon, NoneMatches, NoneMatchesFrom, entries_in, entries_of, entries_of_groups, empty_memory, unused}
 
 pub length-entries_of : (keys masks : List ℕ) (routes : List Route) → length masks ≡ length keys → length routes ≡ length keys
     → length (entries_of keys masks routes) ≡ length keys
@@ -44,12 +49,6 @@ entries_of-replicate : (n key mask : ℕ) (route : Route)
 entries_of-replicate zero key mask route = refl
 entries_of-replicate (suc n) key mask route = ap (λ es. record { key = key; mask = mask; route = route } ∷ es) (entries_of-replicate n key mask route)
 
--- three rows that say unused everywhere are the empty memory
-pub empty_is : (route : Route) → route ≡ nothing
-    → entries_of (replicate ROUTER_ENTRIES 0xffff_ffff) (replicate ROUTER_ENTRIES 0) (replicate ROUTER_ENTRIES route) ≡ empty_memory
-unfolding empty_memory
-empty_is route e = ap (λ o. entries_of (replicate ROUTER_ENTRIES 0xffff_ffff) (replicate ROUTER_ENTRIES 0) (replicate ROUTER_ENTRIES o)) e ∙ entries_of-replicate ROUTER_ENTRIES 0xffff_ffff 0 nothing
-
 pub length_empty : length empty_memory ≡ ROUTER_ENTRIES
 unfolding empty_memory
 length_empty = length-replicate ROUTER_ENTRIES unused
@@ -58,66 +57,227 @@ length_empty = length-replicate ROUTER_ENTRIES unused
 pub unused_matches : (key : ℕ) → matches unused key ≡ false
 unused_matches key = ap (λ n. eqb n 0xffff_ffff) (and_zero_r key)
 
+-- ---- eight entries
+
+pub length_in : (g : Group) → length (entries_in g) ≡ 8
+length_in g =
+    length-entries_of g.keys g.masks g.routes (omega (arith, g.eight, g.masked)) (omega (arith, g.eight, g.routed)) ∙ g.eight
+
 -- the first place whose key and mask match decides
-pub lookup_found : (keys masks : List ℕ) (routes : List Route) (key : ℕ) (port : Port) (i : ℕ) (d : Route)
+pub route_found : (keys masks : List ℕ) (routes : List Route) (key : ℕ) (i : ℕ) (d : Route)
     → i < length keys → length masks ≡ length keys → length routes ≡ length keys
     → ((k : ℕ) → k < i → eqb (bit_and key (get_or masks k 0)) (get_or keys k 0) ≡ false)
     → eqb (bit_and key (get_or masks i 0)) (get_or keys i 0) ≡ true
-    → get_or routes i d ≡ lookup (entries_of keys masks routes) key port
-lookup_found [] masks routes key port i d inside m r before found = absurd (omega arith)
-lookup_found (k ∷ ks) [] routes key port i d inside m r before found = cc
-lookup_found (k ∷ ks) (m ∷ ms) [] key port i d inside e r before found = cc
-lookup_found (k ∷ ks) (m ∷ ms) (o ∷ os) key port zero d inside e r before found = rw found refl
-lookup_found (k ∷ ks) (m ∷ ms) (o ∷ os) key port (suc i) d inside e r before found =
+    → Some (get_or routes i d) ≡ first_route (entries_of keys masks routes) key
+route_found [] masks routes key i d inside m r before found = absurd (omega arith)
+route_found (k ∷ ks) [] routes key i d inside m r before found = cc
+route_found (k ∷ ks) (m ∷ ms) [] key i d inside e r before found = cc
+route_found (k ∷ ks) (m ∷ ms) (o ∷ os) key zero d inside e r before found = rw found refl
+route_found (k ∷ ks) (m ∷ ms) (o ∷ os) key (suc i) d inside e r before found =
     let first : eqb (bit_and key m) k ≡ false = before 0 (omega arith) in
-    rw first (lookup_found ks ms os key port i d (omega arith) (omega arith) (omega arith) (λ j lt. before (suc j) (omega arith)) found)
+    rw first (route_found ks ms os key i d (omega arith) (omega arith) (omega arith) (λ j lt. before (suc j) (omega arith)) found)
 
--- where no place matches, lookup is that of no entries
-pub lookup_none : (keys masks : List ℕ) (routes : List Route) (key : ℕ) (port : Port)
+-- where no place matches, no entry has a route
+pub route_missed : (keys masks : List ℕ) (routes : List Route) (key : ℕ)
     → ((k : ℕ) → k < length keys → eqb (bit_and key (get_or masks k 0)) (get_or keys k 0) ≡ false)
-    → lookup [] key port ≡ lookup (entries_of keys masks routes) key port
-lookup_none [] masks routes key port none = refl
-lookup_none (k ∷ ks) [] routes key port none = refl
-lookup_none (k ∷ ks) (m ∷ ms) [] key port none = refl
-lookup_none (k ∷ ks) (m ∷ ms) (o ∷ os) key port none =
+    → None ≡ first_route (entries_of keys masks routes) key
+route_missed [] masks routes key none = refl
+route_missed (k ∷ ks) [] routes key none = refl
+route_missed (k ∷ ks) (m ∷ ms) [] key none = refl
+route_missed (k ∷ ks) (m ∷ ms) (o ∷ os) key none =
     let first : eqb (bit_and key m) k ≡ false = none 0 (omega arith) in
-    rw first (lookup_none ks ms os key port (λ j lt. none (suc j) (omega arith)))
+    rw first (route_missed ks ms os key (λ j lt. none (suc j) (omega arith)))
 
--- what holds below a block, and in the block's first places, holds below those
-pub through_block : {P : ℕ → Type 0} (at r : ℕ) → ((k : ℕ) → k < at → P k) → ((k : ℕ) → k < r → P (at + k)) → (k : ℕ) → k < at + r → P k
-through_block {P} at r below here k lt =
+-- entries of which none has a route for the key match it nowhere
+pub none_routed : (es : List Entry) (key : ℕ) → None ≡ first_route es key → NoneMatches key es
+none_routed [] key no_route = All-nil (λ e. matches e key ≡ false)
+none_routed (e ∷ es) key no_route = by_test (none_routed es key) (matches e key) refl
+  where
+    by_test : (None ≡ first_route es key → NoneMatches key es) → (b : Bool) → matches e key ≡ b → NoneMatches key (e ∷ es)
+    by_test others true is = let bad : None ≡ Some e.route = no_route ∙ (rw is refl) in cc
+    by_test others false is =
+        let later : None ≡ first_route es key = no_route ∙ (rw is refl) in
+        All-cons (λ e. matches e key ≡ false) e es is (others later)
+
+-- ---- groups of eight
+
+pub length_groups : (gs : List Group) → length (entries_of_groups gs) ≡ 8 * length gs
+length_groups [] = refl
+length_groups (g ∷ gs) = length-append (entries_in g) (entries_of_groups gs) ∙ omega (arith, length_in g, length_groups gs)
+
+get_behind : (xs ys : List Entry) (n j : ℕ) (e : Entry) → length xs ≡ n → slice_get ys j ≡ Some e → slice_get (xs ++ ys) (n + j) ≡ Some e
+get_behind [] ys n j e long got = let at : n + j ≡ j = omega (arith, long) in rw at got
+get_behind (x ∷ xs) ys zero j e long got = absurd (omega (arith, long))
+get_behind (x ∷ xs) ys (suc n) j e long got =
+    let at : suc n + j ≡ suc (n + j) = omega arith in
+    rw at (get_behind xs ys n j e (omega (arith, long)) got)
+
+-- an entry of a group is one of all
+pub get_in_groups : (gs : List Group) (i j : ℕ) (g : Group) (e : Entry)
+    → slice_get gs i ≡ Some g → slice_get (entries_in g) j ≡ Some e → slice_get (entries_of_groups gs) (8 * i + j) ≡ Some e
+get_in_groups [] i j g e got there = cc
+get_in_groups (x ∷ xs) zero j g e got there =
+    let same : x ≡ g = cc in
+    let at : 8 * 0 + j ≡ j = omega arith in
+    rw at (slice_get-append_left (entries_in x) (entries_of_groups xs) j e (rw same there))
+get_in_groups (x ∷ xs) (suc i) j g e got there =
+    let at : 8 * suc i + j ≡ 8 + (8 * i + j) = omega arith in
+    rw at (get_behind (entries_in x) (entries_of_groups xs) 8 (8 * i + j) e (length_in x) (get_in_groups xs i j g e got there))
+
+-- an entry that is put into a group is put among all
+pub set_in_groups : (gs : List Group) (i j : ℕ) (g h : Group) (e : Entry)
+    → slice_get gs i ≡ Some g → j < 8 → entries_in h ≡ set (entries_in g) j e
+    → entries_of_groups (set gs i h) ≡ set (entries_of_groups gs) (8 * i + j) e
+set_in_groups [] i j g h e got inside put = cc
+set_in_groups (x ∷ xs) zero j g h e got inside put =
+    let same : g ≡ x = cc in
+    let at : j ≡ 8 * 0 + j = omega arith in
+    ap (λ es. es ++ entries_of_groups xs) (put ∙ ap (λ it. set (entries_in it) j e) same)
+    ∙ sym (set-append_left (entries_in x) (entries_of_groups xs) j e (omega (arith, inside, length_in x)))
+    ∙ ap (λ n. set (entries_in x ++ entries_of_groups xs) n e) at
+set_in_groups (x ∷ xs) (suc i) j g h e got inside put =
+    let at : 8 * suc i + j - 8 ≡ 8 * i + j = omega arith in
+    ap (λ es. entries_in x ++ es) (set_in_groups xs i j g h e got inside put ∙ ap (λ n. set (entries_of_groups xs) n e) (sym at))
+    ∙ sym (set-append_right (entries_in x) (entries_of_groups xs) 8 (8 * suc i + j) e (length_in x) (omega arith))
+
+-- entries of which none matches are passed over
+pass : (xs ys : List Entry) (key : ℕ) (port : Port) → NoneMatches key xs → lookup ys key port ≡ lookup (xs ++ ys) key port
+pass [] ys key port none = refl
+pass (x ∷ xs) ys key port none =
+    rw (All-head (λ e. matches e key ≡ false) x xs none) (pass xs ys key port (All-tail (λ e. matches e key ≡ false) x xs none))
+
+hit : (xs ys : List Entry) (key : ℕ) (port : Port) (r : Route) → Some r ≡ first_route xs key → r ≡ lookup (xs ++ ys) key port
+hit [] ys key port r routed = cc
+hit (x ∷ xs) ys key port r routed = by_test (hit xs ys key port r) (matches x key) refl
+  where
+    by_test : (Some r ≡ first_route xs key → r ≡ lookup (xs ++ ys) key port) → (b : Bool) → matches x key ≡ b
+        → r ≡ lookup (x ∷ (xs ++ ys)) key port
+    by_test others true is = let here : Some r ≡ Some x.route = routed ∙ (rw is refl) in rw is cc
+    by_test others false is = let later : Some r ≡ first_route xs key = routed ∙ (rw is refl) in rw is (others later)
+
+-- the first group that has a route for the key decides
+pub lookup_found : (gs : List Group) (i key : ℕ) (port : Port) (g : Group) (r : Route) → slice_get gs i ≡ Some g
+    → ((k : ℕ) (x : Group) → k < i → slice_get gs k ≡ Some x → NoneMatches key (entries_in x))
+    → Some r ≡ first_route (entries_in g) key → r ≡ lookup (entries_of_groups gs) key port
+lookup_found [] i key port g r got before routed = cc
+lookup_found (x ∷ xs) zero key port g r got before routed =
+    let same : g ≡ x = cc in
+    hit (entries_in x) (entries_of_groups xs) key port r (routed ∙ ap (λ it. first_route (entries_in it) key) same)
+lookup_found (x ∷ xs) (suc i) key port g r got before routed =
+    lookup_found xs i key port g r got (λ k y lt there. before (suc k) y (omega (arith, lt)) there) routed
+    ∙ pass (entries_in x) (entries_of_groups xs) key port (before 0 x (omega arith) refl)
+
+-- where no group has an entry that matches, the default route does
+pub lookup_none : (gs : List Group) (key : ℕ) (port : Port)
+    → ((k : ℕ) (x : Group) → slice_get gs k ≡ Some x → NoneMatches key (entries_in x))
+    → default_route port ≡ lookup (entries_of_groups gs) key port
+lookup_none [] key port none = refl
+lookup_none (x ∷ xs) key port none =
+    lookup_none xs key port (λ k y there. none (suc k) y there)
+    ∙ pass (entries_in x) (entries_of_groups xs) key port (none 0 x refl)
+
+-- what holds before a block, and in the block's first places, holds before those
+pub through_block : {P : ℕ → Type 0} (from at r : ℕ) → ((k : ℕ) → from ≤ k → k < at → P k) → ((k : ℕ) → k < r → P (at + k))
+    → (k : ℕ) → from ≤ k → k < at + r → P k
+through_block {P} from at r before here k behind lt =
     elim (cases_lt k at) [
-      | inl early ↦ below k early
-      | inr late ↦ (let back : at + (k - at) ≡ k = omega arith in subst P back (here (k - at) (omega arith)))
+      | inl early ↦ before k behind early
+      | inr late ↦ (let back : at + (k - at) ≡ k = omega (arith, late) in subst P back (here (k - at) (omega (arith, late, lt))))
     ]
 
--- an entry that stands at a place, and the entries that are left from there
-got_drop : (es : List Entry) (i : ℕ) (e : Entry) → slice_get es i ≡ Some e → drop i es ≡ e ∷ drop (suc i) es
-got_drop [] i e got = cc
-got_drop (x ∷ xs) zero e got = cc
-got_drop (x ∷ xs) (suc i) e got = got_drop xs i e got
-
-pub scan_stops : (es : List Entry) (i : ℕ) (e : Entry) (key : ℕ) (port : Port) → slice_get es i ≡ Some e
-    → matches e key ≡ true → e.route ≡ lookup (drop i es) key port
-scan_stops es i e key port got here = rw (got_drop es i e got, here) refl
-
-pub scan_goes_on : (es : List Entry) (i : ℕ) (e : Entry) (key : ℕ) (port : Port) → slice_get es i ≡ Some e
-    → matches e key ≡ false → lookup (drop (i + 1) es) key port ≡ lookup (drop i es) key port
-scan_goes_on es i e key port got here = rw (got_drop es i e got, here, add-one) refl
-
--- no place of rows that say unused everywhere matches
-pub none_of_unused : (n : ℕ) → NoneMatchesFrom 0 (replicate n 0xffff_ffff) (replicate n 0)
-none_of_unused n k key from inside =
-    let long = length-replicate {A = ℕ} n 0xffff_ffff in
-    rw (get_or-replicate {A = ℕ} n k 0 0 (omega (arith, inside, long)), get_or-replicate {A = ℕ} n k 0xffff_ffff 0 (omega (arith, inside, long)))
-    (unused_matches key)
-
--- where no place below matches, and none from there on, none does
-pub none_at_all : (keys masks : List ℕ) (key from : ℕ)
-    → ((k : ℕ) → k < from → eqb (bit_and key (get_or masks k 0)) (get_or keys k 0) ≡ false) → NoneMatchesFrom from keys masks
-    → (k : ℕ) → k < length keys → eqb (bit_and key (get_or masks k 0)) (get_or keys k 0) ≡ false
-none_at_all keys masks key from below rest k inside =
-    elim (cases_lt k from) [
-      | inl early ↦ below k early
-      | inr late ↦ rest k key (omega (arith, late)) inside
+-- groups before the next that may have an entry that matches
+pub passed_over : (gs : List Group) (common values : List ℕ) (group next key : ℕ)
+    → ((i : ℕ) (x : Group) → i < group → slice_get gs i ≡ Some x → NoneMatches key (entries_in x))
+    → ((x : Group) → slice_get gs group ≡ Some x → NoneMatches key (entries_in x))
+    → ((i : ℕ) → group + 1 ≤ i → i < next → eqb (bit_and key (get_or common i 0)) (get_or values i 0) ≡ false)
+    → HaveInCommon gs common values
+    → (i : ℕ) (x : Group) → i < next → slice_get gs i ≡ Some x → NoneMatches key (entries_in x)
+passed_over gs common values group next key before here apart others i x early got =
+    elim (cases_lt i group) [
+      | inl less ↦ before i x less got
+      | inr late ↦ elim (cases_lt group i) [
+        | inl more ↦ others i key x got (apart i (omega (arith, more)) early)
+        | inr equal ↦ (let same : i ≡ group = omega (arith, late, equal) in here x (ap (slice_get gs) (sym same) ∙ got))
+      ]
     ]
+
+-- groups of which none before the used ones' end has an entry that matches
+pub passed_all : (gs : List Group) (group used key : ℕ) → used ≤ group
+    → ((i : ℕ) (x : Group) → i < group → slice_get gs i ≡ Some x → NoneMatches key (entries_in x)) → NoneMatchesFrom used gs
+    → (i : ℕ) (x : Group) → slice_get gs i ≡ Some x → NoneMatches key (entries_in x)
+passed_all gs group used key past before rest i x got =
+    elim (cases_lt i group) [
+      | inl less ↦ before i x less got
+      | inr late ↦ rest i key x (omega (arith, past, late)) got
+    ]
+
+-- ---- the empty memory
+
+same_groups : (n : ℕ) (g : Group) (es : List Entry) → entries_in g ≡ es
+    → (i : ℕ) (x : Group) → slice_get (replicate n g) i ≡ Some x → entries_in x ≡ es
+same_groups zero g es is i x got = cc
+same_groups (suc n) g es is zero x got = let same : g ≡ x = cc in ap entries_in (sym same) ∙ is
+same_groups (suc n) g es is (suc i) x got = same_groups n g es is i x got
+
+pub none_of_empty : (n : ℕ) (g : Group) → entries_in g ≡ replicate 8 unused
+    → (i key : ℕ) (x : Group) → slice_get (replicate n g) i ≡ Some x → NoneMatches key (entries_in x)
+none_of_empty n g is i key x got =
+    subst (NoneMatches key) (sym (same_groups n g (replicate 8 unused) is i x got))
+    (All-replicate (λ e. matches e key ≡ false) 8 unused (unused_matches key))
+
+flat_replicated : (n : ℕ) (g : Group) → entries_in g ≡ replicate 8 unused → entries_of_groups (replicate n g) ≡ replicate (8 * n) unused
+flat_replicated zero g is = refl
+flat_replicated (suc n) g is =
+    let more : 8 * suc n ≡ 8 + 8 * n = omega arith in
+    ap (λ es. es ++ entries_of_groups (replicate n g)) is ∙ ap (λ es. replicate 8 unused ++ es) (flat_replicated n g is)
+    ∙ replicate-append-replicate 8 (8 * n) unused ∙ ap (λ m. replicate m unused) (sym more)
+
+pub empty_is : (g : Group) → entries_in g ≡ replicate 8 unused → entries_of_groups (replicate 128 g) ≡ empty_memory
+unfolding empty_memory
+empty_is g is = flat_replicated 128 g is
+
+pub group_of_unused : (route : Route) → route ≡ nothing
+    → entries_of (replicate 8 0xffff_ffff) (replicate 8 0) (replicate 8 route) ≡ replicate 8 unused
+group_of_unused route e = ap (λ o. entries_of (replicate 8 0xffff_ffff) (replicate 8 0) (replicate 8 o)) e ∙ entries_of-replicate 8 0xffff_ffff 0 nothing
+
+-- ---- an entry is put into a group
+
+-- once an entry is put into a group, behind which nothing matched
+pub rest_after : (gs : List Group) (i used more : ℕ) (h : Group) → i < more → used ≤ more
+    → NoneMatchesFrom used gs → NoneMatchesFrom more (set gs i h)
+rest_after gs i used more h inside longer rest k key x far got =
+    rest k key x (omega (arith, far, longer)) (sym (slice_get-set_other gs i k h (λ same. omega (arith, far, inside, same))) ∙ got)
+
+pub common_after : (gs : List Group) (common values : List ℕ) (i j used c v : ℕ) (g h : Group) (e : Entry)
+    → slice_get gs i ≡ Some g → entries_in h ≡ set (entries_in g) j e → i < length common → i < length values
+    → NoneMatchesFrom used gs → HaveInCommon gs common values
+    → ((key : ℕ) → eqb (bit_and key c) v ≡ false → matches e key ≡ false)
+    → (i < used → (key : ℕ) → eqb (bit_and key c) v ≡ false → eqb (bit_and key (get_or common i 0)) (get_or values i 0) ≡ false)
+    → HaveInCommon (set gs i h) (set common i c) (set values i v)
+common_after gs common values i j used c v g h e got put in_common in_values rest others of_entry of_others k key x got_x apart =
+    by_place (eqb k i) refl
+  where
+    none_before : eqb (bit_and key c) v ≡ false → NoneMatches key (entries_in g)
+    none_before there =
+        elim (cases_lt i used) [
+          | inl early ↦ others i key g got (of_others early key there)
+          | inr late ↦ rest i key g late got
+        ]
+
+    by_place : (b : Bool) → eqb k i ≡ b → NoneMatches key (entries_in x)
+    by_place true is =
+        let same : k ≡ i = eqb-true k i is in
+        let the_common : get_or (set common i c) k 0 ≡ c = get_or-set_at common i k c 0 same in_common in
+        let the_values : get_or (set values i v) k 0 ≡ v = get_or-set_at values i k v 0 same in_values in
+        let there : eqb (bit_and key c) v ≡ false =
+        ap (λ n. eqb (bit_and key n) v) (sym the_common) ∙ ap (λ n. eqb (bit_and key (get_or (set common i c) k 0)) n) (sym the_values) ∙ apart in
+        let at : slice_get (set gs i h) k ≡ Some h = ap (slice_get (set gs i h)) same ∙ slice_get-set_same gs i g h got in
+        let is_h : h ≡ x = cc in
+        subst (NoneMatches key) (sym put ∙ ap entries_in is_h)
+        (All-set (λ e. matches e key ≡ false) (entries_in g) j e (of_entry key there) (none_before there))
+    by_place false is =
+        let other : k ≢ i = eqb-false k i is in
+        let there : eqb (bit_and key (get_or common k 0)) (get_or values k 0) ≡ false =
+        ap (λ n. eqb (bit_and key n) (get_or values k 0)) (sym (get_or-set_other common i k c 0 other))
+        ∙ ap (λ n. eqb (bit_and key (get_or (set common i c) k 0)) n) (sym (get_or-set_other values i k v 0 other)) ∙ apart in
+        others k key x (sym (slice_get-set_other gs i k h other) ∙ got_x) there

@@ -1,9 +1,11 @@
 -- The lookup memory of a router.
-use Rattle.std.specs.Prelude.{◌≡◌, ℕ, ◌<◌, ◌≤◌, ◌==◌, false, List, [], ◌∷◌, bit_and, length, replicate, slice_index_or}
+use Rattle.std.specs.Prelude.{◌≡◌, ℕ, ◌≤◌, ◌==◌, false, List, [], ◌∷◌, All, Some, bit_and, replicate, flat_map, slice_get, slice_index_or}
 use Rattle.spin_base.specs.declared.routes.Route.{Route}
 use Rattle.spin_base.specs.declared.sizes.TheConstants.{ROUTER_ENTRIES}
 use Rattle.spin_base.specs.declared.blocks.Entry.{Entry}
+use Rattle.spin_base.specs.Lookup.{matches}
 use Rattle.spin_base.specs.Outputs.{nothing}
+use Rattle.tcam_find.specs.declared.groups.Group.{Group}
 
 -- An entry that isn't used matches no key: its key has bits that its mask lacks (SpiNNaker datasheet).
 abbrev pub unused : Entry
@@ -21,7 +23,24 @@ entries_of (key ∷ keys) (mask ∷ masks) [] = []
 entries_of (key ∷ keys) (mask ∷ masks) (route ∷ routes) =
     record { key = key; mask = mask; route = route } ∷ entries_of keys masks routes
 
--- no key is that of an entry at a place from this one on, as keys and masks stand in two rows
-abbrev pub NoneMatchesFrom : ℕ → List ℕ → List ℕ → Type 0
-NoneMatchesFrom from keys masks =
-    (k key : ℕ) → from ≤ k → k < length keys → (bit_and key (slice_index_or masks k 0) == slice_index_or keys k 0) ≡ false
+-- a group's entries
+abbrev pub entries_in : Group → List Entry
+entries_in g = entries_of g.keys g.masks g.routes
+
+-- the entries of several groups, one group after the other
+abbrev pub entries_of_groups : List Group → List Entry
+entries_of_groups groups = flat_map entries_in groups
+
+-- no entry matches the key
+abbrev pub NoneMatches : ℕ → List Entry → Type 0
+NoneMatches key entries = All (λ e. matches e key ≡ false) entries
+
+-- in no group from this one on an entry matches any key
+abbrev pub NoneMatchesFrom : ℕ → List Group → Type 0
+NoneMatchesFrom from groups = (i key : ℕ) (g : Group) → from ≤ i → slice_get groups i ≡ Some g → NoneMatches key (entries_in g)
+
+-- Each group has bits in common, with values: where a key has other values there, no entry of the group matches it.
+abbrev pub HaveInCommon : List Group → List ℕ → List ℕ → Type 0
+HaveInCommon groups common values =
+    (i key : ℕ) (g : Group) → slice_get groups i ≡ Some g
+    → (bit_and key (slice_index_or common i 0) == slice_index_or values i 0) ≡ false → NoneMatches key (entries_in g)

@@ -4,6 +4,7 @@
 //! `find` is the lookup of the SpiNNaker datasheet on it, eight entries at a time.
 #![tactic(auto)]
 
+mod groups;
 mod lanes;
 mod memory;
 

@@ -1,25 +1,28 @@
 // The memory itself.
 ghost use Rattle.spin_base.specs.Links.{dir_number};
 ghost use Rattle.spin_base.specs.Lookup.{default_route};
-ghost use Rattle.std.specs.Prelude.{◌≡◌, ◌*◌, ◌≤◌, ◌^◌, []};
-ghost use Rattle.tcam_find.specs.Memory.{NoneMatchesFrom};
+ghost use Rattle.std.specs.Prelude.{◌≡◌, ℕ, ◌+◌, ◌<◌, ◌≤◌, ◌==◌, ◌^◌, false, bit_and, length, slice_index};
+ghost use Rattle.tcam_find.specs.Memory.{HaveInCommon, NoneMatchesFrom};
 
+use crate::groups::{GROUPS, Group, in_common};
 use crate::lanes::{LANES, first_match};
-use spin_base::{Dir, Entry, Port, ROUTER_ENTRIES, Route, Shared};
+use spin_base::{Dir, Entry, Port, Route, Shared};
 use std::marker::Model;
 
 /// The lookup memory of a router: 1,024 entries, seen as their list.
 ///
-/// Keys, masks and routes stand in three rows of 1,024 words. Behind the groups of eight in which an entry was set no entry matches,
-/// so nobody looks there.
+/// They stand in groups of eight. Behind the groups in which an entry was set no entry matches, so nobody looks there. Of each group
+/// the bits are known that its entries have in common; nobody looks at a group where a key has other values there. (These two rows
+/// have eight words more than there are groups, so that eight can be read at each place.)
 #[derive(Drop)]
 pub struct Tcam {
-    groups: usize,
-    keys: [u32; ROUTER_ENTRIES],
-    masks: [u32; ROUTER_ENTRIES],
-    routes: [Route; ROUTER_ENTRIES],
-    ghost few: { groups ≤ 128 },
-    ghost rest: { NoneMatchesFrom (8 * groups) keys masks },
+    used: usize,
+    groups: [Group; GROUPS],
+    common: [u32; GROUPS + LANES],
+    values: [u32; GROUPS + LANES],
+    ghost few: { used ≤ 128 },
+    ghost rest: { NoneMatchesFrom used groups },
+    ghost others: { HaveInCommon groups common values },
 }
 
 impl Shared for Tcam {}
@@ -27,16 +30,17 @@ impl Shared for Tcam {}
 impl Model for Tcam {
     ghost use Rattle.std.specs.Prelude.{List};
     ghost use Rattle.spin_base.specs.declared.blocks.Entry.{Entry};
-    ghost use Rattle.tcam_find.specs.Memory.{entries_of};
+    ghost use Rattle.tcam_find.specs.Memory.{entries_of_groups};
 
     ghost Value = { List Entry };
 
-    ghost view = { λ t. entries_of t.keys t.masks t.routes };
+    ghost view = { λ t. entries_of_groups t.groups };
 }
 
 impl Tcam {
-    ghost use Rattle.std.specs.Prelude.{◌≡◌, ℕ, ◌<◌, false, length, slice_get, slice_set};
+    ghost use Rattle.std.specs.Prelude.{◌≡◌, ℕ, ◌<◌, false, Some, length, slice_get, slice_set};
     ghost use Rattle.spin_base.specs.Lookup.{lookup, matches};
+    ghost use Rattle.spin_base.specs.declared.sizes.TheConstants.{ROUTER_ENTRIES};
     ghost use Rattle.tcam_find.specs.Memory.{empty_memory, unused};
 
     /// A memory of unused entries. An unused entry has key ffffffff, mask 0 and no route, and matches no key.
@@ -46,10 +50,10 @@ impl Tcam {
         ensures unused_matches_no_key { (key : ℕ) → matches unused key ≡ false }
     {
         Tcam {
-            groups: 0,
-            keys: [u32::MAX; ROUTER_ENTRIES],
-            masks: [0; ROUTER_ENTRIES],
-            routes: [Route::nothing(); ROUTER_ENTRIES],
+            used: 0,
+            groups: [Group::empty(); GROUPS],
+            common: [0; GROUPS + LANES],
+            values: [u32::MAX; GROUPS + LANES],
         }
     }
 
@@ -59,11 +63,18 @@ impl Tcam {
         ensures one { self.new ≡ slice_set self.old place e }
         ensures size { length self.new ≡ ROUTER_ENTRIES }
     {
-        let place = place as usize;
-        self.groups = self.groups.max(place / LANES + 1);
-        self.keys[place] = e.key;
-        self.masks[place] = e.mask;
-        self.routes[place] = e.route;
+        let group = place as usize / LANES;
+        Group::put(&mut self.groups, group, place as usize % LANES, e);
+        let (value, common) = in_common(
+            group,
+            self.used,
+            self.values[group],
+            self.common[group],
+            e,
+        );
+        self.used = self.used.max(group + 1);
+        self.values[group] = value;
+        self.common[group] = common;
     }
 
     /// The entry at a place below 1,024.
@@ -72,12 +83,7 @@ impl Tcam {
         ensures at_place { slice_get self.now place ≡ Some result }
         ensures size { length self.now ≡ ROUTER_ENTRIES }
     {
-        let place = place as usize;
-        Entry {
-            key: self.keys[place],
-            mask: self.masks[place],
-            route: self.routes[place],
-        }
+        self.groups[place as usize / LANES].entry(place as usize % LANES)
     }
 
     /// The route of a packet with that key that came in at that port: the route of the first entry that matches,
@@ -85,15 +91,34 @@ impl Tcam {
     pub fn find(&self, key: u32, port: Port) -> Route
         ensures { result ≡ lookup self.now key port }
     {
-        for group in 0..self.groups {
-            let at = LANES * group;
-            let lane = first_match(&self.keys, &self.masks, at, key);
-            if lane < LANES {
-                return self.routes[at + lane];
+        let mut group = 0;
+        while group < self.used {
+            match self.groups[group].route_of(key) {
+                Some(route) => return route,
+                None => group = next_group(&self.common, &self.values, group + 1, self.used, key),
             }
         }
         undecided(port)
     }
+}
+
+/// The first group from `from` on that has an entry that may match the key, and `end` or more where none before it has.
+fn next_group(common: &[u32], values: &[u32], from: usize, end: usize, key: u32) -> usize
+    requires begun { from ≤ end }
+    requires in_common { end + 8 ≤ length common.now }
+    requires in_values { end + 8 ≤ length values.now }
+    ensures ahead { from ≤ result }
+    ensures others { (i : ℕ) → from ≤ i → i < result
+        → (bit_and key (slice_index common.now i) == slice_index values.now i) ≡ false }
+{
+    for block in 0..(end - from).div_ceil(LANES) {
+        let at = from + LANES * block;
+        let ahead = first_match(values, common, at, key);
+        if ahead < LANES {
+            return at + ahead;
+        }
+    }
+    end
 }
 
 /// Where a packet goes on that no entry matches: by the opposite link, and nowhere from `Local`.

@@ -1,7 +1,12 @@
-use Rattle.std.proofs.Common.{◌≡◌, ℕ, ◌*◌, ◌<◌, eqb, false, get_or, bit_and}
+use Rattle.std.proofs.Common.{◌≡◌, ℕ, ◌-◌, ◌<◌, Some, slice_get}
+use Rattle.tcam_find.specs.declared.groups.Group.{Group}
+use Rattle.tcam_find.specs.Memory.{NoneMatches, entries_in}
 use Rattle.tcam_find.proofs.memory.Tcam.find.Given as goal
 
 -- no entry of the groups before matches
 abbrev pub invariant-loop-group : goal.invariant-loop-group
 invariant-loop-group l =
-    (k : ℕ) → k < 8 * l.group → eqb (bit_and l.key (get_or l.self-inside.masks k 0)) (get_or l.self-inside.keys k 0) ≡ false
+    (i : ℕ) (g : Group) → i < l.group → slice_get l.self-inside.groups i ≡ Some g → NoneMatches l.key (entries_in g)
+
+abbrev pub decreases-loop-group : goal.decreases-loop-group
+decreases-loop-group l = l.self-inside.used - l.group

@@ -1,14 +1,43 @@
-use Rattle.std.proofs.Common.{length, arith, ap, ◌∙◌, slice_set}
+use Rattle.std.proofs.Common.{◌/◌, ◌%◌, ◌*◌, length, arith, sym, subst, ap, ◌∙◌, slice_set}
 use Rattle.std.proofs.lemmas.List.{length-set}
-use Rattle.tcam_find.proofs.MemoryLemmas.{set-entries_of, length-entries_of}
+use Rattle.spin_base.proofs.Places.{slice_get_there}
+use Rattle.tcam_find.specs.Memory.{HaveInCommon, NoneMatchesFrom, entries_of_groups}
+use Rattle.tcam_find.proofs.MemoryLemmas.{common_after, length_groups, rest_after, set_in_groups}
 use Rattle.tcam_find.proofs.memory.Tcam.set.Goals as goal
+
+pub invariant_of-self-inside : goal.invariant_of-self-inside
+invariant_of-self-inside c =
+    let old = c.self.inside in
+    let group = c.args.place / 8 in
+    let at = slice_get_there old.groups group (omega arith) in
+    let put = c.put.ensures at.0 at.1 in (
+      omega (arith, old.few, c.max-self-inside.ensures),
+      (
+        subst (NoneMatchesFrom c.max-self-inside.result) (sym put.2)
+            (rest_after old.groups group old.used c.max-self-inside.result put.0 (omega (arith, c.max-self-inside.ensures)) (omega (arith, c.max-self-inside.ensures)) old.rest),
+        (
+          subst (λ gs. HaveInCommon gs (slice_set old.common group c.in_common-value.result.1) (slice_set old.values group c.in_common-value.result.0)) (sym put.2)
+              (common_after old.groups old.common old.values group (c.args.place % 8) old.used c.in_common-value.result.1 c.in_common-value.result.0
+              at.0 put.0 c.args.e at.1 put.1 (omega arith) (omega arith) old.rest old.others
+              c.in_common-value.ensures.of_entry c.in_common-value.ensures.of_others),
+          tt,
+        ),
+      ),
+    )
 
 pub returns-clause-one : goal.returns-clause-one
 returns-clause-one c =
-    set-entries_of c.self.inside.keys c.self.inside.masks c.self.inside.routes c.args.place c.args.e (omega arith) (omega arith)
+    let old = c.self.inside in
+    let at = slice_get_there old.groups (c.args.place / 8) (omega arith) in
+    let put = c.put.ensures at.0 at.1 in
+    ap entries_of_groups put.2
+    ∙ set_in_groups old.groups (c.args.place / 8) (c.args.place % 8) at.0 put.0 c.args.e at.1 (omega arith) put.1
+    ∙ ap (λ n. slice_set (entries_of_groups old.groups) n c.args.e) (omega arith)
     ∙ ap (λ es. slice_set es c.args.place c.args.e) c.self.view_is
 
 pub returns-clause-size : goal.returns-clause-size
 returns-clause-size c =
-    ap length (set-entries_of c.self.inside.keys c.self.inside.masks c.self.inside.routes c.args.place c.args.e (omega arith) (omega arith))
-    ∙ length-set _ _ _ ∙ length-entries_of _ _ _ (omega arith) (omega arith) ∙ omega arith
+    let old = c.self.inside in
+    let at = slice_get_there old.groups (c.args.place / 8) (omega arith) in
+    let put = c.put.ensures at.0 at.1 in
+    length_groups c.put.new.groups ∙ ap (λ gs. 8 * length gs) put.2 ∙ ap (λ n. 8 * n) (length-set old.groups (c.args.place / 8) put.0) ∙ omega arith

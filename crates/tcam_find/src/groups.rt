@@ -1,0 +1,101 @@
+// Eight entries that stand together, and the bits that they have in common.
+ghost use Rattle.std.specs.Prelude.{◌≡◌, ℕ, ◌<◌, ◌==◌, false, bit_and, length};
+ghost use Rattle.spin_base.specs.Lookup.{matches};
+
+use crate::lanes::{LANES, first_match};
+use spin_base::{Entry, ROUTER_ENTRIES, Route};
+
+/// How many groups a memory has.
+pub(crate) const GROUPS: usize = ROUTER_ENTRIES / LANES;
+
+/// Eight entries: 96 bytes, so that a lookup reads two lines of a processor's cache.
+#[derive(Clone, Copy)]
+pub(crate) struct Group {
+    keys: [u32; LANES],
+    masks: [u32; LANES],
+    routes: [Route; LANES],
+    ghost eight: { length keys ≡ 8 },
+    ghost masked: { length masks ≡ 8 },
+    ghost routed: { length routes ≡ 8 },
+}
+
+impl Group {
+    ghost use Rattle.std.specs.Prelude.{◌≡◌, ◌<◌, Some, length, replicate, slice_get, slice_set};
+    ghost use Rattle.tcam_find.specs.Lanes.{first_route};
+    ghost use Rattle.tcam_find.specs.Memory.{entries_in, unused};
+    ghost use Rattle.tcam_find.specs.declared.groups.Group.{Group};
+
+    /// Eight unused entries.
+    pub(crate) fn empty() -> Group
+        ensures { entries_in result ≡ replicate 8 unused }
+    {
+        Group {
+            keys: [u32::MAX; LANES],
+            masks: [0; LANES],
+            routes: [Route::nothing(); LANES],
+        }
+    }
+
+    /// Puts an entry at a place of one of the groups.
+    pub(crate) fn put(groups: &mut [Group], group: usize, lane: usize, e: Entry)
+        requires inside { group < length groups.old }
+        requires within { lane < 8 }
+        ensures { (g : Group) → slice_get groups.old group ≡ Some g
+            → (h : Group) × (entries_in h ≡ slice_set (entries_in g) lane e) × (groups.new ≡ slice_set groups.old group h) }
+    {
+        groups[group].set(lane, e);
+    }
+
+    /// Puts an entry at a place of the group.
+    fn set(&mut self, lane: usize, e: Entry)
+        requires { lane < 8 }
+        ensures { entries_in self.new ≡ slice_set (entries_in self.old) lane e }
+    {
+        self.keys[lane] = e.key;
+        self.masks[lane] = e.mask;
+        self.routes[lane] = e.route;
+    }
+
+    /// The entry at a place of the group.
+    pub(crate) fn entry(&self, lane: usize) -> Entry
+        requires { lane < 8 }
+        ensures { slice_get (entries_in self.now) lane ≡ Some result }
+    {
+        Entry {
+            key: self.keys[lane],
+            mask: self.masks[lane],
+            route: self.routes[lane],
+        }
+    }
+
+    /// The route of the group's first entry that matches the key.
+    #[inline(always)]
+    pub(crate) fn route_of(&self, key: u32) -> Option<Route>
+        ensures { result ≡ first_route (entries_in self.now) key }
+    {
+        let lane = first_match(&self.keys, &self.masks, 0, key);
+        if lane < LANES {
+            Some(self.routes[lane])
+        } else {
+            None
+        }
+    }
+}
+
+/// The values of a group's common bits, and these bits, once an entry is in the group. What the entry stands in place of still counts,
+/// unless the group is the first that is not yet used, or one behind.
+#[inline(always)]
+pub(crate) fn in_common(group: usize, used: usize, value: u32, common: u32, e: Entry) -> (u32, u32)
+    ensures of_entry { (key : ℕ) → (bit_and key result.1 == result.0) ≡ false → matches e key ≡ false }
+    ensures of_others { group < used → (key : ℕ) → (bit_and key result.1 == result.0) ≡ false
+        → (bit_and key common == value) ≡ false }
+{
+    if group >= used {
+        (e.key, e.mask)
+    } else if e.key & e.mask == e.key {
+        let both = common & e.mask & !(value ^ e.key);
+        (value & both, both)
+    } else {
+        (value, common)
+    }
+}
