@@ -100,7 +100,7 @@ impl FreeKeys {
         }
     }
 
-    // Remembers such a place.
+    // From now on the search for so many keys begins at such a place.
     fn start_at(&mut self, size: Size, place: u64)
         ensures free { (taken : List Block) → AreKeysFreeBeside taken self.old
             → ((other : ℕ) → IsOpenPlace taken size.keys other → place ≤ other)
