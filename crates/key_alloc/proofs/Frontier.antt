@@ -16,7 +16,7 @@ use Rattle.spin_base.specs.declared.blocks.Block.{Block}
 use Rattle.range_store.specs.Regions.{AreRuns, is_free, in_range}
 use Rattle.key_alloc.specs.declared.free.FreeKeys.{FreeKeys}
 use Rattle.key_alloc.specs.KeyBlocks.{size_of, MissesRange, IsOpenPlace}
-use Rattle.key_alloc.specs.FreeKeys.{has_key, key_or_end, end_of_run, AreDownwards, HaveRanges, AreAhead, AreKeysFreeBeside}
+use Rattle.key_alloc.specs.FreeKeys.{has_key, key_or_end, end_of_run, AreDownwards, HaveRanges, AreAhead, AreStarts, AreKeysFreeBeside}
 
 -- where the run of free keys before the blocks ahead ends
 pub record IsRunEnd (ahead : List Block) (end : ℕ) : Type 0 where
@@ -95,9 +95,9 @@ module _ (taken : List Block) (free : FreeKeys) (state : AreKeysFreeBeside taken
       ]
     ]
 
-    pub moved_up : (after : FreeKeys) → AreRuns 0 4294967296 after.below.holes → after.below.size ≡ free.below.size → after.frontier ≡ end → after.ahead.items ≡ free.ahead.items
+    pub moved_up : (after : FreeKeys) → AreRuns 0 4294967296 after.below.holes → after.below.size ≡ free.below.size → after.frontier ≡ end → after.ahead.items ≡ free.ahead.items → after.starts ≡ free.starts
         → ((k : ℕ) → is_free after.below.holes k ≡ (is_free free.below.holes k || in_range free.frontier (end - free.frontier) k)) → AreKeysFreeBeside taken after
-    moved_up after runs size at same free_now = record {
+    moved_up after runs size at same starts free_now = record {
       runs = runs;
       size = size ∙ state.size;
       limit = omega (arith, limit, at);
@@ -111,6 +111,7 @@ module _ (taken : List Block) (free : FreeKeys) (state : AreKeysFreeBeside taken
         downwards = state.ahead.downwards;
       }));
       whole = λ s p o low. omega (arith, at, whole_now s p o (omega (arith, at, low)));
+      starts = subst (AreStarts taken) (sym starts) state.starts;
     }
 
   -- the fixed block at the frontier
@@ -149,8 +150,8 @@ module _ (taken : List Block) (free : FreeKeys) (state : AreKeysFreeBeside taken
       ]
     ]
 
-    pub passed : (after : FreeKeys) → after.below ≡ free.below → after.frontier ≡ end → after.ahead.items ≡ rest → AreKeysFreeBeside taken after
-    passed after same at left = record {
+    pub passed : (after : FreeKeys) → after.below ≡ free.below → after.frontier ≡ end → after.ahead.items ≡ rest → after.starts ≡ free.starts → AreKeysFreeBeside taken after
+    passed after same at left starts = record {
       runs = subst (λ r. AreRuns 0 4294967296 r.holes) (sym same) state.runs;
       size = ap (λ r. r.size) same ∙ state.size;
       limit = omega (arith, at, range.1, at_frontier);
@@ -177,12 +178,13 @@ module _ (taken : List Block) (free : FreeKeys) (state : AreKeysFreeBeside taken
           | inr none ↦ omega (arith, low)
         ]
       ];
+      starts = subst (AreStarts taken) (sym starts) state.starts;
     }
 
 -- at the start the frontier is before all keys
 pub at_start : (taken fixed : List Block) (free : FreeKeys) → IsPermutation taken fixed → AreDownwards fixed → HaveRanges fixed → free.ahead.items ≡ fixed → free.frontier ≡ 0
-    → free.below.size ≡ 4294967296 → AreRuns 0 4294967296 free.below.holes → ((k : ℕ) → is_free free.below.holes k ≡ false) → AreKeysFreeBeside taken free
-at_start taken fixed free moved downwards ranges same zero size runs none = record {
+    → free.below.size ≡ 4294967296 → AreRuns 0 4294967296 free.below.holes → ((k : ℕ) → is_free free.below.holes k ≡ false) → AreStarts taken free.starts → AreKeysFreeBeside taken free
+at_start taken fixed free moved downwards ranges same zero size runs none starts = record {
   runs = runs;
   size = size;
   limit = omega (arith, zero);
@@ -196,4 +198,5 @@ at_start taken fixed free moved downwards ranges same zero size runs none = reco
     downwards = downwards;
   });
   whole = λ s p o low. absurd (omega (arith, zero, low));
+  starts = starts;
 }

@@ -7,7 +7,7 @@ use Rattle.std.proofs.lemmas.List.Folds.{list_any-append, list_any_at, list_any_
 use Rattle.spin_base.specs.declared.blocks.Block.{Block}
 use Rattle.spin_base.specs.declared.wants.Memory.{Memory}
 use Rattle.app_graph.specs.declared.graphs.Net.{Net}
-use Rattle.range_store.specs.Regions.{AreRuns, IsFirstFit, HasNoFit, is_hole_range, is_free, in_range}
+use Rattle.range_store.specs.Regions.{AreRuns, IsFirstFitFrom, HasNoFitFrom, is_hole_range, is_free, in_range}
 use Rattle.spin_base.proofs.Tests.{or_neither}
 use Rattle.range_store.proofs.HolePlaces.{clash, free_in_range, range_of_free}
 use Rattle.key_alloc.proofs.Ranges.{in_facts, free_of, regroup}
@@ -15,7 +15,8 @@ use Rattle.key_alloc.specs.KeyBlocks.{size_of, MissesRange, IsSizeFor, IsOpenPla
 use Rattle.spin_base.proofs.Pairs.{All-left}
 use Rattle.std.proofs.lemmas.List.Elements.{All-append, All-cons, All-nil, All-weaker, All-contains, Contains-append_left}
 use Rattle.key_alloc.specs.declared.free.FreeKeys.{FreeKeys}
-use Rattle.key_alloc.specs.FreeKeys.{has_key, AreAhead, AreKeysFreeBeside, IsLeastOpenPlace}
+use Rattle.key_alloc.specs.declared.free.Start.{Start}
+use Rattle.key_alloc.specs.FreeKeys.{has_key, AreAhead, AreStarts, AreKeysFreeBeside, IsLeastOpenPlace}
 
 -- ---- the keys that are free while blocks are taken
 
@@ -48,17 +49,25 @@ module _ (taken : List Block) (free : FreeKeys) (state : AreKeysFreeBeside taken
       ])))
 
   -- the first fit below the frontier is the least place of all
-  pub least_from_fit : (p : ℕ) → IsFirstFit free.below.holes s s p → IsLeastOpenPlace taken s p
-  least_from_fit p fit = record {
-    may = open_from_hole p fit.aligned fit.fits;
-    least = λ q o. elim (cases_lt q free.frontier) [
-      | inl low ↦ fit.least q o.aligned (hole_from_open q o low)
-      | inr beyond ↦ omega (arith, below_frontier p fit.fits)
-    ];
-  }
+  module _ (start : ℕ) (before : (p : ℕ) → IsOpenPlace taken s p → start ≤ p) where
+    pub least_from_fit : (p : ℕ) → IsFirstFitFrom free.below.holes start s s p → IsLeastOpenPlace taken s p
+    least_from_fit p fit = record {
+      may = open_from_hole p fit.aligned fit.fits;
+      least = λ q o. elim (cases_lt q free.frontier) [
+        | inl low ↦ fit.least q (before q o) o.aligned (hole_from_open q o low)
+        | inr beyond ↦ omega (arith, below_frontier p fit.fits)
+      ];
+    }
 
-  pub none_from_fit : HasNoFit free.below.holes s s → free.frontier ≡ 4294967296 → (p : ℕ) → IsOpenPlace taken s p → ⊥
-  none_from_fit none all p o = clash (hole_from_open p o (omega (arith, o.within))) (none p o.aligned)
+    -- where there is none, all that are left are beyond the frontier
+    pub beyond_from_fit : HasNoFitFrom free.below.holes start s s → (p : ℕ) → IsOpenPlace taken s p → free.frontier ≤ p
+    beyond_from_fit none p o = elim (cases_lt p free.frontier) [
+      | inl low ↦ clash (hole_from_open p o low) (none p (before p o) o.aligned)
+      | inr beyond ↦ beyond
+    ]
+
+    pub none_from_fit : HasNoFitFrom free.below.holes start s s → free.frontier ≡ 4294967296 → (p : ℕ) → IsOpenPlace taken s p → ⊥
+    none_from_fit none all p o = absurd (omega (arith, beyond_from_fit none p o, o.within, some, all))
 
 -- one block more is taken, which is behind the frontier or ahead
 pub ahead_more : (taken : List Block) (b : Block) (ahead : List Block) (frontier : ℕ) → AreAhead taken ahead frontier → (b.key + size_of b ≤ frontier) ⊎ Contains ahead b
@@ -75,11 +84,17 @@ ahead_more taken b ahead frontier state place = record {
 pub open_before : (taken : List Block) (b : Block) (s p : ℕ) → IsOpenPlace (taken ++ b ∷ []) s p → IsOpenPlace taken s p
 open_before taken b s p o = record { aligned = o.aligned; within = o.within; apart = All-left (MissesRange p s) taken (b ∷ []) o.apart }
 
+-- what no range begins before, none does when a block more is taken
+starts_before : (taken : List Block) (b : Block) (starts : List Start) → AreStarts taken starts → AreStarts (taken ++ b ∷ []) starts
+starts_before taken b starts all =
+    All-weaker (λ (s : Start). (p : ℕ) → IsOpenPlace taken s.keys p → s.place ≤ p) (λ (s : Start). (p : ℕ) → IsOpenPlace (taken ++ b ∷ []) s.keys p → s.place ≤ p)
+    (λ s before p o. before p (open_before taken b s.keys p o)) starts all
+
 -- a block below the frontier is taken
 pub taken_more : (taken : List Block) (b : Block) (free after : FreeKeys) → AreKeysFreeBeside taken free → 0 < size_of b → is_hole_range free.below.holes b.key (size_of b) ≡ true
-    → AreRuns 0 4294967296 after.below.holes → after.below.size ≡ free.below.size → after.frontier ≡ free.frontier → after.ahead.items ≡ free.ahead.items
+    → AreRuns 0 4294967296 after.below.holes → after.below.size ≡ free.below.size → after.frontier ≡ free.frontier → after.ahead.items ≡ free.ahead.items → after.starts ≡ free.starts
     → ((k : ℕ) → is_free after.below.holes k ≡ (is_free free.below.holes k && not (in_range b.key (size_of b) k))) → AreKeysFreeBeside (taken ++ b ∷ []) after
-taken_more taken b free after state some fits runs size same_frontier same_ahead is_free_now = record {
+taken_more taken b free after state some fits runs size same_frontier same_ahead same_starts is_free_now = record {
   runs = runs;
   size = size ∙ state.size;
   limit = omega (arith, state.limit, same_frontier);
@@ -92,6 +107,7 @@ taken_more taken b free after state some fits runs size same_frontier same_ahead
   ahead = subst (λ x. AreAhead (taken ++ b ∷ []) x after.frontier) (sym same_ahead) (subst (AreAhead (taken ++ b ∷ []) free.ahead.items) (sym same_frontier)
       (ahead_more taken b free.ahead.items free.frontier state.ahead (inl (below_frontier taken free state (size_of b) some b.key fits))));
   whole = λ s p o low. omega (arith, same_frontier, state.whole s p (open_before taken b s p o) (omega (arith, same_frontier, low)));
+  starts = subst (AreStarts (taken ++ b ∷ [])) (sym same_starts) (starts_before taken b free.starts state.starts);
 }
 
 -- a block that is among those that are taken takes no more
@@ -104,6 +120,7 @@ taken_again taken b free state has = record {
   ahead = ahead_more taken b free.ahead.items free.frontier state.ahead
       (All-contains (λ (c : Block). (c.key + size_of c ≤ free.frontier) ⊎ Contains free.ahead.items c) taken b state.ahead.behind has);
   whole = λ s p o. state.whole s p (open_before taken b s p o);
+  starts = starts_before taken b free.starts state.starts;
 }
   where
     said_twice : (k : ℕ) → (has_key k b ≡ true) ⊎ (has_key k b ≡ false) → (list_any (has_key k) taken || (has_key k b || false)) ≡ list_any (has_key k) taken

@@ -4,6 +4,7 @@ use Rattle.std.specs.List.{Contains, list_any}
 use Rattle.spin_base.specs.declared.blocks.Block.{Block}
 use Rattle.range_store.specs.Regions.{AreRuns, is_free, in_range}
 use Rattle.key_alloc.specs.declared.free.FreeKeys.{FreeKeys}
+use Rattle.key_alloc.specs.declared.free.Start.{Start}
 use Rattle.key_alloc.specs.KeyBlocks.{size_of, IsOpenPlace}
 
 -- the key is in the block's range
@@ -34,6 +35,10 @@ pub record AreAhead (taken ahead : List Block) (frontier : ℕ) : Type 0 where
   pub ranges : HaveRanges ahead
   pub downwards : AreDownwards ahead
 
+-- each open range of a start's size begins at its place or behind it
+abbrev pub AreStarts : List Block → List Start → Type 0
+AreStarts taken starts = All (λ (s : Start). (place : ℕ) → IsOpenPlace taken s.keys place → s.place ≤ place) starts
+
 -- A key below the frontier is free where it is in the range of no block that is taken. No range that a net may have has keys
 -- on both sides of the frontier.
 pub record AreKeysFreeBeside (taken : List Block) (state : FreeKeys) : Type 0 where
@@ -43,6 +48,7 @@ pub record AreKeysFreeBeside (taken : List Block) (state : FreeKeys) : Type 0 wh
   pub free : (k : ℕ) → is_free state.below.holes k ≡ (nat_lt k state.frontier && not (list_any (has_key k) taken))
   pub ahead : AreAhead taken state.ahead.items state.frontier
   pub whole : (size place : ℕ) → IsOpenPlace taken size place → place < state.frontier → place + size ≤ state.frontier
+  pub starts : AreStarts taken state.starts
 
 -- they are the free keys beside some blocks
 abbrev pub AreFreeBesideSome : FreeKeys → Type 0

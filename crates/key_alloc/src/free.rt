@@ -12,13 +12,25 @@ use std::alloc::Global;
 // As many keys as there are.
 const ALL_KEYS: u64 = 4_294_967_296;
 
+// As many sizes as there are: the powers of two from 1 up to all keys.
+const SIZES: usize = 33;
+
 /// The free keys below a frontier, as a region, and the fixed blocks from the frontier on, the least at the back. Keys
-/// from the frontier on are looked at only where those below it do not serve: so a range is found among few holes.
+/// from the frontier on are looked at only where those below it do not serve. No key comes back, so what did not serve a
+/// size never will: for each size there is a place before which no range is left, and the search begins there.
 #[derive(Drop)]
 pub struct FreeKeys {
     below: Ranges,
     frontier: u64,
     ahead: Vec<Block>,
+    starts: [Start; SIZES],
+}
+
+/// Before `place` no range of so many keys is left.
+#[derive(Clone, Copy)]
+pub struct Start {
+    pub keys: u64,
+    pub place: u64,
 }
 
 /// How many keys a range is to have: one at least, and no more than there are.
@@ -44,6 +56,7 @@ impl FreeKeys {
             below,
             frontier: 0,
             ahead: fixed,
+            starts: [Start { keys: 0, place: 0 }; SIZES],
         })
     }
 
@@ -61,14 +74,43 @@ impl FreeKeys {
             → ⊥)) }
     {
         loop {
-            if let Some(place) = self.below.take(size.keys, size.keys)? {
+            let start = self.start_of(size);
+            if let Some(place) = self.below.take_from(start, size.keys, size.keys)? {
+                self.start_at(size, place);
                 return Ok(Some(place));
             }
             if self.frontier == ALL_KEYS {
                 return Ok(None);
             }
+            self.start_at(size, self.frontier);
             self.go_on(size)?;
         }
+    }
+
+    // A place before which no range of so many keys is left.
+    fn start_of(&self, size: Size) -> u64
+        ensures before { (taken : List Block) → AreKeysFreeBeside taken self.now → (place : ℕ)
+            → IsOpenPlace taken size.keys place → result ≤ place }
+    {
+        let start = self.starts[slot_of(size)];
+        if start.keys == size.keys {
+            start.place
+        } else {
+            0
+        }
+    }
+
+    // From now on the search for so many keys begins at such a place.
+    fn start_at(&mut self, size: Size, place: u64)
+        ensures free { (taken : List Block) → AreKeysFreeBeside taken self.old
+            → ((other : ℕ) → IsOpenPlace taken size.keys other → place ≤ other)
+            → AreKeysFreeBeside taken self.new }
+        ensures frontier { self.new.frontier ≡ self.old.frontier }
+    {
+        self.starts[slot_of(size)] = Start {
+            keys: size.keys,
+            place,
+        };
     }
 
     // Moves the frontier behind the next run of free keys that has such a range, or behind all keys.
@@ -119,4 +161,11 @@ impl FreeKeys {
             None => ALL_KEYS,
         }
     }
+}
+
+// Where the place for a size is kept: each power of two has a slot of its own.
+fn slot_of(size: Size) -> usize
+    ensures { result < 33 }
+{
+    size.keys.trailing_zeros().min(32) as usize
 }

@@ -1,5 +1,5 @@
 -- Which holes begin before a place.
-use Rattle.std.proofs.Common.{◌≡◌, ℕ, ◌+◌, ◌<◌, ◌≤◌, false, List, [], ◌∷◌, length, get_or, zero, suc, Some, slice_get, refl, subst₂, arith, inl, inr}
+use Rattle.std.proofs.Common.{◌≡◌, ℕ, ◌+◌, ◌<◌, ◌≤◌, false, List, [], ◌∷◌, length, get_or, take, zero, suc, Some, slice_get, refl, subst₂, arith, inl, inr}
 use Rattle.std.proofs.lemmas.Bool.{cases_lt}
 use Rattle.std.proofs.lemmas.Bool.Decides.{nat_tests}
 use Rattle.std.proofs.lemmas.Option.{slice_get_within, get_or_from_slice_get}
@@ -26,6 +26,15 @@ in_order from n hs runs i j d le inside =
       | inl less ↦ (let e = ends_before from n hs runs i j d less inside in omega (arith, e))
       | inr same ↦ (let e : i ≡ j = omega (arith, same, le) in rw e (omega arith))
     ]
+
+-- the holes before one that begins before a place end before it, so no range that begins there or later lies in them
+pub none_before : (from n : ℕ) (hs : List Hole) (i b q s : ℕ) (d : Hole) → AreRuns from n hs → i < length hs → (get_or hs i d).place < b → b ≤ q → is_hole_range (take i hs) q s ≡ false
+none_before from n [] i b q s d runs inside begins behind = absurd (omega arith)
+none_before from n (h ∷ hs) zero b q s d runs inside begins behind = refl
+none_before from n (h ∷ hs) (suc i) b q s d runs inside begins behind =
+    let later = place_from (hole_end h + 1) n hs runs.3 i d (omega arith) in
+    let ends : has_range q s h ≡ false = grind (arith, nat_tests) in
+    rw ends (none_before (hole_end h + 1) n hs i b q s d runs.3 (omega arith) begins behind)
 
 -- a range that no hole of a list has
 pub none_has : (hs : List Hole) (p s : ℕ) → ((k : ℕ) (h : Hole) → slice_get hs k ≡ Some h → has_range p s h ≡ false) → is_hole_range hs p s ≡ false

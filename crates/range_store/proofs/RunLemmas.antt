@@ -10,7 +10,7 @@ use Rattle.range_store.specs.declared.holes.Hole.{Hole}
 use Rattle.std.specs.Int.{next_multiple_of}
 use Rattle.range_store.specs.Fits.{FitsAt, IsLeastIn, NoneIn}
 use Rattle.range_store.proofs.HolePlaces.{clash, has_facts, has_from}
-use Rattle.range_store.specs.Regions.{AreRuns, IsFirstFit, HasNoFit, has_range, is_hole_range, is_free, in_range, hole_end, hole_of, rest_of, holes_without}
+use Rattle.range_store.specs.Regions.{AreRuns, IsFirstFitFrom, HasNoFitFrom, has_range, is_hole_range, is_free, in_range, hole_end, hole_of, rest_of, holes_without}
 
 -- an earlier beginning may stand before the same holes
 pub earlier : (from to n : ℕ) (hs : List Hole) → AreRuns from n hs → to ≤ from → AreRuns to n hs
@@ -132,23 +132,24 @@ multiple x y some =
           )
     ]
 
-pub least_in : (h : Hole) (s y : ℕ) → 0 < y → next_multiple_of h.place y ≤ hole_end h → s ≤ hole_end h - next_multiple_of h.place y
-    → IsLeastIn h s y (next_multiple_of h.place y)
-least_in h s y some low room =
-    let m = multiple h.place y some in
+pub least_in : (h : Hole) (b x s y : ℕ) → x ≡ max h.place b → 0 < y → next_multiple_of x y ≤ hole_end h → s ≤ hole_end h - next_multiple_of x y
+    → IsLeastIn h b s y (next_multiple_of x y)
+least_in h b x s y is some low room =
+    let m = multiple x y some in
     record {
       aligned = m.0;
+      behind = omega arith;
       fits = has_from _ s h (omega arith) (omega arith);
-      least = λ q even here. least_multiple h.place y q _ some m.0 m.1 (has_facts q s h here).0 even;
+      least = λ q from even here. let facts = has_facts q s h here in least_multiple x y q _ some m.0 m.1 (omega (arith, from, facts.0)) even;
     }
 
-pub none_in : (h : Hole) (s y : ℕ) → 0 < s → 0 < y → hole_end h - next_multiple_of h.place y < s → NoneIn h s y
-none_in h s y size some short q even =
+pub none_in : (h : Hole) (b x s y : ℕ) → x ≡ max h.place b → 0 < s → 0 < y → hole_end h - next_multiple_of x y < s → NoneIn h b s y
+none_in h b x s y is size some short q from even =
     elim (cases_Bool (has_range q s h)) [
       | inl here ↦ (
-          let m = multiple h.place y some in
+          let m = multiple x y some in
           let facts = has_facts q s h here in
-          let low = least_multiple h.place y q _ some m.0 m.1 facts.0 even in absurd (omega (arith, facts.1))
+          let low = least_multiple x y q _ some m.0 m.1 (omega (arith, from, facts.0)) even in absurd (omega (arith, facts.1))
           )
       | inr none ↦ none
     ]
@@ -233,30 +234,31 @@ begins from n (x ∷ xs) q size runs fits =
       | inr later ↦ (let rest = begins (hole_end x + 1) n xs q size runs.3 later in let low = runs.0 in omega (arith, rest))
     ]
 
-least_of : (from n : ℕ) (xs : List Hole) (i : ℕ) (h : Hole) (size align place q : ℕ) → AreRuns from n xs → slice_get xs i ≡ Some h
-    → IsLeastIn h size align place → is_hole_range (take i xs) q size ≡ false → q % align ≡ 0 → is_hole_range xs q size ≡ true → place ≤ q
-least_of from n [] i h size align place q runs is here none even fits = cc
-least_of from n (x ∷ xs) zero h size align place q runs is here none even fits =
+least_of : (from n : ℕ) (xs : List Hole) (i : ℕ) (h : Hole) (b size align place q : ℕ) → AreRuns from n xs → slice_get xs i ≡ Some h
+    → IsLeastIn h b size align place → is_hole_range (take i xs) q size ≡ false → b ≤ q → q % align ≡ 0 → is_hole_range xs q size ≡ true → place ≤ q
+least_of from n [] i h b size align place q runs is here none behind even fits = cc
+least_of from n (x ∷ xs) zero h b size align place q runs is here none behind even fits =
     let e : x ≡ h = cc in
     elim (or_cases (has_range q size x) _ fits) [
-      | inl mine ↦ here.least q even (ap (has_range q size) (sym e) ∙ mine)
+      | inl mine ↦ here.least q behind even (ap (has_range q size) (sym e) ∙ mine)
       | inr later ↦ (
           let rest = begins (hole_end x + 1) n xs q size runs.3 later in
           let facts = has_facts place size h here.fits in
           let same = ap hole_end e in omega (arith, rest, facts.1, same)
           )
     ]
-least_of from n (x ∷ xs) (suc i) h size align place q runs is here none even fits =
+least_of from n (x ∷ xs) (suc i) h b size align place q runs is here none behind even fits =
     let apart = or_parts (has_range q size x) (is_hole_range (take i xs) q size) none in
-    least_of (hole_end x + 1) n xs i h size align place q runs.3 is here apart.1 even (or_second (has_range q size x) _ apart.0 fits)
+    least_of (hole_end x + 1) n xs i h b size align place q runs.3 is here apart.1 behind even (or_second (has_range q size x) _ apart.0 fits)
 
 -- the first hole with a fit has the least one of all, since the holes stand in order
-pub first_is_least : (from n : ℕ) (xs : List Hole) (i : ℕ) (h : Hole) (size align place : ℕ) → AreRuns from n xs → slice_get xs i ≡ Some h
-    → IsLeastIn h size align place → HasNoFit (take i xs) size align → 0 < size → IsFirstFit xs size align place
-first_is_least from n xs i h size align place runs is here none some = record {
+pub first_is_least : (from n : ℕ) (xs : List Hole) (i : ℕ) (h : Hole) (b size align place : ℕ) → AreRuns from n xs → slice_get xs i ≡ Some h
+    → IsLeastIn h b size align place → HasNoFitFrom (take i xs) b size align → 0 < size → IsFirstFitFrom xs b size align place
+first_is_least from n xs i h b size align place runs is here none some = record {
   aligned = here.aligned;
+  behind = here.behind;
   fits = fits_any xs i h size place is here.fits;
-  least = λ q even fits. least_of from n xs i h size align place q runs is here (none q even) even fits;
+  least = λ q behind even fits. least_of from n xs i h b size align place q runs is here (none q behind even) behind even fits;
 }
 
 pub widen : (from n m : ℕ) (hs : List Hole) → AreRuns from n hs → n ≤ m → AreRuns from m hs

@@ -10,15 +10,16 @@ pub record FitsAt (holes : List Hole) (at place size : ℕ) : Type 0 where
   pub inside : at < length holes
   pub fits : has_range place size hole ≡ true
 
--- the least multiple of align from which a range lies in this hole
-pub record IsLeastIn (h : Hole) (size align place : ℕ) : Type 0 where
+-- the least multiple of align, of those from one place on, from which a range lies in this hole
+pub record IsLeastIn (h : Hole) (from size align place : ℕ) : Type 0 where
   pub aligned : place % align ≡ 0
+  pub behind : from ≤ place
   pub fits : has_range place size h ≡ true
-  pub least : (q : ℕ) → q % align ≡ 0 → has_range q size h ≡ true → place ≤ q
+  pub least : (q : ℕ) → from ≤ q → q % align ≡ 0 → has_range q size h ≡ true → place ≤ q
 
--- no range from a multiple of align on lies in this hole
-abbrev pub NoneIn : Hole → ℕ → ℕ → Type 0
-NoneIn h size align = (q : ℕ) → q % align ≡ 0 → has_range q size h ≡ false
+-- no range from such a multiple of align on lies in this hole
+abbrev pub NoneIn : Hole → ℕ → ℕ → ℕ → Type 0
+NoneIn h from size align = (q : ℕ) → from ≤ q → q % align ≡ 0 → has_range q size h ≡ false
 
 -- at holes begin before the place; left is the last of them if it ends there, and right the next if it begins at the end
 pub record AreNeighbours (holes : List Hole) (place end at : ℕ) (left right : Option Hole) : Type 0 where

@@ -48,6 +48,17 @@ pub record IsFirstFit (holes : List Hole) (size align place : ℕ) : Type 0 wher
   pub fits : is_hole_range holes place size ≡ true
   pub least : (q : ℕ) → q % align ≡ 0 → is_hole_range holes q size ≡ true → place ≤ q
 
+-- The same among the places from one place on.
+pub record IsFirstFitFrom (holes : List Hole) (from size align place : ℕ) : Type 0 where
+  pub aligned : place % align ≡ 0
+  pub behind : from ≤ place
+  pub fits : is_hole_range holes place size ≡ true
+  pub least : (q : ℕ) → from ≤ q → q % align ≡ 0 → is_hole_range holes q size ≡ true → place ≤ q
+
 -- no hole has a range of that size from a multiple of align on
 abbrev pub HasNoFit : List Hole → ℕ → ℕ → Type 0
 HasNoFit holes size align = (q : ℕ) → q % align ≡ 0 → is_hole_range holes q size ≡ false
+
+-- no hole has one that begins at a place or behind it
+abbrev pub HasNoFitFrom : List Hole → ℕ → ℕ → ℕ → Type 0
+HasNoFitFrom holes from size align = (q : ℕ) → from ≤ q → q % align ≡ 0 → is_hole_range holes q size ≡ false

@@ -1,7 +1,7 @@
 // Which hole serves a range, and what the range leaves of it.
 ghost use Rattle.std.specs.Prelude.{◌≡◌, ℕ, ◌+◌, ◌%◌, ◌<◌, ◌≤◌, ◌++◌, ◌∷◌, true, false, IfSome, IfNone, OnOk, OnErr, Some, slice_get, take, drop};
 ghost use Rattle.std.specs.Prelude.{vec_len, vec_capacity};
-ghost use Rattle.range_store.specs.Regions.{AreRuns, IsFirstFit, HasNoFit, has_range, rest_of, is_hole_range, hole_end};
+ghost use Rattle.range_store.specs.Regions.{AreRuns, IsFirstFitFrom, HasNoFitFrom, has_range, rest_of, is_hole_range, hole_end};
 ghost use Rattle.range_store.specs.Fits.{FitsAt, IsLeastIn, NoneIn};
 ghost use Rattle.range_store.specs.declared.holes.Hole.{Hole};
 
@@ -9,24 +9,27 @@ use crate::begins::begin_before;
 use crate::holes::Hole;
 use spin_base::Memory;
 
-/// What is asked for: so many places, from a multiple of a number on.
+/// What is asked for: so many places, from a multiple of a number on that is not before a place.
 #[derive(Clone, Copy)]
 pub(crate) struct Claim {
+    pub from: u64,
     pub size: u64,
     pub align: u64,
     ghost some: { 0 < size },
     ghost step: { 0 < align },
 }
 
-/// The first hole that has a range as claimed, and the least place in it from which one lies there.
+/// The first hole that has a range as claimed, and the least place in it from which one lies there. The search begins at the
+/// hole in which the claim's place may lie: those before it end before that place.
 pub(crate) fn first_fit(holes: &[Hole], claim: Claim) -> Option<(usize, u64)>
     requires runs { AreRuns 0 4294967296 holes.now }
-    ensures first { IfSome result (λ r. IsFirstFit holes.now claim.size claim.align r.1) }
+    ensures first { IfSome result (λ r. IsFirstFitFrom holes.now claim.from claim.size claim.align r.1) }
     ensures at { IfSome result (λ r. FitsAt holes.now r.0 r.1 claim.size) }
-    ensures none { IfNone result (HasNoFit holes.now claim.size claim.align) }
+    ensures none { IfNone result (HasNoFitFrom holes.now claim.from claim.size claim.align) }
 {
-    for (at, hole) in holes.iter().enumerate() {
-        if let Some(place) = fit_in(hole, claim) {
+    let first = begin_before(holes, claim.from).saturating_sub(1);
+    for at in first..holes.len() {
+        if let Some(place) = fit_in(&holes[at], claim) {
             return Some((at, place));
         }
     }
@@ -36,11 +39,12 @@ pub(crate) fn first_fit(holes: &[Hole], claim: Claim) -> Option<(usize, u64)>
 /// The least place from which a range as claimed lies in the hole.
 fn fit_in(hole: &Hole, claim: Claim) -> Option<u64>
     requires below { hole_end hole.now ≤ 4294967296 }
-    ensures least { IfSome result (λ place. IsLeastIn hole.now claim.size claim.align place) }
-    ensures none { IfNone result (NoneIn hole.now claim.size claim.align) }
+    ensures least { IfSome result (λ place. IsLeastIn hole.now claim.from claim.size claim.align place) }
+    ensures none { IfNone result (NoneIn hole.now claim.from claim.size claim.align) }
 {
     let end = hole.place + hole.len;
-    let place = hole.place.checked_next_multiple_of(claim.align)?;
+    let low = hole.place.max(claim.from);
+    let place = low.checked_next_multiple_of(claim.align)?;
     if place <= end && claim.size <= end - place {
         Some(place)
     } else {

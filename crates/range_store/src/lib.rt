@@ -2,7 +2,8 @@
 //!
 //! A region of size `n` is the set of the free places below `n`. Its holes are the longest runs of free places, in
 //! order. `Ranges` is seen as its size, the list of its holes, and `spare`, for how many more holes there is room.
-//! Ranges are taken first fit, by `take`, or at a place, by `take_at`, and come back by `give`.
+//! Ranges are taken first fit, by `take`, or the same from a place on, by `take_from`, or at a place, by `take_at`, and
+//! come back by `give`.
 //! The rules are this project's own.
 #![tactic(auto)]
 

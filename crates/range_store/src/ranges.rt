@@ -1,6 +1,6 @@
 // The region.
 ghost use Rattle.std.specs.Prelude.{◌≡◌, ℕ, ◌+◌, ◌^◌, ◌<◌, ◌≤◌, ◌&&◌, ◌||◌, not, true, false, IfOk, IfSome, IfNone, OnOk, OnErr, length};
-ghost use Rattle.range_store.specs.Regions.{AreRuns, IsFirstFit, HasNoFit, holes_without, hole_of, is_free, is_hole_range, in_range};
+ghost use Rattle.range_store.specs.Regions.{AreRuns, IsFirstFit, HasNoFit, IsFirstFitFrom, HasNoFitFrom, holes_without, hole_of, is_free, is_hole_range, in_range};
 
 use crate::cuts::{Claim, cut_out, first_fit, hole_with};
 use crate::gives::{Span, put_back};
@@ -82,7 +82,28 @@ impl Ranges {
         ensures spare { self.old.spare ≤ self.new.spare + 1 }
         ensures runs { AreRuns 0 self.new.size self.new.holes }
     {
-        let claim = Claim { size, align };
+        self.take_from(0, size, align)
+    }
+
+    /// The same among the places from `from` on: takes the range from the least multiple of `align` that is not below
+    /// `from` and fits in a hole. The holes that end below `from` are not looked at.
+    pub fn take_from(&mut self, from: u64, size: u64, align: u64) -> Result<Option<u64>, Memory>
+        requires some { 0 < size }
+        requires step { 0 < align }
+        ensures found { IfOk result (λ o. IfSome o
+            (λ place. IsFirstFitFrom self.old.holes from size align place)) }
+        ensures taken { IfOk result (λ o. IfSome o
+            (λ place. self.new.holes ≡ holes_without place size self.old.holes)) }
+        ensures none { IfOk result (λ o. IfNone o
+            (HasNoFitFrom self.old.holes from size align × (self.new ≡ self.old))) }
+        ensures refused { OnErr result (self.new.holes ≡ self.old.holes) }
+        ensures free { IfOk result (λ o. IfSome o (λ place. (k : ℕ) → is_free self.new.holes k
+            ≡ (is_free self.old.holes k && not (in_range place size k)))) }
+        ensures size { self.new.size ≡ self.old.size }
+        ensures spare { self.old.spare ≤ self.new.spare + 1 }
+        ensures runs { AreRuns 0 self.new.size self.new.holes }
+    {
+        let claim = Claim { from, size, align };
         let Some((at, place)) = first_fit(self.holes.as_slice(), claim) else {
             return Ok(None);
         };

@@ -1,7 +1,7 @@
 use Rattle.std.proofs.Common.{take}
-use Rattle.range_store.specs.Regions.{HasNoFit}
+use Rattle.range_store.specs.Regions.{HasNoFitFrom}
 use Rattle.range_store.proofs.cuts.first_fit.Given as goal
 
 -- none of the holes before has a fit
 abbrev pub invariant-loop-at : goal.invariant-loop-at
-invariant-loop-at l = HasNoFit (take l.at l.holes) l.claim.size l.claim.align
+invariant-loop-at l = HasNoFitFrom (take l.at l.holes) l.claim.from l.claim.size l.claim.align

@@ -11,7 +11,7 @@ returns-then-self-end-clause-free c taken state =
     let size = c.give.ensures.size ∙ c.in_ok-reserve.ensures.same.1 in
     moved_up taken free state end run c.if-self-end.true _
     (subst (λ n. AreRuns 0 n c.give.new.self.holes) (size ∙ state.size) c.give.ensures.runs)
-    size refl refl
+    size refl refl refl
     (λ k. c.give.ensures.free k ∙ ap (λ holes. is_free holes k || in_range free.frontier (end - free.frontier) k) c.in_ok-reserve.ensures.same.0)
 
 pub returns-in-Some-clause-free : goal.returns-in-Some-clause-free
@@ -19,4 +19,4 @@ returns-in-Some-clause-free c taken state =
     let is = c.in-Some.ensures.items in
     let end = last_is_run_end c.args.self.now.ahead.items c.pop.new.self.items c.in-Some.block is in
     passed taken c.args.self.now state c.in-Some.block c.pop.new.self.items is (omega (arith, end, c.end_of_run-end.ensures.end, c.if-self-end.false)) _ refl
-    (ap (λ n. c.args.self.now.frontier + n) (omega (arith, c.from.ensures))) refl
+    (ap (λ n. c.args.self.now.frontier + n) (omega (arith, c.from.ensures))) refl refl

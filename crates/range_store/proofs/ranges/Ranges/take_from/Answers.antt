@@ -2,7 +2,7 @@ use Rattle.std.proofs.Common.{subst, ap, sym, ◌∙◌, ◌&&◌, not}
 use Rattle.range_store.specs.Fits.{FitsAt}
 use Rattle.range_store.specs.Regions.{AreRuns, holes_without, is_free, in_range}
 use Rattle.range_store.proofs.RunLemmas.{widen, cut_is}
-use Rattle.range_store.proofs.ranges.Ranges.take.Goals as goal
+use Rattle.range_store.proofs.ranges.Ranges.take_from.Goals as goal
 
 pub first_fit-requires : goal.first_fit-requires
 first_fit-requires c = record { runs = subst (AreRuns 0 4294967296) (sym c.as_slice.ensures.value) (widen 0 c.self.inside.size 4294967296 c.self.inside.holes.items c.self.invariant.1 c.self.invariant.0) }
