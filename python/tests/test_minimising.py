@@ -124,7 +124,7 @@ class Lookups(unittest.TestCase):
         # with a row of all keys none is without a row
         self.assertEqual(minimise({(0, 0): [*rows, (0, 0, 2)]}, exact=True), minimise({(0, 0): [*rows, (0, 0, 2)]}))
         # the routes of the rows are those that a wall would have
-        walls = [(key, ONES, 0xFFFFFF - key) for key in range(4)] + [(8, ONES, 0xFFFFFF), (9, ONES, 0xFFFFFF)]
+        walls = [(key, ONES, 0xFFFFFE - key) for key in range(4)] + [(8, ONES, 0xFFFFFF), (9, ONES, 0xFFFFFF)]
         self.assertEqual(words(minimise({(0, 0): walls}, exact=True).tables[0, 0]), walls[:4] + [(8, 0xFFFFFFFE, 0xFFFFFF)])
         self.assertEqual(words(minimise({(0, 0): []}, exact=True).tables[0, 0]), [])
 
@@ -171,7 +171,8 @@ class Refusals(unittest.TestCase):
             ({"target": -1, "tables": []}, 4, b"bad job: shape in.target\n"),
             ({"target": 2**32, "tables": []}, 4, b"bad job: range in.target\n"),
             ({"exact": 1, "tables": {}}, 4, b"bad job: shape in.exact\n"),
-            ({"exact": None, "tables": []}, 4, b"bad job: shape in.exact\n"),
+            ({"exact": "true", "tables": []}, 4, b"bad job: shape in.exact\n"),
+            ({"exact": None, "tables": []}, 0, b""),
             ({"target": "0", "exact": "no"}, 4, b"bad job: shape in.target\n"),
             ({"exact": True, "tables": {}}, 4, b"bad job: shape in.tables\n"),
             ({"tables": {}}, 4, b"bad job: shape in.tables\n"),
