@@ -93,7 +93,7 @@ def minimised(given: Mapping[Chip, Sequence[Row]], asked: Mapping[str, int], pat
     # (a row whose key has a bit outside the mask has no key)
     words = {chip: [[row.key, row.mask, row.route] for row in rows if not row.key & ~row.mask] for chip, rows in given.items()}
     listed = [{"x": x, "y": y, "rows": rows} for (x, y), rows in words.items()]
-    request = {**asked, "tables": listed}
+    request: Dict[str, object] = {**asked, "tables": listed}
     text = json.dumps(request, separators=(",", ":")).encode()
     status, written = call([], text, path)
     if status not in WRITTEN:
