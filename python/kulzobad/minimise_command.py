@@ -21,7 +21,8 @@ MORE = (
     "what `tables` writes. The answer has the same form. Rows may overlap, and may have been\n"
     "shortened before.\n\n"
     "For each key that a row of a table has, where the first that has it decides, the first row of the\n"
-    "new table that has it has the same route. A key that no row has may be taken by a new row.\n"
+    "new table that has it has the same route. A key that no row has may be taken by a new row, but not\n"
+    "with --exact, which leaves more rows: a packet that no row has goes straight on, as before.\n"
     "A table is shortened until it has --target rows, or no two can be joined; without --target it is\n"
     "the least that is found. A router has 1,024 entries; system software may need one of them, and\n"
     "then 1,023 are left. Where a chip's table stays longer than 1,024, the status is 8, and all\n"
@@ -35,6 +36,7 @@ def add_command(commands: Any) -> None:
     parser = command(commands, "minimise", "shorter tables of any tool's, with the same routes", example, run, MORE)
     parser.add_argument("tables", metavar="TABLES", help="the file of the rows; - is standard input")
     parser.add_argument("--target", metavar="N", type=int, default=0, help="the number of rows that will do (default: the least)")
+    parser.add_argument("--exact", action="store_true", help="take no key that no row has")
     parser.add_argument("--form", choices=sorted(FORMS), help="write this form, and not that of TABLES")
     add_out(parser)
     parser.add_argument("--program", metavar="SPIN_TABLES", help="the program to call, in place of the one that is found")
@@ -44,7 +46,7 @@ def run(options: argparse.Namespace) -> int:
     """Shortens the command's tables."""
     tables, form = tables_in(options.tables)
     try:
-        done = minimise(tables, options.target, options.program)
+        done = minimise(tables, options.target, options.exact, options.program)
         written = FORMS[options.form](done.tables).encode() if options.form else form(done.tables)
     except (TypeError, ValueError) as error:
         raise Stopped(f"{options.tables}: {error}", BAD_JOB) from None

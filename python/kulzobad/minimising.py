@@ -6,7 +6,8 @@
     print(minimise(tables).tables)
 
 The program `spin_tables` makes them. For each key that a row of a given table has, where the first that has it decides, the first row of
-the new table that has it has the same route; and the new table is no longer. A key that no row has may be taken by a row of the new table.
+the new table that has it has the same route; and the new table is no longer. A key that no row has may be taken by a row of the new table,
+but not where `exact` is asked for.
 """
 from __future__ import annotations
 
@@ -19,7 +20,7 @@ from typing import Dict, Iterator, List, Mapping, Optional, Sequence, Tuple
 
 from .formats import AnyTables, RowsByChip, rows_by_chip
 from .jobs import Chip
-from .kinds import BrokenAnswer, whole
+from .kinds import BrokenAnswer, truth, whole
 from .program import Refused, call, program_of
 from .reports import Row
 
@@ -58,15 +59,18 @@ def tables_program_of(program: Optional[str] = None) -> str:
     return asked or os.path.join(os.path.dirname(program_of()), NAME)
 
 
-def minimise(tables: AnyTables, target: int = 0, program: Optional[str] = None) -> Minimised:
+def minimise(tables: AnyTables, target: int = 0, exact: bool = False, program: Optional[str] = None) -> Minimised:
     """Tables with fewer rows that give each key the route that the given ones give it. `tables` is an image, or rows by chip: of each a
     key, a mask and a route word (bits 0 to 5 the links, 6 to 23 the cores), as `verify` takes them. A table of at most `target` rows is
-    left as it is, and a longer one is shortened until it has so many, or no two of its rows can be joined. Rows whose key has a bit outside
-    the mask match no packet, and are left out. Refused where the program takes the rows for none, as where a route has 25 bits."""
-    wanted, given, path = whole("minimise: target", target), rows_by_chip(tables), tables_program_of(program)
+    left as it is, and a longer one is shortened until it has so many or less, or no two of its rows can be joined. With `exact`, a key
+    that no row of a table has is one that no row of the new one has; that leaves more rows, and takes seconds where there are hundreds of
+    keys that have little in common. Rows whose key has a bit outside the mask match no packet, and are left out. Refused where the program
+    takes the rows for none, as where a route has 25 bits."""
+    given, path = rows_by_chip(tables), tables_program_of(program)
+    asked = {"target": whole("minimise: target", target), "exact": truth("minimise: exact", exact)}
     shares = list(shares_of(given))
     with ThreadPoolExecutor(min(len(shares), os.cpu_count() or 1) or 1) as workers:
-        done = list(workers.map(lambda share: minimised(share, wanted, path), shares))
+        done = list(workers.map(lambda share: minimised(share, asked, path), shares))
     return Minimised({chip: rows for it in done for chip, rows in it.tables.items()}, tuple(chip for it in done for chip in it.kept))
 
 
@@ -84,12 +88,12 @@ def shares_of(given: Mapping[Chip, Sequence[Row]]) -> Iterator[Dict[Chip, Sequen
         yield share
 
 
-def minimised(given: Mapping[Chip, Sequence[Row]], target: int, path: str) -> Minimised:
-    """What one call of the program makes of tables."""
+def minimised(given: Mapping[Chip, Sequence[Row]], asked: Mapping[str, int], path: str) -> Minimised:
+    """What one call of the program makes of tables, and of what is asked for besides."""
     # (a row whose key has a bit outside the mask has no key)
     words = {chip: [[row.key, row.mask, row.route] for row in rows if not row.key & ~row.mask] for chip, rows in given.items()}
     listed = [{"x": x, "y": y, "rows": rows} for (x, y), rows in words.items()]
-    request = {"target": target, "tables": listed}
+    request: Dict[str, object] = {**asked, "tables": listed}
     text = json.dumps(request, separators=(",", ":")).encode()
     status, written = call([], text, path)
     if status not in WRITTEN:

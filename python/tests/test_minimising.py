@@ -97,6 +97,37 @@ class Lookups(unittest.TestCase):
                 elif len(least.tables[chip]) <= target:
                     self.assertLessEqual(len(done.tables[chip]), target)
 
+    def test_exact(self):
+        for seed, kind in enumerate(("any", "ranges", "few")):
+            tables, keys = random_tables(10 + seed, kind, 700)
+            rng = random.Random(seed)
+            done = minimise(tables, exact=True)
+            self.judge(tables, keys, done)
+            for chip, rows in tables.items():
+                new = words(done.tables[chip])
+                others = [rng.getrandbits(32) for _ in range(20)] + [key ^ 1 << rng.randrange(32) for key in keys[chip]]
+                for key in keys[chip] + others:
+                    if looked_up(rows, key) is None:
+                        self.assertIsNone(looked_up(new, key), (chip, rows, new, key))
+            self.assertLess(done.rows, sum(map(len, tables.values())))
+            self.assertEqual(done.kept, ())
+            least = minimise(tables, exact=True, target=9)
+            self.judge(tables, keys, least)
+            for chip, rows in tables.items():
+                self.assertEqual(len(least.tables[chip]) <= 9, len(rows) <= 9 or len(done.tables[chip]) <= 9, chip)
+
+    def test_exact_by_hand(self):
+        rows = [(0, ONES, 1), (1, ONES, 1), (3, ONES, 1)]
+        self.assertEqual(words(minimise({(0, 0): rows}).tables[0, 0]), [(0, 0xFFFFFFFC, 1)])
+        self.assertEqual(words(minimise({(0, 0): rows}, exact=True).tables[0, 0]), [(3, ONES, 1), (0, 0xFFFFFFFE, 1)])
+        self.assertEqual(words(minimise({(0, 0): [*rows, (2, ONES, 1)]}, exact=True).tables[0, 0]), [(0, 0xFFFFFFFC, 1)])
+        # with a row of all keys none is without a row
+        self.assertEqual(minimise({(0, 0): [*rows, (0, 0, 2)]}, exact=True), minimise({(0, 0): [*rows, (0, 0, 2)]}))
+        # the routes of the rows are those that a wall would have
+        walls = [(key, ONES, 0xFFFFFE - key) for key in range(4)] + [(8, ONES, 0xFFFFFF), (9, ONES, 0xFFFFFF)]
+        self.assertEqual(words(minimise({(0, 0): walls}, exact=True).tables[0, 0]), walls[:4] + [(8, 0xFFFFFFFE, 0xFFFFFF)])
+        self.assertEqual(words(minimise({(0, 0): []}, exact=True).tables[0, 0]), [])
+
     def test_borders_of_overlaps(self):
         rows = [(0x10000000, 0xFFFFFFFF, 1), (0x1FFFFFFF, 0xFFFFFFFF, 2), (0x10000000, 0xF0000000, 4), (0, 0x80000000, 8), (0, 0, 16)]
         new = words(minimise({(0, 0): rows}).tables[0, 0])
@@ -117,10 +148,11 @@ class Lookups(unittest.TestCase):
         for i in range(60):
             mask = sum(1 << bit for bit in rng.sample(range(32), 6))
             rows.append((rng.getrandbits(32) & mask, mask, 1 << i % 5))
-        done = minimise({(1, 2): rows, (1, 3): [(0, ONES, 1), (1, ONES, 1)]})
-        self.assertEqual(done.kept, ((1, 2),))
-        self.assertEqual(words(done.tables[1, 2]), rows)
-        self.assertEqual(words(done.tables[1, 3]), [(0, 0xFFFFFFFE, 1)])
+        for exact in (False, True):
+            done = minimise({(1, 2): rows, (1, 3): [(0, ONES, 1), (1, ONES, 1)]}, exact=exact)
+            self.assertEqual(done.kept, ((1, 2),))
+            self.assertEqual(words(done.tables[1, 2]), rows)
+            self.assertEqual(words(done.tables[1, 3]), [(0, 0xFFFFFFFE, 1)])
 
 
 class Refusals(unittest.TestCase):
@@ -138,6 +170,11 @@ class Refusals(unittest.TestCase):
             ([], 4, b"bad job: shape in.tables\n"),
             ({"target": -1, "tables": []}, 4, b"bad job: shape in.target\n"),
             ({"target": 2**32, "tables": []}, 4, b"bad job: range in.target\n"),
+            ({"exact": 1, "tables": {}}, 4, b"bad job: shape in.exact\n"),
+            ({"exact": "true", "tables": []}, 4, b"bad job: shape in.exact\n"),
+            ({"exact": None, "tables": []}, 0, b""),
+            ({"target": "0", "exact": "no"}, 4, b"bad job: shape in.target\n"),
+            ({"exact": True, "tables": {}}, 4, b"bad job: shape in.tables\n"),
             ({"tables": {}}, 4, b"bad job: shape in.tables\n"),
             ({"tables": [table, 5]}, 4, b"bad job: shape in.tables[1].x\n"),
             ({"tables": [{**table, "x": 256}]}, 4, b"bad job: range in.tables[0].x\n"),
@@ -172,6 +209,8 @@ class Refusals(unittest.TestCase):
                 minimise(wrong)
         with self.assertRaises((TypeError, ValueError)):
             minimise({}, "7")
+        with self.assertRaises(TypeError):
+            minimise({}, exact=1)
         self.assertEqual(minimise({}), Minimised({}))
         self.assertEqual(words(minimise({(0, 0): [(ONES, 0, 0), (1, 1, 1)]}).tables[0, 0]), [(1, 1, 1)])
 
@@ -230,6 +269,9 @@ class Command(unittest.TestCase):
         self.assertIn("chip (2, 2) has 1030 rows", told)
         csv = write_csv({(2, 2): [(i, ONES, 1) for i in range(8)]}).encode()
         self.assertEqual(self.call(csv, "--target", "8")[1], csv)
+        csv = write_csv({(2, 2): [(i, ONES, 1) for i in (0, 1, 3)]}).encode()
+        self.assertEqual(len(read_csv(self.call(csv)[1].decode())[2, 2]), 1)
+        self.assertEqual(words(read_csv(self.call(csv, "--exact")[1].decode())[2, 2]), [(3, ONES, 1), (0, 0xFFFFFFFE, 1)])
 
     def test_spoiled(self):
         for data in (b"x,y,key\n", b"\xff\xfe", b"SPNT", b"0 0 1 2\n", b"table 0 0 1\n", b"x,y,key,mask,route\n0,0,1,1,0x1000000\n"):

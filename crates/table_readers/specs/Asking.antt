@@ -1,5 +1,5 @@
 -- Tables to be shortened, as JSON: all faults in the order of reading, and what they are (this project's own).
-use Rattle.std.specs.Prelude.{◌==◌, ℕ, ◌≤◌, ◌%◌, ◌<◌, if◌then◌else◌, List, [], ◌∷◌, ◌++◌, true, Some, None, map, length, codes, bit_and}
+use Rattle.std.specs.Prelude.{◌==◌, ℕ, Bool, false, ◌≤◌, ◌%◌, ◌<◌, if◌then◌else◌, List, [], ◌∷◌, ◌++◌, true, Some, None, map, length, codes, bit_and}
 use Rattle.std.proofs.Common.{lit<}
 use Rattle.std.proofs.lemmas.Nat.{mod_below}
 use Rattle.serde_json.specs.Data.{Data}
@@ -10,7 +10,7 @@ use Rattle.job_text.specs.declared.faults.JobFault.TheVariants.{Shape}
 use Rattle.job_text.specs.Reading.{◌▹◌}
 use Rattle.job_text.specs.Members.{member_of}
 use Rattle.job_text.specs.Paths.{member_at}
-use Rattle.job_text.specs.Fields.{number_faults, number_value, range_unless}
+use Rattle.job_text.specs.Fields.{flag_faults, flag_value, number_faults, number_value, range_unless}
 use Rattle.job_readers.specs.Members.{list_member, list_member_faults}
 use Rattle.job_readers.specs.Blocks.{block_at}
 use Rattle.job_readers.specs.Entries.{chip_of_numbers}
@@ -108,6 +108,13 @@ tables_target_faults path d = number_faults (member_at path (codes "target")) 0 
 unfoldable pub tables_target_value : Data → ℕ
 tables_target_value d = number_value (Some 0) (member_of (codes "target") d)
 
+-- Whether tables are to have no new keys: not, where nothing is said.
+unfoldable pub tables_exact_faults : List ℕ → Data → List JobFault
+tables_exact_faults path d = flag_faults (member_at path (codes "exact")) (member_of (codes "exact") d)
+
+unfoldable pub tables_exact_value : Data → Bool
+tables_exact_value d = flag_value false (member_of (codes "exact") d)
+
 -- There are at most 65,536 tables.
 unfoldable pub tables_faults : List ℕ → Data → List JobFault
 tables_faults path d = list_member_faults path (codes "tables") true 65536 d ++ items_faults table_faults (member_at path (codes "tables")) 0 (list_member (codes "tables") d)
@@ -117,7 +124,7 @@ tables_value d = map table_value (list_member (codes "tables") d)
 
 -- Tables stand at the path `in`. What is no object has no members.
 unfoldable pub asked_faults : Data → List JobFault
-asked_faults d = tables_target_faults (codes "in") d ▹ tables_faults (codes "in") d
+asked_faults d = tables_target_faults (codes "in") d ▹ (tables_exact_faults (codes "in") d ▹ tables_faults (codes "in") d)
 
 unfoldable pub asked_value : Data → Asked
-asked_value d = record { target = tables_target_value d; tables = tables_value d }
+asked_value d = record { target = tables_target_value d; exact = tables_exact_value d; tables = tables_value d }

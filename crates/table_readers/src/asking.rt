@@ -5,10 +5,10 @@ ghost use Rattle.job_text.specs.Reading.{GivesOrFaults};
 ghost use Rattle.job_text.specs.Paths.{path_text};
 ghost use Rattle.job_readers.specs.Blocks.{block_at};
 ghost use Rattle.job_readers.specs.Members.{list_member, list_member_faults};
-ghost use Rattle.table_readers.specs.Asking.{HasFewRows, asked_faults, asked_value, chip_numbers, chip_numbers_faults, numbers_faults, numbers_value, one_faults, one_value, route_at, row_faults, row_value, rows_faults, rows_value, table_faults, table_value, tables_faults, tables_value, tables_target_faults, tables_target_value, three_faults, three_value, two_faults, two_value};
+ghost use Rattle.table_readers.specs.Asking.{HasFewRows, asked_faults, asked_value, chip_numbers, chip_numbers_faults, numbers_faults, numbers_value, one_faults, one_value, route_at, row_faults, row_value, rows_faults, rows_value, table_faults, table_value, tables_exact_faults, tables_exact_value, tables_faults, tables_value, tables_target_faults, tables_target_value, three_faults, three_value, two_faults, two_value};
 
 use job_readers::{ItemReader, each_item, items_in};
-use job_text::{Path, TextErr, count_to, list, member, number_in, range, shape};
+use job_text::{Path, TextErr, count_to, flag, list, member, number_in, range, shape};
 use serde_json::Value;
 use spin_base::{Block, Chip, Route, Seq};
 use std::alloc::Global;
@@ -23,10 +23,11 @@ const MOST_ROUTE: u64 = 16777215;
 /// The most tables, and the most rows of one.
 const MOST_ITEMS: u64 = 65536;
 
-/// Tables, and to how many rows each is to be shortened.
+/// Tables, to how many rows each is to be shortened, and whether it is to have no key that no row has.
 #[derive(Drop)]
 pub struct Asked {
     pub target: u32,
+    pub exact: bool,
     pub tables: Seq<GivenTable>,
 }
 
@@ -237,8 +238,8 @@ fn rows_in(alloc: Global, item: &Value, path: &Path<'_>) -> Result<Seq<RoutedBlo
 ///
 /// # Errors
 ///
-/// `Fault` with the first fault in the order of reading: that of `target`, that of the list of tables, then those of each table,
-/// its chip first; `Memory`.
+/// `Fault` with the first fault in the order of reading: that of `target`, that of `exact`, that of the list of tables, then those of
+/// each table, its chip first; `Memory`.
 #[tactic(auto, using(job_readers::proofs::Firsts::firsts), unfolding(crate::specs::Asking::asked_faults, crate::specs::Asking::asked_value))]
 pub fn asked_of(alloc: Global, value: &Value) -> Result<Asked, TextErr>
     ensures read { GivesOrFaults (λ a. a) result (asked_faults (view value.now)) (asked_value
@@ -247,8 +248,13 @@ pub fn asked_of(alloc: Global, value: &Value) -> Result<Asked, TextErr>
 {
     let path = Path::Whole("in");
     let target = target_in(alloc, value, &path)?;
+    let exact = exact_in(alloc, value, &path)?;
     let tables = tables_in(alloc, value, &path)?;
-    Ok(Asked { target, tables })
+    Ok(Asked {
+        target,
+        exact,
+        tables,
+    })
 }
 
 // To how many rows tables are to be shortened.
@@ -260,6 +266,16 @@ fn target_in(alloc: Global, value: &Value, path: &Path<'_>) -> Result<u32, TextE
     let path = Path::Member(path, "target");
     let target = number_in(alloc, member(value, "target"), &path, 0, MOST, Some(0))?;
     Ok(target as u32)
+}
+
+// Whether tables are to have no new keys.
+#[tactic(auto, unfolding(crate::specs::Asking::tables_exact_faults, crate::specs::Asking::tables_exact_value))]
+fn exact_in(alloc: Global, value: &Value, path: &Path<'_>) -> Result<bool, TextErr>
+    ensures { GivesOrFaults (λ b. b) result (tables_exact_faults (path_text path.now) (view value.now))
+        (tables_exact_value (view value.now)) }
+{
+    let path = Path::Member(path, "exact");
+    flag(alloc, member(value, "exact"), &path, false)
 }
 
 // The tables.

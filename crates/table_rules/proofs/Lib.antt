@@ -2,3 +2,4 @@ mod FirstRows
 mod Sounds
 mod Faithful
 mod Turns
+mod Walls

@@ -1,3 +1,4 @@
+pub mod Exact
 pub mod Made
 pub mod Rows
 pub mod Shortened

@@ -1,5 +1,5 @@
 -- Rows of a table, of which the first that has a key decides (SpiNNaker datasheet).
-use Rattle.std.specs.Prelude.{◌≡◌, ◌==◌, ℕ, ◌<◌, ◌^◌, Bool, List, Option, Some, find, bit_and}
+use Rattle.std.specs.Prelude.{◌≡◌, ◌==◌, ℕ, ◌<◌, ◌^◌, Bool, List, Option, Some, None, find, bit_and}
 use Rattle.spin_base.specs.declared.routes.Route.{Route}
 use Rattle.tern_word.specs.declared.tables.Row.{Row}
 use Rattle.table_rules.specs.declared.rows.RoutedBlock.{RoutedBlock}
@@ -22,6 +22,10 @@ pub record GoesBy (rows : List RoutedBlock) (k : ℕ) (route : Route) : Type 0 w
 -- same route (this project's own).
 abbrev pub KeepsRoutes : List RoutedBlock → List RoutedBlock → Type 0
 KeepsRoutes given new = (k : ℕ) (row : RoutedBlock) → k < 2 ^ 32 → first_with given k ≡ Some row → GoesBy new k row.route
+
+-- A key that none of the given rows has is one that none of the new rows has (this project's own).
+abbrev pub HasNoNewKeys : List RoutedBlock → List RoutedBlock → Type 0
+HasNoNewKeys given new = (k : ℕ) → k < 2 ^ 32 → first_with given k ≡ None → first_with new k ≡ None
 
 -- a row without its aliases
 abbrev pub routed : Row → RoutedBlock

@@ -77,7 +77,7 @@ fn rows_of(alloc: Global, rows: &[Row]) -> Result<Seq<RoutedBlock>, Memory>
 }
 
 // A row without its aliases.
-fn routed(row: &Row) -> RoutedBlock
+pub(crate) fn routed(row: &Row) -> RoutedBlock
     ensures { result ≡ routed row.now }
 {
     RoutedBlock {
@@ -87,7 +87,7 @@ fn routed(row: &Row) -> RoutedBlock
 }
 
 // The same rows.
-fn copy(alloc: Global, given: &[RoutedBlock]) -> Result<Seq<RoutedBlock>, Memory>
+pub(crate) fn copy(alloc: Global, given: &[RoutedBlock]) -> Result<Seq<RoutedBlock>, Memory>
     ensures { IfOk result (λ same. same ≡ given.now) }
 {
     let mut same = Vec::new(alloc);

@@ -6,12 +6,10 @@ use Rattle.std.proofs.lemmas.Option.{none-some, same_Some}
 use Rattle.spin_base.specs.declared.blocks.Entry.{Entry}
 use Rattle.spin_base.specs.Lookup.{matches}
 use Rattle.table_rules.specs.declared.rows.RoutedBlock.{RoutedBlock}
-use Rattle.table_rules.specs.Made.{HasTooManyPieces}
-use Rattle.table_rules.specs.Rows.{KeepsRoutes, first_with, takes_key}
-use Rattle.table_rules.specs.Shortened.{IsShortenedTo}
+use Rattle.table_rules.specs.Rows.{HasNoNewKeys, KeepsRoutes, first_with, takes_key}
 use Rattle.table_readers.specs.declared.asking.GivenTable.{GivenTable}
 use Rattle.table_text.specs.declared.writing.ShortTable.{ShortTable}
-use Rattle.tables_top.specs.Shorter.{AreBeside, AreShorter, IsShorterTable, KeepsTable, as_given, entry_at, more, none, short_at, shortened}
+use Rattle.tables_top.specs.Shorter.{AreBeside, AreShortRows, AreShorter, AreTooManyPieces, IsShorterTable, KeepsTable, as_given, entry_at, more, none, short_at, shortened}
 
 -- ---- lists beside each other
 
@@ -19,15 +17,15 @@ beside_push : {A B : Type 0} (R : A → B → Type 0) (xs : List A) (ys : List B
 beside_push R xs ys x y none this = more x y [] [] this none
 beside_push R xs ys x y (more a b us vs here rest) this = more a b (us ++ x ∷ []) (vs ++ y ∷ []) here (beside_push R us vs x y rest this)
 
-pub tables_more : (target : ℕ) (tables : List GivenTable) (i : ℕ) (given : GivenTable) (old new : List ShortTable) (short : ShortTable) → i < length tables → given ≡ get_or tables i given
-    → AreShorter target (take i tables) old → IsShorterTable target given short → new ≡ old ++ short ∷ [] → AreShorter target (take (i + 1) tables) new
-tables_more target tables i given old new short within read so_far this put =
-    subst (AreShorter target (take (i + 1) tables)) (sym put)
-    (subst (λ l. AreShorter target l (old ++ short ∷ [])) (sym (take_more tables i given within ∙ ap (λ x. take i tables ++ x ∷ []) (sym read)))
-    (beside_push (IsShorterTable target) (take i tables) old given short so_far this))
+pub tables_more : (target : ℕ) (exact : Bool) (tables : List GivenTable) (i : ℕ) (given : GivenTable) (old new : List ShortTable) (short : ShortTable) → i < length tables → given ≡ get_or tables i given
+    → AreShorter target exact (take i tables) old → IsShorterTable target exact given short → new ≡ old ++ short ∷ [] → AreShorter target exact (take (i + 1) tables) new
+tables_more target exact tables i given old new short within read so_far this put =
+    subst (AreShorter target exact (take (i + 1) tables)) (sym put)
+    (subst (λ l. AreShorter target exact l (old ++ short ∷ [])) (sym (take_more tables i given within ∙ ap (λ x. take i tables ++ x ∷ []) (sym read)))
+    (beside_push (IsShorterTable target exact) (take i tables) old given short so_far this))
 
-pub tables_all : (target : ℕ) (tables : List GivenTable) (i : ℕ) (short : List ShortTable) → length tables ≤ i → AreShorter target (take i tables) short → AreShorter target tables short
-tables_all target tables i short past so_far = subst (λ l. AreShorter target l short) (take_all i tables past) so_far
+pub tables_all : (target : ℕ) (exact : Bool) (tables : List GivenTable) (i : ℕ) (short : List ShortTable) → length tables ≤ i → AreShorter target exact (take i tables) short → AreShorter target exact tables short
+tables_all target exact tables i short past so_far = subst (λ l. AreShorter target exact l short) (take_all i tables past) so_far
 
 -- ---- entries of rows
 
@@ -40,37 +38,49 @@ first_entry (r ∷ rows) k row first = by_test (first_entry rows k row) (takes_k
     by_test behind true same = ap (λ x. Some (entry_at x)) (same_Some r row same)
     by_test behind false same = behind same
 
+no_entry : (rows : List RoutedBlock) (k : ℕ) → first_with rows k ≡ None → find (λ (e : Entry). matches e k) (map entry_at rows) ≡ None
+no_entry [] k none = refl
+no_entry (r ∷ rows) k none = by_test (no_entry rows k) (takes_key k r) none
+  where
+    by_test : (first_with rows k ≡ None → find (λ (e : Entry). matches e k) (map entry_at rows) ≡ None) → (b : Bool) → cond b (Some r) (first_with rows k) ≡ None
+        → cond b (Some (entry_at r)) (find (λ (e : Entry). matches e k) (map entry_at rows)) ≡ None
+    by_test behind true some = absurd (none-some r (sym some))
+    by_test behind false same = behind same
+
 -- the table of rows that keep the routes of those given
-keeps_table : (given : GivenTable) (rows : List RoutedBlock) (kept : Bool) → KeepsRoutes given.rows rows → length rows ≤ length given.rows → KeepsTable given (short_at given.chip rows kept)
-keeps_table given rows kept keeps few = record {
+keeps_table : (exact : Bool) (given : GivenTable) (rows : List RoutedBlock) (kept : Bool) → KeepsRoutes given.rows rows → (exact ≡ true → HasNoNewKeys given.rows rows) → length rows ≤ length given.rows
+    → KeepsTable exact given (short_at given.chip rows kept)
+keeps_table exact given rows kept keeps no_new few = record {
   chip = refl;
   no_longer = omega (arith, length-map rows entry_at, few);
   routes = λ k row small first.
       let way = keeps k row small first in
       record { entry = entry_at way.row; first = first_entry rows k way.row way.first; by = way.by };
+  keys = λ is k small none. no_entry rows k (no_new is k small none);
 }
 
 -- What shortening rows tells of them, and of those that it gives, if any.
-pub record AreToldOf (target : ℕ) (read : List RoutedBlock) (new : Option (List RoutedBlock)) : Type 0 where
-  pub rows : MatchOption new ((target < length read) × HasTooManyPieces 262144 [] read) (IsShortenedTo target 262144 read)
+pub record AreToldOf (target : ℕ) (exact : Bool) (read : List RoutedBlock) (new : Option (List RoutedBlock)) : Type 0 where
+  pub rows : MatchOption new (AreTooManyPieces target exact read) (AreShortRows target exact read)
   pub routes : IfSome new (KeepsRoutes read)
+  pub keys : IfSome new (λ (rows : List RoutedBlock). exact ≡ true → HasNoNewKeys read rows)
   pub few : IfSome new (λ (rows : List RoutedBlock). length rows ≤ length read)
 
 -- The rows that were shortened, by the slice that they were read from and the one that they were put from.
-pub short_made : (target : ℕ) (given : GivenTable) (read put : List RoutedBlock) (new : Option (List RoutedBlock)) (rows : List RoutedBlock) (short : ShortTable)
-    → AreToldOf target read new → new ≡ Some rows → read ≡ given.rows → put ≡ rows → short ≡ short_at given.chip put false → IsShorterTable target given short
-short_made target given read put new rows short told some same same_rows is =
+pub short_made : (target : ℕ) (exact : Bool) (given : GivenTable) (read put : List RoutedBlock) (new : Option (List RoutedBlock)) (rows : List RoutedBlock) (short : ShortTable)
+    → AreToldOf target exact read new → new ≡ Some rows → read ≡ given.rows → put ≡ rows → short ≡ short_at given.chip put false → IsShorterTable target exact given short
+short_made target exact given read put new rows short told some same same_rows is =
     let here : short ≡ short_at given.chip rows false = is ∙ ap (λ r. short_at given.chip r false) same_rows in
-    let all : AreToldOf target given.rows (Some rows) = subst (λ l. AreToldOf target l (Some rows)) same (subst (AreToldOf target read) some told) in
-    subst (IsShorterTable target given) (sym here) (record { shorter = shortened rows all.rows; keeps = keeps_table given rows false all.routes all.few })
+    let all : AreToldOf target exact given.rows (Some rows) = subst (λ l. AreToldOf target exact l (Some rows)) same (subst (AreToldOf target exact read) some told) in
+    subst (IsShorterTable target exact given) (sym here) (record { shorter = shortened rows all.rows; keeps = keeps_table exact given rows false all.routes all.keys all.few })
 
 -- the rows as they were given
-pub short_kept : (target : ℕ) (given : GivenTable) (read put : List RoutedBlock) (new : Option (List RoutedBlock)) (short : ShortTable)
-    → AreToldOf target read new → new ≡ None → read ≡ given.rows → put ≡ given.rows → short ≡ short_at given.chip put true → IsShorterTable target given short
-short_kept target given read put new short told no_rows same same_rows is =
+pub short_kept : (target : ℕ) (exact : Bool) (given : GivenTable) (read put : List RoutedBlock) (new : Option (List RoutedBlock)) (short : ShortTable)
+    → AreToldOf target exact read new → new ≡ None → read ≡ given.rows → put ≡ given.rows → short ≡ short_at given.chip put true → IsShorterTable target exact given short
+short_kept target exact given read put new short told no_rows same same_rows is =
     let here : short ≡ short_at given.chip given.rows true = is ∙ ap (λ r. short_at given.chip r true) same_rows in
-    let all : AreToldOf target given.rows None = subst (λ l. AreToldOf target l None) same (subst (AreToldOf target read) no_rows told) in
-    subst (IsShorterTable target given) (sym here) (record {
-      shorter = as_given all.rows.0 all.rows.1;
-      keeps = keeps_table given given.rows true (λ k row small first. record { row = row; first = first; by = refl }) (omega arith);
+    let all : AreToldOf target exact given.rows None = subst (λ l. AreToldOf target exact l None) same (subst (AreToldOf target exact read) no_rows told) in
+    subst (IsShorterTable target exact given) (sym here) (record {
+      shorter = as_given all.rows;
+      keeps = keeps_table exact given given.rows true (λ k row small first. record { row = row; first = first; by = refl }) (λ is k small none. none) (omega arith);
     })

@@ -49,7 +49,7 @@ pub data HasNoTables (reading : Reading) (r : Refusal) : Type 0 where
 pub record AreMadeTables (reading : Reading) (tables : List ShortTable) (text : List ℕ) : Type 0 where
   pub input : TablesInput
   pub read : IsReadAs tables_asked_in reading input
-  pub shorter : AreShorter input.asked.target input.asked.tables tables
+  pub shorter : AreShorter input.asked.target input.asked.exact input.asked.tables tables
   pub is : text ≡ flat_map short_lines tables
 
 -- the line of a refusal was written, and nothing else is given

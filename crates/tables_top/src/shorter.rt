@@ -1,11 +1,12 @@
 // Shorter tables, one for each given.
-ghost use Rattle.std.specs.Prelude.{◌≡◌, IfOk};
-ghost use Rattle.tables_top.specs.Shorter.{AreShorter, IsShorterTable, entry_at, is_long_table, has_long_table, short_at};
+ghost use Rattle.std.specs.Prelude.{◌≡◌, ◌≤◌, true, IfOk, IfSome, MatchOption, length};
+ghost use Rattle.table_rules.specs.Rows.{HasNoNewKeys, KeepsRoutes};
+ghost use Rattle.tables_top.specs.Shorter.{AreShortRows, AreShorter, AreTooManyPieces, IsShorterTable, entry_at, is_long_table, has_long_table, short_at};
 
 use spin_base::{Chip, ChipTable, Entry, Memory, ROUTER_ENTRIES, Seq};
 use std::alloc::Global;
 use table_readers::GivenTable;
-use table_rules::{RoutedBlock, shorten_rows};
+use table_rules::{RoutedBlock, shorten_rows, shorten_within};
 use table_text::ShortTable;
 
 /// Into how many pieces the rows of a table may be cut.
@@ -15,25 +16,52 @@ const ROOM: u32 = 262144;
 pub(crate) fn shorter_tables(
     alloc: Global,
     target: u32,
+    exact: bool,
     tables: &[GivenTable],
 ) -> Result<Seq<ShortTable>, Memory>
-    ensures { IfOk result (AreShorter target tables.now) }
+    ensures { IfOk result (AreShorter target exact tables.now) }
 {
     let mut shorter = Seq::new(alloc);
     for table in tables {
-        let short = shorter_table(alloc, target, table)?;
+        let short = shorter_table(alloc, target, exact, table)?;
         shorter.push(short)?;
     }
     Ok(shorter)
 }
 
 // The shorter table of one, or that table, where its rows would be cut into too many pieces.
-fn shorter_table(alloc: Global, target: u32, given: &GivenTable) -> Result<ShortTable, Memory>
-    ensures { IfOk result (IsShorterTable target given.now) }
+fn shorter_table(
+    alloc: Global,
+    target: u32,
+    exact: bool,
+    given: &GivenTable,
+) -> Result<ShortTable, Memory>
+    ensures { IfOk result (IsShorterTable target exact given.now) }
 {
-    match shorten_rows(alloc, given.rows.as_slice(), target, ROOM)? {
+    match shorter_rows(alloc, target, exact, given.rows.as_slice())? {
         Some(rows) => short_table(alloc, given.chip, rows.as_slice(), false),
         None => short_table(alloc, given.chip, given.rows.as_slice(), true),
+    }
+}
+
+// The rows of a shorter table, where they would be cut into few pieces.
+fn shorter_rows(
+    alloc: Global,
+    target: u32,
+    exact: bool,
+    given: &[RoutedBlock],
+) -> Result<Option<Seq<RoutedBlock>>, Memory>
+    ensures rows { IfOk result (λ new. MatchOption new (AreTooManyPieces target exact given.now)
+        (AreShortRows target exact given.now)) }
+    ensures routes { IfOk result (λ new. IfSome new (KeepsRoutes given.now)) }
+    ensures keys { IfOk result
+        (λ new. IfSome new (λ rows. exact ≡ true → HasNoNewKeys given.now rows)) }
+    ensures few { IfOk result (λ new. IfSome new (λ rows. length rows ≤ length given.now)) }
+{
+    if exact {
+        shorten_within(alloc, given, target, ROOM)
+    } else {
+        shorten_rows(alloc, given, target, ROOM)
     }
 }
 

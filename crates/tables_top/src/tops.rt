@@ -33,8 +33,9 @@ struct Made {
 /// Shortens the tables that the source's bytes are, and writes them, or one line, to the sink. There are no words.
 ///
 /// For each key that a row of a given table has, where the first that has it decides, the first entry of the new table that matches it
-/// has the same route. A table is shortened until it has the target's rows, or no two can be joined; none gets longer. The whole text
-/// stands before its first byte is written, and a refusal writes its line and nothing else.
+/// has the same route. Where `exact` is asked for, a key that no row of a given table has is matched by no entry of the new one. A table
+/// is shortened until it has the target's rows, or no two can be joined; none gets longer. The whole text stands before its first byte
+/// is written, and a refusal writes its line and nothing else.
 ///
 /// Statuses: 0, the text was written; 1, there were words; 2, reading failed; 3, writing failed; 4, the bytes are no tables; 8, the
 /// text was written, and a table has more entries than a router; 9, memory ran out.
@@ -75,10 +76,10 @@ fn made_of<S: Source>(alloc: Global, source: &mut S) -> Result<Made, Refusal>
 
 // The shorter tables and their text.
 fn make(alloc: Global, asked: &Asked) -> Result<Made, Memory>
-    ensures tables { IfOk result (λ made. AreShorter asked.now.target asked.now.tables made.tables) }
+    ensures tables { IfOk result (λ made. AreShorter asked.now.target asked.now.exact asked.now.tables made.tables) }
     ensures text { IfOk result (λ made. made.text ≡ flat_map short_lines made.tables) }
 {
-    let tables = shorter_tables(alloc, asked.target, asked.tables.as_slice())?;
+    let tables = shorter_tables(alloc, asked.target, asked.exact, asked.tables.as_slice())?;
     let text = tables_text(alloc, tables.as_slice())?;
     Ok(Made { tables, text })
 }

@@ -5,12 +5,12 @@ use Rattle.tables_top.proofs.Tables.{tables_all, tables_more}
 use Rattle.tables_top.proofs.shorter.shorter_tables.Goals as goal
 
 pub loop-table-init : goal.loop-table-init
-loop-table-init c = subst (AreShorter c.args.target []) (sym c.new-shorter.ensures) none
+loop-table-init c = subst (AreShorter c.args.target c.args.exact []) (sym c.new-shorter.ensures) none
 
 pub loop-table-preserved : goal.loop-table-preserved
 loop-table-preserved c =
-    tables_more c.args.target c.args.tables.now c.loop-table.table-index c.table-item.result c.loop-table.shorter c.push.new.self c.in_ok-short.short
+    tables_more c.args.target c.args.exact c.args.tables.now c.loop-table.table-index c.table-item.result c.loop-table.shorter c.push.new.self c.in_ok-short.short
     c.loop-table-test.true c.table-item.is c.loop-table.invariant c.in_ok-short.ensures c.in_ok-push.ensures.ok
 
 pub returns : goal.returns
-returns c = tables_all c.args.target c.args.tables.now c.loop-table.table-index c.loop-table.shorter c.loop-table-test.false c.loop-table.invariant
+returns c = tables_all c.args.target c.args.exact c.args.tables.now c.loop-table.table-index c.loop-table.shorter c.loop-table-test.false c.loop-table.invariant

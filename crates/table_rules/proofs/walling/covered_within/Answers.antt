@@ -1,0 +1,37 @@
+-- The rows before the wall say what the rows say, and no more.
+use Rattle.std.proofs.Common.{◌≡◌, sym, subst, arith}
+use Rattle.std.proofs.lemmas.Result.{IfOk-weaker}
+use Rattle.table_rules.specs.Exact.{IsShortenedWithin, walled}
+use Rattle.table_rules.specs.Rows.{KeepsRoutes}
+use Rattle.table_rules.proofs.Faithful.{keeps_itself, made_is_sound}
+use Rattle.table_rules.proofs.Walls.{is_own, is_within, keeps_within, keys_within}
+use Rattle.table_rules.proofs.walling.covered_within.Goals as goal
+
+pub cover-requires-clause-sound : goal.cover-requires-clause-sound
+cover-requires-clause-sound c = made_is_sound c.args.room (walled c.args.given.now c.args.route) c.args.table.rows c.requires.made
+
+pub returns-then-len-given-clause-rows : goal.returns-then-len-given-clause-rows
+returns-then-len-given-clause-rows c =
+    is_within c.args.target c.args.room c.args.given.now c.args.route c.args.table.rows c.in_ok-covered.covered.table.rows _ c.requires.long c.requires.free c.requires.made c.in_ok-covered.ensures.covered
+    c.as_slice.result.now c.in_ok-rows.rows c.as_slice.ensures c.in_ok-rows.ensures (omega arith)
+
+pub returns-then-len-given-clause-routes : goal.returns-then-len-given-clause-routes
+returns-then-len-given-clause-routes c =
+    keeps_within c.args.target c.args.room c.args.given.now c.args.route c.args.table.rows c.in_ok-covered.covered.table.rows _ c.requires.long c.requires.free c.requires.made c.in_ok-covered.ensures.covered
+    c.as_slice.result.now c.in_ok-rows.rows c.as_slice.ensures c.in_ok-rows.ensures c.in_ok-covered.ensures.sound c.in_ok-covered.ensures.serves
+
+pub returns-then-len-given-clause-keys : goal.returns-then-len-given-clause-keys
+returns-then-len-given-clause-keys c =
+    keys_within c.args.target c.args.room c.args.given.now c.args.route c.args.table.rows c.in_ok-covered.covered.table.rows _ c.requires.long c.requires.free c.requires.made c.in_ok-covered.ensures.covered
+    c.as_slice.result.now c.in_ok-rows.rows c.as_slice.ensures c.in_ok-rows.ensures c.in_ok-covered.ensures.sound c.in_ok-covered.ensures.serves
+
+pub returns-clause-rows : goal.returns-clause-rows
+returns-clause-rows c =
+    IfOk-weaker c.copy.result (λ own. own ≡ c.args.given.now) (IsShortenedWithin c.args.target c.args.room c.args.given.now)
+    (λ own same. is_own c.args.target c.args.room c.args.given.now c.args.route c.args.table.rows c.in_ok-covered.covered.table.rows _ c.requires.long c.requires.free c.requires.made c.in_ok-covered.ensures.covered
+    c.as_slice.result.now c.in_ok-rows.rows c.as_slice.ensures c.in_ok-rows.ensures (omega arith) own same)
+    c.copy.ensures
+
+pub returns-clause-routes : goal.returns-clause-routes
+returns-clause-routes c =
+    IfOk-weaker c.copy.result (λ own. own ≡ c.args.given.now) (KeepsRoutes c.args.given.now) (λ own same. subst (KeepsRoutes c.args.given.now) (sym same) (keeps_itself c.args.given.now)) c.copy.ensures

@@ -1,0 +1,160 @@
+// Shorter rows that have no new keys.
+ghost use Rattle.std.specs.Prelude.{◌≡◌, ◌<◌, ◌≤◌, ◌^◌, [], IfOk, IfSome, MatchBool, MatchOption, length, map};
+ghost use Rattle.table_rules.specs.Exact.{AreTooManyWithin, HasAllRoutes, IsFree, IsShortenedWithin, rows_before, wall_of, walled};
+ghost use Rattle.table_rules.specs.Made.{HasTooManyPieces, IsTableMadeOf};
+ghost use Rattle.table_rules.specs.Rows.{HasNoNewKeys, KeepsRoutes, routed};
+
+use crate::making::made_table;
+use crate::rows::RoutedBlock;
+use crate::shortening::{copy, routed};
+use cover_merge::cover;
+use spin_base::{Block, Memory, Route, Seq};
+use std::alloc::Global;
+use tern_word::{Row, Table};
+
+/// How many routes there are.
+const ROUTES: u32 = 16777216;
+
+/// As `shorten_rows`; and a key that no row of the given table has is one that no row of the new one has.
+///
+/// The table is covered with a wall behind its rows: a row of all keys, of a route that none of them has. It decides for the keys
+/// that none of them has, so no merge has one of these. Its pieces count among the `room`, and it counts among the rows that are
+/// compared with `target`. The new rows are those before it.
+pub fn shorten_within(
+    alloc: Global,
+    given: &[RoutedBlock],
+    target: u32,
+    room: u32,
+) -> Result<Option<Seq<RoutedBlock>>, Memory>
+    ensures rows { IfOk result (λ new. MatchOption new (AreTooManyWithin target room given.now)
+        (IsShortenedWithin target room given.now)) }
+    ensures routes { IfOk result (λ new. IfSome new (KeepsRoutes given.now)) }
+    ensures keys { IfOk result (λ new. IfSome new (HasNoNewKeys given.now)) }
+    ensures few { IfOk result (λ new. IfSome new (λ rows. length rows ≤ length given.now)) }
+{
+    if given.len() <= target as usize {
+        let same = copy(alloc, given)?;
+        return Ok(Some(same));
+    }
+    match free_route(given, ROUTES) {
+        Some(route) => within_wall(alloc, given, route, target, room),
+        None => {
+            let same = copy(alloc, given)?;
+            Ok(Some(same))
+        }
+    }
+}
+
+// The greatest route of bits below the number that no row has, if there is one.
+fn free_route(given: &[RoutedBlock], routes: u32) -> Option<Route>
+    requires { routes ≤ 2 ^ 24 }
+    ensures { MatchOption result (HasAllRoutes routes given.now)
+        (λ route. IsFree given.now route.bits) }
+{
+    let mut bits = routes;
+    while bits > 0 {
+        bits -= 1;
+        if is_free(given, bits) {
+            return Some(Route { bits });
+        }
+    }
+    None
+}
+
+// Whether no row has a route of these bits.
+fn is_free(given: &[RoutedBlock], bits: u32) -> bool
+    ensures { MatchBool result (IsFree given.now bits) (IsFree given.now bits → ⊥) }
+{
+    for row in given {
+        if row.route.bits == bits {
+            return false;
+        }
+    }
+    true
+}
+
+// The rows of the table that is covered with a wall of this route.
+fn within_wall(
+    alloc: Global,
+    given: &[RoutedBlock],
+    route: Route,
+    target: u32,
+    room: u32,
+) -> Result<Option<Seq<RoutedBlock>>, Memory>
+    requires long { target < length given.now }
+    requires free { IsFree given.now route.bits }
+    ensures rows { IfOk result (λ new. MatchOption new (AreTooManyWithin target room given.now)
+        (IsShortenedWithin target room given.now)) }
+    ensures routes { IfOk result (λ new. IfSome new (KeepsRoutes given.now)) }
+    ensures keys { IfOk result (λ new. IfSome new (HasNoNewKeys given.now)) }
+    ensures few { IfOk result (λ new. IfSome new (λ rows. length rows ≤ length given.now)) }
+{
+    let walled = walled(alloc, given, route)?;
+    match made_table(alloc, walled.as_slice(), room)? {
+        Some(table) => {
+            let rows = covered_within(alloc, given, route, table, target, room)?;
+            Ok(Some(rows))
+        }
+        None => Ok(None),
+    }
+}
+
+// The rows with a wall of this route behind them.
+fn walled(alloc: Global, given: &[RoutedBlock], route: Route) -> Result<Vec<RoutedBlock>, Memory>
+    ensures { IfOk result (λ rows. rows.items ≡ walled given.now route) }
+{
+    let mut rows = Vec::new(alloc);
+    rows.extend_from_slice(given)?;
+    rows.push(wall(route))?;
+    Ok(rows)
+}
+
+// A row of all keys.
+fn wall(route: Route) -> RoutedBlock
+    ensures { result ≡ wall_of route }
+{
+    RoutedBlock {
+        block: Block { key: 0, mask: 0 },
+        route,
+    }
+}
+
+// The rows of the covered table before its wall, where they are fewer, and else those given.
+fn covered_within(
+    alloc: Global,
+    given: &[RoutedBlock],
+    route: Route,
+    table: Table,
+    target: u32,
+    room: u32,
+) -> Result<Seq<RoutedBlock>, Memory>
+    requires long { target < length given.now }
+    requires free { IsFree given.now route.bits }
+    requires made { IsTableMadeOf room (walled given.now route) table.rows }
+    requires few { length table.rows < 2 ^ 32 }
+    ensures rows { IfOk result (IsShortenedWithin target room given.now) }
+    ensures routes { IfOk result (KeepsRoutes given.now) }
+    ensures keys { IfOk result (HasNoNewKeys given.now) }
+    ensures few { IfOk result (λ rows. length rows ≤ length given.now) }
+{
+    let covered = cover(alloc, table, target)?;
+    let rows = rows_before(alloc, covered.table.rows.as_slice(), route.bits)?;
+    if rows.len() < given.len() {
+        return Ok(rows);
+    }
+    copy(alloc, given)
+}
+
+// The rows before the first whose route has these bits, without their aliases.
+fn rows_before(alloc: Global, rows: &[Row], bits: u32) -> Result<Seq<RoutedBlock>, Memory>
+    ensures { IfOk result (λ new. new ≡ rows_before bits (map routed rows.now)) }
+{
+    let mut new = Seq::new(alloc);
+    for row in rows {
+        if row.route.bits == bits {
+            return Ok(new);
+        }
+        new.push(routed(row))?;
+    }
+    Ok(new)
+}
