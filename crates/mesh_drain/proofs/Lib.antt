@@ -8,3 +8,4 @@ mod Steps
 pub mod Turns
 mod Unsent
 pub mod Senders
+pub mod Vertices

@@ -1,11 +1,12 @@
 -- Meshes that can be drained, and what is reached by events (this project's own).
-use Rattle.std.specs.Prelude.{◌≡◌, ◌≢◌, ◌<◌, ◌≤◌, ℕ, List, [], ◌∷◌, All, Contains, Some, length, slice_get}
+use Rattle.std.specs.Prelude.{◌≡◌, ◌≢◌, ◌<◌, ◌≤◌, ℕ, List, [], ◌∷◌, ◌++◌, All, Contains, Some, length, slice_get}
 use Rattle.spin_base.specs.declared.copies.Event.{Event}
 use Rattle.spin_base.specs.declared.copies.McCopy.{McCopy}
+use Rattle.spin_base.specs.declared.copies.DumpRec.{DumpRec}
 use Rattle.machine_desc.specs.declared.nets.NetPlan.{NetPlan}
 use Rattle.machine_desc.specs.RightTables.{AreRight}
 use Rattle.spin_base.specs.declared.copies.Event.TheVariants.{Collect}
-use Rattle.mesh_core.specs.State.{State, IsMesh, Queue, input, core, nowhere}
+use Rattle.mesh_core.specs.State.{Setup, State, IsMesh, Queue, input, core, nowhere, behind}
 use Rattle.mesh_core.specs.Step.{after_event, after_events}
 use Rattle.mesh_core.specs.Ledger.{Label, MeetsLedger, OnlyUnderWay}
 use Rattle.mesh_core.specs.Expected.{NothingWaits}
@@ -64,3 +65,22 @@ abbrev pub collected_from : State → Queue → State
 collected_from s (input i) = s
 collected_from s (core v) = after_event s (Collect v)
 collected_from s nowhere = s
+
+-- No copy waits for a vertex.
+abbrev pub AreCollected : State → Type 0
+AreCollected s = All (λ q. q ≡ []) s.cores
+
+-- At ports and in hands the same waits.
+pub record IsSameBesidesCores (before after : State) : Type 0 where
+  pub inputs : after.inputs ≡ before.inputs
+  pub hands : after.hands ≡ before.hands
+
+-- A dump record is at an output that leads to no vertex: neither to a core's nor to a device's.
+abbrev pub LeadsToNoVertex : Setup → DumpRec → Type 0
+LeadsToNoVertex u r = (v : ℕ) → behind u r.chip r.out ≢ core v
+
+-- The dump records that have come are all at outputs that lead to no vertex.
+pub record DropsAtNoVertex (before after : State) : Type 0 where
+  pub come : List DumpRec
+  pub is : after.dumped ≡ before.dumped ++ come
+  pub lead_on : All (LeadsToNoVertex before.setup) come

@@ -7,7 +7,7 @@ ghost use Rattle.spin_base.specs.declared.copies.Event.TheVariants.{Collect};
 ghost use Rattle.machine_desc.specs.Live.{index_of};
 ghost use Rattle.mesh_core.specs.Step.{after_event};
 ghost use Rattle.mesh_core.specs.Expected.{IsAtRest, NothingWaits};
-ghost use Rattle.mesh_drain.specs.Draining.{CanSendFirst, MaySend, MeetsSomeLedger, IsReachedDropless, IsMoved, DropsNoneWhereRoomy, SendAlone};
+ghost use Rattle.mesh_drain.specs.Draining.{CanSendFirst, DropsAtNoVertex, MaySend, MeetsSomeLedger, IsReachedDropless, IsMoved, DropsNoneWhereRoomy, SendAlone};
 ghost use Rattle.mesh_drain.specs.UnderWay.{work, outs_in, next_place, MaySendFrom, WaitsAlone, IsServing};
 
 use crate::settling::settle;
@@ -18,9 +18,9 @@ use spin_base::{Chip, Event, Memory, Out, Outs, Port};
 use std::alloc::Global;
 
 /// Empties what waits, and then brings all packets to their targets, one after the other, until no event is enabled. No copy is
-/// dropped where nothing waited before, nor where each queue has a place for every packet of which a copy is unsent or waits. Besides
-/// what it moves it takes memory for a list of where the packet under way waits; and time as chips and vertices for each link of the
-/// longest way that a copy still had to go which waited before.
+/// dropped where nothing waited before, nor where each queue has a place for every packet of which a copy is unsent or waits, nor ever
+/// at an output that leads to a vertex. Besides what it moves it takes memory for a list of where the packet under way waits; and time
+/// as chips and vertices for each link of the longest way that a copy still had to go which waited before.
 ///
 /// # Errors
 ///
@@ -30,6 +30,7 @@ pub fn drain(alloc: Global, mesh: &mut Mesh) -> Result<(), Memory>
     ensures at_rest { OnOk result (IsAtRest mesh.new) }
     ensures moved { IsMoved mesh.old mesh.new }
     ensures roomy { DropsNoneWhereRoomy mesh.old mesh.new }
+    ensures links { DropsAtNoVertex mesh.old mesh.new }
 {
     a_roomy_mesh_drops_nothing();
     settle(mesh)?;

@@ -1,9 +1,9 @@
 // What waits in a mesh, moved until nothing waits.
-ghost use Rattle.std.specs.Prelude.{◌≡◌, ◌<◌, true, OnOk, is_some, length};
+ghost use Rattle.std.specs.Prelude.{◌≡◌, ◌<◌, true, OnErr, OnOk, is_some, length, slice_set, []};
 ghost use Rattle.mesh_core.specs.Expected.{NothingWaits};
 ghost use Rattle.mesh_core.specs.State.{behind};
-ghost use Rattle.mesh_core.specs.Step.{step_of};
-ghost use Rattle.mesh_drain.specs.Draining.{IsAfter, IsMoved, collected_from};
+ghost use Rattle.mesh_core.specs.Step.{after_event, step_of};
+ghost use Rattle.mesh_drain.specs.Draining.{AreCollected, DropsAtNoVertex, IsAfter, IsMoved, IsReachedDropless, IsSameBesidesCores, collected_from};
 ghost use Rattle.mesh_drain.specs.UnderWay.{weight_in};
 ghost use Rattle.mesh_drain.specs.Waiting.{IsWaiting};
 
@@ -13,36 +13,43 @@ use mesh_core::laws::every_mesh_is_one;
 use mesh_core::{Did, Mesh, Queue};
 use spin_base::{Chip, Event, Memory, Out};
 
-// Moves what waits, until nothing waits. Each sweep takes every copy that waited before it over one link or more, so there are no
-// more sweeps than a branch has chips.
+// Moves what waits, until nothing waits. First each vertex takes what waits for it; from then on it takes each copy at once that a
+// router sends to it. So no copy is dropped at an output that leads to a vertex. Each sweep takes every copy that waited before it
+// over one link or more, so there are no more sweeps than a branch has chips.
 pub fn settle(mesh: &mut Mesh) -> Result<(), Memory>
     ensures quiet { OnOk result (NothingWaits mesh.new) }
     ensures moved { IsMoved mesh.old mesh.new }
+    ensures links { DropsAtNoVertex mesh.old mesh.new }
 {
+    empty_cores(mesh)?;
     'sweeps: while let Some(at) = waiting(mesh) {
-        move_on(mesh, at)?;
         every_mesh_is_one(mesh);
+        move_on(mesh, at)?;
         sweep(mesh)?;
     }
     Ok(())
 }
 
-// Goes once over all vertices and all chips, and moves what waits there.
-fn sweep(mesh: &mut Mesh) -> Result<(), Memory>
-    ensures { IsAfter mesh.old mesh.new }
+// Each vertex takes all that waits for it.
+fn empty_cores(mesh: &mut Mesh) -> Result<(), Memory>
+    ensures reached { IsReachedDropless mesh.old mesh.new }
+    ensures others { IsSameBesidesCores mesh.old mesh.new }
+    ensures collected { OnOk result (AreCollected mesh.new) }
 {
     every_mesh_is_one(mesh);
     let vertices = mesh.spots().len();
     for vertex in 0..vertices {
         empty_core(mesh, vertex as u32)?;
     }
-    empty_chips(mesh)
+    Ok(())
 }
 
 // A vertex takes all that waits for it.
 fn empty_core(mesh: &mut Mesh, vertex: u32) -> Result<(), Memory>
     requires { vertex < length mesh.old.setup.spots }
-    ensures { IsAfter mesh.old mesh.new }
+    ensures reached { IsReachedDropless mesh.old mesh.new }
+    ensures others { IsSameBesidesCores mesh.old mesh.new }
+    ensures emptied { OnOk result (mesh.new.cores ≡ slice_set mesh.old.cores vertex []) }
 {
     'copies: while waits_for(mesh, vertex) {
         take_event(mesh, Event::Collect(vertex))?;
@@ -50,9 +57,12 @@ fn empty_core(mesh: &mut Mesh, vertex: u32) -> Result<(), Memory>
     Ok(())
 }
 
-// Each chip's router moves on all that waits there, chip after chip.
-fn empty_chips(mesh: &mut Mesh) -> Result<(), Memory>
-    ensures { IsAfter mesh.old mesh.new }
+// Goes once over all chips: each chip's router moves on all that waits there.
+fn sweep(mesh: &mut Mesh) -> Result<(), Memory>
+    requires { AreCollected mesh.old }
+    ensures after { IsAfter mesh.old mesh.new }
+    ensures links { DropsAtNoVertex mesh.old mesh.new }
+    ensures collected { OnOk result (AreCollected mesh.new) }
 {
     let chips = mesh.machine().chips();
     for index in 0..chips {
@@ -64,7 +74,10 @@ fn empty_chips(mesh: &mut Mesh) -> Result<(), Memory>
 
 // A chip's router moves on all that waits there.
 fn empty_chip(mesh: &mut Mesh, chip: Chip) -> Result<(), Memory>
-    ensures { IsAfter mesh.old mesh.new }
+    requires { AreCollected mesh.old }
+    ensures after { IsAfter mesh.old mesh.new }
+    ensures links { DropsAtNoVertex mesh.old mesh.new }
+    ensures collected { OnOk result (AreCollected mesh.new) }
 {
     'events: while let Some(at) = waiting_on(mesh, chip) {
         move_on(mesh, at)?;
@@ -72,11 +85,14 @@ fn empty_chip(mesh: &mut Mesh, chip: Chip) -> Result<(), Memory>
     Ok(())
 }
 
-// Moves a copy that waits.
+// Moves a copy that waits, where none waits for a vertex.
 fn move_on(mesh: &mut Mesh, at: Waits) -> Result<(), Memory>
-    requires { IsWaiting mesh.old at }
+    requires waits { IsWaiting mesh.old at }
+    requires collected { AreCollected mesh.old }
     ensures after { IsAfter mesh.old mesh.new }
     ensures lighter { OnOk result (weight_in mesh.new < weight_in mesh.old) }
+    ensures links { DropsAtNoVertex mesh.old mesh.new }
+    ensures collected { OnOk result (AreCollected mesh.new) }
 {
     every_mesh_is_one(mesh);
     match at {
@@ -91,17 +107,23 @@ fn take_event(mesh: &mut Mesh, e: Event) -> Result<(), Memory>
     requires { is_some (step_of mesh.old e) ≡ true }
     ensures after { IsAfter mesh.old mesh.new }
     ensures lighter { OnOk result (weight_in mesh.new < weight_in mesh.old) }
+    ensures taken { OnOk result (mesh.new ≡ after_event mesh.old e) }
+    ensures err { OnErr result (mesh.new ≡ mesh.old) }
 {
     every_mesh_is_one(mesh);
     mesh.step(e)?;
     Ok(())
 }
 
-// The chip's router sends the copy in its hand by an output, or drops it there where the queue behind it is full.
+// The chip's router sends the copy in its hand by an output, or drops it there where the queue behind it is full: that is never a
+// vertex's.
 fn serve(mesh: &mut Mesh, chip: Chip, out: Out) -> Result<(), Memory>
-    requires { IsWaiting mesh.old (Waits.InHand chip out) }
+    requires waits { IsWaiting mesh.old (Waits.InHand chip out) }
+    requires collected { AreCollected mesh.old }
     ensures after { IsAfter mesh.old mesh.new }
     ensures lighter { OnOk result (weight_in mesh.new < weight_in mesh.old) }
+    ensures links { DropsAtNoVertex mesh.old mesh.new }
+    ensures collected { OnOk result (AreCollected mesh.new) }
 {
     every_mesh_is_one(mesh);
     match mesh.step(Event::Send(chip, out))? {
@@ -110,9 +132,9 @@ fn serve(mesh: &mut Mesh, chip: Chip, out: Out) -> Result<(), Memory>
     }
 }
 
-// A vertex takes a copy at once that a router sent to it: so the queue of a core does not fill up within a sweep.
+// A vertex takes a copy at once that a router sent to it: so the queue of a core does not fill up.
 fn collect_behind(mesh: &mut Mesh, chip: Chip, out: Out) -> Result<(), Memory>
-    ensures after { IsAfter mesh.old mesh.new }
+    ensures reached { IsReachedDropless mesh.old mesh.new }
     ensures collected { OnOk result (mesh.new
         ≡ collected_from mesh.old (behind mesh.old.setup chip out)) }
 {

@@ -1,6 +1,8 @@
 use Rattle.std.proofs.Common.{◌∙◌, ap}
 use Rattle.mesh_core.specs.State.{State}
-use Rattle.mesh_drain.proofs.Moving.{moved_then, kept_moved}
+use Rattle.mesh_drain.proofs.Frame.{dumped_reached}
+use Rattle.mesh_drain.proofs.Moving.{after_moved, after_setup, moved_then, kept_moved}
+use Rattle.mesh_drain.proofs.Vertices.{drops_none, drops_then}
 use Rattle.mesh_drain.proofs.draining.drain.Goals as goal
 
 pub send_each-requires : goal.send_each-requires
@@ -22,3 +24,8 @@ returns-in_err-settle-clause-roomy c = λ numbers only roomy.
     let moved = c.settle.ensures.moved in
     ap (λ (s : State). s.dumped) moved.is
     ∙ c.a_roomy_mesh_drops_nothing.ensures.no_record c.args.mesh.now kept.nets kept.labels numbers moved.events kept.mesh kept.right kept.ledger only roomy
+
+pub returns-clause-links : goal.returns-clause-links
+returns-clause-links c =
+    drops_then c.args.mesh.now c.settle.new.mesh c.send_each.new.mesh (after_setup c.args.mesh.now c.settle.new.mesh (after_moved c.args.mesh.now c.settle.new.mesh c.settle.ensures.moved))
+    c.settle.ensures.links (drops_none c.settle.new.mesh c.send_each.new.mesh (dumped_reached c.settle.new.mesh c.send_each.new.mesh c.send_each.ensures.reached))

@@ -1,7 +1,6 @@
 use Rattle.std.proofs.Common.{◌≡◌, arith, subst}
 use Rattle.std.specs.Prelude.{OnOk}
 use Rattle.mesh_drain.specs.Draining.{collected_from}
-use Rattle.mesh_drain.proofs.Moving.{after_reached}
 use Rattle.mesh_drain.proofs.Packets.{few_in_mesh}
 use Rattle.mesh_drain.proofs.settling.collect_behind.Goals as goal
 
@@ -11,9 +10,6 @@ overflow_cast-vertex c =
     let lists = c.every_mesh_is_one.ensures.core_lists in
     let below = c.in-Core.ensures.place in
     omega (arith, few, lists, below)
-
-pub returns-in-Core-clause-after : goal.returns-in-Core-clause-after
-returns-in-Core-clause-after c = after_reached c.args.mesh.now c.collect.new.mesh c.collect.ensures.reached
 
 pub returns-in-Core-clause-collected : goal.returns-in-Core-clause-collected
 returns-in-Core-clause-collected c =

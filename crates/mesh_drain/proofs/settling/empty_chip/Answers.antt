@@ -1,11 +1,21 @@
-use Rattle.mesh_drain.proofs.Moving.{after_none, after_then}
+use Rattle.std.proofs.Common.{refl}
+use Rattle.mesh_drain.proofs.Moving.{after_none, after_then, after_setup}
+use Rattle.mesh_drain.proofs.Vertices.{drops_none, drops_then}
 use Rattle.mesh_drain.proofs.settling.empty_chip.Goals as goal
 
 pub events-init : goal.events-init
-events-init c = after_none c.args.mesh.now
+events-init c = record { after = after_none c.args.mesh.now; links = drops_none c.args.mesh.now c.args.mesh.now refl; collected = c.requires }
 
 pub events-preserved : goal.events-preserved
-events-preserved c = after_then c.args.mesh.now c.events.mesh c.move_on.new.mesh c.events.invariant c.move_on.ensures.after
+events-preserved c = record {
+  after = after_then c.args.mesh.now c.events.mesh c.move_on.new.mesh c.events.invariant.after c.move_on.ensures.after;
+  links = drops_then c.args.mesh.now c.events.mesh c.move_on.new.mesh (after_setup c.args.mesh.now c.events.mesh c.events.invariant.after) c.events.invariant.links c.move_on.ensures.links;
+  collected = c.in_ok-move_on.ensures.collected;
+}
 
-pub returns-in_err-move_on : goal.returns-in_err-move_on
-returns-in_err-move_on c = after_then c.args.mesh.now c.events.mesh c.move_on.new.mesh c.events.invariant c.move_on.ensures.after
+pub returns-in_err-move_on-clause-after : goal.returns-in_err-move_on-clause-after
+returns-in_err-move_on-clause-after c = after_then c.args.mesh.now c.events.mesh c.move_on.new.mesh c.events.invariant.after c.move_on.ensures.after
+
+pub returns-in_err-move_on-clause-links : goal.returns-in_err-move_on-clause-links
+returns-in_err-move_on-clause-links c =
+    drops_then c.args.mesh.now c.events.mesh c.move_on.new.mesh (after_setup c.args.mesh.now c.events.mesh c.events.invariant.after) c.events.invariant.links c.move_on.ensures.links

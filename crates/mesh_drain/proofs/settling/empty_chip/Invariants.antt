@@ -1,9 +1,13 @@
-use Rattle.mesh_drain.specs.Draining.{IsAfter}
+use Rattle.mesh_drain.specs.Draining.{AreCollected, DropsAtNoVertex, IsAfter}
 use Rattle.mesh_drain.specs.UnderWay.{weight_in}
 use Rattle.mesh_drain.proofs.settling.empty_chip.Given as goal
 
 abbrev pub invariant-events : goal.invariant-events
-invariant-events l = IsAfter l.fn.mesh l.mesh
+invariant-events l = record {
+  after : IsAfter l.fn.mesh l.mesh;
+  links : DropsAtNoVertex l.fn.mesh l.mesh;
+  collected : AreCollected l.mesh;
+}
 
 -- what the marks weigh
 abbrev pub decreases-events : goal.decreases-events

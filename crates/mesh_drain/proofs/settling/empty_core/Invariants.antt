@@ -1,9 +1,16 @@
-use Rattle.mesh_drain.specs.Draining.{IsAfter}
+use Rattle.std.proofs.Common.{◌≡◌, List, set}
+use Rattle.spin_base.specs.declared.copies.McCopy.{McCopy}
+use Rattle.mesh_drain.specs.Draining.{IsReachedDropless, IsSameBesidesCores}
 use Rattle.mesh_drain.specs.UnderWay.{weight_in}
 use Rattle.mesh_drain.proofs.settling.empty_core.Given as goal
 
+-- the vertex's queue alone has changed
 abbrev pub invariant-copies : goal.invariant-copies
-invariant-copies l = IsAfter l.fn.mesh l.mesh
+invariant-copies l = record {
+  reached : IsReachedDropless l.fn.mesh l.mesh;
+  others : IsSameBesidesCores l.fn.mesh l.mesh;
+  there : (q : List McCopy) × (l.mesh.cores ≡ set l.fn.mesh.cores l.vertex q);
+}
 
 -- what the marks weigh
 abbrev pub decreases-copies : goal.decreases-copies

@@ -1,20 +1,43 @@
 use Rattle.std.proofs.Common.{arith}
 use Rattle.mesh_core.specs.Expected.{NothingWaits}
-use Rattle.mesh_drain.proofs.Moving.{after_then, after_lighter, moved_on, waits_somewhere}
+use Rattle.mesh_drain.proofs.Frame.{dumped_reached}
+use Rattle.mesh_drain.proofs.Moving.{after_moved, after_setup, after_then, after_lighter, mesh_after, moved_none, moved_on, moved_then, waits_somewhere}
+use Rattle.mesh_drain.proofs.Vertices.{drops_none, drops_then, quiet_still}
 use Rattle.mesh_drain.proofs.settling.settle.Goals as goal
+
+pub returns-in_err-empty_cores-clause-moved : goal.returns-in_err-empty_cores-clause-moved
+returns-in_err-empty_cores-clause-moved c =
+    moved_then c.args.mesh.now c.args.mesh.now c.empty_cores.new.mesh (moved_none c.args.mesh.now) c.empty_cores.ensures.reached
+
+pub returns-in_err-empty_cores-clause-links : goal.returns-in_err-empty_cores-clause-links
+returns-in_err-empty_cores-clause-links c =
+    drops_none c.args.mesh.now c.empty_cores.new.mesh (dumped_reached c.args.mesh.now c.empty_cores.new.mesh c.empty_cores.ensures.reached)
+
+pub sweeps-init : goal.sweeps-init
+sweeps-init c = record {
+  moved = moved_then c.args.mesh.now c.args.mesh.now c.empty_cores.new.mesh (moved_none c.args.mesh.now) c.empty_cores.ensures.reached;
+  links = drops_none c.args.mesh.now c.empty_cores.new.mesh (dumped_reached c.args.mesh.now c.empty_cores.new.mesh c.empty_cores.ensures.reached);
+  collected = c.in_ok-empty_cores.ensures.collected;
+  still = quiet_still c.args.mesh.now c.empty_cores.new.mesh c.empty_cores.ensures.others c.in_ok-empty_cores.ensures.collected;
+}
 
 pub sweeps-smaller : goal.sweeps-smaller
 sweeps-smaller c =
     let one = c.in_ok-move_on.ensures.lighter in
-    let all = after_lighter c.move_on.new.mesh c.sweep.new.mesh c.every_mesh_is_one.ensures c.sweep.ensures in
+    let mesh = mesh_after c.sweeps.mesh c.move_on.new.mesh c.every_mesh_is_one.ensures c.move_on.ensures.after in
+    let all = after_lighter c.move_on.new.mesh c.sweep.new.mesh mesh c.sweep.ensures.after in
     omega (arith, one, all)
 
 pub sweeps-preserved : goal.sweeps-preserved
 sweeps-preserved c =
     let none : NothingWaits c.args.mesh.now → ⊥ = λ quiet. waits_somewhere c.sweeps.mesh c.in-Some.at c.in-Some.ensures.some (c.sweeps.invariant.still quiet) in
+    let after = after_then c.sweeps.mesh c.move_on.new.mesh c.sweep.new.mesh c.move_on.ensures.after c.sweep.ensures.after in
+    let links = drops_then c.sweeps.mesh c.move_on.new.mesh c.sweep.new.mesh (after_setup c.sweeps.mesh c.move_on.new.mesh c.move_on.ensures.after) c.move_on.ensures.links c.sweep.ensures.links in
     record {
-      moved = moved_on c.args.mesh.now c.sweeps.mesh c.sweep.new.mesh c.sweeps.invariant.moved none
-          (after_then c.sweeps.mesh c.move_on.new.mesh c.sweep.new.mesh c.move_on.ensures.after c.sweep.ensures);
+      moved = moved_on c.args.mesh.now c.sweeps.mesh c.sweep.new.mesh c.sweeps.invariant.moved none after;
+      links = drops_then c.args.mesh.now c.sweeps.mesh c.sweep.new.mesh (after_setup c.args.mesh.now c.sweeps.mesh (after_moved c.args.mesh.now c.sweeps.mesh c.sweeps.invariant.moved))
+          c.sweeps.invariant.links links;
+      collected = c.in_ok-sweep.ensures.collected;
       still = λ quiet. absurd (none quiet);
     }
 
@@ -23,8 +46,19 @@ returns-in_err-move_on-clause-moved c =
     moved_on c.args.mesh.now c.sweeps.mesh c.move_on.new.mesh c.sweeps.invariant.moved
     (λ quiet. waits_somewhere c.sweeps.mesh c.in-Some.at c.in-Some.ensures.some (c.sweeps.invariant.still quiet)) c.move_on.ensures.after
 
+pub returns-in_err-move_on-clause-links : goal.returns-in_err-move_on-clause-links
+returns-in_err-move_on-clause-links c =
+    drops_then c.args.mesh.now c.sweeps.mesh c.move_on.new.mesh (after_setup c.args.mesh.now c.sweeps.mesh (after_moved c.args.mesh.now c.sweeps.mesh c.sweeps.invariant.moved))
+    c.sweeps.invariant.links c.move_on.ensures.links
+
 pub returns-in_err-sweep-clause-moved : goal.returns-in_err-sweep-clause-moved
 returns-in_err-sweep-clause-moved c =
     moved_on c.args.mesh.now c.sweeps.mesh c.sweep.new.mesh c.sweeps.invariant.moved
     (λ quiet. waits_somewhere c.sweeps.mesh c.in-Some.at c.in-Some.ensures.some (c.sweeps.invariant.still quiet))
-    (after_then c.sweeps.mesh c.move_on.new.mesh c.sweep.new.mesh c.move_on.ensures.after c.sweep.ensures)
+    (after_then c.sweeps.mesh c.move_on.new.mesh c.sweep.new.mesh c.move_on.ensures.after c.sweep.ensures.after)
+
+pub returns-in_err-sweep-clause-links : goal.returns-in_err-sweep-clause-links
+returns-in_err-sweep-clause-links c =
+    let links = drops_then c.sweeps.mesh c.move_on.new.mesh c.sweep.new.mesh (after_setup c.sweeps.mesh c.move_on.new.mesh c.move_on.ensures.after) c.move_on.ensures.links c.sweep.ensures.links in
+    drops_then c.args.mesh.now c.sweeps.mesh c.sweep.new.mesh (after_setup c.args.mesh.now c.sweeps.mesh (after_moved c.args.mesh.now c.sweeps.mesh c.sweeps.invariant.moved))
+    c.sweeps.invariant.links links

@@ -1,12 +1,14 @@
 use Rattle.mesh_core.specs.Expected.{NothingWaits}
 use Rattle.mesh_drain.specs.UnderWay.{weight_in}
-use Rattle.mesh_drain.specs.Draining.{IsMoved}
+use Rattle.mesh_drain.specs.Draining.{AreCollected, DropsAtNoVertex, IsMoved}
 use Rattle.mesh_drain.proofs.settling.settle.Given as goal
 
 -- where nothing waited, nothing waits
 abbrev pub invariant-sweeps : goal.invariant-sweeps
 invariant-sweeps l = record {
   moved : IsMoved l.fn.mesh l.mesh;
+  links : DropsAtNoVertex l.fn.mesh l.mesh;
+  collected : AreCollected l.mesh;
   still : NothingWaits l.fn.mesh → NothingWaits l.mesh;
 }
 

@@ -1,28 +1,32 @@
-use Rattle.std.proofs.Common.{◌<◌, length, ap, arith, subst}
-use Rattle.mesh_drain.proofs.Moving.{after_none, after_then, there_after}
-use Rattle.mesh_drain.proofs.Packets.{few_in_mesh}
+use Rattle.std.proofs.Common.{◌*◌, ap, ◌∙◌, sym, arith, refl}
+use Rattle.machine_desc.specs.Description.{Description}
+use Rattle.mesh_core.specs.State.{Setup}
+use Rattle.mesh_drain.proofs.Moving.{after_none, after_then, after_setup}
+use Rattle.mesh_drain.proofs.Vertices.{drops_none, drops_then}
 use Rattle.mesh_drain.proofs.settling.sweep.Goals as goal
 
-pub loop-vertex-init : goal.loop-vertex-init
-loop-vertex-init c = after_none c.args.mesh.now
+pub loop-index-init : goal.loop-index-init
+loop-index-init c = record { after = after_none c.args.mesh.now; links = drops_none c.args.mesh.now c.args.mesh.now refl; collected = c.requires }
 
-pub overflow_cast-vertex : goal.overflow_cast-vertex
-overflow_cast-vertex c =
-    let few = few_in_mesh c.args.mesh.now c.every_mesh_is_one.ensures in
-    let list = ap length c.spots-vertices.ensures in
-    let below = c.loop-vertex-test.true in
-    omega (arith, few, list, below)
+pub loop-index-preserved : goal.loop-index-preserved
+loop-index-preserved c = record {
+  after = after_then c.args.mesh.now c.loop-index.mesh c.empty_chip.new.mesh c.loop-index.invariant.after c.empty_chip.ensures.after;
+  links = drops_then c.args.mesh.now c.loop-index.mesh c.empty_chip.new.mesh (after_setup c.args.mesh.now c.loop-index.mesh c.loop-index.invariant.after)
+      c.loop-index.invariant.links c.empty_chip.ensures.links;
+  collected = c.in_ok-empty_chip.ensures.collected;
+}
 
-pub empty_core-requires : goal.empty_core-requires
-empty_core-requires c =
-    there_after c.args.mesh.now c.loop-vertex.mesh c.loop-vertex.vertex c.loop-vertex.invariant
-    (subst (λ l. c.loop-vertex.vertex < length l) c.spots-vertices.ensures c.loop-vertex-test.true)
+pub returns-in_err-empty_chip-clause-after : goal.returns-in_err-empty_chip-clause-after
+returns-in_err-empty_chip-clause-after c = after_then c.args.mesh.now c.loop-index.mesh c.empty_chip.new.mesh c.loop-index.invariant.after c.empty_chip.ensures.after
 
-pub loop-vertex-preserved : goal.loop-vertex-preserved
-loop-vertex-preserved c = after_then c.args.mesh.now c.loop-vertex.mesh c.empty_core.new.mesh c.loop-vertex.invariant c.empty_core.ensures
+pub returns-in_err-empty_chip-clause-links : goal.returns-in_err-empty_chip-clause-links
+returns-in_err-empty_chip-clause-links c =
+    drops_then c.args.mesh.now c.loop-index.mesh c.empty_chip.new.mesh (after_setup c.args.mesh.now c.loop-index.mesh c.loop-index.invariant.after)
+    c.loop-index.invariant.links c.empty_chip.ensures.links
 
-pub returns : goal.returns
-returns c = after_then c.args.mesh.now c.loop-vertex.mesh c.empty_chips.new.mesh c.loop-vertex.invariant c.empty_chips.ensures
-
-pub returns-in_err-empty_core : goal.returns-in_err-empty_core
-returns-in_err-empty_core c = after_then c.args.mesh.now c.loop-vertex.mesh c.empty_core.new.mesh c.loop-vertex.invariant c.empty_core.ensures
+pub chip_at-chip-requires : goal.chip_at-chip-requires
+chip_at-chip-requires c =
+    let total = c.chips-chips.ensures.total in
+    let now = ap (λ (m : Description). m.width * m.height) (c.machine-in-loop-index.ensures ∙ (ap (λ (u : Setup). u.machine) (after_setup c.args.mesh.now c.loop-index.mesh c.loop-index.invariant.after) ∙ sym c.machine.ensures)) in
+    let below = c.loop-index-test.true in
+    omega (arith, total, now, below)

@@ -1,5 +1,9 @@
-use Rattle.mesh_drain.specs.Draining.{IsAfter}
+use Rattle.mesh_drain.specs.Draining.{AreCollected, DropsAtNoVertex, IsAfter}
 use Rattle.mesh_drain.proofs.settling.sweep.Given as goal
 
-abbrev pub invariant-loop-vertex : goal.invariant-loop-vertex
-invariant-loop-vertex l = IsAfter l.fn.mesh l.mesh
+abbrev pub invariant-loop-index : goal.invariant-loop-index
+invariant-loop-index l = record {
+  after : IsAfter l.fn.mesh l.mesh;
+  links : DropsAtNoVertex l.fn.mesh l.mesh;
+  collected : AreCollected l.mesh;
+}

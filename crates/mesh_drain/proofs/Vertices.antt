@@ -1,0 +1,249 @@
+-- No copy is dropped at an output that leads to a vertex, where none waits for one.
+use Rattle.std.proofs.Common.{◌≡◌, ℕ, ◌+◌, ◌<◌, ◌≤◌, refl, sym, ap, ◌∙◌, subst, arith, Bool, true, false, ◌&&◌, not, if◌then◌else◌, List, [], ◌∷◌, ◌++◌, append_assoc, append-nil, length, set, get_or, Option, Some, None, unwrap_or}
+use Rattle.std.specs.List.{slice_get, All}
+use Rattle.std.specs.Prelude.{OnErr, OnOk, Result, Ok, Err}
+use Rattle.std.proofs.Math.Seq.{set-get_or}
+use Rattle.std.proofs.lemmas.Bool.{lt-ltb}
+use Rattle.std.proofs.lemmas.List.{get_or_default}
+use Rattle.std.proofs.lemmas.List.Elements.{All-nil, All-cons, All-append}
+use Rattle.std.proofs.lemmas.Option.{slice_get-get_or, slice_get_within}
+use Rattle.spin_base.specs.declared.chips.Chip.{Chip}
+use Rattle.spin_base.specs.declared.chips.Dir.{Dir}
+use Rattle.spin_base.specs.declared.chips.Port.{Port}
+use Rattle.spin_base.specs.declared.routes.Out.{Out}
+use Rattle.spin_base.specs.declared.routes.Out.TheVariants.{Link, Core}
+use Rattle.spin_base.specs.declared.copies.McCopy.{McCopy}
+use Rattle.spin_base.specs.declared.wants.Memory.{Memory}
+use Rattle.spin_base.specs.declared.copies.DumpRec.{DumpRec}
+use Rattle.spin_base.specs.declared.copies.Event.TheVariants.{Take, Send, Dump, Collect}
+use Rattle.spin_base.specs.Hops.{onward}
+use Rattle.spin_base.proofs.Places.{All-at, slice_get-set_same, set-slice_get, set_put_back}
+use Rattle.machine_desc.specs.Live.{index_of, is_live_link, far_of}
+use Rattle.mesh_core.specs.Expected.{NothingWaits}
+use Rattle.mesh_core.specs.State.{Setup, State, Hand, IsMesh, Queue, input, core, nowhere, core_queue_of, behind, behind_link, vertex_behind, queue_at}
+use Rattle.mesh_core.specs.Step.{has_room_behind, has_room, push_at, push_behind, after_serving, serves, send_of, dump_of, collect_of, after_event}
+use Rattle.mesh_core.proofs.Fixed.{by_take, by_dump, by_collect, after_event_setup, dumped_stays}
+use Rattle.mesh_core.proofs.Keeping.{input_is_no_core, same_core, core_is_somewhere}
+use Rattle.mesh_core.proofs.Ways.{vertex_behind_stands}
+use Rattle.mesh_drain.specs.Draining.{AreCollected, DropsAtNoVertex, IsSameBesidesCores, LeadsToNoVertex, collected_from}
+use Rattle.mesh_drain.proofs.Steps.{set_twice}
+use Rattle.mesh_drain.proofs.Turns.{one_vertex_more}
+
+-- ---- one after the other
+
+pub drops_none : (s t : State) → t.dumped ≡ s.dumped → DropsAtNoVertex s t
+drops_none s t same = record { come = []; is = same ∙ sym (append-nil s.dumped); lead_on = All-nil (LeadsToNoVertex s.setup) }
+
+pub drops_then : (s t u : State) → t.setup ≡ s.setup → DropsAtNoVertex s t → DropsAtNoVertex t u → DropsAtNoVertex s u
+drops_then s t u setup first rest = record {
+  come = first.come ++ rest.come;
+  is = rest.is ∙ (ap (λ l. l ++ rest.come) first.is ∙ append_assoc s.dumped first.come rest.come);
+  lead_on = All-append (LeadsToNoVertex s.setup) first.come rest.come first.lead_on (subst (λ v. All (LeadsToNoVertex v) rest.come) setup rest.lead_on);
+}
+
+-- ---- where no copy waits for a vertex
+
+-- none takes one
+pub collect_still : (s : State) (v : ℕ) → AreCollected s → after_event s (Collect v) ≡ s
+collect_still s v none = by_queue (slice_get s.cores v) refl
+  where
+    by_queue : (q : Option (List McCopy)) → slice_get s.cores v ≡ q → unwrap_or (collect_of s v q) s ≡ s
+    by_queue (Some []) at = refl
+    by_queue (Some (k ∷ rest)) at = absurd (cons_nil (All-at (λ (l : List McCopy). l ≡ []) s.cores v (k ∷ rest) none at))
+      where
+        cons_nil : k ∷ rest ≡ [] → ⊥
+        cons_nil e = cc
+    by_queue None at = refl
+
+pub take_collected : (s : State) (c : Chip) (port : Port) → AreCollected s → AreCollected (after_event s (Take c port))
+take_collected s c port none =
+    by_take AreCollected s none (λ l h. none) c port (slice_get s.hands (index_of s.setup.machine c)) (slice_get s.inputs (queue_at s.setup.machine c port))
+
+-- a copy that comes into a queue, and is collected where that is a vertex's
+pushed_collected : (u : State) → AreCollected u → (b : Queue) (k : McCopy) → AreCollected (collected_from (push_behind u b k) b)
+pushed_collected u none (input i) k = none
+pushed_collected u none (core v) k = by_queue (slice_get u.cores v) refl
+  where
+    by_queue : (q : Option (List McCopy)) → slice_get u.cores v ≡ q → AreCollected (after_event (record u { cores = push_at u.cores v k q }) (Collect v))
+    by_queue (Some q) at =
+        let empty : q ≡ [] = All-at (λ (l : List McCopy). l ≡ []) u.cores v q none at in
+        let there : slice_get u.cores v ≡ Some [] = at ∙ ap Some empty in
+        let t : State = record u { cores = set u.cores v (k ∷ []) } in
+        let end : State = record u { delivered = u.delivered ++ record { vertex = v; copy = k } ∷ [] } in
+        let last : after_event t (Collect v) ≡ end =
+        ap (λ x. unwrap_or (collect_of t v x) t) (slice_get-set_same u.cores v [] (k ∷ []) there)
+        ∙ ap (λ l. record end { cores = l }) (set_put_back u.cores v [] (k ∷ []) there)
+        in
+        let full : List (List McCopy) → State = λ l. record u { cores = l } in
+        subst (λ x. AreCollected (after_event (full (set u.cores v (x ++ k ∷ []))) (Collect v))) (sym empty) (subst AreCollected (sym last) none)
+    by_queue None at = subst AreCollected (sym (collect_still u v none)) none
+pushed_collected u none nowhere k = none
+
+still_collected : (s : State) → AreCollected s → (b : Queue) → AreCollected (collected_from s b)
+still_collected s none (input i) = none
+still_collected s none (core v) = subst AreCollected (sym (collect_still s v none)) none
+still_collected s none nowhere = none
+
+-- a copy that a router sent, and that was collected
+sent_collected : (s : State) (c : Chip) (o : Out) → AreCollected s → AreCollected (collected_from (after_event s (Send c o)) (behind s.setup c o))
+sent_collected s c o none = by_hand (slice_get s.hands (index_of s.setup.machine c))
+  where
+    b : Queue
+    b = behind s.setup c o
+
+    P : State → Type 0
+    P t = AreCollected (collected_from t (behind s.setup c o))
+
+    by_test : (x : Bool) (t : State) → AreCollected (collected_from t (behind s.setup c o)) → AreCollected (collected_from (unwrap_or (if x then Some t else None) s) (behind s.setup c o))
+    by_test true t moved = moved
+    by_test false t moved = still_collected s none (behind s.setup c o)
+
+    by_hand : (hand : Option (Option Hand)) → AreCollected (collected_from (unwrap_or (send_of s c o hand) s) (behind s.setup c o))
+    by_hand (Some (Some h)) =
+        by_test (serves s c o (Some (Some h)) && has_room_behind s (behind s.setup c o)) (push_behind (after_serving s c o h) (behind s.setup c o) (onward h.copy))
+        (pushed_collected (after_serving s c o h) none (behind s.setup c o) (onward h.copy))
+    by_hand (Some None) = still_collected s none (behind s.setup c o)
+    by_hand None = still_collected s none (behind s.setup c o)
+
+pub served_collected : (s t u : State) (c : Chip) (o : Out) → AreCollected s → t ≡ after_event s (Send c o) → u ≡ collected_from t (behind t.setup c o) → AreCollected u
+served_collected s t u c o none sent is =
+    let same : behind t.setup c o ≡ behind s.setup c o = ap (λ (x : State). behind x.setup c o) sent ∙ ap (λ v. behind v c o) (after_event_setup s (Send c o)) in
+    subst AreCollected (sym (is ∙ (ap (collected_from t) same ∙ ap (λ x. collected_from x (behind s.setup c o)) sent))) (sent_collected s c o none)
+
+-- ---- a copy is dropped
+
+-- the vertex behind an output is there
+core_there : (u : Setup) (c : Chip) (o : Out) (v : ℕ) → behind u c o ≡ core v → v < length u.spots
+core_there u c o v is = by_output o is
+  where
+    by_vertex : (p : Out) (w : Option ℕ) → vertex_behind u.spots c p ≡ w → core_queue_of w ≡ core v → v < length u.spots
+    by_vertex p (Some w) found same =
+        let stands = vertex_behind_stands u.spots c p w found in
+        subst (λ x. x < length u.spots) (same_core w v same) (slice_get_within u.spots w stands.0 stands.1)
+    by_vertex p None found same = absurd (core_is_somewhere (sym same))
+
+    by_link : (d : Dir) (live : Bool) (far : Option Chip) → behind_link u c d live far ≡ core v → v < length u.spots
+    by_link d true (Some e) there = absurd (input_is_no_core there)
+    by_link d true None there = absurd (core_is_somewhere (sym there))
+    by_link d false far there = by_vertex (Link d) (vertex_behind u.spots c (Link d)) refl there
+
+    by_output : (p : Out) → behind u c p ≡ core v → v < length u.spots
+    by_output (Link d) there = by_link d (is_live_link u.machine c d) (far_of u.machine c d) there
+    by_output (Core n) there = by_vertex (Core n) (vertex_behind u.spots c (Core n)) refl there
+
+-- a copy that is dropped is not dropped at a vertex: its queue has room
+pub dump_leads_on : (s : State) (c : Chip) (o : Out) → IsMesh s → AreCollected s → DropsAtNoVertex s (after_event s (Dump c o))
+dump_leads_on s c o mesh none = by_hand (slice_get s.hands (index_of s.setup.machine c))
+  where
+    room_at : (v : ℕ) → behind s.setup c o ≡ core v → has_room_behind s (behind s.setup c o) ≡ true
+    room_at v is =
+        let below = core_there s.setup c o v is in
+        let lists = mesh.core_lists in
+        let there : slice_get s.cores v ≡ Some (get_or s.cores v []) = slice_get-get_or s.cores v [] (omega (arith, below, lists)) in
+        let empty : get_or s.cores v [] ≡ [] = All-at (λ (l : List McCopy). l ≡ []) s.cores v (get_or s.cores v []) none there in
+        ap (has_room_behind s) is ∙ (ap (has_room s.setup.capacity) (there ∙ ap Some empty) ∙ lt-ltb 0 s.setup.capacity mesh.room)
+
+    by_room : (h : Hand) (served room : Bool) → has_room_behind s (behind s.setup c o) ≡ room →
+        DropsAtNoVertex s (unwrap_or (if served && not room then (let next = after_serving s c o h in Some (record next { dumped = next.dumped ++ record { chip = c; out = o; copy = h.copy } ∷ [] })) else None) s)
+    by_room h true true full = drops_none s s refl
+    by_room h true false full =
+        let one : DumpRec = record { chip = c; out = o; copy = h.copy } in
+        record {
+          come = one ∷ [];
+          is = refl;
+          lead_on = All-cons (LeadsToNoVertex s.setup) one [] (λ v is. full_no (room_at v is) full) (All-nil (LeadsToNoVertex s.setup));
+        }
+      where
+        full_no : has_room_behind s (behind s.setup c o) ≡ true → has_room_behind s (behind s.setup c o) ≡ false → ⊥
+        full_no yes' no' = cc
+    by_room h false room full = drops_none s s refl
+
+    by_hand : (hand : Option (Option Hand)) → DropsAtNoVertex s (unwrap_or (dump_of s c o hand) s)
+    by_hand (Some (Some h)) = by_room h (serves s c o (Some (Some h))) (has_room_behind s (behind s.setup c o)) refl
+    by_hand (Some None) = drops_none s s refl
+    by_hand None = drops_none s s refl
+
+pub dump_collected : (s : State) (c : Chip) (o : Out) → AreCollected s → AreCollected (after_event s (Dump c o))
+dump_collected s c o none = by_dump AreCollected s none (λ h l. none) c o (slice_get s.hands (index_of s.setup.machine c))
+
+-- ---- vertices take what waits for them
+
+pub same_besides : (s : State) → IsSameBesidesCores s s
+same_besides s = record { inputs = refl; hands = refl }
+
+pub same_then : (s t u : State) → IsSameBesidesCores s t → IsSameBesidesCores t u → IsSameBesidesCores s u
+same_then s t u first rest = record { inputs = rest.inputs ∙ first.inputs; hands = rest.hands ∙ first.hands }
+
+pub collect_besides : (s t : State) (v : ℕ) → t ≡ after_event s (Collect v) → IsSameBesidesCores s t
+collect_besides s t v is =
+    subst (IsSameBesidesCores s) (sym is)
+    (by_collect (IsSameBesidesCores s) s (same_besides s) (λ l d. record { inputs = refl; hands = refl }) v (slice_get s.cores v))
+
+-- the vertex's queue alone changes
+pub collect_there : (s t : State) (v : ℕ) → t ≡ after_event s (Collect v) → (q : List McCopy) × (t.cores ≡ set s.cores v q)
+collect_there s t v is = by_queue (slice_get s.cores v) refl
+  where
+    from : (q : Option (List McCopy)) → slice_get s.cores v ≡ q → t ≡ unwrap_or (collect_of s v q) s
+    from q at = is ∙ ap (λ x. unwrap_or (collect_of s v x) s) at
+
+    stays : t ≡ s → (q : List McCopy) × (t.cores ≡ set s.cores v q)
+    stays same = (get_or s.cores v [], ap (λ (x : State). x.cores) same ∙ sym (set-get_or s.cores v []))
+
+    by_queue : (q : Option (List McCopy)) → slice_get s.cores v ≡ q → (r : List McCopy) × (t.cores ≡ set s.cores v r)
+    by_queue (Some (k ∷ rest)) at = (rest, ap (λ (x : State). x.cores) (from (Some (k ∷ rest)) at))
+    by_queue (Some []) at = stays (from (Some []) at)
+    by_queue None at = stays (from None at)
+
+-- where nothing waited, nothing waits
+pub quiet_still : (s t : State) → IsSameBesidesCores s t → AreCollected t → NothingWaits s → NothingWaits t
+quiet_still s t same none quiet = record {
+  inputs_empty = subst (All (λ q. q ≡ [])) (sym same.inputs) quiet.inputs_empty;
+  hands_empty = subst (All (λ h. h ≡ None)) (sym same.hands) quiet.hands_empty;
+  cores_empty = none;
+}
+
+-- all vertices have taken what waited for them
+pub all_collected : (s : State) (n : ℕ) → IsMesh s → length s.setup.spots ≤ n → ((i : ℕ) → i < n → get_or s.cores i [] ≡ []) → AreCollected s
+all_collected s n mesh all before = λ i d below.
+    let long = mesh.core_lists in
+    get_or_default s.cores i d [] below ∙ before i (omega (arith, below, long, all))
+
+-- one vertex has taken all that waited for it
+pub collected_there : (before now : List (List McCopy)) (v : ℕ) (q : List McCopy) → now ≡ set before v q → slice_get now v ≡ Some [] → now ≡ set before v []
+collected_there before now v q is empty = sym (set-slice_get now v [] empty) ∙ (ap (λ l. set l v []) is ∙ set_twice before v q [])
+
+-- a vertex more has taken what waited for it
+pub one_more_collected : (s t : State) (v : ℕ) → IsMesh s → v < length s.setup.spots → t.cores ≡ set s.cores v [] → ((i : ℕ) → i < v → get_or s.cores i [] ≡ []) →
+    (i : ℕ) → i < v + 1 → get_or t.cores i [] ≡ []
+one_more_collected s t v mesh below is before = let long = mesh.core_lists in one_vertex_more s.cores t.cores v (omega (arith, below, long)) is before
+
+pub as_it_was : (lists : List (List McCopy)) (v : ℕ) → (q : List McCopy) × (lists ≡ set lists v q)
+as_it_was lists v = (get_or lists v [], sym (set-get_or lists v []))
+
+-- ---- an event that is enabled was taken, or memory ran out
+
+-- whatever the answer
+either_way : {T : Type 0} {A B P : Type 0} (r : Result T Memory) → OnOk r A → OnErr r B → (A → P) → (B → P) → P
+either_way (Ok x) ok err by by' = by ok
+either_way (Err e) ok err by by' = by' err
+
+pub dumped_leads_on : {T : Type 0} (s t u : State) (c : Chip) (o : Out) (r : Result T Memory) → IsMesh s → AreCollected s → t ≡ s →
+    OnOk r (u ≡ after_event t (Dump c o)) → OnErr r (u ≡ t) → DropsAtNoVertex s u
+dumped_leads_on s t u c o r mesh none same ok err =
+    either_way r ok err
+    (λ is. subst (DropsAtNoVertex s) (sym (is ∙ ap (λ x. after_event x (Dump c o)) same)) (dump_leads_on s c o mesh none))
+    (λ is. drops_none s u (ap (λ (x : State). x.dumped) (is ∙ same)))
+
+pub dumped_collected : {T : Type 0} (s t u : State) (c : Chip) (o : Out) (r : Result T Memory) → AreCollected s → t ≡ s → OnOk r (u ≡ after_event t (Dump c o)) → OnOk r (AreCollected u)
+dumped_collected s t u c o (Ok x) none same is = subst AreCollected (sym (is ∙ ap (λ y. after_event y (Dump c o)) same)) (dump_collected s c o none)
+dumped_collected s t u c o (Err e) none same is = tt
+
+pub taken_drops : {T : Type 0} (s u : State) (c : Chip) (port : Port) (r : Result T Memory) → OnOk r (u ≡ after_event s (Take c port)) → OnErr r (u ≡ s) → DropsAtNoVertex s u
+taken_drops s u c port r ok err =
+    either_way r ok err
+    (λ is. drops_none s u (ap (λ (x : State). x.dumped) is ∙ dumped_stays s (Take c port) tt))
+    (λ is. drops_none s u (ap (λ (x : State). x.dumped) is))
+
+pub taken_collected : {T : Type 0} (s u : State) (c : Chip) (port : Port) (r : Result T Memory) → AreCollected s → OnOk r (u ≡ after_event s (Take c port)) → OnOk r (AreCollected u)
+taken_collected s u c port (Ok x) none is = subst AreCollected (sym is) (take_collected s c port none)
+taken_collected s u c port (Err e) none is = tt

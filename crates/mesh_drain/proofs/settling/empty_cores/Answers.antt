@@ -1,0 +1,51 @@
+use Rattle.std.proofs.Common.{List, ◌<◌, ◌≤◌, length, ap, ◌∙◌, sym, arith, subst}
+use Rattle.spin_base.specs.declared.chips.Spot.{Spot}
+use Rattle.mesh_core.specs.State.{Setup}
+use Rattle.mesh_drain.proofs.Frame.{reached_none, reached_then, setup_reached}
+use Rattle.mesh_drain.proofs.Moving.{after_reached, mesh_after}
+use Rattle.mesh_drain.proofs.Packets.{few_in_mesh}
+use Rattle.mesh_drain.proofs.Turns.{there_still}
+use Rattle.mesh_drain.proofs.Vertices.{same_besides, same_then, one_more_collected, all_collected}
+use Rattle.mesh_drain.proofs.settling.empty_cores.Goals as goal
+
+pub loop-vertex-init : goal.loop-vertex-init
+loop-vertex-init c = record { reached = reached_none c.args.mesh.now; others = same_besides c.args.mesh.now; before = λ i none. absurd (omega (arith, none)) }
+
+pub overflow_cast-vertex : goal.overflow_cast-vertex
+overflow_cast-vertex c =
+    let few = few_in_mesh c.args.mesh.now c.every_mesh_is_one.ensures in
+    let list = ap length c.spots-vertices.ensures in
+    let below = c.loop-vertex-test.true in
+    omega (arith, few, list, below)
+
+pub empty_core-requires : goal.empty_core-requires
+empty_core-requires c =
+    there_still c.args.mesh.now c.loop-vertex.mesh c.loop-vertex.vertex c.loop-vertex.invariant.reached
+    (subst (λ l. c.loop-vertex.vertex < length l) c.spots-vertices.ensures c.loop-vertex-test.true)
+
+pub loop-vertex-preserved : goal.loop-vertex-preserved
+loop-vertex-preserved c =
+    let mesh = mesh_after c.args.mesh.now c.loop-vertex.mesh c.every_mesh_is_one.ensures (after_reached c.args.mesh.now c.loop-vertex.mesh c.loop-vertex.invariant.reached) in
+    let below = there_still c.args.mesh.now c.loop-vertex.mesh c.loop-vertex.vertex c.loop-vertex.invariant.reached
+    (subst (λ l. c.loop-vertex.vertex < length l) c.spots-vertices.ensures c.loop-vertex-test.true)
+    in
+    record {
+      reached = reached_then c.args.mesh.now c.loop-vertex.mesh c.empty_core.new.mesh c.loop-vertex.invariant.reached c.empty_core.ensures.reached;
+      others = same_then c.args.mesh.now c.loop-vertex.mesh c.empty_core.new.mesh c.loop-vertex.invariant.others c.empty_core.ensures.others;
+      before = one_more_collected c.loop-vertex.mesh c.empty_core.new.mesh c.loop-vertex.vertex mesh below c.in_ok-empty_core.ensures.emptied c.loop-vertex.invariant.before;
+    }
+
+pub returns-clause-collected : goal.returns-clause-collected
+returns-clause-collected c =
+    let mesh = mesh_after c.args.mesh.now c.loop-vertex.mesh c.every_mesh_is_one.ensures (after_reached c.args.mesh.now c.loop-vertex.mesh c.loop-vertex.invariant.reached) in
+    let kept = ap (λ (u : Setup). u.spots) (setup_reached c.args.mesh.now c.loop-vertex.mesh c.loop-vertex.invariant.reached) in
+    all_collected c.loop-vertex.mesh c.loop-vertex.vertex mesh
+    (subst (λ (l : List Spot). length l ≤ c.loop-vertex.vertex) (c.spots-vertices.ensures ∙ sym kept) c.loop-vertex-test.false) c.loop-vertex.invariant.before
+
+pub returns-in_err-empty_core-clause-reached : goal.returns-in_err-empty_core-clause-reached
+returns-in_err-empty_core-clause-reached c =
+    reached_then c.args.mesh.now c.loop-vertex.mesh c.empty_core.new.mesh c.loop-vertex.invariant.reached c.empty_core.ensures.reached
+
+pub returns-in_err-empty_core-clause-others : goal.returns-in_err-empty_core-clause-others
+returns-in_err-empty_core-clause-others c =
+    same_then c.args.mesh.now c.loop-vertex.mesh c.empty_core.new.mesh c.loop-vertex.invariant.others c.empty_core.ensures.others
