@@ -39,8 +39,8 @@ first_entry (r ∷ rows) k row first = by_test (first_entry rows k row) (takes_k
     by_test behind false same = behind same
 
 no_entry : (rows : List RoutedBlock) (k : ℕ) → first_with rows k ≡ None → find (λ (e : Entry). matches e k) (map entry_at rows) ≡ None
-no_entry [] k none = refl
-no_entry (r ∷ rows) k none = by_test (no_entry rows k) (takes_key k r) none
+no_entry [] k absent = refl
+no_entry (r ∷ rows) k absent = by_test (no_entry rows k) (takes_key k r) absent
   where
     by_test : (first_with rows k ≡ None → find (λ (e : Entry). matches e k) (map entry_at rows) ≡ None) → (b : Bool) → cond b (Some r) (first_with rows k) ≡ None
         → cond b (Some (entry_at r)) (find (λ (e : Entry). matches e k) (map entry_at rows)) ≡ None
@@ -56,7 +56,7 @@ keeps_table exact given rows kept keeps no_new few = record {
   routes = λ k row small first.
       let way = keeps k row small first in
       record { entry = entry_at way.row; first = first_entry rows k way.row way.first; by = way.by };
-  keys = λ is k small none. no_entry rows k (no_new is k small none);
+  keys = λ is k small absent. no_entry rows k (no_new is k small absent);
 }
 
 -- What shortening rows tells of them, and of those that it gives, if any.
@@ -82,5 +82,5 @@ short_kept target exact given read put new short told no_rows same same_rows is 
     let all : AreToldOf target exact given.rows None = subst (λ l. AreToldOf target exact l None) same (subst (AreToldOf target exact read) no_rows told) in
     subst (IsShorterTable target exact given) (sym here) (record {
       shorter = as_given all.rows;
-      keeps = keeps_table exact given given.rows true (λ k row small first. record { row = row; first = first; by = refl }) (λ is k small none. none) (omega arith);
+      keeps = keeps_table exact given given.rows true (λ k row small first. record { row = row; first = first; by = refl }) (λ is k small absent. absent) (omega arith);
     })
