@@ -152,7 +152,7 @@ impl<'l> RaisedMesh<'l> {
     /// The mesh with its queues. It takes no memory.
     pub fn lower<R: Wait>(self, rt: &R, alloc: Global) -> MeshParts
         requires { (m : State) × IsMesh m × IsRaisedFrom m 0 self }
-        ensures { (m : State) → IsMesh m → IsRaisedFrom m 0 self → result ≡ m }
+        ensures { (m : State) → IsMesh m → IsRaisedFrom m 0 self.entry → result ≡ m }
     {
         let RaisedMesh {
             mut parts,
@@ -167,11 +167,7 @@ impl<'l> RaisedMesh<'l> {
         bring_down(rt, standing, &mut crossing);
         for number in 0..layout.cuts.len() {
             let copies = mem::replace(&mut crossing[number], Fifo::new(alloc));
-            let _ = swap_queue(
-                &mut parts,
-                layout.cuts[number].queue as usize,
-                copies,
-            );
+            let _ = swap_queue(&mut parts, layout.cuts[number].queue as usize, copies);
         }
         let MeshLogs { delivered, dumped } = logs;
         parts.delivered = delivered.into_list();

@@ -53,12 +53,7 @@ impl SplitPlan {
             turns: pace.turns,
         };
         let standing = bring_up(rt, alloc, &crossing, places)?;
-        let shares = empty_shares(
-            alloc,
-            &layout.runs,
-            layout.homes.len(),
-            parts.unsent.len(),
-        )?;
+        let shares = empty_shares(alloc, &layout.runs, layout.homes.len(), parts.unsent.len())?;
         Ok(SplitPlan {
             standing,
             crossing,
