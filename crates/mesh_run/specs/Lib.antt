@@ -2,7 +2,7 @@ pub mod Crossing
 pub mod Floors
 pub mod Gathering
 pub mod Homes
-mod Layouts
+pub mod Layouts
 pub mod Played
 pub mod Queues
 pub mod Raised
