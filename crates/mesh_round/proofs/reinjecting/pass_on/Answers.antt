@@ -31,8 +31,8 @@ returns-in_err-filled-clause-refused g c =
     (λ b. HasPasses c.args.pace.patience c.args.pace.turns c.args.parts b.0)
     (λ b back. passes_then c.args.pace.patience c.args.pace.turns c.args.parts c.passes.parts b.0 c.passes.invariant.passes (back c.args.pace.patience c.args.pace.turns)) was
 
-pub run_on-requires-clause-layout-2 : goal.run_on-requires-clause-layout-2
-run_on-requires-clause-layout-2 g c =
+pub run_on-requires-in-passes-clause-layout : goal.run_on-requires-in-passes-clause-layout
+run_on-requires-in-passes-clause-layout g c κs within =
     let p : ℕ = c.args.pace.patience in
     let t : ℕ = c.args.pace.turns in
     let filled : State = c.in_ok-filled.filled in
