@@ -17,9 +17,9 @@ use Rattle.spin_base.specs.declared.chips.Port.{Port}
 use Rattle.spin_base.specs.declared.chips.Port.TheVariants.{Link as ByLink, Local}
 use Rattle.spin_base.specs.declared.copies.McCopy.{McCopy}
 use Rattle.spin_base.specs.declared.routes.Out.{Out}
-use Rattle.spin_base.specs.declared.routes.Out.TheVariants.{Link, Core}
-use Rattle.spin_base.specs.Links.{opposite_of, port_number, dir_at, all_dirs}
-use Rattle.spin_base.specs.Outputs.{out_of, IsOutput, all_outs, link_outs, core_outs}
+use Rattle.spin_base.specs.declared.routes.Out.TheVariants.{Link}
+use Rattle.spin_base.specs.Links.{opposite_of, port_number, dir_at}
+use Rattle.spin_base.specs.Outputs.{out_of, IsOutput, all_outs}
 use Rattle.spin_base.specs.Equality.{chip_eq}
 use Rattle.spin_base.proofs.Equality.{chip_eq_same, chip_eq_true, link_is_not_local}
 use Rattle.spin_base.proofs.Spots.{out_of-has_bit, dir_number-dir_at}

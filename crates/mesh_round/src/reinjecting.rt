@@ -4,6 +4,7 @@ ghost use Rattle.mesh_core.specs.declared.places.Did.TheVariants.{Moved};
 ghost use Rattle.mesh_core.specs.State.{IsMesh};
 ghost use Rattle.mesh_core.specs.PutBack.{after_put_back};
 ghost use Rattle.mesh_core.specs.Expected.{IsAtRest};
+ghost use Rattle.mesh_run.specs.Layouts.{IsLayoutOf};
 ghost use Rattle.mesh_round.specs.RoundFlow.{HasNoHand};
 ghost use Rattle.mesh_round.specs.Work.{work_in};
 ghost use Rattle.mesh_round.specs.OnThreads.{MayGoOn};
@@ -12,10 +13,10 @@ ghost use Rattle.mesh_round.specs.Reinjecting.{put_back_answer, HasPasses, IsOfN
 use crate::flow_laws::a_round_leaves_less_to_do;
 use crate::laws::passes_keep_the_ledger;
 use crate::putting::{has_room, onward, push_behind, queue_behind};
-use crate::rounds::run_parts;
+use crate::rounds::run_on;
 use mesh_core::laws::a_mesh_stays_a_mesh;
 use mesh_core::{Did, Mesh, MeshParts};
-use mesh_run::Pace;
+use mesh_run::{Layout, Pace};
 use spin_base::{Gate, Memory};
 use std::alloc::Global;
 use std::sync::Wait;
@@ -85,12 +86,37 @@ fn pass_parts<R: Threads + Wait + Sync, G: Gate>(
     ensures refused { IfErr result (λ b. HasPasses pace.patience pace.turns parts b.0) }
     ensures ready_still { IfErr result (λ b. MayGoOn b.0) }
 {
+    match Layout::of(alloc, &parts, pace.workers) {
+        Ok(layout) => pass_on(rt, alloc, parts, &layout, pace, gate),
+        Err(e) => Err((parts, e)),
+    }
+}
+
+// Rounds and copies put back, in turn, on the parts of a mesh with its layout. No pass changes what the layout is of.
+fn pass_on<R: Threads + Wait + Sync, G: Gate>(
+    rt: &R,
+    alloc: Global,
+    parts: MeshParts,
+    layout: &Layout,
+    pace: Pace,
+    gate: &G,
+) -> Result<MeshParts, (MeshParts, Memory)>
+    requires ready { MayGoOn parts }
+    requires ledger { IsOfNets parts }
+    requires layout { IsLayoutOf parts.setup layout.now }
+    ensures passes { IfOk result (HasPasses pace.patience pace.turns parts) }
+    ensures ready { IfOk result MayGoOn }
+    ensures at_rest { IfOk result IsAtRest }
+    ensures no_record { IfOk result (λ n. n.dumped ≡ []) }
+    ensures refused { IfErr result (λ b. HasPasses pace.patience pace.turns parts b.0) }
+    ensures ready_still { IfErr result (λ b. MayGoOn b.0) }
+{
     passes_keep_the_ledger();
     a_round_leaves_less_to_do();
-    let mut parts = run_parts(rt, alloc, parts, pace, gate)?;
+    let mut parts = run_on(rt, alloc, parts, layout, pace, gate)?;
     'passes: while parts.dumped.len() > 0 {
         let filled = put_parts_back(parts)?;
-        parts = run_parts(rt, alloc, filled, pace, gate)?;
+        parts = run_on(rt, alloc, filled, layout, pace, gate)?;
     }
     Ok(parts)
 }

@@ -3,6 +3,7 @@ ghost use Rattle.std.specs.Prelude.{◌≡◌, IfErr, IfOk, true};
 ghost use Rattle.std.specs.List.{list_all};
 ghost use Rattle.mesh_core.specs.State.{IsMesh};
 ghost use Rattle.mesh_core.specs.Expected.{IsAtRest};
+ghost use Rattle.mesh_run.specs.Layouts.{IsLayoutOf};
 ghost use Rattle.mesh_round.specs.RoundFlow.{HasNoHand, HasRounds};
 ghost use Rattle.mesh_round.specs.OnThreads.{LeadsByRound, MayGoOn, has_none, holds_none};
 ghost use Rattle.mesh_round.specs.Bound.{HasMovingRounds, LeadsSoon};
@@ -10,7 +11,7 @@ ghost use Rattle.mesh_round.specs.Bound.{HasMovingRounds, LeadsSoon};
 use crate::flow_laws::rounds_that_move_copies_are_few;
 use crate::laws::a_round_on_threads_is_a_round;
 use mesh_core::{Mesh, MeshParts};
-use mesh_run::{Pace, RaisedMesh, Round};
+use mesh_run::{Layout, Pace, RaisedMesh, Round};
 use spin_base::{Fifo, Gate, McCopy, Memory};
 use std::alloc::Global;
 use std::sync::Wait;
@@ -42,7 +43,7 @@ pub fn round<R: Threads + Wait + Sync, G: Gate>(
     }
 }
 
-// One round on the parts of a mesh, in which each actor is asked to look at all its queues.
+// One round on the parts of a mesh.
 fn play_parts<R: Threads + Wait + Sync, G: Gate>(
     rt: &R,
     alloc: Global,
@@ -56,8 +57,30 @@ fn play_parts<R: Threads + Wait + Sync, G: Gate>(
     ensures ready { IfOk result MayGoOn }
     ensures back { IfErr result (λ b. b.0 ≡ parts) }
 {
+    match Layout::of(alloc, &parts, pace.workers) {
+        Ok(layout) => play_on(rt, alloc, parts, &layout, pace, number, gate),
+        Err(e) => Err((parts, e)),
+    }
+}
+
+// One round on the parts of a mesh with its layout, in which each actor is asked to look at all its queues.
+fn play_on<R: Threads + Wait + Sync, G: Gate>(
+    rt: &R,
+    alloc: Global,
+    parts: MeshParts,
+    layout: &Layout,
+    pace: Pace,
+    number: u32,
+    gate: &G,
+) -> Result<MeshParts, (MeshParts, Memory)>
+    requires ready { MayGoOn parts }
+    requires layout { IsLayoutOf parts.setup layout.now }
+    ensures round { IfOk result (LeadsByRound pace.patience pace.turns parts) }
+    ensures ready { IfOk result MayGoOn }
+    ensures back { IfErr result (λ b. b.0 ≡ parts) }
+{
     a_round_on_threads_is_a_round();
-    let mut raised = RaisedMesh::raise(rt, alloc, parts, pace)?;
+    let mut raised = RaisedMesh::raise(rt, alloc, parts, layout, pace)?;
     let round = Round {
         number,
         gate,
@@ -111,9 +134,8 @@ pub fn run_out<R: Threads + Wait + Sync, G: Gate>(
     }
 }
 
-// Rounds on the parts of a mesh, numbered from 1. Where a round moved no copy, the next asks each actor to look at all its queues; where
-// that one moved none either, the mesh is at rest.
-pub(crate) fn run_parts<R: Threads + Wait + Sync, G: Gate>(
+// Rounds on the parts of a mesh.
+fn run_parts<R: Threads + Wait + Sync, G: Gate>(
     rt: &R,
     alloc: Global,
     parts: MeshParts,
@@ -127,8 +149,32 @@ pub(crate) fn run_parts<R: Threads + Wait + Sync, G: Gate>(
     ensures refused { IfErr result (λ b. HasMovingRounds pace.patience pace.turns parts b.0) }
     ensures ready_still { IfErr result (λ b. MayGoOn b.0) }
 {
+    match Layout::of(alloc, &parts, pace.workers) {
+        Ok(layout) => run_on(rt, alloc, parts, &layout, pace, gate),
+        Err(e) => Err((parts, e)),
+    }
+}
+
+// Rounds on the parts of a mesh with its layout, numbered from 1. Where a round moved no copy, the next asks each actor to look at all its
+// queues; where that one moved none either, the mesh is at rest.
+pub(crate) fn run_on<R: Threads + Wait + Sync, G: Gate>(
+    rt: &R,
+    alloc: Global,
+    parts: MeshParts,
+    layout: &Layout,
+    pace: Pace,
+    gate: &G,
+) -> Result<MeshParts, (MeshParts, Memory)>
+    requires ready { MayGoOn parts }
+    requires layout { IsLayoutOf parts.setup layout.now }
+    ensures rounds { IfOk result (HasMovingRounds pace.patience pace.turns parts) }
+    ensures ready { IfOk result MayGoOn }
+    ensures at_rest { IfOk result IsAtRest }
+    ensures refused { IfErr result (λ b. HasMovingRounds pace.patience pace.turns parts b.0) }
+    ensures ready_still { IfErr result (λ b. MayGoOn b.0) }
+{
     a_round_on_threads_is_a_round();
-    let mut raised = RaisedMesh::raise(rt, alloc, parts, pace)?;
+    let mut raised = RaisedMesh::raise(rt, alloc, parts, layout, pace)?;
     let mut number: u32 = 0;
     let mut thorough = true;
     for _ in rt.forever() {

@@ -85,7 +85,7 @@ module _ (m : State) (is_mesh : IsMesh m) (more : ℕ) (r : RaisedMesh) (raised 
   u = m.setup
 
   -- the homes of a queue are shares that are there
-  pub homes_below : (q : ℕ) (h : Home) → slice_get r.homes.items q ≡ Some h → (h.sender < length r.shares.items) × (h.receiver < length r.shares.items)
+  pub homes_below : (q : ℕ) (h : Home) → slice_get r.layout.now.homes.items q ≡ Some h → (h.sender < length r.shares.items) × (h.receiver < length r.shares.items)
   homes_below q h at =
       let shared = raised.shared in
       let below = shared.homes_are.below q h (length shared.ends) at shared.numbers.below in
@@ -95,24 +95,24 @@ module _ (m : State) (is_mesh : IsMesh m) (more : ℕ) (r : RaisedMesh) (raised 
       (omega (arith, sender, many), omega (arith, receiver, many))
 
   -- where a cut has neither its sender nor its receiver, no end of a link of its queue is held
-  pub no_end_of_cut : (l : ℕ) (c : Cut) → slice_get r.cuts.items l ≡ Some c → (k : ℕ) → k ≢ c.sender → k ≢ c.receiver → IsUncut r.cuts.items k c.queue
+  pub no_end_of_cut : (l : ℕ) (c : Cut) → slice_get r.layout.now.cuts.items l ≡ Some c → (k : ℕ) → k ≢ c.sender → k ≢ c.receiver → IsUncut r.layout.now.cuts.items k c.queue
   no_end_of_cut l c at k no_sender no_receiver j d also of =
-      let same = one_item_at r.cuts.items l j c d (raised.shared.apart l j c d at also of.0) at also in
+      let same = one_item_at r.layout.now.cuts.items l j c d (raised.shared.apart l j c d at also of.0) at also in
       elim of.1 [
         | inl is ↦ no_sender (is ∙ ap (λ (x : Cut). x.sender) (sym same))
         | inr is ↦ no_receiver (is ∙ ap (λ (x : Cut). x.receiver) (sym same))
       ]
 
   -- no cut is of a queue that has both homes in one share
-  pub lane_uncut : (q : ℕ) (h : Home) → slice_get r.homes.items q ≡ Some h → h.sender ≡ h.receiver → (s : ℕ) → IsUncut r.cuts.items s q
+  pub lane_uncut : (q : ℕ) (h : Home) → slice_get r.layout.now.homes.items q ≡ Some h → h.sender ≡ h.receiver → (s : ℕ) → IsUncut r.layout.now.cuts.items s q
   lane_uncut q h at same s l c stands of =
       let cut = raised.shared.cut l c stands in
       let home : h ≡ home_of c =
-      same_Some h (home_of c) (sym at ∙ (ap (slice_get r.homes.items) of.0 ∙ cut.0)) in
+      same_Some h (home_of c) (sym at ∙ (ap (slice_get r.layout.now.homes.items) of.0 ∙ cut.0)) in
       cut.1 (ap (λ (x : Home). x.sender) (sym home) ∙ (same ∙ ap (λ (x : Home). x.receiver) home))
 
   -- the cuts are of different queues, each between two shares that are there
-  pub cuts_apart : AreCuts r.cuts.items r.shares.items
+  pub cuts_apart : AreCuts r.layout.now.cuts.items r.shares.items
   cuts_apart = record {
     two = λ l c at. (raised.shared.cut l c at).1;
     senders = λ l c at. let cut = raised.shared.cut l c at in
@@ -123,15 +123,15 @@ module _ (m : State) (is_mesh : IsMesh m) (more : ℕ) (r : RaisedMesh) (raised 
   }
 
   -- a link's number fits a word
-  pub few_links : length r.cuts.items < 2 ^ 32
+  pub few_links : length r.layout.now.cuts.items < 2 ^ 32
   few_links =
-      let cuts = few_cuts u r.homes.items r.cuts.items r.shares.items raised.shared in
-      let homes = few_homes m raised.shared.table r.homes.items is_mesh raised.shared.homes_are in
+      let cuts = few_cuts u r.layout.now.homes.items r.layout.now.cuts.items r.shares.items raised.shared in
+      let homes = few_homes m raised.shared.table r.layout.now.homes.items is_mesh raised.shared.homes_are in
       omega (arith, cuts, homes)
 
   -- each cut has a link
-  pub links_many : length raised.ends ≡ length r.cuts.items
-  links_many = raised.up.long ∙ length-map r.cuts.items (λ (c : Cut). slice_index_or (m.inputs ++ m.cores) c.queue [])
+  pub links_many : length raised.ends ≡ length r.layout.now.cuts.items
+  links_many = raised.up.long ∙ length-map r.layout.now.cuts.items (λ (c : Cut). slice_index_or (m.inputs ++ m.cores) c.queue [])
 
   -- a link that is up, at its place
   pub link_up_at : (l : ℕ) (e : LinkEnds) → slice_get raised.ends l ≡ Some e → WasUp u.capacity e
@@ -141,15 +141,15 @@ module _ (m : State) (is_mesh : IsMesh m) (more : ℕ) (r : RaisedMesh) (raised 
       let up = raised.up.each l [] e (omega (arith, below, long)) in
       subst (WasUp u.capacity) (get_or_from_slice_get raised.ends l e e at) (record { ends = up.ends; few = up.holds.few })
 
-  module _ (dealt : List Share) (deals : Deals raised.ends r.cuts.items r.shares.items dealt) where
+  module _ (dealt : List Share) (deals : Deals raised.ends r.layout.now.cuts.items r.shares.items dealt) where
     many_dealt : length dealt ≡ length r.shares.items
     many_dealt = deals.same.0
 
     -- a queue between two shares
-    of_cut : (l : ℕ) (c : Cut) (k : ℕ) → slice_get r.cuts.items l ≡ Some c → k < length r.shares.items → Holds raised.ends dealt k c.queue c.sender
+    of_cut : (l : ℕ) (c : Cut) (k : ℕ) → slice_get r.layout.now.cuts.items l ≡ Some c → k < length r.shares.items → Holds raised.ends dealt k c.queue c.sender
     of_cut l c k at below =
         let cut = raised.shared.cut l c at in
-        let within = slice_get_within r.cuts.items l c at in
+        let within = slice_get_within r.layout.now.cuts.items l c at in
         let long = links_many in
         let e = slice_get_there raised.ends l (omega (arith, within, long)) in
         let is = deals.dealt l c e.0 at e.1 in
@@ -163,7 +163,7 @@ module _ (m : State) (is_mesh : IsMesh m) (more : ℕ) (r : RaisedMesh) (raised 
         ]
 
     -- a queue that has both homes in one share
-    of_lane : (q : ℕ) (h : Home) (k : ℕ) → slice_get r.homes.items q ≡ Some h → h.sender ≡ h.receiver → k < length r.shares.items →
+    of_lane : (q : ℕ) (h : Home) (k : ℕ) → slice_get r.layout.now.homes.items q ≡ Some h → h.sender ≡ h.receiver → k < length r.shares.items →
         Holds raised.ends dealt k q h.sender
     of_lane q h k at same below = elim (cases_eq k h.sender) [
       | inl here ↦
@@ -173,14 +173,14 @@ module _ (m : State) (is_mesh : IsMesh m) (more : ℕ) (r : RaisedMesh) (raised 
     ]
 
     -- any queue
-    of_queue : (q : ℕ) (h : Home) (k : ℕ) → slice_get r.homes.items q ≡ Some h → k < length r.shares.items → Holds raised.ends dealt k q h.sender
+    of_queue : (q : ℕ) (h : Home) (k : ℕ) → slice_get r.layout.now.homes.items q ≡ Some h → k < length r.shares.items → Holds raised.ends dealt k q h.sender
     of_queue q h k at below = elim (cases_eq h.sender h.receiver) [
       | inl same ↦ of_lane q h k at same below
       | inr two ↦
           let cut = raised.shared.all_cut q h at two in
           let c = cut.1 in
           let is = (raised.shared.cut cut.0 c cut.2).0 in
-          let home : home_of c ≡ h = same_Some (home_of c) h (sym is ∙ (ap (slice_get r.homes.items) cut.3 ∙ at)) in
+          let home : home_of c ≡ h = same_Some (home_of c) h (sym is ∙ (ap (slice_get r.layout.now.homes.items) cut.3 ∙ at)) in
           subst (λ n. Holds raised.ends dealt k n h.sender) cut.3
           (subst (λ (x : Home). Holds raised.ends dealt k c.queue x.sender) home (of_cut cut.0 c k cut.2 below))
     ]
@@ -223,10 +223,10 @@ module _ (m : State) (is_mesh : IsMesh m) (more : ℕ) (r : RaisedMesh) (raised 
             let to = run_to in
             raised.shared.numbers.number a k has_run (record { above = omega (arith, above, from); below = omega (arith, below, to) })
 
-        ends_many : length t.hold.ends.items ≡ length r.homes.items
+        ends_many : length t.hold.ends.items ≡ length r.layout.now.homes.items
         ends_many = (deals.same.1 k was.0 t was.1 at).ends_long ∙ (raised.shared.ends_long k was.0 was.1 ∙ sym raised.shared.homes_are.long)
 
-        sender_of : (q : ℕ) (h : Home) → slice_get r.homes.items q ≡ Some h → h.sender ≡ k → HoldsSender t.hold.ends.items q
+        sender_of : (q : ℕ) (h : Home) → slice_get r.layout.now.homes.items q ≡ Some h → h.sender ≡ k → HoldsSender t.hold.ends.items q
         sender_of q h home is = by_sender raised.ends dealt k q h.sender t at (sym is) (of_queue q h k home below_dealt)
 
         pub dealt_share : IsShareOf u links t
@@ -238,16 +238,16 @@ module _ (m : State) (is_mesh : IsMesh m) (more : ℕ) (r : RaisedMesh) (raised 
               let led = leads u (chip_of u.machine i) o q behind in
               let place = place_below u (chip_of u.machine i) o q (live_inside u.machine (chip_of u.machine i) live.live) led in
               let long = raised.shared.homes_are.long in
-              let h = slice_get_there r.homes.items q (omega (arith, place, long)) in
+              let h = slice_get_there r.layout.now.homes.items q (omega (arith, place, long)) in
               sender_of q h.0 h.1 (raised.shared.homes_are.routers i o q k h.0 live (has_bit u i o q led) behind (numbered (router_place i) in_run) h.1);
           banks = λ i live in_run.
               let low = live_below u i live in
               let long = raised.shared.homes_are.long in
-              let h = slice_get_there r.homes.items (injection_place i) (omega (arith, low, long)) in
+              let h = slice_get_there r.layout.now.homes.items (injection_place i) (omega (arith, low, long)) in
               sender_of (injection_place i) h.0 h.1 (raised.shared.homes_are.banks i k h.0 live (numbered (bank_place i) in_run) h.1);
           ends = λ q d inside.
               let many = ends_many in
-              let h = slice_get_there r.homes.items q (omega (arith, inside, many)) in
+              let h = slice_get_there r.layout.now.homes.items q (omega (arith, inside, many)) in
               let e = is_end k q h.0.sender (of_queue q h.0 k h.1 below_dealt) in
               subst (IsEndOf links) (sym (get_or_from_slice_get t.hold.ends.items q e.0 d (in_share dealt k q t e.0 at e.1))) e.2;
         }

@@ -27,35 +27,35 @@ module _ (w : Whole) where
       let same = w.clears.1 i was.0 (get_or w.cleared i d) was.1 (slice_get-get_or w.cleared i d below) in
       (same.dumps, same.deliveries)
 
-  after_long : length w.rests.now ≡ length w.r.cuts.items
+  after_long : length w.rests.now ≡ length w.r.layout.now.cuts.items
   after_long =
       let first = w.roomy.raised.up.long in
-      let many = length-map w.r.cuts.items (λ (d : Cut). get_or (w.m.inputs ++ w.m.cores) d.queue []) in
+      let many = length-map w.r.layout.now.cuts.items (λ (d : Cut). get_or (w.m.inputs ++ w.m.cores) d.queue []) in
       let collected = w.collects.long in
       let rested = w.rests.long in
       omega (arith, first, many, collected, rested)
 
-  queue_at_cut : (l : ℕ) (q : List McCopy) → l < length w.r.cuts.items → get_or (map queue_of_link w.rests.now) l q ≡ get_or (cut_queues ((mesh w).inputs ++ (mesh w).cores) w.r.cuts.items) l q
+  queue_at_cut : (l : ℕ) (q : List McCopy) → l < length w.r.layout.now.cuts.items → get_or (map queue_of_link w.rests.now) l q ≡ get_or (cut_queues ((mesh w).inputs ++ (mesh w).cores) w.r.layout.now.cuts.items) l q
   queue_at_cut l q below =
-      let cut = slice_get_there w.r.cuts.items l below in
-      let place = slice_get_within w.r.homes.items cut.0.queue (record { sender = cut.0.sender; receiver = cut.0.receiver }) (w.roomy.raised.shared.cut l cut.0 cut.1).0 in
+      let cut = slice_get_there w.r.layout.now.cuts.items l below in
+      let place = slice_get_within w.r.layout.now.homes.items cut.0.queue (record { sender = cut.0.sender; receiver = cut.0.receiver }) (w.roomy.raised.shared.cut l cut.0 cut.1).0 in
       let long = w.roomy.raised.shared.homes_are.long in
       let is = (queue_there w cut.0.queue (omega (arith, place, long))).link l cut.0 cut.1 refl in
       let mapped = length-map w.rests.now queue_of_link in
       let links = after_long in
       get_or_default (map queue_of_link w.rests.now) l q [] (omega (arith, below, mapped, links)) ∙ (is
-      ∙ sym (get_or_from_slice_get (cut_queues ((mesh w).inputs ++ (mesh w).cores) w.r.cuts.items) l (get_or ((mesh w).inputs ++ (mesh w).cores) cut.0.queue []) q
-      (slice_get-mapped (λ (d : Cut). get_or ((mesh w).inputs ++ (mesh w).cores) d.queue []) w.r.cuts.items l cut.0 cut.1)))
+      ∙ sym (get_or_from_slice_get (cut_queues ((mesh w).inputs ++ (mesh w).cores) w.r.layout.now.cuts.items) l (get_or ((mesh w).inputs ++ (mesh w).cores) cut.0.queue []) q
+      (slice_get-mapped (λ (d : Cut). get_or ((mesh w).inputs ++ (mesh w).cores) d.queue []) w.r.layout.now.cuts.items l cut.0 cut.1)))
 
-  pub whole_up : AreUp w.m.setup.capacity 0 (cut_queues ((mesh w).inputs ++ (mesh w).cores) w.r.cuts.items) w.rests.now
+  pub whole_up : AreUp w.m.setup.capacity 0 (cut_queues ((mesh w).inputs ++ (mesh w).cores) w.r.layout.now.cuts.items) w.rests.now
   whole_up =
-      let many = length-map w.r.cuts.items (λ (d : Cut). get_or ((mesh w).inputs ++ (mesh w).cores) d.queue []) in
+      let many = length-map w.r.layout.now.cuts.items (λ (d : Cut). get_or ((mesh w).inputs ++ (mesh w).cores) d.queue []) in
       let links = after_long in
       let mapped = length-map w.rests.now queue_of_link in
       record {
         long = links ∙ sym many;
         each = λ l q e below.
-            let inside : l < length w.r.cuts.items = omega (arith, below, many) in
+            let inside : l < length w.r.layout.now.cuts.items = omega (arith, below, many) in
             subst (λ (x : List McCopy). IsUp w.m.setup.capacity 0 x (get_or w.rests.now l e)) (queue_at_cut l q inside)
             (up_for_none w.m.setup.capacity w.rested.free (get_or (map queue_of_link w.rests.now) l q) (get_or w.rests.now l e) (w.rests.up.each l q e (omega (arith, inside, mapped, links))));
       }

@@ -56,7 +56,7 @@ end_of shares links k q e all at =
     All-at (IsEndOf links) s.0.hold.ends.items q e (all s.0 s.1) s.2
 
 module _ (m : State) (is_mesh : IsMesh m) (more : ℕ) (r : RaisedMesh) (raised : IsRaisedFrom m more r)
-    (dealt : List Share) (deals : Deals raised.ends r.cuts.items r.shares.items dealt)
+    (dealt : List Share) (deals : Deals raised.ends r.layout.now.cuts.items r.shares.items dealt)
     (links : List Link) (same_links : map (λ (e : LinkEnds). e.link) raised.ends ≡ links)
     (patience turns : ℕ) (played : List Share) (long : length played ≡ length dealt)
     (plays : (k : ℕ) (s : Share) → k < length dealt → PlaysAndStays m.setup links patience turns (get_or dealt k s) (get_or played k s)) where
@@ -84,9 +84,9 @@ module _ (m : State) (is_mesh : IsMesh m) (more : ℕ) (r : RaisedMesh) (raised 
   some_played = record { long = long; parts_long = some_parts.1; goes = λ k s below. some_parts.2 k [] below s }
 
   -- both ends of each link are where its cut says
-  pub ends_laid : AreLaid links played r.cuts.items
+  pub ends_laid : AreLaid links played r.layout.now.cuts.items
   ends_laid = λ l c at.
-      let within = slice_get_within r.cuts.items l c at in
+      let within = slice_get_within r.layout.now.cuts.items l c at in
       let many = links_many m is_mesh more r raised in
       let e = slice_get_there raised.ends l (omega (arith, within, many)) in
       let is = deals.dealt l c e.0 at e.1 in
@@ -107,7 +107,7 @@ module _ (m : State) (is_mesh : IsMesh m) (more : ℕ) (r : RaisedMesh) (raised 
       subst (λ (x : Share). All (IsEndOf links) x.hold.ends.items) (get_or_from_slice_get played k t t at) stays.ends
 
   -- the links that were collected can rest
-  pub links_were_up : (brought : Standing) (collected : List Share) (collects : HoldsCollected raised.ends r.cuts.items played brought collected) →
+  pub links_were_up : (brought : Standing) (collected : List Share) (collects : HoldsCollected raised.ends r.layout.now.cuts.items played brought collected) →
       All (WasUp m.setup.capacity) collects.ends
   links_were_up brought collected collects = λ l d below.
       let e = get_or collects.ends l d in
@@ -115,7 +115,7 @@ module _ (m : State) (is_mesh : IsMesh m) (more : ℕ) (r : RaisedMesh) (raised 
       let as_long = collects.long in
       let many = links_many m is_mesh more r raised in
       let old = slice_get_there raised.ends l (omega (arith, below, as_long)) in
-      let c = slice_get_there r.cuts.items l (omega (arith, below, as_long, many)) in
+      let c = slice_get_there r.layout.now.cuts.items l (omega (arith, below, as_long, many)) in
       let is = collects.collects.dealt l c.0 e c.1 at in
       let up = link_up_at m is_mesh more r raised l old.0 old.1 in
       let link : e.link ≡ old.0.link = same_Some e.link old.0.link (sym (slice_get-mapped (λ (x : LinkEnds). x.link) collects.ends l e at)
@@ -142,7 +142,7 @@ module _ (m : State) (is_mesh : IsMesh m) (more : ℕ) (r : RaisedMesh) (raised 
           omega (arith, cap, has, spare)
 
   -- there is room for what the shares logged
-  pub logs_fit : (brought : Standing) (collected : List Share) (logs : MeshLogs) (collects : HoldsCollected raised.ends r.cuts.items played brought collected) →
+  pub logs_fit : (brought : Standing) (collected : List Share) (logs : MeshLogs) (collects : HoldsCollected raised.ends r.layout.now.cuts.items played brought collected) →
       HasRoomForLogs r.shares.items logs → FitsLogs collected logs
   logs_fit brought collected logs collects room =
       let deliveries = sum_within (λ (s : Share). length s.hold.deliveries.items) (λ (s : Share). s.hold.deliveries.spare) collected r.shares.items all_long

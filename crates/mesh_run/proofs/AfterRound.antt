@@ -111,9 +111,9 @@ module _ (w : Whole) where
           cores_long = raised.cores_long ∙ sym (whole_played w).cores_long;
           unsent_long = raised.unsent_long ∙ sym (whole_played w).unsent_long;
           floor = raised.floor;
-          shared = subst (AreShared w.m.setup w.r.homes.items w.r.cuts.items) (sym left) (whole_shared w);
-          lanes = subst (HoldLanes ((mesh w).inputs ++ (mesh w).cores) w.r.homes.items) (sym left) (whole_lanes w);
-          unsent = subst (HoldUnsent w.m.setup (mesh w).unsent w.r.homes.items) (sym left) (whole_unsent w);
+          shared = subst (AreShared w.m.setup w.r.layout.now.homes.items w.r.layout.now.cuts.items) (sym left) (whole_shared w);
+          lanes = subst (HoldLanes ((mesh w).inputs ++ (mesh w).cores) w.r.layout.now.homes.items) (sym left) (whole_lanes w);
+          unsent = subst (HoldUnsent w.m.setup (mesh w).unsent w.r.layout.now.homes.items) (sym left) (whole_unsent w);
           ends = w.rests.now;
           holds = w.rests.holds;
           up = whole_up w;

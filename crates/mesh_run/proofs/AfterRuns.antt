@@ -53,7 +53,7 @@ module _ (w : Whole) where
         },
       )
 
-  pub whole_shared : AreShared w.m.setup w.r.homes.items w.r.cuts.items w.cleared
+  pub whole_shared : AreShared w.m.setup w.r.layout.now.homes.items w.r.layout.now.cuts.items w.cleared
   whole_shared =
       let shared = w.roomy.raised.shared in
       record {

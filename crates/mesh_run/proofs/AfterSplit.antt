@@ -25,13 +25,13 @@ module _ (w : Whole) where
   cleared_long = w.clears.0 ∙ (w.collects.collects.same.0 ∙ w.played_long)
 
   -- what is not held of a queue, and is no end of a cut, is not held afterwards
-  stays_away : (s q : ℕ) → IsUncut w.r.cuts.items s q → end_at w.r.shares.items s q ≡ Some Away → end_at w.cleared s q ≡ Some Away
+  stays_away : (s q : ℕ) → IsUncut w.r.layout.now.cuts.items s q → end_at w.r.shares.items s q ≡ Some Away → end_at w.cleared s q ≡ Some Away
   stays_away s q uncut_here away =
       let dealt = w.deals.others s q uncut_here ∙ away in
       let none = none_passes w.m.setup.capacity w.patience w.dealt w.played (parts w) (played_parts w) s q dealt in
       cleared_end w s q Away (w.collects.collects.others s q uncut_here ∙ none.stays)
 
-  away_after : (q : ℕ) (h : Home) (s : ℕ) → slice_get w.r.homes.items q ≡ Some h → s < length w.cleared → (s ≢ h.sender) ⊎ (h.sender ≢ h.receiver) → end_at w.cleared s q ≡ Some Away
+  away_after : (q : ℕ) (h : Home) (s : ℕ) → slice_get w.r.layout.now.homes.items q ≡ Some h → s < length w.cleared → (s ≢ h.sender) ⊎ (h.sender ≢ h.receiver) → end_at w.cleared s q ≡ Some Away
   away_after q h s at inside other =
       let long = cleared_long in
       let as_dealt = dealt_long w in
@@ -43,7 +43,7 @@ module _ (w : Whole) where
             subst (λ n. end_at w.cleared s n ≡ Some Away) cut.3 (gone cut.0 cut.1 cut.2 (subst (λ n. end_at w.r.shares.items s n ≡ Some Away) (sym cut.3) was))
       ]
     where
-      gone : (l : ℕ) (c : Cut) → slice_get w.r.cuts.items l ≡ Some c → end_at w.r.shares.items s c.queue ≡ Some Away → end_at w.cleared s c.queue ≡ Some Away
+      gone : (l : ℕ) (c : Cut) → slice_get w.r.layout.now.cuts.items l ≡ Some c → end_at w.r.shares.items s c.queue ≡ Some Away → end_at w.cleared s c.queue ≡ Some Away
       gone l c stands was = elim (cases_eq s c.sender) [
         | inl is ↦ subst (λ n. end_at w.cleared n c.queue ≡ Some Away) (sym is) (cleared_end w c.sender c.queue Away (w.collects.collects.gone l c stands).0)
         | inr no_sender ↦ elim (cases_eq s c.receiver) [
@@ -52,13 +52,13 @@ module _ (w : Whole) where
         ]
       ]
 
-  pub whole_lanes : HoldLanes ((mesh w).inputs ++ (mesh w).cores) w.r.homes.items w.cleared
+  pub whole_lanes : HoldLanes ((mesh w).inputs ++ (mesh w).cores) w.r.layout.now.homes.items w.cleared
   whole_lanes = record {
-    lanes = λ q h at same. (queue_there w q (let below = slice_get_within w.r.homes.items q h at in let long = w.roomy.raised.shared.homes_are.long in omega (arith, below, long))).lane h at same;
+    lanes = λ q h at same. (queue_there w q (let below = slice_get_within w.r.layout.now.homes.items q h at in let long = w.roomy.raised.shared.homes_are.long in omega (arith, below, long))).lane h at same;
     away = away_after;
   }
 
-  pub whole_unsent : HoldUnsent w.m.setup (mesh w).unsent w.r.homes.items w.cleared
+  pub whole_unsent : HoldUnsent w.m.setup (mesh w).unsent w.r.layout.now.homes.items w.cleared
   whole_unsent = record {
     here = λ v h at. ((after_unsent w).2 v [] (there v h at)).here h at;
     nowhere_else = λ v h s at other. elim (cases_lt s (length w.dealt)) [
@@ -67,5 +67,5 @@ module _ (w : Whole) where
     ];
   }
     where
-      there : (v : ℕ) (h : Home) → slice_get w.r.homes.items (vertex_place w.m.setup v) ≡ Some h → v < length w.m.setup.spots
-      there v h at = let below = slice_get_within w.r.homes.items (vertex_place w.m.setup v) h at in let long = w.roomy.raised.shared.homes_are.long in omega (arith, below, long)
+      there : (v : ℕ) (h : Home) → slice_get w.r.layout.now.homes.items (vertex_place w.m.setup v) ≡ Some h → v < length w.m.setup.spots
+      there v h at = let below = slice_get_within w.r.layout.now.homes.items (vertex_place w.m.setup v) h at in let long = w.roomy.raised.shared.homes_are.long in omega (arith, below, long)

@@ -43,10 +43,10 @@ module _ (w : Whole) where
   -- what holds of the queue at a place after a round, with what it holds then
   pub record AfterRound (q : ℕ) (after : List McCopy) : Type 0 where
     pub goes : QueueGoes w.m.setup.capacity w.patience (joined (parts w)) q (held_at w.m q) after
-    pub lane : (h : Home) → slice_get w.r.homes.items q ≡ Some h → h.sender ≡ h.receiver → (a : WithRoom McCopy) × (end_at w.cleared h.sender q ≡ Some (Own a)) × (a.items ≡ after)
-    pub link : (l : ℕ) (c : Cut) → slice_get w.r.cuts.items l ≡ Some c → c.queue ≡ q → get_or (map queue_of_link w.rests.now) l [] ≡ after
+    pub lane : (h : Home) → slice_get w.r.layout.now.homes.items q ≡ Some h → h.sender ≡ h.receiver → (a : WithRoom McCopy) × (end_at w.cleared h.sender q ≡ Some (Own a)) × (a.items ≡ after)
+    pub link : (l : ℕ) (c : Cut) → slice_get w.r.layout.now.cuts.items l ≡ Some c → c.queue ≡ q → get_or (map queue_of_link w.rests.now) l [] ≡ after
 
-  pub home_below : (q : ℕ) (h : Home) → slice_get w.r.homes.items q ≡ Some h → (h.sender < length w.dealt) × (h.receiver < length w.dealt)
+  pub home_below : (q : ℕ) (h : Home) → slice_get w.r.layout.now.homes.items q ≡ Some h → (h.sender < length w.dealt) × (h.receiver < length w.dealt)
   home_below q h at =
       let below = homes_below w.m w.is_mesh (w.turns + 1) w.r w.roomy.raised q h at in
       let sender = below.0 in
@@ -67,7 +67,7 @@ module _ (w : Whole) where
       ap (λ (x : Option Share). end_in x q) is.1 ∙ (same_end was.0 is.0 q same.ends ∙ was.2)
 
   -- a queue that is a lane of one share
-  lane_after : (q : ℕ) (h : Home) → slice_get w.r.homes.items q ≡ Some h → h.sender ≡ h.receiver → (after : List McCopy) × AfterRound q after
+  lane_after : (q : ℕ) (h : Home) → slice_get w.r.layout.now.homes.items q ≡ Some h → h.sender ≡ h.receiver → (after : List McCopy) × AfterRound q after
   lane_after q h at same =
       let cap = w.m.setup.capacity in
       let lanes = w.roomy.raised.lanes in
@@ -86,36 +86,36 @@ module _ (w : Whole) where
       )
 
   -- a queue that is a link between two shares
-  module _ (l : ℕ) (c : Cut) (stands : slice_get w.r.cuts.items l ≡ Some c) where
+  module _ (l : ℕ) (c : Cut) (stands : slice_get w.r.layout.now.cuts.items l ≡ Some c) where
     home : Home
     home = record { sender = c.sender; receiver = c.receiver }
 
-    between : slice_get w.r.homes.items c.queue ≡ Some (record { sender = c.sender; receiver = c.receiver })
+    between : slice_get w.r.layout.now.homes.items c.queue ≡ Some (record { sender = c.sender; receiver = c.receiver })
     between = (w.roomy.raised.shared.cut l c stands).0
 
     two : c.sender ≢ c.receiver
     two = (w.roomy.raised.shared.cut l c stands).1
 
-    pub elsewhere : (k : ℕ) → k ≢ c.sender → k ≢ c.receiver → IsUncut w.r.cuts.items k c.queue
+    pub elsewhere : (k : ℕ) → k ≢ c.sender → k ≢ c.receiver → IsUncut w.r.layout.now.cuts.items k c.queue
     elsewhere = no_end_of_cut w.m w.is_mesh (w.turns + 1) w.r w.roomy.raised l c stands
 
     queues : List (List McCopy)
-    queues = cut_queues (w.m.inputs ++ w.m.cores) w.r.cuts.items
+    queues = cut_queues (w.m.inputs ++ w.m.cores) w.r.layout.now.cuts.items
 
     -- the link as it was dealt
     old : (e : LinkEnds) × (slice_get w.roomy.raised.ends l ≡ Some e) × IsUp w.m.setup.capacity (w.turns + 1) (held_at w.m c.queue) e
     old =
         let up = w.roomy.raised.up in
-        let many = length-map w.r.cuts.items (λ (d : Cut). held_at w.m d.queue) in
-        let below = slice_get_within w.r.cuts.items l c stands in
+        let many = length-map w.r.layout.now.cuts.items (λ (d : Cut). held_at w.m d.queue) in
+        let below = slice_get_within w.r.layout.now.cuts.items l c stands in
         let long = up.long in
         let is = slice_get_there w.roomy.raised.ends l (omega (arith, many, below, long)) in
-        let queue : get_or (cut_queues (w.m.inputs ++ w.m.cores) w.r.cuts.items) l [] ≡ held_at w.m c.queue =
-        get_or_from_slice_get (cut_queues (w.m.inputs ++ w.m.cores) w.r.cuts.items) l (held_at w.m c.queue) [] (slice_get-mapped (λ (d : Cut). held_at w.m d.queue) w.r.cuts.items l c stands) in (
+        let queue : get_or (cut_queues (w.m.inputs ++ w.m.cores) w.r.layout.now.cuts.items) l [] ≡ held_at w.m c.queue =
+        get_or_from_slice_get (cut_queues (w.m.inputs ++ w.m.cores) w.r.layout.now.cuts.items) l (held_at w.m c.queue) [] (slice_get-mapped (λ (d : Cut). held_at w.m d.queue) w.r.layout.now.cuts.items l c stands) in (
           is.0,
           is.1,
           subst (λ (x : List McCopy). IsUp w.m.setup.capacity (w.turns + 1) x is.0) queue
-              (subst (λ (x : LinkEnds). IsUp w.m.setup.capacity (w.turns + 1) (get_or (cut_queues (w.m.inputs ++ w.m.cores) w.r.cuts.items) l []) x)
+              (subst (λ (x : LinkEnds). IsUp w.m.setup.capacity (w.turns + 1) (get_or (cut_queues (w.m.inputs ++ w.m.cores) w.r.layout.now.cuts.items) l []) x)
               (get_or_from_slice_get w.roomy.raised.ends l is.0 is.0 is.1) (up.each l [] is.0 (omega (arith, many, below)))),
         )
 
@@ -171,15 +171,15 @@ module _ (w : Whole) where
           link = λ j d at is. ap (λ i. get_or (map queue_of_link w.rests.now) i []) (w.roomy.raised.shared.apart j l d c at stands is);
         }
       where
-        both_ends : (h : Home) → slice_get w.r.homes.items c.queue ≡ Some h → h.sender ≡ h.receiver → c.sender ≡ c.receiver
+        both_ends : (h : Home) → slice_get w.r.layout.now.homes.items c.queue ≡ Some h → h.sender ≡ h.receiver → c.sender ≡ c.receiver
         both_ends h at same =
             let is = same_Some h (record { sender = c.sender; receiver = c.receiver }) (sym at ∙ between) in
             ap (λ (x : Home). x.sender) (sym is) ∙ (same ∙ ap (λ (x : Home). x.receiver) is)
 
   -- any queue
-  pub queue_after : (q : ℕ) → q < length w.r.homes.items → (after : List McCopy) × AfterRound q after
+  pub queue_after : (q : ℕ) → q < length w.r.layout.now.homes.items → (after : List McCopy) × AfterRound q after
   queue_after q below =
-      let home = slice_get_there w.r.homes.items q below in
+      let home = slice_get_there w.r.layout.now.homes.items q below in
       elim (cases_eq home.0.sender home.0.receiver) [
         | inl same ↦ lane_after q home.0 home.1 same
         | inr other ↦

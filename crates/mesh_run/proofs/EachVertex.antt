@@ -53,15 +53,15 @@ module _ (w : Whole) where
 
   -- what holds of a vertex after a round
   pub record VertexAfter (v : ℕ) (after : List McCopy) : Type 0 where
-    pub here : (h : Home) → slice_get w.r.homes.items (vertex_place w.m.setup v) ≡ Some h → unsent_at w.cleared h.receiver v ≡ after
-    pub nowhere_else : (h : Home) (s : ℕ) → slice_get w.r.homes.items (vertex_place w.m.setup v) ≡ Some h → s < length w.dealt → s ≢ h.receiver → unsent_at w.cleared s v ≡ []
+    pub here : (h : Home) → slice_get w.r.layout.now.homes.items (vertex_place w.m.setup v) ≡ Some h → unsent_at w.cleared h.receiver v ≡ after
+    pub nowhere_else : (h : Home) (s : ℕ) → slice_get w.r.layout.now.homes.items (vertex_place w.m.setup v) ≡ Some h → s < length w.dealt → s ≢ h.receiver → unsent_at w.cleared s v ≡ []
     pub sent : slice_index_or w.m.unsent v [] ≡ sent_by v (joined (parts w)) ++ after
 
   pub vertex_after : (v : ℕ) → v < length w.m.setup.spots → (after : List McCopy) × VertexAfter v after
   vertex_after v inside =
       let unsent = w.roomy.raised.unsent in
       let long = w.roomy.raised.shared.homes_are.long in
-      let home = slice_get_there w.r.homes.items (vertex_place w.m.setup v) (omega (arith, inside, long)) in
+      let home = slice_get_there w.r.layout.now.homes.items (vertex_place w.m.setup v) (omega (arith, inside, long)) in
       let at = home.1 in
       let below = (home_below w (vertex_place w.m.setup v) home.0 at).1 in
       let k = home.0.receiver in

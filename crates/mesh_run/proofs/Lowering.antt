@@ -22,7 +22,7 @@ use Rattle.mesh_run.proofs.SplitLaws.{same_state, state_on}
 -- ---- what the calls ask for
 
 -- each queue has its homes, and each share its places
-pub fits_raised : (m : State) (more : ℕ) (r : RaisedMesh) → IsMesh m → IsRaisedFrom m more r → FitHomes r.parts r.homes.items r.shares.items
+pub fits_raised : (m : State) (more : ℕ) (r : RaisedMesh) → IsMesh m → IsRaisedFrom m more r → FitHomes r.parts r.layout.now.homes.items r.shares.items
 fits_raised m more r mesh raised =
     let shared = raised.shared in
     let long = shared.homes_are.long in
@@ -43,9 +43,9 @@ fits_raised m more r mesh raised =
           omega (arith, here, unsent, unsent_long);
     }
   where
-    both : (i : ℕ) (d : Home) → i < length r.homes.items → ((get_or r.homes.items i d).sender < length r.shares.items) × ((get_or r.homes.items i d).receiver < length r.shares.items)
+    both : (i : ℕ) (d : Home) → i < length r.layout.now.homes.items → ((get_or r.layout.now.homes.items i d).sender < length r.shares.items) × ((get_or r.layout.now.homes.items i d).receiver < length r.shares.items)
     both i d below =
-        raised.shared.homes_are.below i (get_or r.homes.items i d) (length r.shares.items) (slice_get-get_or r.homes.items i d below)
+        raised.shared.homes_are.below i (get_or r.layout.now.homes.items i d) (length r.shares.items) (slice_get-get_or r.layout.now.homes.items i d below)
         (λ a k at. subst (λ (n : ℕ). k < n) (sym raised.shared.long) (raised.shared.numbers.below a k at))
 
 -- links that are up have their ends
@@ -55,7 +55,7 @@ all_are_ends cap more queues ends up = λ i e below. let long = up.long in (up.e
 pub no_more_links : (m : State) (more : ℕ) (r : RaisedMesh) → (raised : IsRaisedFrom m more r) → length raised.ends ≤ length r.crossing.items
 no_more_links m more r raised =
     let long = raised.up.long in
-    let mapped = length-map r.cuts.items (λ (c : Cut). get_or (m.inputs ++ m.cores) c.queue []) in
+    let mapped = length-map r.layout.now.cuts.items (λ (c : Cut). get_or (m.inputs ++ m.cores) c.queue []) in
     let crossing = raised.crossing in
     omega (arith, long, mapped, crossing)
 
@@ -70,16 +70,16 @@ pub same_queue : (cap more : ℕ) (queue after : List McCopy) (e : LinkEnds) →
 same_queue cap more queue after e up down =
     ap (λ l. l ++ after) (sym up.rx_new.took) ∙ (sym down.all ∙ (ap (λ l. l ++ (sending e.tx).sent) up.tx_new.first ∙ (ap (λ l. queue ++ l) up.tx_new.sent ∙ none_behind queue)))
 
-pub down_at : (m : State) (more : ℕ) (r : RaisedMesh) (down : List (List McCopy)) → (raised : IsRaisedFrom m more r) → DownTo raised.ends down → (l : ℕ) (c : Cut) → slice_get r.cuts.items l ≡ Some c →
+pub down_at : (m : State) (more : ℕ) (r : RaisedMesh) (down : List (List McCopy)) → (raised : IsRaisedFrom m more r) → DownTo raised.ends down → (l : ℕ) (c : Cut) → slice_get r.layout.now.cuts.items l ≡ Some c →
     get_or down l [] ≡ get_or (m.inputs ++ m.cores) c.queue []
 down_at m more r down raised are l c at =
-    let queues : List (List McCopy) = cut_queues (m.inputs ++ m.cores) r.cuts.items in
-    let below = slice_get_within r.cuts.items l c at in
-    let mapped = length-map r.cuts.items (λ (d : Cut). get_or (m.inputs ++ m.cores) d.queue []) in
+    let queues : List (List McCopy) = cut_queues (m.inputs ++ m.cores) r.layout.now.cuts.items in
+    let below = slice_get_within r.layout.now.cuts.items l c at in
+    let mapped = length-map r.layout.now.cuts.items (λ (d : Cut). get_or (m.inputs ++ m.cores) d.queue []) in
     let long = raised.up.long in
     let e = slice_get_there raised.ends l (omega (arith, below, mapped, long)) in
     let queue : get_or queues l [] ≡ get_or (m.inputs ++ m.cores) c.queue [] =
-    get_or-map (λ (d : Cut). get_or (m.inputs ++ m.cores) d.queue []) r.cuts.items l c [] below ∙ ap (λ (d : Cut). get_or (m.inputs ++ m.cores) d.queue []) (get_or_from_slice_get r.cuts.items l c c at) in
+    get_or-map (λ (d : Cut). get_or (m.inputs ++ m.cores) d.queue []) r.layout.now.cuts.items l c [] below ∙ ap (λ (d : Cut). get_or (m.inputs ++ m.cores) d.queue []) (get_or_from_slice_get r.layout.now.cuts.items l c c at) in
     same_queue m.setup.capacity more (get_or queues l []) (get_or down l []) (get_or raised.ends l e.0) (raised.up.each l [] e.0 (omega (arith, below, mapped))) (are l e.0 [] (omega (arith, below, mapped, long))) ∙ queue
 
 -- ---- links' queues put back one after the other
@@ -131,10 +131,10 @@ pub cut_at : (cuts : List Cut) (n : ℕ) (c : Cut) → n < length cuts → c ≡
 cut_at cuts n c below read = slice_get-get_or cuts n c below ∙ ap Some (sym read)
 
 -- the queue of the next cut is there
-pub cut_inside : (m : State) (more n : ℕ) (r : RaisedMesh) (mid now : State) (down left : List (List McCopy)) (c : Cut) → IsMesh m → IsRaisedFrom m more r → SameButCopies r.parts mid → QueuesBackTo mid r.cuts.items down n now left →
-    slice_get r.cuts.items n ≡ Some c → c.queue < length now.inputs + length now.cores
+pub cut_inside : (m : State) (more n : ℕ) (r : RaisedMesh) (mid now : State) (down left : List (List McCopy)) (c : Cut) → IsMesh m → IsRaisedFrom m more r → SameButCopies r.parts mid → QueuesBackTo mid r.layout.now.cuts.items down n now left →
+    slice_get r.layout.now.cuts.items n ≡ Some c → c.queue < length now.inputs + length now.cores
 cut_inside m more n r mid now down left c mesh raised same so_far at =
-    let below = slice_get_within r.homes.items c.queue (record { sender = c.sender; receiver = c.receiver }) (raised.shared.cut n c at).0 in
+    let below = slice_get_within r.layout.now.homes.items c.queue (record { sender = c.sender; receiver = c.receiver }) (raised.shared.cut n c at).0 in
     let homes = raised.shared.homes_are.long in
     let ports = mesh.input_lists in
     let spots = mesh.core_lists in
@@ -174,8 +174,8 @@ equal_states s t setup unsent inputs hands cores delivered dumped = λ i. record
 }
 
 -- all that was split stands again where it stood
-pub lowered : (m : State) (more n : ℕ) (r : RaisedMesh) (mid now back : State) (down left : List (List McCopy)) → IsMesh m → (raised : IsRaisedFrom m more r) → MovesOut r.homes.items r.shares.items r.parts mid → DownTo raised.ends down →
-    QueuesBackTo mid r.cuts.items down n now left → length r.cuts.items ≤ n →
+pub lowered : (m : State) (more n : ℕ) (r : RaisedMesh) (mid now back : State) (down left : List (List McCopy)) → IsMesh m → (raised : IsRaisedFrom m more r) → MovesOut r.layout.now.homes.items r.shares.items r.parts mid → DownTo raised.ends down →
+    QueuesBackTo mid r.layout.now.cuts.items down n now left → length r.layout.now.cuts.items ≤ n →
     back.setup ≡ now.setup → back.unsent ≡ now.unsent → back.inputs ≡ now.inputs → back.hands ≡ now.hands → back.cores ≡ now.cores → back.delivered ≡ r.logs.delivered.items → back.dumped ≡ r.logs.dumped.items → back ≡ m
 lowered m more n r mid now back down left mesh raised moves are so_far past setup unsent inputs hands cores delivered dumped =
     equal_states back m
@@ -193,24 +193,24 @@ lowered m more n r mid now back down left mesh raised moves are so_far past setu
     cores_long : length now.cores ≡ length m.cores
     cores_long = so_far.same.cores_long ∙ (moves.same.cores_long ∙ raised.cores_long)
 
-    vertices : HoldVertices (length r.parts.inputs) m.unsent r.homes.items r.shares.items
+    vertices : HoldVertices (length r.parts.inputs) m.unsent r.layout.now.homes.items r.shares.items
     vertices =
-        let held : HoldVertices (port_count m.setup) m.unsent r.homes.items r.shares.items = record { here = raised.unsent.here; nowhere_else = raised.unsent.nowhere_else } in
-        subst (λ (k : ℕ). HoldVertices k m.unsent r.homes.items r.shares.items) (sym (raised.inputs_long ∙ mesh.input_lists)) held
+        let held : HoldVertices (port_count m.setup) m.unsent r.layout.now.homes.items r.shares.items = record { here = raised.unsent.here; nowhere_else = raised.unsent.nowhere_else } in
+        subst (λ (k : ℕ). HoldVertices k m.unsent r.layout.now.homes.items r.shares.items) (sym (raised.inputs_long ∙ mesh.input_lists)) held
 
     -- a queue that is in one share is of no cut
-    uncut : (q : ℕ) (h : Home) → slice_get r.homes.items q ≡ Some h → h.sender ≡ h.receiver → (l : ℕ) (c : Cut) → slice_get r.cuts.items l ≡ Some c → c.queue ≢ q
+    uncut : (q : ℕ) (h : Home) → slice_get r.layout.now.homes.items q ≡ Some h → h.sender ≡ h.receiver → (l : ℕ) (c : Cut) → slice_get r.layout.now.cuts.items l ≡ Some c → c.queue ≢ q
     uncut q h at one l c stands here =
         let cut = raised.shared.cut l c stands in
-        let is : h ≡ record { sender = c.sender; receiver = c.receiver } = same_Some h (record { sender = c.sender; receiver = c.receiver }) (sym at ∙ (ap (slice_get r.homes.items) (sym here) ∙ cut.0)) in
+        let is : h ≡ record { sender = c.sender; receiver = c.receiver } = same_Some h (record { sender = c.sender; receiver = c.receiver }) (sym at ∙ (ap (slice_get r.layout.now.homes.items) (sym here) ∙ cut.0)) in
         cut.1 (subst (λ (x : Home). x.sender ≡ x.receiver) is one)
 
-    each : (q : ℕ) (h : Home) → slice_get r.homes.items q ≡ Some h → get_or (now.inputs ++ now.cores) q [] ≡ get_or (m.inputs ++ m.cores) q []
+    each : (q : ℕ) (h : Home) → slice_get r.layout.now.homes.items q ≡ Some h → get_or (now.inputs ++ now.cores) q [] ≡ get_or (m.inputs ++ m.cores) q []
     each q h at = elim (cases_eq h.sender h.receiver) [
       | inl one ↦ so_far.others q (uncut q h at one) ∙ moves.lanes (m.inputs ++ m.cores) q h raised.lanes at one
       | inr two ↦
           let cut = raised.shared.all_cut q h at two in
-          let below = slice_get_within r.cuts.items cut.0 cut.1 cut.2 in
+          let below = slice_get_within r.layout.now.cuts.items cut.0 cut.1 cut.2 in
           let here = so_far.done cut.0 cut.1 (omega (arith, below, past)) cut.2 ∙ down_at m more r down raised are cut.0 cut.1 cut.2 in
           subst (λ (k : ℕ). get_or (now.inputs ++ now.cores) k [] ≡ get_or (m.inputs ++ m.cores) k []) cut.3 here
     ]
@@ -228,7 +228,7 @@ lowered m more n r mid now back down left mesh raised moves are so_far past setu
         let ports = mesh.input_lists in
         let spots = mesh.core_lists in
         same_lists (now.inputs ++ now.cores) (m.inputs ++ m.cores) (omega (arith, long_now, long_m, a, b)) (λ q d below.
-        let h = slice_get_there r.homes.items q (omega (arith, below, long_now, a, b, homes, ports, spots)) in
+        let h = slice_get_there r.layout.now.homes.items q (omega (arith, below, long_now, a, b, homes, ports, spots)) in
         default (now.inputs ++ now.cores) q d below ∙ (each q h.0 h.1 ∙ sym (default (m.inputs ++ m.cores) q d (omega (arith, below, long_now, long_m, a, b)))))
 
     halves : (now.inputs ≡ m.inputs) × (now.cores ≡ m.cores)

@@ -12,6 +12,7 @@ use Rattle.chip_node.specs.declared.ends.End.TheVariants.{Away, Own}
 use Rattle.mesh_core.specs.State.{IsMesh, Setup, State}
 use Rattle.mesh_run.specs.declared.homes.Cut.{Cut}
 use Rattle.mesh_run.specs.declared.homes.Home.{Home}
+use Rattle.mesh_run.specs.declared.layout.Layout.{Layout}
 use Rattle.mesh_run.specs.declared.raised.RaisedMesh.{RaisedMesh}
 use Rattle.mesh_run.specs.declared.shares.Share.{Share}
 use Rattle.mesh_run.specs.Floors.{IsFloorOf}
@@ -58,8 +59,8 @@ unsent_held m homes shares long held =
     let here = subst (λ (n : ℕ). HoldVertices n m.unsent homes shares) long held in
     record { here = here.here; nowhere_else = here.nowhere_else }
 
-pub raised_in : (m left : State) (more : ℕ) (start : List Share) (ends : List LinkEnds) (r : RaisedMesh) → IsMesh m → IsFloorOf m.setup r.floor → AreShared m.setup r.homes.items r.cuts.items start → HoldsAll ends r.standing →
-    AreUp m.setup.capacity more (cut_queues (m.inputs ++ m.cores) r.cuts.items) ends → length r.crossing.items ≡ length r.cuts.items → MovesIn m r.homes.items start left r.shares.items →
+pub raised_in : (m left : State) (more : ℕ) (start : List Share) (ends : List LinkEnds) (r : RaisedMesh) → IsMesh m → IsFloorOf m.setup r.layout.now.floor → AreShared m.setup r.layout.now.homes.items r.layout.now.cuts.items start → HoldsAll ends r.standing →
+    AreUp m.setup.capacity more (cut_queues (m.inputs ++ m.cores) r.layout.now.cuts.items) ends → length r.crossing.items ≡ length r.layout.now.cuts.items → MovesIn m r.layout.now.homes.items start left r.shares.items →
     r.parts.setup ≡ left.setup → r.parts.hands ≡ left.hands → r.parts.inputs ≡ left.inputs → r.parts.cores ≡ left.cores → r.parts.unsent ≡ left.unsent →
     r.logs.delivered.items ≡ left.delivered → r.logs.dumped.items ≡ left.dumped → IsRaisedFrom m 0 r
 raised_in m left more start ends r mesh floor shared holds up crossing moves setup hands inputs cores unsent delivered dumped = record {
@@ -69,12 +70,12 @@ raised_in m left more start ends r mesh floor shared holds up crossing moves set
   cores_long = ap length cores ∙ moves.same.cores_long;
   unsent_long = ap length unsent ∙ moves.same.unsent_long;
   floor = floor;
-  shared = shared_still m.setup r.homes.items r.cuts.items start r.shares.items moves.runs shared;
+  shared = shared_still m.setup r.layout.now.homes.items r.layout.now.cuts.items start r.shares.items moves.runs shared;
   lanes = moves.lanes;
-  unsent = unsent_held m r.homes.items r.shares.items mesh.input_lists moves.vertices;
+  unsent = unsent_held m r.layout.now.homes.items r.shares.items mesh.input_lists moves.vertices;
   ends = ends;
   holds = holds;
-  up = fewer_up m.setup.capacity more 0 (cut_queues (m.inputs ++ m.cores) r.cuts.items) ends (omega arith) up;
+  up = fewer_up m.setup.capacity more 0 (cut_queues (m.inputs ++ m.cores) r.layout.now.cuts.items) ends (omega arith) up;
   crossing = crossing;
   no_logs = moves.no_logs;
   delivered = delivered ∙ moves.same.delivered;
@@ -154,32 +155,31 @@ no_logs_still before after same none = λ i d below.
 pub record SameFrame (r s : RaisedMesh) : Type 0 where
   pub parts : s.parts ≡ r.parts
   pub pace : s.pace ≡ r.pace
-  pub floor : s.floor ≡ r.floor
-  pub homes : s.homes.items ≡ r.homes.items
-  pub cuts : s.cuts.items ≡ r.cuts.items
+  pub layout : s.layout.now ≡ r.layout.now
   pub crossing : length s.crossing.items ≡ length r.crossing.items
   pub delivered : s.logs.delivered.items ≡ r.logs.delivered.items
   pub dumped : s.logs.dumped.items ≡ r.logs.dumped.items
 
 -- a split mesh with other links for the same queues, and with shares with the same copies
 pub roomier : (m : State) (less more : ℕ) (r s : RaisedMesh) (ends : List LinkEnds) → IsRaisedFrom m less r → SameFrame r s → HoldsAll ends s.standing →
-    AreUp m.setup.capacity more (cut_queues (m.inputs ++ m.cores) r.cuts.items) ends → AreSameCopies r.shares.items s.shares.items → IsRaisedFrom m more s
+    AreUp m.setup.capacity more (cut_queues (m.inputs ++ m.cores) r.layout.now.cuts.items) ends → AreSameCopies r.shares.items s.shares.items → IsRaisedFrom m more s
 roomier m less more r s ends was same holds up copies = record {
   setup = ap (λ (p : State). p.setup) same.parts ∙ was.setup;
   hands = ap (λ (p : State). p.hands) same.parts ∙ was.hands;
   inputs_long = ap (λ (p : State). length p.inputs) same.parts ∙ was.inputs_long;
   cores_long = ap (λ (p : State). length p.cores) same.parts ∙ was.cores_long;
   unsent_long = ap (λ (p : State). length p.unsent) same.parts ∙ was.unsent_long;
-  floor = subst (IsFloorOf m.setup) (sym same.floor) was.floor;
-  shared = subst (λ (hs : List Home). AreShared m.setup hs s.cuts.items s.shares.items) (sym same.homes)
-      (subst (λ (cs : List Cut). AreShared m.setup r.homes.items cs s.shares.items) (sym same.cuts)
-      (shared_still m.setup r.homes.items r.cuts.items r.shares.items s.shares.items (same_runs r.shares.items s.shares.items copies) was.shared));
-  lanes = subst (λ (hs : List Home). HoldLanes (m.inputs ++ m.cores) hs s.shares.items) (sym same.homes) (lanes_still (m.inputs ++ m.cores) r.homes.items r.shares.items s.shares.items copies was.lanes);
-  unsent = subst (λ (hs : List Home). HoldUnsent m.setup m.unsent hs s.shares.items) (sym same.homes) (unsent_still m.setup m.unsent r.homes.items r.shares.items s.shares.items copies was.unsent);
+  floor = subst (λ (l : Layout). IsFloorOf m.setup l.floor) (sym same.layout) was.floor;
+  shared = subst (λ (l : Layout). AreShared m.setup l.homes.items l.cuts.items s.shares.items) (sym same.layout)
+      (shared_still m.setup r.layout.now.homes.items r.layout.now.cuts.items r.shares.items s.shares.items (same_runs r.shares.items s.shares.items copies) was.shared);
+  lanes = subst (λ (l : Layout). HoldLanes (m.inputs ++ m.cores) l.homes.items s.shares.items) (sym same.layout)
+      (lanes_still (m.inputs ++ m.cores) r.layout.now.homes.items r.shares.items s.shares.items copies was.lanes);
+  unsent = subst (λ (l : Layout). HoldUnsent m.setup m.unsent l.homes.items s.shares.items) (sym same.layout)
+      (unsent_still m.setup m.unsent r.layout.now.homes.items r.shares.items s.shares.items copies was.unsent);
   ends = ends;
   holds = holds;
-  up = subst (λ (cs : List Cut). AreUp m.setup.capacity more (cut_queues (m.inputs ++ m.cores) cs) ends) (sym same.cuts) up;
-  crossing = same.crossing ∙ (was.crossing ∙ ap length (sym same.cuts));
+  up = subst (λ (l : Layout). AreUp m.setup.capacity more (cut_queues (m.inputs ++ m.cores) l.cuts.items) ends) (sym same.layout) up;
+  crossing = same.crossing ∙ (was.crossing ∙ ap (λ (l : Layout). length l.cuts.items) (sym same.layout));
   no_logs = no_logs_still r.shares.items s.shares.items copies was.no_logs;
   delivered = same.delivered ∙ was.delivered;
   dumped = same.dumped ∙ was.dumped;
@@ -202,7 +202,7 @@ still_for cap more less queues ends now was up = subst (λ (qs : List (List McCo
 -- the links of a split mesh are up for the queues that they know
 pub known_up : (m : State) (r : RaisedMesh) (cap : ℕ) → (raised : IsRaisedFrom m 0 r) → cap ≡ r.parts.setup.capacity → AreUp cap 0 (map queue_of_link raised.ends) raised.ends
 known_up m r cap raised is =
-    let queues : List (List McCopy) = cut_queues (m.inputs ++ m.cores) r.cuts.items in
+    let queues : List (List McCopy) = cut_queues (m.inputs ++ m.cores) r.layout.now.cuts.items in
     subst (λ (n : ℕ). AreUp n 0 (map queue_of_link raised.ends) raised.ends) (sym (is ∙ ap (λ (u : Setup). u.capacity) raised.setup))
     (subst (λ (qs : List (List McCopy)). AreUp m.setup.capacity 0 qs raised.ends) (known_queues m.setup.capacity 0 queues raised.ends raised.up) raised.up)
 
@@ -210,7 +210,7 @@ known_up m r cap raised is =
 pub with_links : (m : State) (more less : ℕ) (r s : RaisedMesh) (cap : ℕ) → (raised : IsRaisedFrom m 0 r) → less ≤ more → cap ≡ r.parts.setup.capacity → StayUp cap more raised.ends s.standing → SameFrame r s →
     AreSameCopies r.shares.items s.shares.items → IsRaisedFrom m less s
 with_links m more less r s cap raised fewer is stay same copies =
-    let queues : List (List McCopy) = cut_queues (m.inputs ++ m.cores) r.cuts.items in
+    let queues : List (List McCopy) = cut_queues (m.inputs ++ m.cores) r.layout.now.cuts.items in
     let up = subst (λ (n : ℕ). AreUp n more (map queue_of_link raised.ends) stay.now) (is ∙ ap (λ (u : Setup). u.capacity) raised.setup) stay.up in
     roomier m 0 less r s stay.now raised same stay.holds
     (fewer_up m.setup.capacity more less queues stay.now fewer (still_for m.setup.capacity more 0 queues raised.ends stay.now raised.up up)) copies

@@ -26,7 +26,7 @@ use Rattle.mesh_run.proofs.WholeRound.{Whole}
 pub record IsDealt (m : State) (r : RaisedMesh) (lent : Standing) (dealt : List Share) : Type 0 where
   pub is_mesh : IsMesh m
   pub roomy : IsRoomyFrom m (r.pace.turns + 1) r
-  pub deals : Deals roomy.raised.ends r.cuts.items r.shares.items dealt
+  pub deals : Deals roomy.raised.ends r.layout.now.cuts.items r.shares.items dealt
   pub none_left : HoldsNoEnds roomy.raised.ends lent
 
 -- each share plays the turns of a round, and is a share of the mesh afterwards
@@ -44,11 +44,11 @@ pub record IsTurned (m : State) (r : RaisedMesh) (lent : Standing) (dealt played
 -- and the ends were collected
 pub record IsCollected (m : State) (r : RaisedMesh) (lent : Standing) (dealt played : List Share) (brought : Standing) (collected : List Share) : Type 0 where
   pub turned : IsTurned m r lent dealt played
-  pub collects : HoldsCollected turned.before.roomy.raised.ends r.cuts.items played brought collected
+  pub collects : HoldsCollected turned.before.roomy.raised.ends r.layout.now.cuts.items played brought collected
 
 module _ {m : State} {r : RaisedMesh} {lent : Standing} {dealt : List Share} where
   -- what dealing promises for any ends, for those of the mesh
-  pub is_dealt : {cuts : List Cut} → IsMesh m → IsRoomyFrom m (r.pace.turns + 1) r → cuts ≡ r.cuts.items →
+  pub is_dealt : {cuts : List Cut} → IsMesh m → IsRoomyFrom m (r.pace.turns + 1) r → cuts ≡ r.layout.now.cuts.items →
       ((ends : List LinkEnds) → HoldsAll ends r.standing → Deals ends cuts r.shares.items dealt) →
       ((ends : List LinkEnds) → HoldsAll ends r.standing → HoldsNoEnds ends lent) → IsDealt m r lent dealt
   is_dealt is_mesh roomy same deals none = record {
@@ -75,14 +75,14 @@ module _ {m : State} {r : RaisedMesh} {lent : Standing} {dealt : List Share} whe
     }
 
     -- each end of a link is where its cut says
-    pub cuts_laid : IsTurned m r lent dealt played → AreLaid lent.links.items played r.cuts.items
+    pub cuts_laid : IsTurned m r lent dealt played → AreLaid lent.links.items played r.layout.now.cuts.items
     cuts_laid t =
         let d = t.before in
         ends_laid m d.is_mesh (r.pace.turns + 1) r d.roomy.raised dealt d.deals lent.links.items d.none_left.links
         r.pace.patience r.pace.turns played t.long t.plays
 
     -- so the cuts lie between the shares that played
-    pub still_cuts : IsTurned m r lent dealt played → AreCuts r.cuts.items played
+    pub still_cuts : IsTurned m r lent dealt played → AreCuts r.layout.now.cuts.items played
     still_cuts t =
         let laid = cuts_laid t in
         let apart = cuts_apart m t.before.is_mesh (r.pace.turns + 1) r t.before.roomy.raised in
@@ -94,14 +94,14 @@ module _ {m : State} {r : RaisedMesh} {lent : Standing} {dealt : List Share} whe
         }
 
     -- no end stands with the links
-    abbrev pub no_ends : IsTurned m r lent dealt played → (ends : List LinkEnds) × HoldsNoEnds ends lent × (length ends ≡ length r.cuts.items)
+    abbrev pub no_ends : IsTurned m r lent dealt played → (ends : List LinkEnds) × HoldsNoEnds ends lent × (length ends ≡ length r.layout.now.cuts.items)
     no_ends t =
         let d = t.before in
         (d.roomy.raised.ends, d.none_left, links_many m d.is_mesh (r.pace.turns + 1) r d.roomy.raised)
 
     module _ {brought : Standing} {collected : List Share} where
       -- what collecting promises for any ends, for those of the mesh
-      pub is_collected : {cuts : List Cut} → IsTurned m r lent dealt played → cuts ≡ r.cuts.items →
+      pub is_collected : {cuts : List Cut} → IsTurned m r lent dealt played → cuts ≡ r.layout.now.cuts.items →
           ((ends : List LinkEnds) → HoldsNoEnds ends lent → length ends ≡ length cuts → HoldsCollected ends cuts played brought collected) →
           IsCollected m r lent dealt played brought collected
       is_collected t same collects =

@@ -31,13 +31,13 @@ pub record Whole : Type 0 where
   pub r : RaisedMesh
   pub roomy : IsRoomyFrom m (turns + 1) r
   pub dealt : List Share
-  pub deals : Deals roomy.raised.ends r.cuts.items r.shares.items dealt
+  pub deals : Deals roomy.raised.ends r.layout.now.cuts.items r.shares.items dealt
   pub played : List Share
   pub played_long : length played ≡ length dealt
   pub plays : (k : ℕ) (s : Share) → k < length dealt → PlaysRound m.setup patience turns (get_or dealt k s) (get_or played k s)
   pub brought : Standing
   pub collected : List Share
-  pub collects : HoldsCollected roomy.raised.ends r.cuts.items played brought collected
+  pub collects : HoldsCollected roomy.raised.ends r.layout.now.cuts.items played brought collected
   pub standing : Standing
   pub rested : Rested
   pub rests : RestAll m.setup.capacity collects.ends standing rested
@@ -117,8 +117,8 @@ module _ (w : Whole) where
 
   -- ---- a queue that is a lane of one share
 
-  module _ (q : ℕ) (h : Home) (at : slice_get w.r.homes.items q ≡ Some h) (same : h.sender ≡ h.receiver) where
-    pub uncut : (s : ℕ) → IsUncut w.r.cuts.items s q
+  module _ (q : ℕ) (h : Home) (at : slice_get w.r.layout.now.homes.items q ≡ Some h) (same : h.sender ≡ h.receiver) where
+    pub uncut : (s : ℕ) → IsUncut w.r.layout.now.cuts.items s q
     uncut = lane_uncut w.m w.is_mesh (w.turns + 1) w.r w.roomy.raised q h at same
 
     pub dealt_same : (s : ℕ) → end_at w.dealt s q ≡ end_at w.r.shares.items s q

@@ -2,6 +2,7 @@ pub mod Crossing
 pub mod Floors
 pub mod Gathering
 pub mod Homes
+pub mod Layouts
 pub mod Played
 pub mod Queues
 pub mod Raised

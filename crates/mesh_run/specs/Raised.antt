@@ -19,14 +19,14 @@ pub record IsRaisedFrom (m : State) (more : ℕ) (r : RaisedMesh) : Type 0 where
   pub inputs_long : length r.parts.inputs ≡ length m.inputs
   pub cores_long : length r.parts.cores ≡ length m.cores
   pub unsent_long : length r.parts.unsent ≡ length m.unsent
-  pub floor : IsFloorOf m.setup r.floor
-  pub shared : AreShared m.setup r.homes.items r.cuts.items r.shares.items
-  pub lanes : HoldLanes (m.inputs ++ m.cores) r.homes.items r.shares.items
-  pub unsent : HoldUnsent m.setup m.unsent r.homes.items r.shares.items
+  pub floor : IsFloorOf m.setup r.layout.now.floor
+  pub shared : AreShared m.setup r.layout.now.homes.items r.layout.now.cuts.items r.shares.items
+  pub lanes : HoldLanes (m.inputs ++ m.cores) r.layout.now.homes.items r.shares.items
+  pub unsent : HoldUnsent m.setup m.unsent r.layout.now.homes.items r.shares.items
   pub ends : List LinkEnds
   pub holds : HoldsAll ends r.standing
-  pub up : AreUp m.setup.capacity more (cut_queues (m.inputs ++ m.cores) r.cuts.items) ends
-  pub crossing : length r.crossing.items ≡ length r.cuts.items
+  pub up : AreUp m.setup.capacity more (cut_queues (m.inputs ++ m.cores) r.layout.now.cuts.items) ends
+  pub crossing : length r.crossing.items ≡ length r.layout.now.cuts.items
   pub no_logs : HaveNoLogs r.shares.items
   pub delivered : r.logs.delivered.items ≡ m.delivered
   pub dumped : r.logs.dumped.items ≡ m.dumped

@@ -10,9 +10,9 @@ use Rattle.chip_node.specs.declared.holdings.Holdings.{Holdings}
 use Rattle.mesh_run.specs.declared.homes.Cut.{Cut}
 use Rattle.mesh_run.specs.declared.homes.Home.{Home}
 use Rattle.mesh_run.specs.declared.shares.Share.{Share}
+use Rattle.mesh_run.specs.declared.layout.Layout.{Layout}
 use Rattle.mesh_run.specs.declared.splitting.SplitPlan.{SplitPlan}
 use Rattle.mesh_run.specs.Crossing.{PutsEnd}
-use Rattle.mesh_run.specs.Floors.{IsFloorOf}
 use Rattle.mesh_run.specs.Homes.{run_start}
 use Rattle.mesh_run.specs.Queues.{AreUp}
 use Rattle.mesh_run.specs.Split.{AreShared, HaveNoLogs, HoldLanes, cut_queues, end_at, unsent_at}
@@ -45,17 +45,15 @@ pub record FitHomes (s : State) (homes : List Home) (shares : List Share) : Type
   pub ends_long : All (λ k. length k.hold.ends.items ≡ length homes) shares
   pub unsent_long : All (λ k. length k.hold.unsent.items ≡ length s.unsent) shares
 
--- How a mesh is split: with a link for each queue between two shares, and shares that hold nothing yet.
-pub record IsSplitPlanOf (m : State) (more : ℕ) (p : SplitPlan) : Type 0 where
-  pub floor : IsFloorOf m.setup p.floor
-  pub shared : AreShared m.setup p.homes.items p.cuts.items p.shares.items
-  pub runs : List ℕ
-  pub nothing : HoldNothing runs (length p.homes.items) (length m.unsent) p.shares.items
+-- How a mesh is split on a layout: with a link for each queue between two shares, and shares that hold nothing yet.
+pub record IsSplitPlanOf (m : State) (l : Layout) (more : ℕ) (p : SplitPlan) : Type 0 where
+  pub shared : AreShared m.setup l.homes.items l.cuts.items p.shares.items
+  pub nothing : HoldNothing l.runs.items (length l.homes.items) (length m.unsent) p.shares.items
   pub ends : List LinkEnds
   pub holds : HoldsAll ends p.standing
-  pub up : AreUp m.setup.capacity more (cut_queues (m.inputs ++ m.cores) p.cuts.items) ends
-  pub crossing : length p.crossing.items ≡ length p.cuts.items
-  pub fits : FitHomes m p.homes.items p.shares.items
+  pub up : AreUp m.setup.capacity more (cut_queues (m.inputs ++ m.cores) l.cuts.items) ends
+  pub crossing : length p.crossing.items ≡ length l.cuts.items
+  pub fits : FitHomes m l.homes.items p.shares.items
 
 -- all of a mesh but its queues and unsent copies is the same
 pub record SameButCopies (before after : State) : Type 0 where

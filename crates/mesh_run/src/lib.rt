@@ -11,6 +11,7 @@ mod crossing;
 mod floors;
 mod gathering;
 mod homes;
+mod layout;
 mod paces;
 mod queues;
 mod raised;
@@ -19,5 +20,6 @@ mod shares;
 mod splitting;
 mod standing;
 
+pub use layout::Layout;
 pub use paces::{Pace, Round};
 pub use raised::RaisedMesh;

@@ -1,12 +1,12 @@
 // A mesh split into shares, from round to round.
 ghost use Rattle.std.specs.Prelude.{◌≡◌, ◌+◌, ◌<◌, IfErr, IfOk, OnErr, OnOk};
 ghost use Rattle.mesh_core.specs.State.{IsMesh, State};
+ghost use Rattle.mesh_run.specs.Layouts.{IsLayoutOf};
 ghost use Rattle.mesh_run.specs.Raised.{IsRaisedFrom, IsRoomyFrom, PlaysTo};
 
 use crate::crossing::{collect, deal};
-use crate::floors::Floor;
 use crate::gathering::MeshLogs;
-use crate::homes::{Cut, Home};
+use crate::layout::Layout;
 use crate::paces::{Pace, Round};
 use crate::queues::{Places, bring_down, rest_all, widen_all};
 use crate::rooms::{RoundSize, make_room_in_all};
@@ -21,23 +21,21 @@ use std::mem;
 use std::sync::Wait;
 use std::thread::Threads;
 
-/// A mesh that is split into shares, one for each worker, and stays so between rounds.
+/// A mesh that is split into shares, one for each worker of a layout, and stays so between rounds.
 #[derive(Drop)]
-pub struct RaisedMesh {
+pub struct RaisedMesh<'l> {
     // What never changes, and the lists that the shares' go back to.
     pub(crate) parts: MeshParts,
     pub(crate) pace: Pace,
-    pub(crate) floor: Floor,
-    pub(crate) homes: Vec<Home>,
-    pub(crate) cuts: Vec<Cut>,
+    pub(crate) layout: &'l Layout,
     pub(crate) standing: Standing,
     pub(crate) crossing: Vec<Fifo<McCopy>>,
     pub(crate) shares: Vec<Share>,
     pub(crate) logs: MeshLogs,
 }
 
-impl RaisedMesh {
-    /// The mesh, split for `pace.workers` workers.
+impl<'l> RaisedMesh<'l> {
+    /// The mesh, split on its layout.
     ///
     /// # Errors
     ///
@@ -46,34 +44,31 @@ impl RaisedMesh {
         rt: &R,
         alloc: Global,
         parts: MeshParts,
+        layout: &'l Layout,
         pace: Pace,
-    ) -> Result<RaisedMesh, (MeshParts, Memory)>
-        requires { IsMesh parts }
+    ) -> Result<RaisedMesh<'l>, (MeshParts, Memory)>
+        requires mesh { IsMesh parts }
+        requires layout { IsLayoutOf parts.setup layout.now }
         ensures raised { IfOk result (λ r. IsRaisedFrom parts 0 r) }
         ensures pace { IfOk result (λ r. r.pace ≡ pace) }
         ensures back { IfErr result (λ b. b.0 ≡ parts) }
     {
         let mut parts = parts;
-        match SplitPlan::of(rt, alloc, &parts, pace) {
+        match SplitPlan::of(rt, alloc, &parts, layout, pace) {
             Err(e) => Err((parts, e)),
             Ok(plan) => {
                 let SplitPlan {
-                    floor,
-                    homes,
-                    cuts,
                     standing,
                     crossing,
                     mut shares,
                 } = plan;
-                move_in(alloc, &mut parts, &homes, &cuts, &mut shares);
+                move_in(alloc, &mut parts, &layout.homes, &layout.cuts, &mut shares);
                 let delivered = mem::replace(&mut parts.delivered, Seq::new(alloc));
                 let dumped = mem::replace(&mut parts.dumped, Fifo::new(alloc));
                 Ok(RaisedMesh {
                     parts,
                     pace,
-                    floor,
-                    homes,
-                    cuts,
+                    layout,
                     standing,
                     crossing,
                     shares,
@@ -117,19 +112,20 @@ impl RaisedMesh {
             → PlaysTo self.old.pace.patience self.old.pace.turns m result self.new }
         ensures pace { self.new.pace ≡ self.old.pace }
     {
-        deal(&mut self.shares, &mut self.standing, &self.cuts);
+        deal(&mut self.shares, &mut self.standing, &self.layout.cuts);
+        let around = Around {
+            links: &self.standing.links,
+            capacity: self.parts.setup.capacity(),
+            patience: self.pace.patience,
+        };
         let ground = Ground {
             setup: &self.parts.setup,
-            floor: &self.floor,
-            around: Around {
-                links: &self.standing.links,
-                capacity: self.parts.setup.capacity(),
-                patience: self.pace.patience,
-            },
+            floor: &self.layout.floor,
+            around,
             turns: self.pace.turns,
         };
         play_all(rt, ground, &mut self.shares, round);
-        collect(&mut self.shares, &mut self.standing, &self.cuts);
+        collect(&mut self.shares, &mut self.standing, &self.layout.cuts);
         let _ = rest_all(rt, &mut self.standing, self.parts.setup.capacity());
         self.logs.gather(&mut self.shares)
     }
@@ -149,30 +145,29 @@ impl RaisedMesh {
             capacity: places.cap,
             turns: places.turns,
         };
-        make_room_in_all(&mut self.shares, &self.floor, size, all)?;
+        make_room_in_all(&mut self.shares, &self.layout.floor, size, all)?;
         self.logs.make_room(&self.shares)
     }
 
     /// The mesh with its queues. It takes no memory.
     pub fn lower<R: Wait>(self, rt: &R, alloc: Global) -> MeshParts
         requires { (m : State) × IsMesh m × IsRaisedFrom m 0 self }
-        ensures { (m : State) → IsMesh m → IsRaisedFrom m 0 self → result ≡ m }
+        ensures { (m : State) → IsMesh m → IsRaisedFrom m 0 self.entry → result ≡ m }
     {
         let RaisedMesh {
             mut parts,
-            homes,
-            cuts,
+            layout,
             standing,
             mut crossing,
             mut shares,
             logs,
             ..
         } = self;
-        move_out(alloc, &mut parts, &homes, &mut shares);
+        move_out(alloc, &mut parts, &layout.homes, &mut shares);
         bring_down(rt, standing, &mut crossing);
-        for number in 0..cuts.len() {
+        for number in 0..layout.cuts.len() {
             let copies = mem::replace(&mut crossing[number], Fifo::new(alloc));
-            let _ = swap_queue(&mut parts, cuts[number].queue as usize, copies);
+            let _ = swap_queue(&mut parts, layout.cuts[number].queue as usize, copies);
         }
         let MeshLogs { delivered, dumped } = logs;
         parts.delivered = delivered.into_list();

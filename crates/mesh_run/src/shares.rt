@@ -38,9 +38,9 @@ impl Shared for Share {}
 
 /// What all shares of a round stand on.
 #[derive(Clone, Copy)]
-pub(crate) struct Ground<'a> {
+pub(crate) struct Ground<'a, 'l> {
     pub setup: &'a MeshSetup,
-    pub floor: &'a Floor,
+    pub floor: &'l Floor,
     pub around: Around<'a>,
     pub turns: u32,
     ghost capacity: { around.capacity ≡ setup.now.capacity },

@@ -7,11 +7,12 @@ ghost use Rattle.mesh_core.specs.State.{IsMesh};
 ghost use Rattle.chip_node.specs.declared.ends.End.{End};
 ghost use Rattle.mesh_run.specs.declared.shares.Share.{Share};
 ghost use Rattle.mesh_run.specs.Split.{cut_queues, end_at, unsent_at};
+ghost use Rattle.mesh_run.specs.Layouts.{IsLayoutOf};
 ghost use Rattle.mesh_run.specs.Splitting.{AreInside, AreSameHolds, FitHomes, HoldNothing, IsEmptyHand, IsSplitPlanOf, MayPutLane, MayTakeLane, MovesIn, MovesOut, PutsUnsent, SetsQueue, SetsUnsent};
 
 use crate::crossing::put_end;
-use crate::floors::Floor;
-use crate::homes::{Cut, Home, cuts_of, homes_of, runs_of, share_table};
+use crate::homes::{Cut, Home};
+use crate::layout::Layout;
 use crate::paces::Pace;
 use crate::queues::{Places, bring_up};
 use crate::rooms::LEAST_LOG;
@@ -24,12 +25,9 @@ use std::alloc::Global;
 use std::mem;
 use std::sync::Wait;
 
-/// How a mesh is split: who stands where, the links between the shares, with the queues that they stand for, and shares that hold nothing yet.
+/// How a mesh is split on a layout: the links between the shares, and shares that hold nothing yet.
 #[derive(Drop)]
 pub(crate) struct SplitPlan {
-    pub floor: Floor,
-    pub homes: Vec<Home>,
-    pub cuts: Vec<Cut>,
     pub standing: Standing,
     /// A place for each link's queue to come down to.
     pub crossing: Vec<Fifo<McCopy>>,
@@ -37,32 +35,26 @@ pub(crate) struct SplitPlan {
 }
 
 impl SplitPlan {
-    /// How a mesh is split for so many workers.
+    /// How a mesh is split, at a pace, on its layout.
     pub fn of<R: Wait>(
         rt: &R,
         alloc: Global,
         parts: &MeshParts,
+        layout: &Layout,
         pace: Pace,
     ) -> Result<SplitPlan, Memory>
-        requires { IsMesh parts.now }
-        ensures { IfOk result (IsSplitPlanOf parts.now (pace.turns + 1)) }
+        requires mesh { IsMesh parts.now }
+        requires layout { IsLayoutOf parts.now.setup layout.now }
+        ensures { IfOk result (IsSplitPlanOf parts.now layout.now (pace.turns + 1)) }
     {
-        let floor = Floor::of(alloc, &parts.setup)?;
-        let runs = runs_of(alloc, &floor, pace.workers)?;
-        let table = share_table(alloc, &runs, floor.actors())?;
-        let homes = homes_of(alloc, &parts.setup, &floor, &table)?;
-        let cuts = cuts_of(alloc, &homes)?;
-        let crossing = crossing_of(alloc, parts, &cuts)?;
+        let crossing = crossing_of(alloc, parts, &layout.cuts)?;
         let places = Places {
             cap: parts.setup.capacity(),
             turns: pace.turns,
         };
         let standing = bring_up(rt, alloc, &crossing, places)?;
-        let shares = empty_shares(alloc, &runs, homes.len(), parts.unsent.len())?;
+        let shares = empty_shares(alloc, &layout.runs, layout.homes.len(), parts.unsent.len())?;
         Ok(SplitPlan {
-            floor,
-            homes,
-            cuts,
             standing,
             crossing,
             shares,

@@ -15,17 +15,17 @@ move_out-requires g c =
 pub bring_down-requires : goal.bring_down-requires
 bring_down-requires g c =
     let r = c.requires in
-    let queues = cut_queues (r.0.inputs ++ r.0.cores) c.args.self.cuts.items in
+    let queues = cut_queues (r.0.inputs ++ r.0.cores) c.args.self.layout.now.cuts.items in
     record { ends = (r.2.ends, r.2.holds, all_are_ends r.0.setup.capacity 0 queues r.2.ends r.2.up, no_more_links r.0 0 c.args.self r.2) }
 
 pub loop-number-init : goal.loop-number-init
-loop-number-init g c = cuts_none c.move_out.new.parts c.args.self.cuts.items c.bring_down.new.queues.items
+loop-number-init g c = cuts_none c.move_out.new.parts c.args.self.layout.now.cuts.items c.bring_down.new.queues.items
 
 pub swap_queue-requires : goal.swap_queue-requires
 swap_queue-requires g c =
     let r = c.requires in
-    let cuts = c.args.self.cuts.items in
-    let end = c.len-number-end.ensures ∙ c.args.self.cuts.ok.0 in
+    let cuts = c.args.self.layout.now.cuts.items in
+    let end = c.len-number-end.ensures ∙ c.args.self.layout.now.cuts.ok.0 in
     let test = c.loop-number-test.true in
     let below : c.loop-number.number < length cuts = omega (arith, end, test) in
     cut_inside r.0 0 c.loop-number.number c.args.self c.move_out.new.parts c.loop-number.parts c.bring_down.new.queues.items c.loop-number.crossing.items c.index.result.now r.1 r.2 c.move_out.ensures.same
@@ -35,9 +35,9 @@ pub loop-number-preserved : goal.loop-number-preserved
 loop-number-preserved g c =
     let r = c.requires in
     let n = c.loop-number.number in
-    let cuts = c.args.self.cuts.items in
+    let cuts = c.args.self.layout.now.cuts.items in
     let left = c.loop-number.crossing.items in
-    let end = c.len-number-end.ensures ∙ c.args.self.cuts.ok.0 in
+    let end = c.len-number-end.ensures ∙ c.args.self.layout.now.cuts.ok.0 in
     let test = c.loop-number-test.true in
     let below : n < length cuts = omega (arith, end, test) in
     let at = cut_at cuts n c.index.result.now below c.index.ensures in
@@ -53,9 +53,9 @@ returns g c = λ m mesh raised.
     let self = c.args.self in
     let opened = c.parts.view_is in
     let moves = subst (λ (homes : List Home). MovesOut homes self.shares.items self.parts c.move_out.new.parts) c.deref.ensures.value c.move_out.ensures in
-    let end = c.len-number-end.ensures ∙ self.cuts.ok.0 in
+    let end = c.len-number-end.ensures ∙ self.layout.now.cuts.ok.0 in
     let test = c.loop-number-test.false in
-    let past : length self.cuts.items ≤ c.loop-number.number = omega (arith, end, test) in
+    let past : length self.layout.now.cuts.items ≤ c.loop-number.number = omega (arith, end, test) in
     lowered m 0 c.loop-number.number self c.move_out.new.parts c.loop-number.parts _ c.bring_down.new.queues.items c.loop-number.crossing.items mesh raised moves
     (c.bring_down.ensures.down raised.ends raised.holds) c.loop-number.invariant past
     (ap (λ (s : State). s.setup) opened) (ap (λ (s : State). s.unsent) opened) (ap (λ (s : State). s.inputs) opened) (ap (λ (s : State). s.hands) opened) (ap (λ (s : State). s.cores) opened)

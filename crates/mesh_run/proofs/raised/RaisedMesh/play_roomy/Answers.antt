@@ -24,20 +24,20 @@ pub deal-requires-clause-cuts : goal.deal-requires-clause-cuts
 deal-requires-clause-cuts g c =
     let q = c.requires in
     subst (λ (x : RaisedMesh). AreCuts c.deref.result.now x.shares.items) (sym c.self.view_is)
-    (subst (λ (l : List Cut). AreCuts l c.args.self.now.shares.items) (sym (c.deref.ensures.value ∙ ap (λ (x : RaisedMesh). x.cuts.items) c.self.view_is))
+    (subst (λ (l : List Cut). AreCuts l c.args.self.now.shares.items) (sym (c.deref.ensures.value ∙ ap (λ (x : RaisedMesh). x.layout.now.cuts.items) c.self.view_is))
     (cuts_apart q.0 q.1 (c.args.self.now.pace.turns + 1) c.args.self.now q.2.raised))
 
 pub deal-requires-clause-few : goal.deal-requires-clause-few
 deal-requires-clause-few g c =
     let q = c.requires in
-    subst (λ (l : List Cut). length l < 4294967296) (sym (c.deref.ensures.value ∙ ap (λ (x : RaisedMesh). x.cuts.items) c.self.view_is))
+    subst (λ (l : List Cut). length l < 4294967296) (sym (c.deref.ensures.value ∙ ap (λ (x : RaisedMesh). x.layout.now.cuts.items) c.self.view_is))
     (few_links q.0 q.1 (c.args.self.now.pace.turns + 1) c.args.self.now q.2.raised)
 
 -- what was dealt to the shares
 dealt : (g : Over) (c : After-deal g) (m : State) → IsMesh m → IsRoomyFrom m (c.args.self.now.pace.turns + 1) c.args.self.now →
     IsDealt m c.args.self.now c.deal.new.standing c.deal.new.shares.items
 dealt g c m is_mesh roomy =
-    is_dealt is_mesh roomy (c.deref.ensures.value ∙ ap (λ (x : RaisedMesh). x.cuts.items) c.self.view_is)
+    is_dealt is_mesh roomy (c.deref.ensures.value ∙ ap (λ (x : RaisedMesh). x.layout.now.cuts.items) c.self.view_is)
     (subst (λ (x : RaisedMesh). (ends : List LinkEnds) → HoldsAll ends x.standing → Deals ends c.deref.result.now x.shares.items c.deal.new.shares.items)
     c.self.view_is c.deal.ensures.deals)
     (subst (λ (x : RaisedMesh). (ends : List LinkEnds) → HoldsAll ends x.standing → HoldsNoEnds ends c.deal.new.standing)
@@ -55,7 +55,7 @@ turned g c m before =
 -- the ends that were collected
 collected : (g : Over) (c : After-collect g) (m : State) → IsTurned m c.args.self.now c.deal.new.standing c.deal.new.shares.items c.play_all.new.shares.items →
     IsCollected m c.args.self.now c.deal.new.standing c.deal.new.shares.items c.play_all.new.shares.items c.collect.new.standing c.collect.new.shares.items
-collected g c m before = is_collected before (c.deref-3.ensures.value ∙ ap (λ (x : RaisedMesh). x.cuts.items) c.self.view_is) c.collect.ensures
+collected g c m before = is_collected before (c.deref-3.ensures.value ∙ ap (λ (x : RaisedMesh). x.layout.now.cuts.items) c.self.view_is) c.collect.ensures
 
 pub play_all-requires-clause-shares : goal.play_all-requires-clause-shares
 play_all-requires-clause-shares g c κs within =
@@ -69,7 +69,7 @@ collect-requires-clause-cuts g c =
     let q = c.requires in
     let turn = turned g (goal.at.collect-requires-clause-cuts g c).After-play_all q.0
     (dealt g (goal.at.collect-requires-clause-cuts g c).After-deal q.0 q.1 q.2) in
-    subst (λ (l : List Cut). AreCuts l c.play_all.new.shares.items) (sym (c.deref-3.ensures.value ∙ ap (λ (x : RaisedMesh). x.cuts.items) c.self.view_is))
+    subst (λ (l : List Cut). AreCuts l c.play_all.new.shares.items) (sym (c.deref-3.ensures.value ∙ ap (λ (x : RaisedMesh). x.layout.now.cuts.items) c.self.view_is))
     (still_cuts turn)
 
 pub collect-requires-clause-laid : goal.collect-requires-clause-laid
@@ -77,7 +77,7 @@ collect-requires-clause-laid g c =
     let q = c.requires in
     let turn = turned g (goal.at.collect-requires-clause-laid g c).After-play_all q.0
     (dealt g (goal.at.collect-requires-clause-laid g c).After-deal q.0 q.1 q.2) in
-    subst (AreLaid c.deal.new.standing.links.items c.play_all.new.shares.items) (sym (c.deref-3.ensures.value ∙ ap (λ (x : RaisedMesh). x.cuts.items) c.self.view_is))
+    subst (AreLaid c.deal.new.standing.links.items c.play_all.new.shares.items) (sym (c.deref-3.ensures.value ∙ ap (λ (x : RaisedMesh). x.layout.now.cuts.items) c.self.view_is))
     (cuts_laid turn)
 
 pub collect-requires-clause-none : goal.collect-requires-clause-none
@@ -86,7 +86,7 @@ collect-requires-clause-none g c =
     let turn = turned g (goal.at.collect-requires-clause-none g c).After-play_all q.0
     (dealt g (goal.at.collect-requires-clause-none g c).After-deal q.0 q.1 q.2) in
     let none = no_ends turn in
-    (none.0, none.1, none.2 ∙ ap length (sym (c.deref-3.ensures.value ∙ ap (λ (x : RaisedMesh). x.cuts.items) c.self.view_is)))
+    (none.0, none.1, none.2 ∙ ap length (sym (c.deref-3.ensures.value ∙ ap (λ (x : RaisedMesh). x.layout.now.cuts.items) c.self.view_is)))
 
 pub rest_all-requires : goal.rest_all-requires
 rest_all-requires g c =

@@ -5,17 +5,17 @@ use Rattle.mesh_core.specs.State.{State}
 use Rattle.mesh_run.specs.Raised.{IsRaisedFrom, PlaysTo}
 use Rattle.mesh_round.specs.OnThreads.{LeadsByRound, MayGoOn}
 use Rattle.mesh_round.proofs.Played.{IsLaw, answers, at_pace, leads, leads_at_rest, ready_after, refuses, stood_still}
-use Rattle.mesh_round.proofs.rounds.play_parts.Given.{Over}
-use Rattle.mesh_round.proofs.rounds.play_parts.Goals as goal
-use Rattle.mesh_round.proofs.rounds.play_parts.Goals.{In-Ok-false, In-Ok-true}
+use Rattle.mesh_round.proofs.rounds.play_on.Given.{Over}
+use Rattle.mesh_round.proofs.rounds.play_on.Goals as goal
+use Rattle.mesh_round.proofs.rounds.play_on.Goals.{In-Ok-false, In-Ok-true}
 
 -- ---- no memory
 
 pub lower-requires : goal.lower-requires
-lower-requires g c = (c.args.parts, c.requires.mesh, c.in-Err.ensures.back c.args.parts c.requires.mesh c.in_ok-raised.ensures.raised)
+lower-requires g c = (c.args.parts, c.requires.ready.mesh, c.in-Err.ensures.back c.args.parts c.requires.ready.mesh c.in_ok-raised.ensures.raised)
 
 pub returns-in-Err-clause-back : goal.returns-in-Err-clause-back
-returns-in-Err-clause-back g c = c.lower.ensures c.args.parts c.requires.mesh (c.in-Err.ensures.back c.args.parts c.requires.mesh c.in_ok-raised.ensures.raised)
+returns-in-Err-clause-back g c = c.lower.ensures c.args.parts c.requires.ready.mesh (c.in-Err.ensures.back c.args.parts c.requires.ready.mesh c.in_ok-raised.ensures.raised)
 
 -- ---- a copy moved
 
@@ -32,8 +32,8 @@ moved g c =
     let p = c.args.pace in
     let r = c.in_ok-raised.raised in
     let e = c.in_ok-raised.ensures in
-    let to = at_pace p r.pace c.args.parts r c.play.new.self c.in-Ok-true.field-0 true c.requires.mesh e.raised e.pace c.in-Ok-true.field-0-test c.in-Ok-true.ensures.played in
-    (to, ready_after law p.patience p.turns c.args.parts to.mesh to.items c.requires to.played, leads law p.patience p.turns c.args.parts to.mesh to.items c.requires to.played to.noted)
+    let to = at_pace p r.pace c.args.parts r c.play.new.self c.in-Ok-true.field-0 true c.requires.ready.mesh e.raised e.pace c.in-Ok-true.field-0-test c.in-Ok-true.ensures.played in
+    (to, ready_after law p.patience p.turns c.args.parts to.mesh to.items c.requires.ready to.played, leads law p.patience p.turns c.args.parts to.mesh to.items c.requires.ready to.played to.noted)
 
 pub lower-requires-in-Ok-true : goal.lower-requires-in-Ok-true
 lower-requires-in-Ok-true g c = let m = moved g (goal.at.lower-requires-in-Ok-true g c).In-Ok-true in (m.0.mesh, m.1.mesh, m.0.raised)
@@ -61,11 +61,11 @@ stood g c =
     let p = c.args.pace in
     let r = c.in_ok-raised.raised in
     let e = c.in_ok-raised.ensures in
-    let to = at_pace p r.pace c.args.parts r c.play.new.self c.in-Ok-false.field-0 false c.requires.mesh e.raised e.pace c.in-Ok-false.field-0-test c.in-Ok-false.ensures.played in
-    (to, stood_still law p.patience p.turns c.args.parts c.play.new.self c.requires.mesh to)
+    let to = at_pace p r.pace c.args.parts r c.play.new.self c.in-Ok-false.field-0 false c.requires.ready.mesh e.raised e.pace c.in-Ok-false.field-0-test c.in-Ok-false.ensures.played in
+    (to, stood_still law p.patience p.turns c.args.parts c.play.new.self c.requires.ready.mesh to)
 
 pub lower-requires-in-Ok-false : goal.lower-requires-in-Ok-false
-lower-requires-in-Ok-false g c = (c.args.parts, c.requires.mesh, (stood g (goal.at.lower-requires-in-Ok-false g c).In-Ok-false).1)
+lower-requires-in-Ok-false g c = (c.args.parts, c.requires.ready.mesh, (stood g (goal.at.lower-requires-in-Ok-false g c).In-Ok-false).1)
 
 pub returns-in-Ok-false-clause-round : goal.returns-in-Ok-false-clause-round
 returns-in-Ok-false-clause-round g c =
@@ -73,18 +73,18 @@ returns-in-Ok-false-clause-round g c =
     let law : IsLaw = record { mesh = l.mesh; hands = l.hands; round = l.round; still = l.still } in
     let p = c.args.pace in
     let s = stood g (goal.at.returns-in-Ok-false-clause-round g c).In-Ok-false in
-    let same = c.lower-in-Ok-false.ensures c.args.parts c.requires.mesh s.1 in
-    leads_at_rest law p.patience p.turns c.args.parts c.play.new.self c.at_rest.result c.requires s.0
+    let same = c.lower-in-Ok-false.ensures c.args.parts c.requires.ready.mesh s.1 in
+    leads_at_rest law p.patience p.turns c.args.parts c.play.new.self c.at_rest.result c.requires.ready s.0
     (subst (λ (m : State). IfOk c.at_rest.result (λ n. n ≡ m)) same c.at_rest.ensures.same) c.at_rest.ensures.none
 
 pub returns-in-Ok-false-clause-ready : goal.returns-in-Ok-false-clause-ready
 returns-in-Ok-false-clause-ready g c =
     let s = stood g (goal.at.returns-in-Ok-false-clause-ready g c).In-Ok-false in
-    let same = c.lower-in-Ok-false.ensures c.args.parts c.requires.mesh s.1 in
-    answers MayGoOn c.at_rest.result c.lower-in-Ok-false.result c.args.parts same c.requires c.at_rest.ensures.same
+    let same = c.lower-in-Ok-false.ensures c.args.parts c.requires.ready.mesh s.1 in
+    answers MayGoOn c.at_rest.result c.lower-in-Ok-false.result c.args.parts same c.requires.ready c.at_rest.ensures.same
 
 pub returns-in-Ok-false-clause-back : goal.returns-in-Ok-false-clause-back
 returns-in-Ok-false-clause-back g c =
     let s = stood g (goal.at.returns-in-Ok-false-clause-back g c).In-Ok-false in
-    let same = c.lower-in-Ok-false.ensures c.args.parts c.requires.mesh s.1 in
+    let same = c.lower-in-Ok-false.ensures c.args.parts c.requires.ready.mesh s.1 in
     refuses (λ n. n ≡ c.args.parts) c.at_rest.result c.lower-in-Ok-false.result c.args.parts same refl c.at_rest.ensures.back

@@ -1,0 +1,77 @@
+-- After rounds the first dumped copy goes back, so each pass leaves less to be done, until no record is left.
+use Rattle.std.proofs.Common.{rules, ◌<◌, ℕ, length, sym, ap, arith, subst}
+use Rattle.std.specs.Prelude.{IfErr}
+use Rattle.std.proofs.lemmas.Result.{IfErr-weaker}
+use Rattle.mesh_core.specs.State.{Setup, State}
+use Rattle.mesh_run.specs.Layouts.{IsLayoutOf}
+use Rattle.mesh_round.specs.RoundFlow.{HasRounds}
+use Rattle.mesh_round.specs.Reinjecting.{HasPasses}
+use Rattle.mesh_round.proofs.FirstBack.{first_goes_back}
+use Rattle.mesh_round.proofs.Passes.{passes_keep_mesh, passes_then, rounds_pass, rounds_no_more}
+use Rattle.mesh_round.proofs.reinjecting.pass_on.Goals as goal
+
+pub returns-in_err-parts-clause-refused : goal.returns-in_err-parts-clause-refused
+returns-in_err-parts-clause-refused g c =
+    let was : IfErr c.from_residual.result (λ b. HasRounds c.args.pace.patience c.args.pace.turns c.args.parts b.0) = search rules in
+    IfErr-weaker c.from_residual.result (λ b. HasRounds c.args.pace.patience c.args.pace.turns c.args.parts b.0)
+    (λ b. HasPasses c.args.pace.patience c.args.pace.turns c.args.parts b.0)
+    (λ b rounds. rounds_pass c.args.pace.patience c.args.pace.turns c.args.parts b.0 rounds) was
+
+pub passes-init : goal.passes-init
+passes-init g c = record {
+  passes = rounds_pass c.args.pace.patience c.args.pace.turns c.args.parts c.in_ok-parts.parts c.in_ok-parts.ensures.rounds.rounds;
+  ready = c.in_ok-parts.ensures.ready;
+  at_rest = c.in_ok-parts.ensures.at_rest;
+}
+
+pub returns-in_err-filled-clause-refused : goal.returns-in_err-filled-clause-refused
+returns-in_err-filled-clause-refused g c =
+    let was : IfErr c.from_residual-in_err-filled.result (λ b. (patience turns : ℕ) → HasPasses patience turns c.passes.parts b.0) = search rules in
+    IfErr-weaker c.from_residual-in_err-filled.result (λ b. (patience turns : ℕ) → HasPasses patience turns c.passes.parts b.0)
+    (λ b. HasPasses c.args.pace.patience c.args.pace.turns c.args.parts b.0)
+    (λ b back. passes_then c.args.pace.patience c.args.pace.turns c.args.parts c.passes.parts b.0 c.passes.invariant.passes (back c.args.pace.patience c.args.pace.turns)) was
+
+pub run_on-requires-in-passes-clause-layout : goal.run_on-requires-in-passes-clause-layout
+run_on-requires-in-passes-clause-layout g c κs within =
+    let p : ℕ = c.args.pace.patience in
+    let t : ℕ = c.args.pace.turns in
+    let filled : State = c.in_ok-filled.filled in
+    let back : HasPasses p t c.args.parts filled = passes_then p t c.args.parts c.passes.parts filled c.passes.invariant.passes (c.in_ok-filled.ensures.passes p t) in
+    subst (λ (u : Setup). IsLayoutOf u c.args.layout.now) (sym (passes_keep_mesh p t c.args.parts filled c.requires.ready.mesh back).1) c.requires.layout
+
+pub returns-in_err-parts-2-clause-refused : goal.returns-in_err-parts-2-clause-refused
+returns-in_err-parts-2-clause-refused g c =
+    let p : ℕ = c.args.pace.patience in
+    let t : ℕ = c.args.pace.turns in
+    let filled : State = c.in_ok-filled.filled in
+    let back : HasPasses p t c.args.parts filled = passes_then p t c.args.parts c.passes.parts filled c.passes.invariant.passes (c.in_ok-filled.ensures.passes p t) in
+    let was : IfErr c.from_residual-in_err-parts-2.result (λ b. HasRounds p t filled b.0) = search rules in
+    IfErr-weaker c.from_residual-in_err-parts-2.result (λ b. HasRounds p t filled b.0) (λ b. HasPasses p t c.args.parts b.0)
+    (λ b rounds. passes_then p t c.args.parts filled b.0 back (rounds_pass p t filled b.0 rounds)) was
+
+pub passes-smaller : goal.passes-smaller
+passes-smaller g c =
+    let p : ℕ = c.args.pace.patience in
+    let t : ℕ = c.args.pace.turns in
+    let m : State = c.passes.parts in
+    let filled : State = c.in_ok-filled.filled in
+    let job = c.requires.ledger in
+    let law = c.passes_keep_the_ledger.ensures in
+    let kept = law.of_nets p t c.args.parts m job.0 job.1 c.requires.ready.mesh job.2 job.3 c.passes.invariant.passes in
+    let some : 0 < length m.dumped = subst (λ (s : State). 0 < length s.dumped) c.parts.view_is (omega (arith, c.len.ensures, c.passes-test.true)) in
+    let less = c.in_ok-filled.ensures.less (first_goes_back m c.passes.invariant.ready.mesh job.0 job.1 kept c.passes.invariant.at_rest (λ none. let no = ap length none in omega (arith, some, no))) in
+    let no_more = rounds_no_more c.a_round_leaves_less_to_do.ensures.no_more p t filled c.in_ok-parts-2.parts c.in_ok-filled.ensures.ready.mesh c.in_ok-parts-2.ensures.rounds.rounds in
+    omega (arith, less, no_more)
+
+pub passes-preserved : goal.passes-preserved
+passes-preserved g c =
+    let p : ℕ = c.args.pace.patience in
+    let t : ℕ = c.args.pace.turns in
+    let filled : State = c.in_ok-filled.filled in
+    let n : State = c.in_ok-parts-2.parts in
+    let back = passes_then p t c.args.parts c.passes.parts filled c.passes.invariant.passes (c.in_ok-filled.ensures.passes p t) in
+    record {
+      passes = passes_then p t c.args.parts filled n back (rounds_pass p t filled n c.in_ok-parts-2.ensures.rounds.rounds);
+      ready = c.in_ok-parts-2.ensures.ready;
+      at_rest = c.in_ok-parts-2.ensures.at_rest;
+    }

@@ -1,0 +1,45 @@
+// How a mesh of a setup is shared between workers, whatever copies it holds.
+ghost use Rattle.std.specs.Prelude.{◌≤◌, IfOk};
+ghost use Rattle.mesh_core.specs.State.{IsMesh};
+ghost use Rattle.mesh_run.specs.Layouts.{IsLayoutOf};
+
+use crate::floors::Floor;
+use crate::homes::{Cut, Home, cuts_of, homes_of, runs_of, share_table};
+use mesh_core::MeshParts;
+use spin_base::Memory;
+use std::alloc::Global;
+
+/// How a mesh is shared between workers: who stands where, the run of actors of each worker, the homes of all queues, and the queues
+/// between two workers. It depends on the mesh's setup alone, so it may serve as often as a mesh of that setup is split.
+#[derive(Drop)]
+pub struct Layout {
+    pub(crate) floor: Floor,
+    pub(crate) runs: Vec<usize>,
+    pub(crate) homes: Vec<Home>,
+    pub(crate) cuts: Vec<Cut>,
+}
+
+impl Layout {
+    /// How a mesh is shared between so many workers.
+    ///
+    /// # Errors
+    ///
+    /// `Memory` where memory runs out.
+    pub fn of(alloc: Global, parts: &MeshParts, workers: u32) -> Result<Layout, Memory>
+        requires mesh { IsMesh parts.now }
+        requires staffed { 1 ≤ workers }
+        ensures { IfOk result (IsLayoutOf parts.now.setup) }
+    {
+        let floor = Floor::of(alloc, &parts.setup)?;
+        let runs = runs_of(alloc, &floor, workers)?;
+        let table = share_table(alloc, &runs, floor.actors())?;
+        let homes = homes_of(alloc, &parts.setup, &floor, &table)?;
+        let cuts = cuts_of(alloc, &homes)?;
+        Ok(Layout {
+            floor,
+            runs,
+            homes,
+            cuts,
+        })
+    }
+}
