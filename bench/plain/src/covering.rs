@@ -19,13 +19,9 @@ fn join(one: Block, other: Block) -> Block {
     Block { key: one.key & mask, mask }
 }
 
-/// A covered table: the rows in order, each with the blocks for which it stands.
-pub struct Covered {
-    pub rows: Vec<(Row, Vec<Block>)>,
-}
-
-/// The table after all merges. Its rows stand by generality, then by key, and no two share a key.
-pub fn cover(table: &[Row], target: usize) -> Covered {
+/// The table after all merges, and then without the rows that default routing replaces. Its rows stand by generality, then by key, and
+/// no two share a key.
+pub fn cover(table: &[Row], target: usize) -> Vec<Row> {
     let mut cover = Cover::of(table);
     let mut left = table.len();
     while left > target {
@@ -33,9 +29,7 @@ pub fn cover(table: &[Row], target: usize) -> Covered {
         left -= set.len() - 1;
         cover.merge(&set);
     }
-    let order = cover.classes.iter().flat_map(|class| &class.numbers);
-    let rows = order.map(|&number| (cover.rows[number as usize], cover.blocks_of(number)));
-    Covered { rows: rows.collect() }
+    cover.without_defaults()
 }
 
 /// The rows of one route, in order, and what is known of them.
@@ -92,16 +86,17 @@ impl Cover {
         routes.sort_unstable();
         routes.dedup();
         let family = || Family { rows: Rows::default(), known: None, changed: 0, settled: 0 };
+        let most = 2 * table.len();
         let mut cover = Cover {
-            rows: Vec::with_capacity(2 * table.len()),
+            rows: Vec::with_capacity(most),
             originals: table.len(),
             aliases: Vec::new(),
-            family_of: Vec::with_capacity(2 * table.len()),
-            is_gone: Vec::new(),
-            rivals: Vec::new(),
-            walls: Vec::new(),
-            changed: Vec::new(),
-            tried: Vec::new(),
+            family_of: Vec::with_capacity(most),
+            is_gone: Vec::with_capacity(most),
+            rivals: Vec::with_capacity(most),
+            walls: Vec::with_capacity(most),
+            changed: Vec::with_capacity(most),
+            tried: Vec::with_capacity(most),
             families: routes.iter().map(|_| family()).collect(),
             classes: (0..=32).map(|_| Rows::default()).collect(),
             filled: 0,
@@ -109,6 +104,9 @@ impl Cover {
             work: Rows::default(),
             fronts: Vec::new(),
         };
+        for class in table.chunk_by(|one, other| generality(one.block) == generality(other.block)) {
+            cover.classes[generality(class[0].block) as usize].reserve(class.len());
+        }
         for &row in table {
             let family = routes.partition_point(|&route| route < row.route);
             cover.add(row, family, Vec::new());
@@ -149,8 +147,23 @@ impl Cover {
         (number as usize).checked_sub(self.originals).map(|it| &self.aliases[it])
     }
 
-    fn blocks_of(&self, number: u32) -> Vec<Block> {
-        self.aliases_of(number).map_or_else(|| vec![self.block(number)], |it| it.blocks().collect())
+    /// From the last row on, each is left out that only goes straight on, where no later one that is left meets a block for which it
+    /// stands.
+    fn without_defaults(&self) -> Vec<Row> {
+        let (mut kept, mut rows) = (Rows::default(), Vec::new());
+        for &number in self.classes.iter().rev().flat_map(|class| class.numbers.iter().rev()) {
+            let row = self.rows[number as usize];
+            let may_go = row.is_straight && match self.aliases_of(number) {
+                None => kept.first_met(row.block, 0).is_none(),
+                Some(aliases) => aliases.blocks().all(|it| kept.first_met(it, 0).is_none()),
+            };
+            if !may_go {
+                kept.push(number, row.block);
+                rows.push(row);
+            }
+        }
+        rows.reverse();
+        rows
     }
 
     /// The first block for which a row stands that meets another one; it meets the row's.

@@ -52,6 +52,12 @@ impl Rows {
         self.masks.push(block.mask);
     }
 
+    pub fn reserve(&mut self, more: usize) {
+        self.numbers.reserve(more);
+        self.keys.reserve(more);
+        self.masks.reserve(more);
+    }
+
     pub fn append(&mut self, other: &Rows) {
         self.numbers.extend_from_slice(&other.numbers);
         self.keys.extend_from_slice(&other.keys);

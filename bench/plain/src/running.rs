@@ -76,9 +76,30 @@ pub fn run(machine: &Machine, job: &Job<'_>, places: &[Place], keys: Vec<u32>, t
     let mut mesh = Mesh::open(machine, job, places, keys, tables);
     while mesh.round(job.turns) {}
     let mut outcome = mesh.outcome;
-    outcome.delivered.sort_unstable_by_key(|&(packet, vertex)| u32::from(packet) << 16 | u32::from(vertex));
+    outcome.delivered = by_packet(&outcome.delivered, job.packets.len());
     outcome.dumped.sort_unstable();
     outcome
+}
+
+/// Deliveries in order: first each to where those of its packet begin, then those of a packet among each other.
+fn by_packet(delivered: &[(u16, u16)], packets: usize) -> Vec<(u16, u16)> {
+    let mut ends = vec![0usize; packets + 1];
+    for &(packet, _) in delivered {
+        ends[usize::from(packet) + 1] += 1;
+    }
+    for packet in 0..packets {
+        ends[packet + 1] += ends[packet];
+    }
+    let mut sorted = vec![(0, 0); delivered.len()];
+    for &it in delivered {
+        let end = &mut ends[usize::from(it.0)];
+        sorted[*end] = it;
+        *end += 1;
+    }
+    for of_packet in sorted.chunk_by_mut(|one, other| one.0 == other.0) {
+        of_packet.sort_unstable_by_key(|it| it.1);
+    }
+    sorted
 }
 
 impl<'t> Mesh<'t> {
@@ -114,20 +135,22 @@ impl<'t> Mesh<'t> {
                 continue;
             }
             any = true;
-            for _ in 0..turns {
-                self.router_turn(chip as Chip);
+            let mut left = turns;
+            while left > 0 && self.router_turn(chip as Chip) {
+                left -= 1;
             }
-            for _ in 0..turns {
-                self.bank_turn(chip);
+            left = turns;
+            while left > 0 && self.bank_turn(chip) {
+                left -= 1;
             }
         }
         any
     }
 
-    /// Takes a copy from a queue, and sends one by each output of its route.
-    fn router_turn(&mut self, chip: Chip) {
+    /// Takes a copy from a queue, and sends one by each output of its route. Whether there was one.
+    fn router_turn(&mut self, chip: Chip) -> bool {
         let node = &mut self.nodes[chip as usize];
-        let Some(copy) = node.waiting.pop_front() else { return };
+        let Some(copy) = node.waiting.pop_front() else { return false };
         let (packet, port) = ((copy >> 3) as u16, (copy & 7) as u8);
         node.held[port as usize] -= 1;
         let mut left = node.lookup.route(self.keys[packet as usize]);
@@ -141,6 +164,7 @@ impl<'t> Mesh<'t> {
             }
             left &= left - 1;
         }
+        true
     }
 
     /// Puts a copy into the queue behind an output, where there is one and it has room.
@@ -158,19 +182,16 @@ impl<'t> Mesh<'t> {
         true
     }
 
-    /// Offers an unsent packet to the router, and hands a copy that arrived to its vertex.
-    fn bank_turn(&mut self, chip: usize) {
+    /// Offers an unsent packet to the router, and hands a copy that arrived to its vertex. Whether one of the two was done.
+    fn bank_turn(&mut self, chip: usize) -> bool {
         let node = &mut self.nodes[chip];
-        if let Some(&packet) = node.unsent.get(node.sent) {
-            if node.take_in(packet, LOCAL, self.capacity) {
-                node.sent += 1;
-            }
-        }
-        if let Some(copy) = node.arrived.pop_front() {
-            let (packet, vertex) = ((copy >> 16) as u16, copy as u16);
-            self.held[vertex as usize] -= 1;
-            self.outcome.delivered.push((packet, vertex));
-        }
+        let is_taken = node.unsent.get(node.sent).copied().is_some_and(|packet| node.take_in(packet, LOCAL, self.capacity));
+        node.sent += usize::from(is_taken);
+        let Some(copy) = node.arrived.pop_front() else { return is_taken };
+        let (packet, vertex) = ((copy >> 16) as u16, copy as u16);
+        self.held[vertex as usize] -= 1;
+        self.outcome.delivered.push((packet, vertex));
+        true
     }
 }
 

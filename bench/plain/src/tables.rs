@@ -5,7 +5,7 @@ use crate::covering::{cover, generality};
 use crate::job::Job;
 use crate::machine::{opposite, Chip, Machine, CORES, LOCAL};
 use crate::places::{Block, Place};
-use crate::rows::{Row, Rows};
+use crate::rows::Row;
 use crate::trees::{CutOff, Stop, Trees};
 
 #[derive(Clone, Copy)]
@@ -50,8 +50,8 @@ pub fn tables(machine: &Machine, job: &Job<'_>, places: &[Place], blocks: &[Bloc
     let mut tables = Vec::with_capacity(parts.len());
     for (chip, parts) in parts.into_iter().enumerate() {
         let rows = parts.iter().map(|part| part.row(blocks));
-        let table = if parts.len() > job.target {
-            covered(&rows.collect::<Vec<_>>(), job.target)
+        let table: Vec<Entry> = if parts.len() > job.target {
+            cover(&rows.collect::<Vec<_>>(), job.target).into_iter().map(entry_of).collect()
         } else {
             rows.filter(|row| !row.is_straight).map(entry_of).collect()
         };
@@ -97,18 +97,4 @@ fn parts_of(machine: &Machine, job: &Job<'_>, places: &[Place], blocks: &[Block]
 
 fn output_of(number: u8) -> u32 {
     1 << if number < CORES { number + 6 } else { number - CORES }
-}
-
-/// The rows are merged; then, from the last on, each is left out that only goes straight on, where no later one that is left takes a
-/// key for which it stands.
-fn covered(rows: &[Row], target: usize) -> Vec<Entry> {
-    let (mut kept, mut entries) = (Rows::default(), Vec::new());
-    for (row, blocks) in cover(rows, target).rows.into_iter().rev() {
-        if !row.is_straight || blocks.iter().any(|&it| kept.first_met(it, 0).is_some()) {
-            kept.push(0, row.block);
-            entries.push(entry_of(row));
-        }
-    }
-    entries.reverse();
-    entries
 }
