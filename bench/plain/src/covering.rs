@@ -3,6 +3,7 @@
 //! Each row has a number: rows that are merged get the next ones. A merged row stands behind all that are at most as general, so
 //! rows stand by generality and then by number, and a place is told by its generality alone.
 
+use crate::index::Index;
 use crate::places::Block;
 use crate::rows::{Row, Rows};
 
@@ -72,6 +73,7 @@ struct Cover {
     /// By generality, and a bit for each of them that has rows.
     classes: Vec<Rows>,
     filled: u64,
+    index: Index,
     /// The number of the next merge.
     now: u32,
     work: Rows,
@@ -100,6 +102,7 @@ impl Cover {
             families: routes.iter().map(|_| family()).collect(),
             classes: (0..=32).map(|_| Rows::default()).collect(),
             filled: 0,
+            index: Index::of(table),
             now: 0,
             work: Rows::default(),
             fronts: Vec::new(),
@@ -176,6 +179,9 @@ impl Cover {
 
     /// The same of all rows that are more general.
     fn first_met(&self, block: Block) -> Option<Block> {
+        if !self.index.meets(block) {
+            return None;
+        }
         let mut left = self.filled & (!1 << generality(block));
         while left != 0 {
             let class = &self.classes[left.trailing_zeros() as usize];
@@ -305,6 +311,7 @@ impl Cover {
                 continue;
             }
             let mut settled = true;
+            let recent = self.recent(&family.rows.numbers);
             for i in 0..family.rows.len() - 1 {
                 let row = family.rows.numbers[i];
                 let (tried, changed) = (self.tried[row as usize], self.changed[row as usize]);
@@ -316,8 +323,13 @@ impl Cover {
                     settled = false;
                     break;
                 }
-                let may = |&other: &u32| (changed >= tried || self.changed[other as usize] >= tried) && self.is_legal(row, other);
-                if let Some(&other) = family.rows.numbers[i + 1..].iter().find(|it| may(it)) {
+                let other = if changed >= tried {
+                    family.rows.numbers[i + 1..].iter().copied().find(|&it| self.is_legal(row, it))
+                } else {
+                    let may = |&(at, it): &(usize, u32)| at > i && self.changed[it as usize] >= tried && self.is_legal(row, it);
+                    recent.iter().find(|it| may(it)).map(|it| it.1)
+                };
+                if let Some(other) = other {
                     best = Some((general, [row, other]));
                     settled = false;
                     break;
@@ -331,10 +343,18 @@ impl Cover {
         best.map(|(_, pair)| pair.to_vec())
     }
 
+    /// The rows of a family, with their places there, that have changed since the first of its rows was tried that has not.
+    fn recent(&self, rows: &[u32]) -> Vec<(usize, u32)> {
+        let times = |it: u32| (self.tried[it as usize], self.changed[it as usize]);
+        let tried = rows.iter().map(|&it| times(it)).filter(|(tried, changed)| changed < tried).map(|it| it.0);
+        let oldest = tried.min().unwrap_or(u32::MAX);
+        rows.iter().copied().enumerate().filter(|&(_, it)| times(it).1 >= oldest).collect()
+    }
+
     fn is_legal(&self, one: u32, other: u32) -> bool {
         let merged = join(self.block(one), self.block(other));
         let general = generality(merged);
-        self.passes(one, general, &[other]) && self.passes(other, general, &[]) && self.first_met(merged).is_none()
+        self.passes(one, general, &[other]) && self.passes(other, general, &[]) && !self.index.meets(merged)
     }
 
     // ---- merging
@@ -347,9 +367,13 @@ impl Cover {
         let mut aliases = Rows::default();
         let (mut rivals, mut is_straight, mut changed_classes) = (Vec::new(), true, 0u64);
         for &number in set {
+            let from = aliases.len();
             match self.aliases_of(number) {
                 None => aliases.push(number, self.block(number)),
                 Some(its) => aliases.append(its),
+            }
+            for &original in &aliases.numbers[from..] {
+                self.index.raise(original as usize, generality(self.rows[number as usize].block), general);
             }
             rivals.extend(self.rivals[number as usize].iter().filter(|&&it| self.general(it) > general));
             is_straight &= self.rows[number as usize].is_straight;

@@ -7,6 +7,7 @@
 
 mod covering;
 mod detours;
+mod index;
 mod job;
 mod json;
 mod machine;
