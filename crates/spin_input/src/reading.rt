@@ -138,10 +138,7 @@ fn input_of_text<I: Input>(alloc: Global, bytes: &[u8]) -> Result<I, Refusal>
 }
 
 // The input that was parsed. Bytes that were not are refused as `unparsed` says: for want of memory exactly where parsing wanted it.
-fn input_of_parsed<I: Input>(
-    alloc: Global,
-    parsed: Result<Value, ParseErr>,
-) -> Result<I, Refusal>
+fn input_of_parsed<I: Input>(alloc: Global, parsed: Result<Value, ParseErr>) -> Result<I, Refusal>
     ensures read { MatchResult parsed
         (λ value. IsOrWantsMemory (input_of I.faults I.value_of (view value)) result)
         (λ error. result ≡ Err (unparsed error)) }
