@@ -1,9 +1,18 @@
 -- Which input bytes are, and what a source that tells its bytes gave.
-use Rattle.std.proofs.Common.{◌≡◌, ◌⊎◌, inl, inr, ℕ, ◌<◌, ◌≤◌, List, [], ◌++◌, length, nat_lt, Bool, true, false, Option, Some, None, Result, Ok, Err, IfErr, refl, sym, ap, ◌∙◌, subst, arith}
+use Rattle.std.proofs.Common.{◌≡◌, ◌⊎◌, inl, inr, ℕ, ◌<◌, ◌≤◌, List, [], ◌++◌, length, nat_lt, Bool, true, false, Option, Some, None, Result, Ok, Err, IfOk, IfErr, refl, sym, ap, ◌∙◌, subst, arith}
+use Rattle.std.specs.Prelude.{MatchResult}
 use Rattle.std.specs.Result.{IsErr, IsErrAnd}
 use Rattle.std.proofs.lemmas.Bool.{cond-true, cond-false, lt-ltb, ltb-true}
 use Rattle.std.proofs.lemmas.List.{append-nil, length-append}
 use Rattle.serde_json.specs.Data.{Data}
+use Rattle.serde_json.specs.View.{view}
+use Rattle.serde_json.specs.declared.value.Value.{Value}
+use Rattle.job_text.specs.declared.faults.JobFault.{JobFault}
+use Rattle.job_text.specs.declared.faults.TextErr.{TextErr}
+use Rattle.job_text.specs.declared.faults.TextErr.TheVariants as texts
+use Rattle.job_text.specs.declared.parses.ParseErr.{ParseErr}
+use Rattle.job_text.specs.declared.parses.ParseErr.TheVariants as parses
+use Rattle.job_text.specs.Reading.{GivesOrFaults, first}
 use Rattle.job_text.specs.Json.{json_of}
 use Rattle.spin_base.specs.Outside.{FaultsRose, GivesAll, LosesAtMost, LosesFront, LosesMoreThan}
 use Rattle.spin_base.specs.declared.reading.ReadErr.{ReadErr}
@@ -11,8 +20,8 @@ use Rattle.spin_base.specs.declared.reading.ReadErr.TheVariants as reads
 use Rattle.run_report.specs.declared.causes.Refusal.{Refusal}
 use Rattle.run_report.specs.declared.causes.Refusal.TheVariants as refusals
 use Rattle.spin_input.specs.Inputs.{HasNoFault, HasNoInput, Reading, no_memory, read_fault, too_long}
-use Rattle.spin_input.specs.Kinds.{input_from, input_in}
-use Rattle.spin_input.specs.Refusals.{unread}
+use Rattle.spin_input.specs.Kinds.{input_by, input_from, input_in}
+use Rattle.spin_input.specs.Refusals.{IsOrWantsMemory, unread, unparsed, unfit}
 
 -- ---- bytes
 
@@ -31,6 +40,60 @@ input_in-few kind bytes few = cond-false (nat_lt 16777216 (length bytes)) (Err r
 input_in-long : {A : Type 0} (kind : Data → Result A Refusal) (bytes : List ℕ) → 16777216 < length bytes → input_in kind bytes ≡ Err refusals.TooLong
 unfolding input_in
 input_in-long kind bytes long = cond-true (nat_lt 16777216 (length bytes)) (Err refusals.TooLong) (input_from kind (json_of bytes)) (lt-ltb _ _ long)
+
+-- ---- values
+
+-- what the reader of a kind gave, told as a refusal where it gave none
+pub fitted_input : {A : Type 0} (read : Result A TextErr) (result : Result A Refusal) (faults : List JobFault) (value : A) → GivesOrFaults (λ input. input) read faults value →
+    MatchResult read (λ input. result ≡ Ok input) (λ error. result ≡ Err (unfit error)) → IsOrWantsMemory (input_by faults value) result
+fitted_input (Ok x) result faults value gives is = inl (is ∙ (ap Ok gives.1 ∙ ap (λ l. input_by l value) (sym gives.0)))
+fitted_input (Err texts.Memory) result faults value gives is = inr is
+fitted_input (Err (texts.Fault f)) result faults value gives is = inl (by_faults faults gives)
+  where
+    by_faults : (l : List JobFault) → first l ≡ Some f → result ≡ input_by l value
+    by_faults (g ∷ gs) same = let it : g ≡ f = cc in is ∙ ap (λ x. Err (refusals.Job x)) (sym it)
+    by_faults [] same = cc
+
+-- what a text gave, parsed and read
+pub parsed_ok : {A : Type 0} (kind : Data → Result A Refusal) (parsed : Result Value ParseErr) (result : Result A Refusal) (bytes : List ℕ) → IfOk parsed (λ v. json_of bytes ≡ Some (view v)) →
+    MatchResult parsed (λ value. IsOrWantsMemory (kind (view value)) result) (λ error. result ≡ Err (unparsed error)) → IfOk result (λ input. input_from kind (json_of bytes) ≡ Ok input)
+parsed_ok kind parsed result bytes value read = by_result result refl
+  where
+    by_parsed : (x : A) (p : Result Value ParseErr) → IfOk p (λ v. json_of bytes ≡ Some (view v)) → result ≡ Ok x →
+        MatchResult p (λ value. IsOrWantsMemory (kind (view value)) result) (λ error. result ≡ Err (unparsed error)) → input_from kind (json_of bytes) ≡ Ok x
+    by_parsed x (Ok v) is ok (inl same) = ap (input_from kind) is ∙ (sym same ∙ ok)
+    by_parsed x (Ok v) is ok (inr memory) = absurd (ok_err (sym ok ∙ memory))
+      where
+        ok_err : Ok x ≡ Err refusals.Memory → ⊥
+        ok_err e = cc
+    by_parsed x (Err e) is ok refused = absurd (ok_err (sym ok ∙ refused))
+      where
+        ok_err : Ok x ≡ Err (unparsed e) → ⊥
+        ok_err e = cc
+
+    by_result : (r : Result A Refusal) → result ≡ r → IfOk r (λ input. input_from kind (json_of bytes) ≡ Ok input)
+    by_result (Ok x) ok = by_parsed x parsed value ok read
+    by_result (Err e) err = tt
+
+pub parsed_err : {A : Type 0} (kind : Data → Result A Refusal) (parsed : Result Value ParseErr) (result : Result A Refusal) (bytes : List ℕ) → IfOk parsed (λ v. json_of bytes ≡ Some (view v)) →
+    (parsed ≡ Err parses.NotJson → json_of bytes ≡ None) →
+    MatchResult parsed (λ value. IsOrWantsMemory (kind (view value)) result) (λ error. result ≡ Err (unparsed error)) →
+    IfErr result (λ r. (input_from kind (json_of bytes) ≡ Err r) ⊎ (r ≡ refusals.Memory))
+parsed_err kind parsed result bytes value none read = by_result result refl
+  where
+    same_err : (r s : Refusal) → Err {A} r ≡ Err s → r ≡ s
+    same_err r s e = cc
+
+    by_parsed : (r : Refusal) (p : Result Value ParseErr) → IfOk p (λ v. json_of bytes ≡ Some (view v)) → (p ≡ Err parses.NotJson → json_of bytes ≡ None) → result ≡ Err r →
+        MatchResult p (λ value. IsOrWantsMemory (kind (view value)) result) (λ error. result ≡ Err (unparsed error)) → (input_from kind (json_of bytes) ≡ Err r) ⊎ (r ≡ refusals.Memory)
+    by_parsed r (Ok v) is no err (inl same) = inl (ap (input_from kind) is ∙ (sym same ∙ err))
+    by_parsed r (Ok v) is no err (inr memory) = inr (same_err r refusals.Memory (sym err ∙ memory))
+    by_parsed r (Err parses.NotJson) is no err refused = inl (ap (input_from kind) (no refl) ∙ (sym refused ∙ err))
+    by_parsed r (Err parses.Memory) is no err refused = inr (same_err r refusals.Memory (sym err ∙ refused))
+
+    by_result : (r : Result A Refusal) → result ≡ r → IfErr r (λ e. (input_from kind (json_of bytes) ≡ Err e) ⊎ (e ≡ refusals.Memory))
+    by_result (Ok x) ok = tt
+    by_result (Err e) err = by_parsed e parsed value none err read
 
 -- ---- sources that tell their bytes
 

@@ -1,4 +1,5 @@
 -- Which refusal an error is told as (this project's own). Want of memory is told where memory ran out, and nowhere else.
+use Rattle.std.specs.Prelude.{◌≡◌, ◌⊎◌, Result, Err}
 use Rattle.spin_base.specs.declared.reading.ReadErr.{ReadErr}
 use Rattle.spin_base.specs.declared.reading.ReadErr.TheVariants as reads
 use Rattle.job_text.specs.declared.faults.TextErr.{TextErr}
@@ -23,3 +24,7 @@ unparsed parses.Memory = refusals.Memory
 abbrev pub unfit : TextErr → Refusal
 unfit (texts.Fault fault) = refusals.Job fault
 unfit texts.Memory = refusals.Memory
+
+-- an answer is the one that is wanted, or the refusal for want of memory
+abbrev pub IsOrWantsMemory : {A : Type 0} → Result A Refusal → Result A Refusal → Type 0
+IsOrWantsMemory wanted result = (result ≡ wanted) ⊎ (result ≡ Err refusals.Memory)

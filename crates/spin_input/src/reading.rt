@@ -1,5 +1,5 @@
 // The input that a source's bytes are.
-ghost use Rattle.std.specs.Prelude.{◌≡◌, ◌⊎◌, ◌≤◌, All, Ok, Err, length, IfOk, IfErr};
+ghost use Rattle.std.specs.Prelude.{◌≡◌, ◌⊎◌, ◌≤◌, All, Ok, Err, length, IfOk, IfErr, MatchResult};
 ghost use Rattle.serde_json.specs.View.{view};
 ghost use Rattle.app_graph.specs.ValidGraph.{IsValidGraph};
 ghost use Rattle.app_graph.specs.RunPart.{IsRunOf};
@@ -7,7 +7,7 @@ ghost use Rattle.run_report.specs.declared.causes.Refusal.TheVariants.{Memory};
 ghost use Rattle.job_text.specs.Json.{json_of};
 ghost use Rattle.spin_input.specs.Inputs.{IsReadAs, HasNoInput, reading_of};
 ghost use Rattle.spin_input.specs.Kinds.{input_of, input_from, input_in};
-ghost use Rattle.spin_input.specs.Refusals.{unread, unparsed, unfit};
+ghost use Rattle.spin_input.specs.Refusals.{IsOrWantsMemory, unread, unparsed, unfit};
 ghost use Rattle.spin_input.specs.Jobs.{job_from, job_in};
 ghost use Rattle.spin_input.specs.Requests.{request_in};
 ghost use Rattle.spin_input.specs.Steps.{steps_in};
@@ -94,7 +94,7 @@ pub fn read_input<I: Input, S: Source>(alloc: Global, source: &mut S) -> Result<
         (reading_of S.left S.faults source.old source.new)) }
 {
     match read_all(alloc, source, MOST_BYTES) {
-        Ok(bytes) => input_of_bytes(alloc, bytes.as_slice()),
+        Ok(bytes) => input_of_text(alloc, bytes.as_slice()),
         Err(error) => Err(unread(error)),
     }
 }
@@ -108,18 +108,6 @@ fn unread(error: ReadErr) -> Refusal
         ReadErr::TooLong => Refusal::TooLong,
         ReadErr::OutOfMemory => Refusal::Memory,
     }
-}
-
-// The input that bytes are, or why they are none.
-fn input_of_bytes<I: Input>(alloc: Global, bytes: &[u8]) -> Result<I, Refusal>
-    requires { length bytes.now ≤ 16777216 }
-    ensures input { IfOk result (λ input. input_in (input_of I.faults I.value_of) bytes.now
-        ≡ Ok input) }
-    ensures sound { IfOk result I.IsSound }
-    ensures err { IfErr result (λ r. (input_in (input_of I.faults I.value_of) bytes.now ≡ Err r)
-        ⊎ (r ≡ Memory)) }
-{
-    input_of_text(alloc, bytes)
 }
 
 /// The job that a text is, however long it is.
@@ -146,8 +134,21 @@ fn input_of_text<I: Input>(alloc: Global, bytes: &[u8]) -> Result<I, Refusal>
         (λ r. (input_from (input_of I.faults I.value_of) (json_of bytes.now) ≡ Err r)
         ⊎ (r ≡ Memory)) }
 {
-    match parse(alloc, bytes) {
-        Ok(value) => input_of_value(alloc, &value),
+    input_of_parsed(alloc, parse(alloc, bytes))
+}
+
+// The input that was parsed. Bytes that were not are refused as `unparsed` says: for want of memory exactly where parsing wanted it.
+fn input_of_parsed<I: Input>(
+    alloc: Global,
+    parsed: Result<Value, ParseErr>,
+) -> Result<I, Refusal>
+    ensures read { MatchResult parsed
+        (λ value. IsOrWantsMemory (input_of I.faults I.value_of (view value)) result)
+        (λ error. result ≡ Err (unparsed error)) }
+    ensures sound { IfOk result I.IsSound }
+{
+    match parsed {
+        Ok(value) => fitted(I::of_value(alloc, &value)),
         Err(error) => Err(unparsed(error)),
     }
 }
@@ -162,15 +163,11 @@ fn unparsed(error: ParseErr) -> Refusal
     }
 }
 
-// The input that a JSON value is, or its first fault.
-fn input_of_value<I: Input>(alloc: Global, value: &Value) -> Result<I, Refusal>
-    ensures input { IfOk result
-        (λ input. input_of I.faults I.value_of (view value.now) ≡ Ok input) }
-    ensures sound { IfOk result I.IsSound }
-    ensures err { IfErr result (λ r. (input_of I.faults I.value_of (view value.now) ≡ Err r)
-        ⊎ (r ≡ Memory)) }
+// The input that was read. A value that was not is refused as `unfit` says: for want of memory exactly where its reader wanted it.
+fn fitted<I: Input>(read: Result<I, TextErr>) -> Result<I, Refusal>
+    ensures { MatchResult read (λ input. result ≡ Ok input) (λ error. result ≡ Err (unfit error)) }
 {
-    match I::of_value(alloc, value) {
+    match read {
         Ok(input) => Ok(input),
         Err(error) => Err(unfit(error)),
     }

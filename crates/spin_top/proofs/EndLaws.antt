@@ -1,5 +1,5 @@
 -- What follows from how a call ends.
-use Rattle.std.proofs.Common.{◌≡◌, ◌⊎◌, ℕ, List, Option, Some, None, Ok, IfSome, refl, sym, ap, ◌∙◌, subst, inl, inr}
+use Rattle.std.proofs.Common.{◌≡◌, ◌⊎◌, ℕ, List, Option, Some, None, Result, Ok, Err, IfSome, refl, sym, ap, ◌∙◌, subst, inl, inr}
 use Rattle.spin_base.specs.Outside.{FaultsRose}
 use Rattle.app_loads.specs.Applications.{AreApps}
 use Rattle.app_loads.specs.Host.{Host}
@@ -17,6 +17,7 @@ use Rattle.spin_words.specs.declared.commands.JobWord.{JobWord}
 use Rattle.spin_words.specs.declared.commands.JobWord.TheVariants.{Run, Reinject, Trace, Compile, Tables, Gen}
 use Rattle.run_report.specs.declared.causes.Refusal.{Refusal}
 use Rattle.run_report.specs.declared.causes.Refusal.TheVariants as refusals
+use Rattle.std.specs.Prelude.{MatchResult}
 use Rattle.run_report.specs.Refusals.{line_of, status_at}
 use Rattle.job_gen.specs.Generated.{gen_job}
 use Rattle.spin_input.specs.Inputs.{Reading, IsReadAs, IsUntouched}
@@ -39,7 +40,7 @@ use Rattle.spin_top.specs.Causes.{HasCause, usage, of_job, of_request, of_steps,
 use Rattle.spin_top.specs.Ends.{Ends, made, refused, Says, SaysSurely, IsExact, IsGenerated, IsOfApps, IsOfCheck, HasAnswer, has_plan, has_nets, has_steps}
 use Rattle.spin_top.specs.Inputs.{AreRefused, no_value, no_answer}
 use Rattle.spin_top.specs.Made.{HasNoJob, IsJobOf, from_job, checked, done, IsMadeOfJob}
-use Rattle.spin_top.specs.Writing.{IsWritten, TakesMemory, Writing}
+use Rattle.spin_top.specs.Writing.{IsWritten, TakesMemory, Writing, told_unmade}
 use Rattle.spin_top.proofs.AppLaws.{IsSpared, bytes_refused_spared, fault_spared, memory_spared, none_refused, zero_spared}
 use Rattle.spin_top.proofs.CheckLaws.{checked_has_nets, fault_other, IsOther, memory_other, one_due, refused_other, with_nets, zero_other}
 use Rattle.spin_top.proofs.InputLaws.{answered_not_refused, read_told, refusal_due, refused_in_part, refused_quiet, served_memory}
@@ -424,3 +425,24 @@ module _ (words : List (List ℕ)) (reading : Reading) where
   -- why steps have no answer
   pub cause_with_steps : AskForApps words → (steps : List Step) → IsReadAs steps_in reading steps → (r : Refusal) → r ≡ refusals.Memory → HasCause words reading r
   cause_with_steps asks steps read r memory = no_memory (spells Apps asks) (inl (inr (inr asks), (read.bytes, read.all.gives), read.no_fault)) memory
+
+-- ---- what is written of a refusal
+
+-- what holds of the refusal where its line was made, and of the one that is told where it was not, holds of it, or of want of memory
+pub made_or_unmade : {T : Type 0} (line : Result T Memory) (r : Refusal) (P : Refusal → Type 0) → MatchResult line (λ _. P r) (λ _. P (told_unmade r)) →
+    P r ⊎ (TakesMemory r × P refusals.Memory)
+made_or_unmade (Ok text) r P holds = inl holds
+made_or_unmade (Err want) r P holds = unmade r holds
+  where
+    unmade : (q : Refusal) → P (told_unmade q) → P q ⊎ (TakesMemory q × P refusals.Memory)
+    unmade refusals.Usage same = inl same
+    unmade refusals.ReadFault same = inl same
+    unmade refusals.WriteFault memory = inr (tt, memory)
+    unmade refusals.TooLong memory = inr (tt, memory)
+    unmade refusals.NotJson memory = inr (tt, memory)
+    unmade (refusals.Job fault) memory = inr (tt, memory)
+    unmade (refusals.NoRoom vertex) memory = inr (tt, memory)
+    unmade (refusals.KeysOut net) memory = inr (tt, memory)
+    unmade (refusals.CutOff net target) memory = inr (tt, memory)
+    unmade (refusals.TableLong chip table) memory = inr (tt, memory)
+    unmade refusals.Memory memory = inr (tt, memory)

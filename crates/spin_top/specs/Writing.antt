@@ -42,3 +42,17 @@ TakesMemory (refusals.KeysOut net) = Unit {0}
 TakesMemory (refusals.CutOff net target) = Unit {0}
 TakesMemory (refusals.TableLong chip table) = Unit {0}
 TakesMemory refusals.Memory = Unit {0}
+
+-- The refusal that is told where there is no memory for the line of this one: itself where the line stands there, else want of memory.
+abbrev pub told_unmade : Refusal → Refusal
+told_unmade refusals.Usage = refusals.Usage
+told_unmade refusals.ReadFault = refusals.ReadFault
+told_unmade refusals.WriteFault = refusals.Memory
+told_unmade refusals.TooLong = refusals.Memory
+told_unmade refusals.NotJson = refusals.Memory
+told_unmade (refusals.Job fault) = refusals.Memory
+told_unmade (refusals.NoRoom vertex) = refusals.Memory
+told_unmade (refusals.KeysOut net) = refusals.Memory
+told_unmade (refusals.CutOff net target) = refusals.Memory
+told_unmade (refusals.TableLong chip table) = refusals.Memory
+told_unmade refusals.Memory = refusals.Memory

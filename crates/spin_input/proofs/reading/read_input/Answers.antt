@@ -1,10 +1,11 @@
-use Rattle.std.proofs.Common.{◌≡◌, ◌⊎◌, Ok, Err, subst, sym, inl, inr}
+use Rattle.std.proofs.Common.{◌≡◌, ◌⊎◌, Ok, Err, ap, ◌∙◌, subst, sym, inl, inr}
+use Rattle.job_text.specs.Json.{json_of}
 use Rattle.run_report.specs.declared.causes.Refusal.{Refusal}
 use Rattle.run_report.specs.declared.causes.Refusal.TheVariants as refusals
 use Rattle.spin_input.specs.Inputs.{Reading, HasNoFault, HasNoInput, IsReadAs, not_read_as, no_memory}
-use Rattle.spin_input.specs.Kinds.{input_of, input_in}
+use Rattle.spin_input.specs.Kinds.{input_of, input_from, input_in}
 use Rattle.std.proofs.lemmas.Result.{IfErr-weaker, IfOk-weaker}
-use Rattle.spin_input.proofs.JobBytes.{read_quiet, unread_input}
+use Rattle.spin_input.proofs.JobBytes.{input_in-few, read_quiet, unread_input}
 use Rattle.spin_input.proofs.reading.read_input.Goals as goal
 
 pub returns-in-Ok-clause-input : goal.returns-in-Ok-clause-input
@@ -18,9 +19,12 @@ returns-in-Ok-clause-input g c =
     }
     in
     let quiet : HasNoFault reading = read_quiet c.in-Ok.bytes reading c.in-Ok.ensures.no_fault in
-    IfOk-weaker c.input_of_bytes.result (λ input. input_in kind c.as_slice.result.now ≡ Ok input) (IsReadAs (input_in kind) reading)
-    (λ input is. record { bytes = c.in-Ok.bytes; all = c.in-Ok.ensures.all; no_fault = quiet; is = subst (λ b. input_in kind b ≡ Ok input) c.as_slice.ensures is })
-    c.input_of_bytes.ensures.input
+    let same : input_in kind c.in-Ok.bytes ≡ input_from kind (json_of c.as_slice.result.now) =
+    input_in-few kind c.in-Ok.bytes c.in-Ok.ensures.within ∙ ap (λ b. input_from kind (json_of b)) (sym c.as_slice.ensures)
+    in
+    IfOk-weaker c.input_of_text.result (λ input. input_from kind (json_of c.as_slice.result.now) ≡ Ok input) (IsReadAs (input_in kind) reading)
+    (λ input is. record { bytes = c.in-Ok.bytes; all = c.in-Ok.ensures.all; no_fault = quiet; is = same ∙ is })
+    c.input_of_text.ensures.input
 
 pub returns-in-Ok-clause-err : goal.returns-in-Ok-clause-err
 returns-in-Ok-clause-err g c =
@@ -33,12 +37,15 @@ returns-in-Ok-clause-err g c =
     }
     in
     let quiet : HasNoFault reading = read_quiet c.in-Ok.bytes reading c.in-Ok.ensures.no_fault in
-    IfErr-weaker c.input_of_bytes.result (λ (r : Refusal). (input_in kind c.as_slice.result.now ≡ Err r) ⊎ (r ≡ refusals.Memory)) (HasNoInput (input_in kind) reading)
+    let same : input_in kind c.in-Ok.bytes ≡ input_from kind (json_of c.as_slice.result.now) =
+    input_in-few kind c.in-Ok.bytes c.in-Ok.ensures.within ∙ ap (λ b. input_from kind (json_of b)) (sym c.as_slice.ensures)
+    in
+    IfErr-weaker c.input_of_text.result (λ (r : Refusal). (input_from kind (json_of c.as_slice.result.now) ≡ Err r) ⊎ (r ≡ refusals.Memory)) (HasNoInput (input_in kind) reading)
     (λ r why. elim why [
-      | inl is ↦ not_read_as c.in-Ok.bytes c.in-Ok.ensures.all quiet (subst (λ b. input_in kind b ≡ Err r) c.as_slice.ensures is)
+      | inl is ↦ not_read_as c.in-Ok.bytes c.in-Ok.ensures.all quiet (same ∙ is)
       | inr memory ↦ no_memory (c.in-Ok.bytes, c.in-Ok.ensures.all.gives, c.in-Ok.ensures.within) quiet memory
     ])
-    c.input_of_bytes.ensures.err
+    c.input_of_text.ensures.err
 
 pub returns-in-Err-clause-err : goal.returns-in-Err-clause-err
 returns-in-Err-clause-err g c =
