@@ -1,5 +1,5 @@
 -- Which input bytes are, and what a source that tells its bytes gave.
-use Rattle.std.proofs.Common.{◌≡◌, ◌⊎◌, inl, inr, ℕ, ◌<◌, ◌≤◌, List, [], ◌++◌, length, nat_lt, Bool, true, false, Option, Some, None, Result, Ok, Err, IfOk, IfErr, refl, sym, ap, ◌∙◌, subst, arith}
+use Rattle.std.proofs.Common.{◌≡◌, ◌⊎◌, inl, inr, ℕ, ◌<◌, ◌≤◌, List, [], ◌∷◌, ◌++◌, length, nat_lt, Bool, true, false, Option, Some, None, Result, Ok, Err, IfOk, IfErr, refl, sym, ap, ◌∙◌, subst, arith}
 use Rattle.std.specs.Prelude.{MatchResult}
 use Rattle.std.specs.Result.{IsErr, IsErrAnd}
 use Rattle.std.proofs.lemmas.Bool.{cond-true, cond-false, lt-ltb, ltb-true}
@@ -57,7 +57,7 @@ fitted_input (Err (texts.Fault f)) result faults value gives is = inl (by_faults
 -- what a text gave, parsed and read
 pub parsed_ok : {A : Type 0} (kind : Data → Result A Refusal) (parsed : Result Value ParseErr) (result : Result A Refusal) (bytes : List ℕ) → IfOk parsed (λ v. json_of bytes ≡ Some (view v)) →
     MatchResult parsed (λ value. IsOrWantsMemory (kind (view value)) result) (λ error. result ≡ Err (unparsed error)) → IfOk result (λ input. input_from kind (json_of bytes) ≡ Ok input)
-parsed_ok kind parsed result bytes value read = by_result result refl
+parsed_ok {A = A} kind parsed result bytes value read = by_result result refl
   where
     by_parsed : (x : A) (p : Result Value ParseErr) → IfOk p (λ v. json_of bytes ≡ Some (view v)) → result ≡ Ok x →
         MatchResult p (λ value. IsOrWantsMemory (kind (view value)) result) (λ error. result ≡ Err (unparsed error)) → input_from kind (json_of bytes) ≡ Ok x
@@ -79,17 +79,20 @@ pub parsed_err : {A : Type 0} (kind : Data → Result A Refusal) (parsed : Resul
     (parsed ≡ Err parses.NotJson → json_of bytes ≡ None) →
     MatchResult parsed (λ value. IsOrWantsMemory (kind (view value)) result) (λ error. result ≡ Err (unparsed error)) →
     IfErr result (λ r. (input_from kind (json_of bytes) ≡ Err r) ⊎ (r ≡ refusals.Memory))
-parsed_err kind parsed result bytes value none read = by_result result refl
+parsed_err {A = A} kind parsed result bytes value none read = by_result result refl
   where
-    same_err : (r s : Refusal) → Err {A} r ≡ Err s → r ≡ s
+    the_err : Refusal → Result A Refusal
+    the_err r = Err r
+
+    same_err : (r s : Refusal) → the_err r ≡ the_err s → r ≡ s
     same_err r s e = cc
 
     by_parsed : (r : Refusal) (p : Result Value ParseErr) → IfOk p (λ v. json_of bytes ≡ Some (view v)) → (p ≡ Err parses.NotJson → json_of bytes ≡ None) → result ≡ Err r →
         MatchResult p (λ value. IsOrWantsMemory (kind (view value)) result) (λ error. result ≡ Err (unparsed error)) → (input_from kind (json_of bytes) ≡ Err r) ⊎ (r ≡ refusals.Memory)
-    by_parsed r (Ok v) is no err (inl same) = inl (ap (input_from kind) is ∙ (sym same ∙ err))
-    by_parsed r (Ok v) is no err (inr memory) = inr (same_err r refusals.Memory (sym err ∙ memory))
-    by_parsed r (Err parses.NotJson) is no err refused = inl (ap (input_from kind) (no refl) ∙ (sym refused ∙ err))
-    by_parsed r (Err parses.Memory) is no err refused = inr (same_err r refusals.Memory (sym err ∙ refused))
+    by_parsed r (Ok v) is none_of err (inl same) = inl (ap (input_from kind) is ∙ (sym same ∙ err))
+    by_parsed r (Ok v) is none_of err (inr memory) = inr (same_err r refusals.Memory (sym err ∙ memory))
+    by_parsed r (Err parses.NotJson) is none_of err refused = inl (ap (input_from kind) (none_of refl) ∙ (sym refused ∙ err))
+    by_parsed r (Err parses.Memory) is none_of err refused = inr (same_err r refusals.Memory (sym err ∙ refused))
 
     by_result : (r : Result A Refusal) → result ≡ r → IfErr r (λ e. (input_from kind (json_of bytes) ≡ Err e) ⊎ (e ≡ refusals.Memory))
     by_result (Ok x) ok = tt
