@@ -1,11 +1,14 @@
 """Writes what the sources say into docs/architecture.md: the picture of the crates by layer, each with its lines of code and what it
 stands on, but what another of these stands on.
 
-    python3 tools/house.py [--check]
+    python3 tools/house.py [--check | --counts]
 
 With --check it compares the picture with what stands there, and docs/promises.md with the sources: what carries a promise has to be
 there, with the clauses that are named; so has what breaks it, and each edit has to break one. The rooms of docs/architecture.md have
-to name each file of code, and the files that docs/definitions.md names have to be there. The status is 1 where something differs.
+to name each file of code, and the files that docs/definitions.md names have to be there. No count may be above its bound in MOST. The
+status is 1 where something differs.
+
+With --counts it prints the counts of conditions, proofs and definitions, each with its bound.
 
 A crate's layer is one more than the highest layer below it, among the crates of this repository. A chain of crates is as long
 as the number of layers. Lines are those of code without tests.
@@ -18,6 +21,16 @@ import sys
 ROOT = os.path.dirname(os.path.dirname(os.path.realpath(__file__)))
 BEGIN, END = "<!-- made by tools/house.py -->\n", "<!-- end -->\n"
 ALONE = r"\((Tests alone|No command)"
+# No count may grow beyond these. Whoever lowers one lowers its bound.
+MOST = {
+    "conditions a function, in hundredths": 63,
+    "conditions of one function": 5,
+    "lines of proofs": 80684,
+    "lines of proofs longer than 200 characters": 1287,
+    "lines of proofs longer than 300 characters": 108,
+    "lines of definitions": 13216,
+    "lines of definitions that docs/definitions.md lists": 8368,
+}
 PROMISES, LAWS = "| promise | carried by | broken by |", "| law or lemma | stands as |"
 
 
@@ -181,6 +194,32 @@ def files_of_definitions():
     return {it for it in files if os.path.basename(it) != "Lib.antt"}
 
 
+def named_definitions():
+    """The files of definitions that docs/definitions.md names."""
+    with open(f"{ROOT}/docs/definitions.md", encoding="utf-8") as text:
+        return set(re.findall(r"`(\w+/specs/[\w/]+\.antt)`", text.read()))
+
+
+def counts():
+    """The counts of MOST. A condition is what a function asks of its callers, a closure's not."""
+    conditions = [0]
+    for function, condition in re.findall(r"^ *(?:pub(?:\([a-z]+\))? )?(?:const )?fn (\w+)|^ *(requires)\b", text_of("crates/*/src/**/*.rt"), re.M):
+        if function:
+            conditions.append(0)
+        else:
+            conditions[-1] += 1
+    proofs = text_of("crates/*/proofs/**/*.antt").split("\n")
+    return {
+        "conditions a function, in hundredths": 100 * sum(conditions) // len(conditions),
+        "conditions of one function": max(conditions),
+        "lines of proofs": len(proofs),
+        "lines of proofs longer than 200 characters": sum(len(it) > 200 for it in proofs),
+        "lines of proofs longer than 300 characters": sum(len(it) > 300 for it in proofs),
+        "lines of definitions": lines_of("crates/*/specs/**/*.antt"),
+        "lines of definitions that docs/definitions.md lists": sum(lines_of(f"crates/{it}") for it in named_definitions()),
+    }
+
+
 def renewed(text):
     """A document as it is with the picture between the two marks."""
     before, _, rest = text.partition(BEGIN)
@@ -205,6 +244,10 @@ def wrong_rooms():
 
 
 def main(words):
+    if "--counts" in words:
+        for name, number in counts().items():
+            print(f"{number:7} of at most {MOST[name]:6}  {name}")
+        return 0
     file, wrong = f"{ROOT}/docs/architecture.md", []
     with open(file, encoding="utf-8") as text:
         stands = text.read()
@@ -215,10 +258,9 @@ def main(words):
         return 0
     if stands != wanted:
         wrong.append("docs/architecture.md is behind the sources: python3 tools/house.py")
-    with open(f"{ROOT}/docs/definitions.md", encoding="utf-8") as text:
-        named = set(re.findall(r"`(\w+/specs/[\w/]+\.antt)`", text.read()))
-    wrong += [f"docs/definitions.md names {it}, which is not there" for it in sorted(named - files_of_definitions())]
+    wrong += [f"docs/definitions.md names {it}, which is not there" for it in sorted(named_definitions() - files_of_definitions())]
     wrong += wrong_rooms() + wrong_promises()
+    wrong += [f"{number} {name}, and no more than {MOST[name]} are allowed" for name, number in counts().items() if number > MOST[name]]
     print("\n".join(wrong), end="\n" if wrong else "")
     return 1 if wrong else 0
 
