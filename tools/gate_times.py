@@ -16,13 +16,21 @@ from collections import defaultdict
 TICK = os.sysconf("SC_CLK_TCK")
 
 
-def provers():
-    """Each process of the prover: its number, crate, kind of work, folder, and processor seconds."""
+def is_below(pid, gate):
+    """Whether a process is one of the gate's: others may prove beside it."""
+    while pid > 1 and pid != gate:
+        with open(f"/proc/{pid}/stat", encoding="ascii", errors="replace") as it:
+            pid = int(it.read().rpartition(")")[2].split()[1])
+    return pid == gate
+
+
+def provers(gate):
+    """Each process of the prover that the gate began: its number, crate, kind of work, folder, and processor seconds."""
     for pid in filter(str.isdigit, os.listdir("/proc")):
         try:
             with open(f"/proc/{pid}/cmdline", "rb") as it:
                 words = it.read().decode(errors="replace").split("\0")
-            if os.path.basename(words[0]) != "rattle" or "--crate-name" not in words:
+            if os.path.basename(words[0]) != "rattle" or "--crate-name" not in words or not is_below(int(pid), gate):
                 continue
             with open(f"/proc/{pid}/stat", encoding="ascii", errors="replace") as it:
                 fields = it.read().rpartition(")")[2].split()
@@ -46,7 +54,7 @@ def main(command):
     with open("out/gate.log", "w", encoding="utf-8") as log:
         gate = subprocess.Popen(command, stdout=log, stderr=subprocess.STDOUT)
         while gate.poll() is None:
-            for process, crate, kind, folder, seconds in provers():
+            for process, crate, kind, folder, seconds in provers(gate.pid):
                 seen[process] = (crate, kind, folder, seconds)
                 if kind == "edits" and folder not in order[crate]:
                     order[crate].append(folder)
