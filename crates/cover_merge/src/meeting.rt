@@ -18,7 +18,7 @@ struct AliasPlace {
     alias: usize,
 }
 
-/// Places of aliases that pairs met, that of the last first. They may be any: each is looked at before it counts.
+/// Places of aliases that pairs met; one that is met again comes first. They may be any: each is looked at before it counts.
 #[derive(Clone, Copy)]
 pub(crate) struct LastMet {
     places: [AliasPlace; REMEMBERED],
@@ -71,7 +71,7 @@ fn bring_first(last: &mut LastMet, k: usize)
     last.places[0] = place;
 }
 
-// Remembers the place, in place of another.
+// Remembers the place, and forgets another.
 fn remember(last: &mut LastMet, place: AliasPlace) {
     last.places[place.alias % REMEMBERED] = place;
 }
