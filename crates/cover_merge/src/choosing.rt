@@ -13,6 +13,7 @@ ghost use Rattle.cover_merge.specs.Covering.{places_of, IsFirstPartner, IsLarges
 use crate::keeping::{Kept, most_of};
 use crate::knowing::Known;
 use crate::links::{Links, links_of};
+use crate::meeting::{LastMet, none_met};
 use crate::refining::{Refined, refine_within};
 use crate::rivals::{Rivals, is_legal_pair};
 use crate::times::{Times, marked};
@@ -153,12 +154,13 @@ fn first_pair(
         newer: vec![in alloc; 0u32; table.rows.len()]?,
         ready: vec![in alloc; false; known.routes.len()]?,
     };
+    let mut last = none_met();
     for i in 0..table.rows.len() {
         if is_settled(known, i) {
             continue;
         }
         make_ready(alloc, table, known, links, &mut changes, i)?;
-        if let Some(j) = partner(table, known, links, &changes.newer, i as u32) {
+        if let Some(j) = partner(table, known, links, &changes.newer, i as u32, &mut last) {
             return Ok(Some(two_places(alloc, i as u32, j)?));
         }
         known.times[i] = marked(known.times[i], now);
@@ -322,7 +324,14 @@ fn two_places(alloc: Global, i: u32, j: u32) -> Result<Seq<u32>, Memory>
 }
 
 // The first row behind row `i` that can be merged with it: only those of its route can that changed since it was tried.
-fn partner(table: &Table, known: &Known, links: &Links, newer: &[u32], i: u32) -> Option<u32>
+fn partner(
+    table: &Table,
+    known: &Known,
+    links: &Links,
+    newer: &[u32],
+    i: u32,
+    last: &mut LastMet,
+) -> Option<u32>
     requires rivaled { IsRivaled table.now.rows known.now.rivals }
     requires tried { AreTried table.now.rows known.now.times.items }
     requires changes { (d : ARow) → AreChangesFrom (slice_index_or table.now.rows i d).route.bits 0 table.now.rows
@@ -335,7 +344,7 @@ fn partner(table: &Table, known: &Known, links: &Links, newer: &[u32], i: u32) -
     let tried = tried_at(times, i as usize);
     let mut j = next_to_try(table, times, links, newer, i, tried);
     while (j as usize) < table.rows.len() {
-        if is_legal_pair(table, &known.rivals, i, j) {
+        if is_legal_pair(table, &known.rivals, i, j, last) {
             return Some(j);
         }
         j = next_to_try(table, times, links, newer, j, tried);

@@ -23,6 +23,7 @@ mod keeping;
 mod knowing;
 mod laws;
 mod links;
+mod meeting;
 mod refining;
 mod rivals;
 mod times;

@@ -2,9 +2,10 @@
 ghost use Rattle.std.specs.Prelude.{◌≡◌, ◌<◌, ◌≤◌, ◌^◌, ◌↔◌, ◌∷◌, [], ℕ, true, All, IfOk, IsTrue, List, length, slice_index};
 ghost use Rattle.tern_word.specs.SoundTable.{HoldsItsAliases, IsOrdered, IsSound, Misses};
 ghost use Rattle.tern_word.specs.Ternary.{generality};
-ghost use Rattle.cover_merge.specs.Merge.{has_row, place_for, SameRoute, IsMergeSet, IsLegal, PassesUp, PassesDown};
+ghost use Rattle.cover_merge.specs.Merge.{has_row, place_for, SameRoute, IsMergeSet, IsLegal, PassesUp};
 ghost use Rattle.cover_merge.specs.Rivals.{AreJoined, AreRivalsAt, IsOriginal, IsRivalOf, IsRivaled, is_at_one};
 
+use crate::meeting::{LastMet, passes_behind};
 use crate::merged_block;
 use spin_base::{Block, Memory, Seq};
 use std::alloc::Global;
@@ -194,7 +195,13 @@ pub(crate) fn place_in(rows: &[Row], general: u32) -> u32
 }
 
 /// Whether the merge of two rows of one route is legal.
-pub(crate) fn is_legal_pair(table: &Table, rivals: &Rivals, i: u32, j: u32) -> bool
+pub(crate) fn is_legal_pair(
+    table: &Table,
+    rivals: &Rivals,
+    i: u32,
+    j: u32,
+    last: &mut LastMet,
+) -> bool
     requires rivaled { IsRivaled table.now.rows rivals.now }
     requires set { IsMergeSet table.now.rows (i ∷ j ∷ []) }
     ensures { IsTrue result ↔ IsLegal table.now.rows (i ∷ j ∷ []) }
@@ -208,18 +215,5 @@ pub(crate) fn is_legal_pair(table: &Table, rivals: &Rivals, i: u32, j: u32) -> b
     if !passes(rows, rivals, &[i, j], j, general) {
         return false;
     }
-    passes_behind(rows, merged, place_in(rows, general))
-}
-
-// Whether the block meets no alias of a row at or after place `p`.
-fn passes_behind(rows: &[Row], block: Block, p: u32) -> bool
-    requires { All HoldsItsAliases rows.now }
-    ensures { IsTrue result ↔ PassesDown rows.now block p }
-{
-    for r in p as usize..rows.len() {
-        if !is_missed(block, &rows[r]) {
-            return false;
-        }
-    }
-    true
+    passes_behind(rows, merged, place_in(rows, general), last)
 }
