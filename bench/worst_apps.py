@@ -10,8 +10,11 @@ size, and the factor by which the processor time grew. Without KINDs all are run
     kept_unloads     a million deliveries that no unload has handed back, and so many loads and unloads of an empty graph
     own_unloads      the same, where each of these applications has a packet, a run comes between, and all are unloaded from the first on
     kept_deliveries  one net to 16,383 vertices and so many packets: a run, and an unload
+    kept_by_turns    the same with two nets of one source, in turn, each to all vertices but one: no two packets have the same deliveries
     long_pairs       so many loads and unloads of one net along a serpentine of live links through 64 by 64 chips
     long_nets        one load of so many such nets
+    nets_in_turn     so many such nets in all, in loads and unloads of 64
+    long_packets     so many packets of one such net: a run, and an unload
     small_pairs      so many loads and unloads of four vertices and two nets on 64 by 64 chips
 """
 import argparse
@@ -52,9 +55,17 @@ def kept_deliveries(size):
     return [["load", 0, one_net(16383, size)], ["run"], ["unload", 0]]
 
 
-def long_pairs(size):
+def kept_by_turns(size):
+    """Packets that come to other vertices than the one before are kept each by itself: eight bytes for each delivery."""
+    names = [f"v{i}" for i in range(16384)]
+    nets = [{"name": name, "source": "v0", "targets": others} for name, others in (("a", names[1:-1]), ("b", names[2:]))]
+    packets = [{"net": "ab"[i % 2], "index": 0} for i in range(size)]
+    return [["load", 0, application([{"name": name} for name in names], nets, packets)], ["run"], ["unload", 0]]
+
+
+def long_pairs(size, nets=1):
     """The machine is that of the first job."""
-    job = serpentine(1, 1024)
+    job = serpentine(nets, 1024)
     return [["load", 0, job], ["unload", 0], *pairs(size, {**job, "machine": NOTHING["machine"]})]
 
 
@@ -62,8 +73,18 @@ def long_nets(size):
     return [["load", 0, serpentine(size, 1024)]]
 
 
+def nets_in_turn(size):
+    return long_pairs(size // 64 - 1, 64)
+
+
+def long_packets(size):
+    job = serpentine(1, 1024)
+    return [["load", 0, {**job, "run": {"packets": [{"net": "n0", "index": 0}] * size}}], ["run"], ["unload", 0]]
+
+
 def small_pairs(size):
-    return pairs(size, SMALL)
+    """Without packets: an application of which one is unsent is not unloaded."""
+    return pairs(size, {**SMALL, "run": {"packets": []}})
 
 
 # Of each kind what makes its steps, and the first size.
@@ -71,8 +92,11 @@ KINDS = {
     "kept_unloads": (kept_unloads, FIRST),
     "own_unloads": (own_unloads, FIRST),
     "kept_deliveries": (kept_deliveries, FIRST),
+    "kept_by_turns": (kept_by_turns, FIRST),
     "long_pairs": (long_pairs, 64),
     "long_nets": (long_nets, 64),
+    "nets_in_turn": (nets_in_turn, 128),
+    "long_packets": (long_packets, 64),
     "small_pairs": (small_pairs, FIRST),
 }
 

@@ -3,7 +3,8 @@ use Rattle.std.proofs.Common.{◌≡◌, ◌≢◌, ℕ, zero, suc, ◌+◌, ◌
 use Rattle.std.specs.List.{slice_get, slice_set, Contains}
 use Rattle.std.proofs.Math.Seq.{drop-cons}
 use Rattle.std.proofs.lemmas.Bool.{cases_Bool, cases_eq, cases_lt, eq-eqb, and_from, or_parts}
-use Rattle.std.proofs.lemmas.List.{length-set, length-append, length-take-le, length-map, length-drop, set_at, get_or-take, take_all}
+use Rattle.std.proofs.Math.ListN.{get_or-map}
+use Rattle.std.proofs.lemmas.List.{length-set, length-append, length-take-le, length-map, length-drop, map-append, set_at, get_or-take, take_all}
 use Rattle.std.proofs.lemmas.List.Folds.{list_any-append}
 use Rattle.std.proofs.lemmas.Option.{slice_get_within, slice_get-get_or, get_or_from_slice_get, same_Some}
 use Rattle.key_alloc.proofs.Ranges.{in_from}
@@ -19,11 +20,13 @@ use Rattle.range_store.specs.Regions.{in_range}
 use Rattle.tern_word.specs.declared.tables.Row.{Row}
 use Rattle.tern_word.specs.declared.tables.Table.{Table}
 use Rattle.tern_word.specs.Entries.{entry_of}
+use Rattle.net_tables.specs.declared.marks.Mark.{Mark}
+use Rattle.net_tables.specs.Marks.{row_of_mark, table_of_sorted}
 use Rattle.app_loads.specs.declared.loaded.Range.{Range}
 use Rattle.app_loads.specs.declared.places.Region.{Region}
 use Rattle.app_loads.specs.declared.places.Region.TheVariants.{Keys, Memory, Rows}
 use Rattle.app_loads.specs.Regions.{ShareNoPlace, IsRegion, chip_count, range_has, is_taken, place_of}
-use Rattle.app_loads.specs.Writing.{AreCopied, CanCopy}
+use Rattle.app_loads.specs.Writing.{AreCopied, CanCopy, tables_in}
 use Rattle.range_store.proofs.HolePlaces.{clash}
 
 -- ---- a list with a part written
@@ -43,15 +46,16 @@ put_more {X} old b first p x m n many inside before given =
     ∙ (append_assoc a b (x ∷ ys)
     ∙ (ap (λ l. a ++ l) (sym (append_assoc b (x ∷ []) ys)) ∙ ap (λ k. a ++ ((b ++ x ∷ []) ++ drop k old)) next))))
 
--- one row more
-pub rows_more : (old : List Entry) (rows : List Row) (first p : ℕ) (x : Row) (m n : List Entry) → length old ≡ 1024 → first + length rows ≤ 1024 → slice_get rows p ≡ Some x →
-    m ≡ take first old ++ (map entry_of (take p rows) ++ drop (first + p) old) → n ≡ set m (first + p) (entry_of x) →
-    n ≡ take first old ++ (map entry_of (take (p + 1) rows) ++ drop (first + (p + 1)) old)
-rows_more old rows first p x m n size fits at before given =
-    let below = slice_get_within rows p x at in
-    let many : length (map entry_of (take p rows)) ≡ p = length-map (take p rows) entry_of ∙ length-take-le p rows (omega (arith, below)) in
-    put_more old (map entry_of (take p rows)) first p (entry_of x) m n many (omega (arith, below, size, fits)) before given
-    ∙ ap (λ l. take first old ++ (l ++ drop (first + (p + 1)) old)) (sym (map_more_at entry_of rows p x at))
+-- the row of one original block more
+pub marks_more : (old : List Entry) (marks : List Mark) (first p : ℕ) (x : Mark) (m n : List Entry) → length old ≡ 1024 → first + length marks ≤ 1024 → slice_get marks p ≡ Some x →
+    m ≡ take first old ++ (map entry_of (map row_of_mark (take p marks)) ++ drop (first + p) old) → n ≡ set m (first + p) (entry_of (row_of_mark x)) →
+    n ≡ take first old ++ (map entry_of (map row_of_mark (take (p + 1) marks)) ++ drop (first + (p + 1)) old)
+marks_more old marks first p x m n size fits at before given =
+    let below = slice_get_within marks p x at in
+    let so_far : List Row = map row_of_mark (take p marks) in
+    let many : length (map entry_of so_far) ≡ p = length-map so_far entry_of ∙ (length-map (take p marks) row_of_mark ∙ length-take-le p marks (omega (arith, below))) in
+    put_more old (map entry_of so_far) first p (entry_of (row_of_mark x)) m n many (omega (arith, below, size, fits)) before given
+    ∙ ap (λ l. take first old ++ (l ++ drop (first + (p + 1)) old)) (sym (ap (map entry_of) (map_more_at row_of_mark marks p x at) ∙ map-append entry_of so_far (row_of_mark x ∷ [])))
 
 -- the part that was written
 part_of : {X : Type 0} (a b c : List X) (p s : ℕ) → length a ≡ p → s ≡ length b → take s (drop p (a ++ (b ++ c))) ≡ b
@@ -146,10 +150,17 @@ module _ (m : Description) (cur : List (List Entry)) (long : length cur ≡ chip
   pub was_here : (c : Chip) → index_of m c ≡ j → table_at m cur c ≡ get_or cur j d
   was_here c same = ap (λ k. get_or cur k []) same ∙ get_or_from_slice_get cur j (get_or cur j d) [] (slice_get-get_or cur j d (omega (arith, below, long)))
 
--- a table with rows put into it, where these are other rows' list
-pub put_same : (table old : List Entry) (first : ℕ) (rows other : List Row) → table ≡ take first old ++ (map entry_of rows ++ drop (first + length rows) old) → rows ≡ other →
-    table ≡ take first old ++ (map entry_of other ++ drop (first + length other) old)
-put_same table old first rows other is same = subst (λ (l : List Row). table ≡ take first old ++ (map entry_of l ++ drop (first + length l) old)) same is
+-- the rows of a list of original blocks
+pub rows_listed : (marks : List Mark) (lists : List (List Mark)) (j : ℕ) (d : List Mark) → marks ≡ get_or lists j d → (get_or (tables_in lists) j (table_of_sorted d)).rows ≡ map row_of_mark marks
+rows_listed marks lists j d same = ap (λ (t : Table). t.rows) (get_or-map table_of_sorted lists j d) ∙ ap (map row_of_mark) (sym same)
+
+-- a table with the rows of original blocks put into it, where these are one of the lists
+pub put_listed : (table old : List Entry) (first : ℕ) (marks : List Mark) (lists : List (List Mark)) (j : ℕ) (d : List Mark) →
+    table ≡ take first old ++ (map entry_of (map row_of_mark marks) ++ drop (first + length marks) old) → marks ≡ get_or lists j d →
+    table ≡ take first old ++ (map entry_of (get_or (tables_in lists) j (table_of_sorted d)).rows ++ drop (first + length (get_or (tables_in lists) j (table_of_sorted d)).rows) old)
+put_listed table old first marks lists j d is same =
+    subst (λ (l : List Row). table ≡ take first old ++ (map entry_of l ++ drop (first + length l) old)) (sym (rows_listed marks lists j d same))
+    (is ∙ ap (λ k. take first old ++ (map entry_of (map row_of_mark marks) ++ drop (first + k) old)) (sym (length-map marks row_of_mark)))
 
 -- a region that is a chip's entries
 module _ (m : Description) (r : Region) (c : Chip) where

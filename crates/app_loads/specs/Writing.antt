@@ -10,6 +10,8 @@ use Rattle.machine_desc.specs.RightTables.{table_at}
 use Rattle.tcam_find.specs.Memory.{unused}
 use Rattle.tern_word.specs.Entries.{entry_of}
 use Rattle.tern_word.specs.declared.tables.Table.{Table}
+use Rattle.net_tables.specs.declared.marks.Mark.{Mark}
+use Rattle.net_tables.specs.Marks.{table_of_sorted}
 use Rattle.app_loads.specs.declared.loaded.Range.{Range}
 use Rattle.app_loads.specs.declared.places.Region.TheVariants.{Rows}
 use Rattle.app_loads.specs.Regions.{ShareNoPlace, IsRangeWithin, chip_count, is_taken, place_of}
@@ -18,6 +20,10 @@ use Rattle.app_loads.specs.Regions.{ShareNoPlace, IsRangeWithin, chip_count, is_
 pub record HasEntriesFrom (table : List Entry) (first count : ℕ) : Type 0 where
   pub size : length table ≡ ROUTER_ENTRIES
   pub fits : first + count ≤ ROUTER_ENTRIES
+
+-- the tables with a row for each original block, in the order of each list
+abbrev pub tables_in : List (List Mark) → List Table
+tables_in lists = map table_of_sorted lists
 
 -- the range lies within the chip's table, and has as many places as the chip has rows
 abbrev pub FitsTable : Description → List Table → Range → Type 0

@@ -6,7 +6,7 @@ ghost use Rattle.app_loads.specs.Joining.{AreKeyed, CanJoin, CanServePlan, CanSe
 ghost use Rattle.app_loads.specs.Loading.{HasLoaded, IsWhyNotLoaded};
 ghost use Rattle.app_loads.specs.Plans.{MayLoad};
 ghost use Rattle.app_loads.specs.Taking.{AreFreeAgain, HaveRoom, IsDueAlways};
-ghost use Rattle.app_loads.specs.Writing.{AreCopied, CanCopy};
+ghost use Rattle.app_loads.specs.Writing.{AreCopied, CanCopy, tables_in};
 
 use crate::answers::{LoadErr, LoadRefusal};
 use crate::apps::{Apps, add, put, reserve_one};
@@ -15,14 +15,15 @@ use crate::loaded::{Claim, LoadedApp, Range};
 use crate::meshes::KeptMesh;
 use crate::plans::AppPlan;
 use crate::regions::{give_all, take_all};
-use crate::rows::{tables_of, write_rows};
+use crate::rows::{originals_of, write_rows};
 use crate::sends::{send, with_sources};
 use machine_desc::Machine;
 use mesh_core::{Mesh, MeshSetup};
+use net_tables::marks::Mark;
 use range_store::Ranges;
 use spin_base::{Block, Memory, Seq};
 use std::alloc::Global;
-use tern_word::{Table, block_of};
+use tern_word::block_of;
 
 impl Apps {
     /// Loads an application under a number. Its vertices get their memory, in order; then its nets the blocks that are fixed for
@@ -203,7 +204,7 @@ fn settle_mesh(alloc: Global, mesh: Mesh, app: &LoadedApp) -> (Mesh, Result<(), 
     if app.plan.nets.is_empty() {
         return (mesh, Ok(()));
     }
-    let Ok(rows) = tables_of(alloc, mesh.machine(), app) else {
+    let Ok(rows) = originals_of(alloc, mesh.machine(), app) else {
         return (mesh, Err(Memory));
     };
     let mut parts = mesh.take_apart();
@@ -222,11 +223,11 @@ fn settle_mesh(alloc: Global, mesh: Mesh, app: &LoadedApp) -> (Mesh, Result<(), 
 }
 
 // Puts the rows into the setup's tables.
-fn install(alloc: Global, setup: &mut MeshSetup, rows: &[Table], ranges: &[Range])
-    requires { CanCopy setup.old.machine setup.old.tables rows.now ranges.now }
+fn install(alloc: Global, setup: &mut MeshSetup, rows: &[Seq<Mark>], ranges: &[Range])
+    requires { CanCopy setup.old.machine setup.old.tables (tables_in rows.now) ranges.now }
     ensures setup { setup.new ≡ record setup.old { tables = setup.new.tables } }
     ensures copied { AreCopied
-        setup.old.machine rows.now ranges.now setup.old.tables setup.new.tables }
+        setup.old.machine (tables_in rows.now) ranges.now setup.old.tables setup.new.tables }
 {
     let mut tables = setup.swap_tables(Seq::new(alloc));
     write_rows(setup.machine(), tables.as_mut_slice(), rows, ranges);

@@ -1,32 +1,65 @@
 // The plain rows of an application, and their ranges in the tables.
 ghost use Rattle.std.specs.Prelude.{◌≡◌, ◌+◌, ◌*◌, ◌<◌, ◌≤◌, ◌++◌, All, IfOk, drop, length, map, take};
+ghost use Rattle.std.specs.List.{AllZip};
 ghost use Rattle.machine_desc.specs.declared.nets.NetPlan.{NetPlan as Plan};
 ghost use Rattle.tcam_find.specs.Memory.{unused};
 ghost use Rattle.tern_word.specs.Entries.{entry_of};
+ghost use Rattle.net_tables.specs.Marks.{IsTableOf, row_of_mark, table_of_sorted};
 ghost use Rattle.net_tables.specs.PlainTable.{AtEach, IsPlainTable};
 ghost use Rattle.app_loads.specs.Host.{net_with, nets_of};
 ghost use Rattle.app_loads.specs.Joining.{HasRoutes};
-ghost use Rattle.app_loads.specs.Writing.{AreCopied, AreUnused, AreUnusedFrom, CanClear, CanCopy, HasEntriesFrom};
+ghost use Rattle.app_loads.specs.Writing.{AreCopied, AreUnused, AreUnusedFrom, CanClear, CanCopy, HasEntriesFrom, tables_in};
 
 use crate::loaded::{LoadedApp, Range};
 use crate::places::Region;
 use crate::plans::AppNet;
 use machine_desc::{Machine, NetPlan};
-use net_tables::plain_tables;
+use net_tables::marks::Mark;
+use net_tables::{in_row_order, original_blocks};
 use spin_base::{Block, Entry, Memory, Route, Seq};
 use std::alloc::Global;
 use tcam_find::Tcam;
-use tern_word::{Row, Table};
 
-// The plain tables of the application's nets, by the chips' indices.
-pub fn tables_of(alloc: Global, machine: &Machine, app: &LoadedApp) -> Result<Seq<Table>, Memory>
+// The original blocks of the application's nets, by the chips' indices, in the order of the rows of their plain tables. So no row is
+// made, and none has a list of aliases.
+pub fn originals_of(
+    alloc: Global,
+    machine: &Machine,
+    app: &LoadedApp,
+) -> Result<Seq<Seq<Mark>>, Memory>
     requires { HasRoutes machine.now app.now }
-    ensures long { IfOk result (λ ts. length ts ≡ machine.now.width * machine.now.height) }
-    ensures plain { IfOk result (λ ts.
-        AtEach machine.now ts (IsPlainTable machine.now (nets_of app.now))) }
+    ensures long { IfOk result (λ lists. length (tables_in lists)
+        ≡ machine.now.width * machine.now.height) }
+    ensures plain { IfOk result (λ lists.
+        AtEach machine.now (tables_in lists) (IsPlainTable machine.now (nets_of app.now))) }
 {
     let nets = nets_of(alloc, app)?;
-    plain_tables(alloc, machine, &nets)
+    let blocks = original_blocks(alloc, machine, &nets)?;
+    let originals = in_order(alloc, blocks.as_slice())?;
+    Ok(originals)
+}
+
+// Each list in the order of the rows of its plain table.
+fn in_order(alloc: Global, lists: &[Seq<Mark>]) -> Result<Seq<Seq<Mark>>, Memory>
+    ensures { IfOk result (λ sorted. AllZip IsTableOf lists.now (tables_in sorted)) }
+{
+    let mut sorted = Seq::new(alloc);
+    for list in lists {
+        sorted.push(sorted_marks(alloc, list.as_slice())?)?;
+    }
+    Ok(sorted)
+}
+
+// Original blocks in the order of the rows of their plain table. Most chips have none.
+fn sorted_marks(alloc: Global, marks: &[Mark]) -> Result<Seq<Mark>, Memory>
+    ensures { IfOk result (λ sorted. IsTableOf marks.now (table_of_sorted sorted)) }
+{
+    if marks.is_empty() {
+        return Ok(Seq::new(alloc));
+    }
+    let marks = Vec::from_slice(alloc, marks)?;
+    let sorted = in_row_order(Seq::from_vec(marks))?;
+    Ok(sorted)
 }
 
 // The application's nets with their blocks.
@@ -60,31 +93,38 @@ fn net_with(alloc: Global, net: &AppNet, block: Block) -> Result<NetPlan, Memory
     })
 }
 
-// Puts the rows of each chip into the range of its table.
-pub fn write_rows(machine: &Machine, tables: &mut [Tcam], rows: &[Table], ranges: &[Range])
-    requires { CanCopy machine.now tables.old rows.now ranges.now }
-    ensures { AreCopied machine.now rows.now ranges.now tables.old tables.new }
+// Puts the rows of each chip's original blocks into the range of its table.
+pub fn write_rows(machine: &Machine, tables: &mut [Tcam], lists: &[Seq<Mark>], ranges: &[Range])
+    requires { CanCopy machine.now tables.old (tables_in lists.now) ranges.now }
+    ensures { AreCopied machine.now (tables_in lists.now) ranges.now tables.old tables.new }
 {
     for range in ranges {
         if let Region::Rows(chip) = Region::at(machine, range.region) {
             let at = machine.index(chip) as usize;
-            put_rows(
-                &mut tables[at],
-                range.place as u32,
-                rows[at].rows.as_slice(),
-            );
+            put_rows(&mut tables[at], range.place as u32, lists[at].as_slice());
         }
     }
 }
 
-// Puts rows at the places from one on.
-fn put_rows(table: &mut Tcam, first: u32, rows: &[Row])
-    requires { HasEntriesFrom table.old first (length rows.now) }
+// Puts the rows of original blocks at the places from one on.
+fn put_rows(table: &mut Tcam, first: u32, marks: &[Mark])
+    requires { HasEntriesFrom table.old first (length marks.now) }
     ensures { table.new ≡ take first table.old
-        ++ (map entry_of rows.now ++ drop (first + length rows.now) table.old) }
+        ++ (map entry_of (map row_of_mark marks.now) ++ drop (first + length marks.now) table.old) }
 {
-    for (at, row) in rows.iter().enumerate() {
-        table.set(first + at as u32, row.entry());
+    for (at, mark) in marks.iter().enumerate() {
+        table.set(first + at as u32, entry_of(*mark));
+    }
+}
+
+// The entry of an original block.
+fn entry_of(mark: Mark) -> Entry
+    ensures { result ≡ entry_of (row_of_mark mark) }
+{
+    Entry {
+        key: mark.block.key,
+        mask: mark.block.mask,
+        route: mark.route,
     }
 }
 

@@ -116,3 +116,13 @@ parent_set leaves tree p room but some inner is = record {
         )
   ];
 }
+
+-- a node that has the greater of its children's rooms already
+pub already_greatest : (leaves : ℕ) (tree : List ℕ) (p : ℕ) → IsTreeBut leaves p tree → IsGreatest tree p → IsTree leaves tree
+already_greatest leaves tree p but here = record {
+  long = but.long;
+  greatest = λ q some inner. elim (cases_eq q p) [
+    | inl same ↦ subst (IsGreatest tree) (sym same) here
+    | inr other ↦ but.greatest q some inner other
+  ];
+}

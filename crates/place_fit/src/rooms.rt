@@ -51,7 +51,7 @@ impl Rooms {
         self.tree[self.leaves + place]
     }
 
-    /// Gives a place this room.
+    /// Gives a place this room. It goes up the tree as far as a node changes.
     pub fn set(&mut self, place: usize, room: u64)
         requires { place < length self.old }
         ensures { self.new ≡ slice_set self.old place room }
@@ -60,7 +60,11 @@ impl Rooms {
         self.tree[node] = room;
         while node > 1 {
             node /= 2;
-            self.tree[node] = self.tree[2 * node].max(self.tree[2 * node + 1]);
+            let greatest = self.tree[2 * node].max(self.tree[2 * node + 1]);
+            if self.tree[node] == greatest {
+                return;
+            }
+            self.tree[node] = greatest;
         }
     }
 

@@ -5,12 +5,13 @@ use Rattle.machine_desc.specs.Description.{Description}
 use Rattle.net_tables.specs.PlainTable.{AreRoutedApart, AtEach, IsPlainTable}
 use Rattle.mesh_core.specs.InParts.{state_in}
 use Rattle.app_loads.specs.Host.{nets_of}
+use Rattle.app_loads.specs.Writing.{tables_in}
 use Rattle.app_loads.proofs.AppNets.{routed}
 use Rattle.app_loads.proofs.Settling.{settled_bare, parted_send, parted_mesh, parted_copy, parted_whole, parted_settled, sent_as_long}
 use Rattle.app_loads.proofs.loads.settle_mesh.Goals as goal
 
-pub tables_of-requires : goal.tables_of-requires
-tables_of-requires c = record {
+pub originals_of-requires : goal.originals_of-requires
+originals_of-requires c = record {
   routed = subst (λ (m : Description). AreRoutedApart m (nets_of c.args.app.now)) (sym c.machine.ensures) (routed c.args.mesh.setup.machine c.args.app.now c.requires.loaded c.requires.apart);
   blocks = search;
 }
@@ -29,9 +30,9 @@ put_together-requires-in-Err c = parted_mesh (state_in c.parts.inside) c.args.me
 
 pub install-requires : goal.install-requires
 install-requires c =
-    parted_copy (state_in c.parts.inside) c.args.mesh (c.parts.view_is ∙ c.take_apart-parts.ensures.parts) c.args.app.now c.requires c.take_apart-parts.ensures.mesh c.in-Ok.rows c.as_slice.result.now c.as_slice-in-Ok-send.result.now
-    (subst (λ (m : Description). length c.in-Ok.rows ≡ m.width * m.height) c.machine.ensures c.in-Ok.ensures.long)
-    (subst (λ (m : Description). AtEach m c.in-Ok.rows (IsPlainTable m (nets_of c.args.app.now))) c.machine.ensures c.in-Ok.ensures.plain) c.as_slice.ensures c.as_slice-in-Ok-send.ensures
+    parted_copy (state_in c.parts.inside) c.args.mesh (c.parts.view_is ∙ c.take_apart-parts.ensures.parts) c.args.app.now c.requires c.take_apart-parts.ensures.mesh (tables_in c.in-Ok.rows) (tables_in c.as_slice.result.now) c.as_slice-in-Ok-send.result.now
+    (subst (λ (m : Description). length (tables_in c.in-Ok.rows) ≡ m.width * m.height) c.machine.ensures c.in-Ok.ensures.long)
+    (subst (λ (m : Description). AtEach m (tables_in c.in-Ok.rows) (IsPlainTable m (nets_of c.args.app.now))) c.machine.ensures c.in-Ok.ensures.plain) (ap tables_in c.as_slice.ensures) c.as_slice-in-Ok-send.ensures
 
 pub put_together-requires : goal.put_together-requires
 put_together-requires c =
@@ -39,7 +40,7 @@ put_together-requires c =
 
 pub returns-in-Ok-send-clause-settled : goal.returns-in-Ok-send-clause-settled
 returns-in-Ok-send-clause-settled c =
-    parted_settled (state_in c.parts.inside) c.args.mesh (c.parts.view_is ∙ c.take_apart-parts.ensures.parts) c.args.app.now c.requires c.take_apart-parts.ensures.mesh c.deref_mut.result.now c.send.new.unsent (with_items c.parts.inside.unsent c.send.new.unsent).items c.install.new.setup c.in-Ok.rows c.as_slice.result.now c.as_slice-in-Ok-send.result.now c.put_together.result (with_items_is c.parts.inside.unsent c.send.new.unsent (let a = sent_as_long (state_in c.parts.inside) c.args.mesh (c.parts.view_is ∙ c.take_apart-parts.ensures.parts) c.args.app.now c.requires c.take_apart-parts.ensures.mesh c.deref_mut.result.now c.send.new.unsent c.deref_mut.ensures.value c.in-Ok-send.ensures.sent in let d = c.parts.inside.unsent.ok in omega (arith, a, d))) c.put_together.ensures c.deref_mut.ensures.value
+    parted_settled (state_in c.parts.inside) c.args.mesh (c.parts.view_is ∙ c.take_apart-parts.ensures.parts) c.args.app.now c.requires c.take_apart-parts.ensures.mesh c.deref_mut.result.now c.send.new.unsent (with_items c.parts.inside.unsent c.send.new.unsent).items c.install.new.setup (tables_in c.in-Ok.rows) (tables_in c.as_slice.result.now) c.as_slice-in-Ok-send.result.now c.put_together.result (with_items_is c.parts.inside.unsent c.send.new.unsent (let a = sent_as_long (state_in c.parts.inside) c.args.mesh (c.parts.view_is ∙ c.take_apart-parts.ensures.parts) c.args.app.now c.requires c.take_apart-parts.ensures.mesh c.deref_mut.result.now c.send.new.unsent c.deref_mut.ensures.value c.in-Ok-send.ensures.sent in let d = c.parts.inside.unsent.ok in omega (arith, a, d))) c.put_together.ensures c.deref_mut.ensures.value
     c.in-Ok-send.ensures.sent c.install.ensures.setup
-    (subst (λ (m : Description). length c.in-Ok.rows ≡ m.width * m.height) c.machine.ensures c.in-Ok.ensures.long)
-    (subst (λ (m : Description). AtEach m c.in-Ok.rows (IsPlainTable m (nets_of c.args.app.now))) c.machine.ensures c.in-Ok.ensures.plain) c.as_slice.ensures c.as_slice-in-Ok-send.ensures c.install.ensures.copied
+    (subst (λ (m : Description). length (tables_in c.in-Ok.rows) ≡ m.width * m.height) c.machine.ensures c.in-Ok.ensures.long)
+    (subst (λ (m : Description). AtEach m (tables_in c.in-Ok.rows) (IsPlainTable m (nets_of c.args.app.now))) c.machine.ensures c.in-Ok.ensures.plain) (ap tables_in c.as_slice.ensures) c.as_slice-in-Ok-send.ensures c.install.ensures.copied

@@ -1,7 +1,8 @@
 use Rattle.std.proofs.Common.{◌≡◌, ◌+◌, ◌++◌, take, drop, map}
 use Rattle.tern_word.specs.Entries.{entry_of}
+use Rattle.net_tables.specs.Marks.{row_of_mark}
 use Rattle.app_loads.proofs.rows.put_rows.Given as goal
 
 -- the rows so far stand from the place on
 abbrev pub invariant-loop-at : goal.invariant-loop-at
-invariant-loop-at l = l.table ≡ take l.first l.fn.table ++ (map entry_of (take l.at l.rows) ++ drop (l.first + l.at) l.fn.table)
+invariant-loop-at l = l.table ≡ take l.first l.fn.table ++ (map entry_of (map row_of_mark (take l.at l.marks)) ++ drop (l.first + l.at) l.fn.table)
