@@ -1,4 +1,4 @@
-"""Tries what the program does where reading or writing fails in mid-stream.
+"""Tries what the program does where reading or writing fails in mid-stream, and what it reads of an input that it does not need.
 
     python3 tools/broken_ends.py [PROGRAM]
 
@@ -9,6 +9,7 @@ PROGRAM is ./spin where none is named. Each word of the program is tried, each w
 - **Writing.** Standard output is a file that may not grow past so many bytes: none, one, half of the text, all but one, and 512 where
   the text has more; or a pipe whose reader goes away after one page, where the text is long enough; or one that nobody reads. That
   ends with status 3 and the front of the text.
+- **Not reading.** Standard input is a file. Words that are no command leave it where it was, and so does `gen`.
 
 The last line is 'N passed, M failed', and the status 1 where one failed.
 """
@@ -132,6 +133,13 @@ def broken_pipe(program, case, most):
         return started.returncode, text
 
 
+def without_input(program, words):
+    """The status of the program with a file as its input, and how far the file was read."""
+    with open(f"{ROOT}/examples/one_chip.json", "rb", buffering=0) as job:
+        done = subprocess.run([program, *words], stdin=job, stdout=subprocess.DEVNULL, check=False, timeout=MOST_SECONDS)
+        return done.returncode, job.tell()
+
+
 def trials(case):
     """What is tried of a case: the trial, the number of bytes, and what is wanted."""
     size = len(case.text)
@@ -157,6 +165,13 @@ def main():
                 failed += 1
                 where = f"{tried.__name__} after {most} bytes, {' '.join(case.words)} of {case.name}"
                 print(f"FAILED: {where}: status {given[0]} and {given[1][:80]!r}, and not {wanted[0]} and {wanted[1][:80]!r}")
+    for words, status in (((), 1), (("jump",), 1), (("gen", "07"), 1), (("run", "run"), 1), (("gen", "7"), 0)):
+        ended = without_input(program, words)
+        if ended == (status, 0):
+            passed += 1
+        else:
+            failed += 1
+            print(f"FAILED: {' '.join(words)!r} with an input: status {ended[0]}, and {ended[1]} bytes read, and not {status} and none")
     print(f"{passed} passed, {failed} failed")
     return 1 if failed else 0
 

@@ -154,8 +154,8 @@ def breakers():
 def wrong_promises():
     """What docs/promises.md says of the sources that is not so. In its tables the second cell of a row names functions, each with its clauses
     after the word 'clause' or 'clauses', up to a semicolon; in brackets it names whatever is defined, a lemma too. The third cell names
-    edits, tests, and files. Where only tests call a function, or nothing does, the first cell says so (ALONE). Each edit is named by some
-    row, and so is each clause of `spin`."""
+    edits, tests, and files, one at least. Where only tests call a function, or nothing does, the first cell says so (ALONE). Each edit
+    is named by some row, and so is each clause of `spin`."""
     labels, called, crate_names = clauses(), calls(), set(os.listdir(f"{ROOT}/crates"))
     defined = set(re.findall(r"\w+", text_of("crates/*/src/**/*.rt") + text_of("crates/*/specs/**/*.antt"))) | crate_names
     defined |= set(re.findall(r"^pub (\w+) :", text_of("crates/*/proofs/**/*.antt"), re.M))
@@ -178,7 +178,10 @@ def wrong_promises():
                 others = {it for it in callers.get(name, ()) if it.rpartition("::")[2] != name and not it.startswith(("stage_trials::", "round_trials::"))}
                 if not others and not re.search(ALONE, row[0]):
                     wrong.append(f"no code but tests calls {name}, and the row does not say so: {row[0]}")
-            for name in re.findall(r"`([^`]+)`", row[2]):
+            breaking = re.findall(r"`([^`]+)`", row[2])
+            if not breaking:
+                wrong.append(f"nothing is named that breaks it: {row[0]}")
+            for name in breaking:
                 if name not in edits | tests and not ("/" in name and os.path.exists(f"{ROOT}/{name}")):
                     wrong.append(f"{name} is no edit, test or file: {row[0]}")
                 named.add(name)
