@@ -4,6 +4,7 @@ use Rattle.std.proofs.Common.{lit<}
 use Rattle.std.proofs.lemmas.Nat.{mod_below}
 use Rattle.serde_json.specs.Data.{Data}
 use Rattle.spin_base.specs.declared.chips.Chip.{Chip}
+use Rattle.spin_base.specs.declared.chips.Port.TheVariants.{Local}
 use Rattle.spin_base.specs.declared.routes.Route.{Route}
 use Rattle.job_text.specs.declared.faults.JobFault.{JobFault}
 use Rattle.job_text.specs.declared.faults.JobFault.TheVariants.{Shape}
@@ -56,7 +57,7 @@ unfoldable pub route_at : ℕ → Route
 route_at bits = record { bits = bits % 16777216; within = mod_below bits 16777216 (lit< tt) }
 
 abbrev pub row_of_numbers : ℕ → ℕ → ℕ → RoutedBlock
-row_of_numbers key mask bits = record { block = block_at key mask; route = route_at bits }
+row_of_numbers key mask bits = record { block = block_at key mask; route = route_at bits; port = Local }
 
 abbrev pub numbers_value : Data → Data → Data → RoutedBlock
 numbers_value k m r = row_of_numbers (whole_value k) (whole_value m) (whole_value r)

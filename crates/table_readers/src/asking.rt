@@ -10,7 +10,7 @@ ghost use Rattle.table_readers.specs.Asking.{HasFewRows, asked_faults, asked_val
 use job_readers::{ItemReader, each_item, items_in};
 use job_text::{Path, TextErr, count_to, flag, list, member, number_in, range, shape};
 use serde_json::Value;
-use spin_base::{Block, Chip, Route, Seq};
+use spin_base::{Block, Chip, Port, Route, Seq};
 use std::alloc::Global;
 use table_rules::RoutedBlock;
 
@@ -142,6 +142,7 @@ fn row_of_three(
             Ok(RoutedBlock {
                 block,
                 route: route_of(bits),
+                port: Port::Local,
             })
         }
         None => Err(range(alloc, path)),

@@ -10,7 +10,6 @@ use Rattle.spin_base.proofs.Members.{Contains-map}
 use Rattle.spin_base.proofs.Pairs.{AllPairs-nil}
 use Rattle.spin_base.specs.declared.blocks.Block.{Block}
 use Rattle.spin_base.specs.declared.routes.Route.{Route}
-use Rattle.spin_base.specs.declared.chips.Port.TheVariants.{Local}
 use Rattle.tern_word.specs.declared.tables.Alias.{Alias}
 use Rattle.tern_word.specs.declared.tables.Row.{Row}
 use Rattle.tern_word.specs.Ternary.{Matches, Intersects, LiesIn, generality}
@@ -65,39 +64,39 @@ module _ (before : List RoutedBlock) (rows : List Row) (given : RoutedBlock) (pi
     ]
 
   original_of : Block → Original
-  original_of p = record { block = p; port = Local; route = given.route }
+  original_of p = record { block = p; port = given.port; route = given.route }
 
   with_whole : StandsBefore given.block rows → IsFaithful (before ++ given ∷ []) (with_row rows (whole_row given pieces))
   unfolding original_of
   with_whole stands = record {
     sound = sound_with rows (whole_row given pieces) so_far.sound
-        (All-map (λ (a : Alias). LiesIn a.block given.block) alias_of pieces are.inside)
-        (λ i d inside. All-map (λ (a : Alias). Intersects (get_or rows i d).block a.block → ⊥) alias_of pieces (clear_of i d inside))
+        (All-map (λ (a : Alias). LiesIn a.block given.block) (alias_of given.port) pieces are.inside)
+        (λ i d inside. All-map (λ (a : Alias). Intersects (get_or rows i d).block a.block → ⊥) (alias_of given.port) pieces (clear_of i d inside))
         stands;
     within = all_insert (IsOf (before ++ given ∷ [])) rows (place_for rows (generality given.block)) (whole_row given pieces) still_within (λ k small hit none. not_none before given k hit none);
     complete = complete (with_row rows (whole_row given pieces)) (served_keeps rows (whole_row given pieces)) (λ k piece. record {
       original = original_of piece.piece;
       among = served_new rows (whole_row given pieces) (original_of piece.piece)
-          (Contains-map (λ (a : Alias). let o : Original = record { block = a.block; port = a.port; route = given.route } in o) (map alias_of pieces) (alias_of piece.piece)
-          (Contains-map alias_of pieces piece.piece piece.among));
+          (Contains-map (λ (a : Alias). let o : Original = record { block = a.block; port = a.port; route = given.route } in o) (map (alias_of given.port) pieces) (alias_of given.port piece.piece)
+          (Contains-map (alias_of given.port) pieces piece.piece piece.among));
       has = piece.has;
       by = refl;
     });
   }
 
-  with_pieces : IsFaithful (before ++ given ∷ []) (with_rows rows (map (piece_row given.route) pieces))
+  with_pieces : IsFaithful (before ++ given ∷ []) (with_rows rows (map (piece_row given) pieces))
   unfolding original_of
   with_pieces = record {
-    sound = sound_with_pieces given.route pieces rows so_far.sound clear_of are.apart;
-    within = all_with_rows (IsOf (before ++ given ∷ [])) (map (piece_row given.route) pieces) rows still_within
-        (All-map (IsOf (before ++ given ∷ [])) (piece_row given.route) pieces (λ i d inside k small hit none. not_none before given k (are.inside i d inside k small hit) none));
-    complete = complete (with_rows rows (map (piece_row given.route) pieces)) (served_keeps_all (map (piece_row given.route) pieces) rows) (λ k piece.
+    sound = sound_with_pieces given pieces rows so_far.sound clear_of are.apart;
+    within = all_with_rows (IsOf (before ++ given ∷ [])) (map (piece_row given) pieces) rows still_within
+        (All-map (IsOf (before ++ given ∷ [])) (piece_row given) pieces (λ i d inside k small hit none. not_none before given k (are.inside i d inside k small hit) none));
+    complete = complete (with_rows rows (map (piece_row given) pieces)) (served_keeps_all (map (piece_row given) pieces) rows) (λ k piece.
         let i = piece.among.0 in
-        let inside : i < length (map (piece_row given.route) pieces) = omega (arith, piece.among.1, length-map pieces (piece_row given.route)) in
-        let is : get_or (map (piece_row given.route) pieces) i (piece_row given.route piece.piece) ≡ piece_row given.route piece.piece =
-        get_or-map (piece_row given.route) pieces i piece.piece (piece_row given.route piece.piece) piece.among.1 ∙ ap (piece_row given.route) piece.among.2 in record {
+        let inside : i < length (map (piece_row given) pieces) = omega (arith, piece.among.1, length-map pieces (piece_row given)) in
+        let is : get_or (map (piece_row given) pieces) i (piece_row given piece.piece) ≡ piece_row given piece.piece =
+        get_or-map (piece_row given) pieces i piece.piece (piece_row given piece.piece) piece.among.1 ∙ ap (piece_row given) piece.among.2 in record {
           original = original_of piece.piece;
-          among = served_news (map (piece_row given.route) pieces) rows i (piece_row given.route piece.piece) (original_of piece.piece) inside
+          among = served_news (map (piece_row given) pieces) rows i (piece_row given piece.piece) (original_of piece.piece) inside
               (subst (λ r. Contains (served_by r) (original_of piece.piece)) (sym is) (0, omega arith, refl));
           has = piece.has;
           by = refl;

@@ -10,13 +10,13 @@ use Rattle.std.proofs.lemmas.List.Kept.{AllPairs-cons}
 use Rattle.std.proofs.lemmas.List.Sorted.{All-permutation, IsPermutation-sym}
 use Rattle.spin_base.proofs.Pairs.{All-flat_map, AllAcross, AllPairs-head, AllPairs-tail, AllPairs-append, AllPairs-left, AllPairs-right, AllPairs-across}
 use Rattle.spin_base.specs.declared.blocks.Block.{Block}
-use Rattle.spin_base.specs.declared.routes.Route.{Route}
 use Rattle.tern_word.specs.declared.tables.Alias.{Alias}
 use Rattle.tern_word.specs.declared.tables.Row.{Row}
 use Rattle.tern_word.specs.Ternary.{Matches, Intersects, LiesIn, generality}
 use Rattle.tern_word.specs.SoundTable.{HoldsItsAliases, IsSound, Misses, Original, served, served_by}
 use Rattle.cover_merge.specs.Merge.{place_for, PassesDown}
 use Rattle.cover_merge.proofs.Positions.{place_for-below, place_for-above}
+use Rattle.table_rules.specs.declared.rows.RoutedBlock.{RoutedBlock}
 use Rattle.table_rules.specs.Made.{alias_of, piece_row, with_row, with_rows}
 use Rattle.table_rules.specs.Rows.{GoesBy, routed}
 use Rattle.table_rules.proofs.FirstRows.{first_hit, first_miss}
@@ -70,18 +70,18 @@ module _ (rows : List Row) (row : Row) (sound : IsSound rows) where
 
 -- ---- with the pieces of a row
 
-module _ (route : Route) where
+module _ (given : RoutedBlock) where
   pub sound_with_pieces : (pieces : List Block) (rows : List Row) → IsSound rows → All (λ (r : Row). All (λ (p : Block). Intersects r.block p → ⊥) pieces) rows
-      → AllPairs (λ (p q : Block). Intersects p q → ⊥) pieces → IsSound (with_rows rows (map (piece_row route) pieces))
+      → AllPairs (λ (p q : Block). Intersects p q → ⊥) pieces → IsSound (with_rows rows (map (piece_row given) pieces))
   sound_with_pieces [] rows sound clear apart = sound
   sound_with_pieces (p ∷ pieces) rows sound clear apart =
-      sound_with_pieces pieces (with_row rows (piece_row route p))
-      (sound_with rows (piece_row route p) sound
-      (All-cons (λ (a : Alias). LiesIn a.block p) (alias_of p) [] (λ k small m. m) (All-nil (λ (a : Alias). LiesIn a.block p)))
-      (λ k d within. All-cons (λ (a : Alias). Intersects (get_or rows k d).block a.block → ⊥) (alias_of p) [] (here k d within) (All-nil (λ (a : Alias). Intersects (get_or rows k d).block a.block → ⊥)))
+      sound_with_pieces pieces (with_row rows (piece_row given p))
+      (sound_with rows (piece_row given p) sound
+      (All-cons (λ (a : Alias). LiesIn a.block p) (alias_of given.port p) [] (λ k small m. m) (All-nil (λ (a : Alias). LiesIn a.block p)))
+      (λ k d within. All-cons (λ (a : Alias). Intersects (get_or rows k d).block a.block → ⊥) (alias_of given.port p) [] (here k d within) (All-nil (λ (a : Alias). Intersects (get_or rows k d).block a.block → ⊥)))
       (λ r d from within m e inside met.
       here r d within (record { key = met.key; small = met.small; first = sound.inside r d within m e inside met.key met.small met.second; second = met.first })))
-      (all_insert (λ (r : Row). All (λ (q : Block). Intersects r.block q → ⊥) pieces) rows (place_for rows (generality p)) (piece_row route p)
+      (all_insert (λ (r : Row). All (λ (q : Block). Intersects r.block q → ⊥) pieces) rows (place_for rows (generality p)) (piece_row given p)
       (λ k d within. All-tail (λ (q : Block). Intersects (get_or rows k d).block q → ⊥) p pieces (clear k d within))
       (AllPairs-head (λ (x y : Block). Intersects x y → ⊥) p pieces apart))
       (AllPairs-tail (λ (x y : Block). Intersects x y → ⊥) p pieces apart)

@@ -5,7 +5,6 @@ use Rattle.std.proofs.lemmas.Bool.Decides.{eqb_tells}
 use Rattle.std.proofs.lemmas.List.{drop_all, drop_more, map_push, take_more}
 use Rattle.std.proofs.lemmas.List.Edits.{length-insert}
 use Rattle.spin_base.specs.declared.blocks.Block.{Block}
-use Rattle.spin_base.specs.declared.routes.Route.{Route}
 use Rattle.tern_word.specs.declared.tables.Row.{Row}
 use Rattle.tern_word.specs.Ternary.{generality}
 use Rattle.cover_merge.specs.Merge.{place_for, PassesDown}
@@ -19,18 +18,18 @@ use Rattle.table_rules.specs.Made.{HasTooManyPieces, IsTableFrom, IsTableMadeOf,
 
 -- ---- pieces as rows
 
-module _ (route : Route) (pieces : List Block) (i : ℕ) (rows all : List Row) where
-  pub piece_turn : (piece : Block) (row : Row) (new : List Row) → i < length pieces → piece ≡ get_or pieces i piece → with_rows rows (map (piece_row route) (drop i pieces)) ≡ all
-      → row ≡ piece_row route piece → new ≡ with_row rows row → with_rows new (map (piece_row route) (drop (i + 1) pieces)) ≡ all
+module _ (given : RoutedBlock) (pieces : List Block) (i : ℕ) (rows all : List Row) where
+  pub piece_turn : (piece : Block) (row : Row) (new : List Row) → i < length pieces → piece ≡ get_or pieces i piece → with_rows rows (map (piece_row given) (drop i pieces)) ≡ all
+      → row ≡ piece_row given piece → new ≡ with_row rows row → with_rows new (map (piece_row given) (drop (i + 1) pieces)) ≡ all
   piece_turn piece row new within read so_far is put =
-      let rest = map (piece_row route) (drop (i + 1) pieces) in
+      let rest = map (piece_row given) (drop (i + 1) pieces) in
       ap (λ rs. with_rows rs rest) (put ∙ ap (with_row rows) is)
-      ∙ (ap (λ x. with_rows (with_row rows (piece_row route x)) rest) read
-      ∙ (sym (ap (λ l. with_rows rows (map (piece_row route) l)) (drop_more pieces i piece within))
+      ∙ (ap (λ x. with_rows (with_row rows (piece_row given x)) rest) read
+      ∙ (sym (ap (λ l. with_rows rows (map (piece_row given) l)) (drop_more pieces i piece within))
       ∙ so_far))
 
-  pub pieces_all : length pieces ≤ i → with_rows rows (map (piece_row route) (drop i pieces)) ≡ all → rows ≡ all
-  pieces_all past so_far = sym (ap (λ l. with_rows rows (map (piece_row route) l)) (drop_all i pieces past)) ∙ so_far
+  pub pieces_all : length pieces ≤ i → with_rows rows (map (piece_row given) (drop i pieces)) ≡ all → rows ≡ all
+  pieces_all past so_far = sym (ap (λ l. with_rows rows (map (piece_row given) l)) (drop_all i pieces past)) ∙ so_far
 
 pub length_with : (rows new : List Row) (row : Row) → new ≡ with_row rows row → length new ≡ length rows + 1
 length_with rows new row put = ap length put ∙ length-insert rows (place_for rows (generality row.block)) row (place_for-le rows (generality row.block))

@@ -98,8 +98,8 @@ module _ (bits : ℕ) where
   wide_put rows given pieces next (left_out none) all wide = all
   wide_put rows given pieces next (whole some stands) all wide = all_insert AreWide rows (place_for rows (generality given.block)) (whole_row given pieces) all wide
   wide_put rows given pieces next (in_pieces some stands_not) all wide =
-      all_with_rows AreWide (map (piece_row given.route) pieces) rows all
-      (All-map AreWide (piece_row given.route) pieces (λ i d within is. absurd (stands_not (stands_last given.block rows (wide is)))))
+      all_with_rows AreWide (map (piece_row given) pieces) rows all
+      (All-map AreWide (piece_row given) pieces (λ i d within is. absurd (stands_not (stands_last given.block rows (wide is)))))
 
   wide_from : (room : ℕ) (before : List RoutedBlock) (rows : List Row) (given : List RoutedBlock) (table : List Row) → IsTableFrom room before rows given table → All AreWide rows → All IsWideGiven given → All AreWide table
   wide_from room before rows given table (done n b r) all wide = all

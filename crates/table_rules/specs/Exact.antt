@@ -1,5 +1,6 @@
 -- Shorter rows that have no new keys (this project's own).
 use Rattle.std.specs.Prelude.{◌≡◌, ◌==◌, ℕ, ◌<◌, ◌≤◌, ◌^◌, if◌then◌else◌, List, [], ◌∷◌, ◌++◌, All, length, map}
+use Rattle.spin_base.specs.declared.chips.Port.TheVariants.{Local}
 use Rattle.spin_base.specs.declared.routes.Route.{Route}
 use Rattle.tern_word.specs.declared.tables.Row.{Row}
 use Rattle.tern_word.specs.Ternary.{all_keys}
@@ -18,7 +19,7 @@ HasAllRoutes routes rows = (bits : ℕ) → bits < routes → IsFree rows bits �
 
 -- a row of all keys
 abbrev pub wall_of : Route → RoutedBlock
-wall_of route = record { block = all_keys; route = route }
+wall_of route = record { block = all_keys; route = route; port = Local }
 
 -- The rows with a wall behind them. It decides for the keys that no row has, so no merge may have one of them.
 abbrev pub walled : List RoutedBlock → Route → List RoutedBlock

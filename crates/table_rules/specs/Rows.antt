@@ -1,5 +1,6 @@
 -- Rows of a table, of which the first that has a key decides (SpiNNaker datasheet).
 use Rattle.std.specs.Prelude.{◌≡◌, ◌==◌, ℕ, ◌<◌, ◌^◌, Bool, List, Option, Some, None, find, bit_and}
+use Rattle.spin_base.specs.declared.chips.Port.TheVariants.{Local}
 use Rattle.spin_base.specs.declared.routes.Route.{Route}
 use Rattle.tern_word.specs.declared.tables.Row.{Row}
 use Rattle.table_rules.specs.declared.rows.RoutedBlock.{RoutedBlock}
@@ -27,6 +28,6 @@ KeepsRoutes given new = (k : ℕ) (row : RoutedBlock) → k < 2 ^ 32 → first_w
 abbrev pub HasNoNewKeys : List RoutedBlock → List RoutedBlock → Type 0
 HasNoNewKeys given new = (k : ℕ) → k < 2 ^ 32 → first_with given k ≡ None → first_with new k ≡ None
 
--- a row without its aliases
+-- a row without its aliases, of whose packets nothing is told
 abbrev pub routed : Row → RoutedBlock
-routed r = record { block = r.block; route = r.route }
+routed r = record { block = r.block; route = r.route; port = Local }

@@ -7,7 +7,7 @@ ghost use Rattle.table_rules.specs.Shortened.{IsShortenedTo};
 use crate::making::made_table;
 use crate::rows::RoutedBlock;
 use cover_merge::cover;
-use spin_base::{Memory, Seq};
+use spin_base::{Memory, Port, Seq};
 use std::alloc::Global;
 use tern_word::{Row, Table};
 
@@ -76,13 +76,14 @@ fn rows_of(alloc: Global, rows: &[Row]) -> Result<Seq<RoutedBlock>, Memory>
     Ok(new)
 }
 
-// A row without its aliases.
+// A row without its aliases, of whose packets nothing is told.
 pub(crate) fn routed(row: &Row) -> RoutedBlock
     ensures { result ≡ routed row.now }
 {
     RoutedBlock {
         block: row.block,
         route: row.route,
+        port: Port::Local,
     }
 }
 

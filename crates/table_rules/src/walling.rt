@@ -8,7 +8,7 @@ use crate::making::made_table;
 use crate::rows::RoutedBlock;
 use crate::shortening::{copy, routed};
 use cover_merge::cover;
-use spin_base::{Block, Memory, Route, Seq};
+use spin_base::{Block, Memory, Port, Route, Seq};
 use std::alloc::Global;
 use tern_word::{Row, Table};
 
@@ -116,6 +116,7 @@ fn wall(route: Route) -> RoutedBlock
     RoutedBlock {
         block: Block { key: 0, mask: 0 },
         route,
+        port: Port::Local,
     }
 }
 
