@@ -4,16 +4,18 @@ use Rattle.std.proofs.lemmas.Bool.{eq-eqb}
 use Rattle.std.proofs.lemmas.Bool.Decides.{eqb_tells}
 use Rattle.std.proofs.lemmas.List.{drop_all, drop_more, map_push, take_more}
 use Rattle.std.proofs.lemmas.List.Edits.{length-insert}
+use Rattle.std.proofs.lemmas.Option.{slice_get-get_or}
+use Rattle.std.specs.Prelude.{All}
 use Rattle.spin_base.specs.declared.blocks.Block.{Block}
 use Rattle.tern_word.specs.declared.tables.Row.{Row}
 use Rattle.tern_word.specs.Ternary.{generality}
-use Rattle.cover_merge.specs.Merge.{place_for, PassesDown}
+use Rattle.cover_merge.specs.Merge.{place_for, PassesDown, rows_at}
 use Rattle.cover_merge.specs.Covering.{Covers}
-use Rattle.cover_merge.proofs.Positions.{place_for-le}
+use Rattle.cover_merge.proofs.Positions.{place_for-le, rows_at-push}
 use Rattle.block_cuts.specs.Cuts.{cut}
 use Rattle.table_rules.specs.declared.rows.RoutedBlock.{RoutedBlock}
 use Rattle.table_rules.specs.Rows.{routed}
-use Rattle.table_rules.specs.Shortened.{IsCoveredFrom, IsShortenedTo, no_shorter, shorter}
+use Rattle.table_rules.specs.Shortened.{AreLeft, IsCoveredFrom, IsShortenedTo, no_shorter, shorter}
 use Rattle.table_rules.specs.Made.{HasTooManyPieces, IsTableFrom, IsTableMadeOf, IsRowAdded, StandsBefore, row_blocks, done, here, later, more, piece_row, with_row, with_rows}
 
 -- ---- pieces as rows
@@ -99,8 +101,25 @@ module _ (target room : ℕ) (given : List RoutedBlock) (table rows : List Row) 
   covered_from : IsCoveredFrom target room given rows
   covered_from = record { long = long; table = table; made = made; sets = sets; covered = covers }
 
-  pub is_shorter : (list : List Row) (new : List RoutedBlock) → list ≡ rows → length rows < length given → new ≡ map routed list → IsShortenedTo target room given new
-  is_shorter list new same less is = subst (IsShortenedTo target room given) (sym (is ∙ ap (map routed) same)) (shorter rows covered_from less)
+  module _ (list : List Row) (left : List RoutedBlock) (same : list ≡ rows) (are : AreLeft list left) where
+    left_of : AreLeft rows left
+    left_of = subst (λ l. AreLeft l left) same are
 
-  pub is_no_shorter : (new : List RoutedBlock) → length given ≤ length rows → new ≡ given → IsShortenedTo target room given new
-  is_no_shorter new most is = subst (IsShortenedTo target room given) (sym is) (no_shorter rows covered_from most)
+    pub is_shorter : length left < length given → IsShortenedTo target room given left
+    is_shorter less = shorter rows left covered_from left_of less
+
+    pub is_no_shorter : (new : List RoutedBlock) → length given ≤ length left → new ≡ given → IsShortenedTo target room given new
+    is_no_shorter new most is = subst (IsShortenedTo target room given) (sym is) (no_shorter rows left covered_from left_of most)
+
+-- the row at one more place
+pub places_more : (rows : List Row) (places : List ℕ) (i : ℕ) (row : Row) (new : RoutedBlock) (old all : List RoutedBlock) → All (λ s. s < length rows) places → i < length places →
+    row ≡ get_or rows (get_or places i 0) row → new ≡ routed row → old ≡ map routed (rows_at rows (take i places)) → all ≡ old ++ new ∷ [] →
+    all ≡ map routed (rows_at rows (take (i + 1) places))
+places_more rows places i row new old all in_range within read is so_far put =
+    let s : ℕ = get_or places i 0 in
+    let there = slice_get-get_or rows s row (in_range i 0 within) ∙ ap Some (sym read) in
+    put
+    ∙ (ap (λ x. old ++ x ∷ []) is
+    ∙ (ap (λ l. l ++ routed row ∷ []) so_far
+    ∙ (sym (map_push routed (rows_at rows (take i places)) row)
+    ∙ ap (map routed) (sym (ap (rows_at rows) (take_more places i 0 within) ∙ rows_at-push rows (take i places) s row there)))))
