@@ -69,8 +69,8 @@ misses_rest r rows o sound among =
     let P = λ (x : Original). Intersects r.block x.block → ⊥ in
     let rest = AllPairs-head (λ (x y : Row). Misses x.block y) r rows sound.unmet in
     let all : All P (served rows) = All-flat_map P served_by rows (λ j d within.
-        let s = get_or rows j d in
-        All-map P (λ (a : Alias). let x : Original = record { block = a.block; port = a.port; route = s.route } in x) s.aliases (rest j d within)) in
+    let s = get_or rows j d in
+    All-map P (λ (a : Alias). let x : Original = record { block = a.block; port = a.port; route = s.route } in x) s.aliases (rest j d within)) in
     subst P among.2 (all among.0 o among.1)
 
 -- ---- rows of the route of these bits have all keys
