@@ -16,7 +16,7 @@ import struct
 from collections.abc import Iterable as IterableAbc
 from collections.abc import Set
 from dataclasses import dataclass, field
-from typing import Any, Callable, Dict, Hashable, Iterable, Iterator, List, Mapping, NamedTuple, Optional, Sequence, Tuple, Union
+from typing import Any, Callable, Dict, FrozenSet, Hashable, Iterable, Iterator, List, Mapping, NamedTuple, Optional, Sequence, Tuple, Union
 
 from .blocks import USUAL, WORD, block_of, cut
 from .grid import STEPS, Grid, opposite
@@ -28,7 +28,7 @@ from .kinds import text as text_of
 from .links import word_of
 from .program import tables as compiled_tables
 from .reports import LINKS, SECTIONS, SIDE, Row, read
-from .verifying import KeyedNet, Place, Rows, known_nets, number_of, words_by_chip
+from .verifying import KeyedNet, Place, Rows, known_nets, listed_by_chip, number_of, words_by_chip, words_of
 from .walks import DEVICES, Spot
 
 ENTRY = struct.Struct("<HHIII")
@@ -37,6 +37,9 @@ UNUSED = 0xFF000000
 # A vertex with more cores than this has none on any chip.
 MOST_CORES = 64
 COLUMNS = ("x", "y", "key", "mask", "route")
+
+# A table of comma-separated values may have this column too.
+SOURCE = "source"
 
 RowsByChip = Dict[Chip, Tuple[Row, ...]]
 AnyTables = Union[Image, Mapping[Chip, Rows]]
@@ -112,9 +115,38 @@ def network_of_job(job: Job, program: Optional[str] = None) -> Network:
     return Network(job.machine, places, nets, {chip: table.rows for chip, table in plan.tables.items()})
 
 
+@dataclass(frozen=True, repr=False)
+class SourcedRow(Row):
+    """A row that tells where its packets come in: numbers of links from 0 to 5, and others for cores, or None where one is not known."""
+
+    sources: FrozenSet[Optional[int]] = frozenset()
+
+    @property
+    def arrival(self) -> Optional[int]:
+        """The link by which all its packets come in, if there is one."""
+        found = next(iter(self.sources)) if len(self.sources) == 1 else None
+        return found if found in range(6) else None
+
+
 def rows_by_chip(tables: AnyTables) -> RowsByChip:
     """Rows as objects, by chip."""
     return {chip: tuple(Row(*words) for words in listed) for chip, listed in words_by_chip(tables).items()}
+
+
+def sourced_by_chip(tables: AnyTables) -> Dict[Chip, Tuple[SourcedRow, ...]]:
+    """Rows as objects, by chip, with the `sources` of those that have some. TypeError where these are no set."""
+    listed = listed_by_chip(tables).items()
+    return {chip: tuple(SourcedRow(*words_of(chip, i, row), sources_of(f"row {i} of chip {chip}", row)) for i, row in enumerate(rows)) for chip, rows in listed}
+
+
+def sources_of(what: str, row: Any) -> FrozenSet[Optional[int]]:
+    """Where a row's packets come in: its `sources`, a set of numbers, and of None where it is not known."""
+    found = getattr(row, "sources", None)
+    if found is None:
+        return frozenset()
+    if not isinstance(found, Set) or any(not isinstance(it, int) or isinstance(it, bool) for it in found if it is not None):
+        raise wrong(f"{what}: sources", found, "a set of the numbers of links and cores")
+    return frozenset(found)
 
 
 # ---- the router's own entries
@@ -265,7 +297,9 @@ def row_of_rig(what: str, row: Any) -> Row:
     if isinstance(route, (str, bytes, Mapping)) or not isinstance(route, IterableAbc):
         raise wrong(f"{what}.route", route, "a set of the numbers of outputs, 0 to 23")
     key, mask = (whole(f"{what}.{name}", attribute_of(what, row, name)) for name in ("key", "mask"))
-    return Row(key, mask, word_of({output(f"{what}.route", it) for it in route}))
+    words = key, mask, word_of({output(f"{what}.route", it) for it in route})
+    sources = sources_of(what, row)
+    return SourcedRow(*words, sources) if sources else Row(*words)
 
 
 def output(what: str, value: Any) -> int:
@@ -411,6 +445,14 @@ def number_in(text: str, least_base: int = 10) -> int:
     raise ValueError(f"no number: {text!r}")
 
 
+def link_in(text: str) -> int:
+    """The number of a link. ValueError where it is none."""
+    found = number_in(text)
+    if found not in range(6):
+        raise ValueError(f"the source {found} is no link, 0 to 5")
+    return found
+
+
 def read_rows(text: str) -> RowsByChip:
     """Rows of text, in the order of its lines: what the program's `tables` writes, or a report, where it begins with one of their words;
     the JSON of SpiNNTools where it begins with `[` (`spinntools.read_tables`); comma-separated values where the first line has a comma; else a dump. ValueError, with the line, where it is none of that kind."""
@@ -425,11 +467,12 @@ def read_rows(text: str) -> RowsByChip:
 
 
 def read_csv(text: str) -> RowsByChip:
-    """Rows of comma-separated values, below a line with the names x, y, key, mask and route in any order. Numbers are decimal, or
-    hexadecimal behind 0x. ValueError where the names are others or a line has no such numbers."""
+    """Rows of comma-separated values, below a line with the names x, y, key, mask and route in any order, and perhaps source, the link by
+    which all packets of a row come in, 0 to 5, or nothing. Numbers are decimal, or hexadecimal behind 0x. ValueError where the names are
+    others or a line has no such numbers."""
     lines = lines_of_csv(text)
     names = [it.strip() for it in lines[0]] if lines else []
-    if sorted(names) != sorted(COLUMNS):
+    if sorted(names) not in (sorted(COLUMNS), sorted((*COLUMNS, SOURCE))):
         raise ValueError(f"the first line names {', '.join(names) or 'nothing'}, and not {', '.join(COLUMNS)}")
     return rows_of(((i, dict(zip(names, map(str.strip, line))), len(line)) for i, line in enumerate(lines) if i and line), 10)
 
@@ -455,10 +498,13 @@ def rows_of(lines: Iterable[Tuple[int, Mapping[str, str], int]], base: int) -> R
     found: Dict[Chip, List[Row]] = {}
     for i, items, count in lines:
         try:
-            if count != len(COLUMNS):
-                raise ValueError(f"{count} items, and not {len(COLUMNS)}")
+            wanted = len(COLUMNS) + (SOURCE in items)
+            if count != wanted:
+                raise ValueError(f"{count} items, and not {wanted}")
             x, y = (number_in(items[name]) for name in COLUMNS[:2])
             row = Row(*(number_in(items[name], base) for name in COLUMNS[2:]))
+            if items.get(SOURCE):
+                row = SourcedRow(row.key, row.mask, row.route, frozenset({link_in(items[SOURCE])}))
         except ValueError as error:
             raise ValueError(f"line {i + 1}: {error}") from None
         found.setdefault((x, y), []).append(row)

@@ -6,7 +6,7 @@ import sys
 from typing import Any, Callable, Dict, Tuple
 
 from .command import BAD_JOB, Stopped, add_out, command, read_bytes, write
-from .formats import RowsByChip, read_csv, read_dump, rows_by_chip, write_csv, write_dump
+from .formats import RowsByChip, SourcedRow, read_csv, read_dump, rows_by_chip, write_csv, write_dump
 from .images import MAGIC, Image, decode, encode
 from .jobs import Machine
 from .minimising import ENTRIES, minimise
@@ -23,6 +23,9 @@ MORE = (
     "For each key that a row of a table has, where the first that has it decides, the first row of the\n"
     "new table that has it has the same route. A key that no row has may be taken by a new row, but not\n"
     "with --exact, which leaves more rows: a packet that no row has goes straight on, as before.\n"
+    "With --arrivals, a row whose packets all come by the link opposite to its one output may go, since\n"
+    "they go straight on then. Comma-separated values tell that link in a column source, 0 to 5; where\n"
+    "packets come another way, it is empty.\n"
     "A table is shortened until it has --target rows, or no two can be joined; without --target it is\n"
     "the least that is found. A router has 1,024 entries; system software may need one of them, and\n"
     "then 1,023 are left. Where a chip's table stays longer than 1,024, the status is 8, and all\n"
@@ -37,6 +40,7 @@ def add_command(commands: Any) -> None:
     parser.add_argument("tables", metavar="TABLES", help="the file of the rows; - is standard input")
     parser.add_argument("--target", metavar="N", type=int, default=0, help="the number of rows that will do (default: the least)")
     parser.add_argument("--exact", action="store_true", help="take no key that no row has")
+    parser.add_argument("--arrivals", action="store_true", help="leave out rows whose packets go straight on, where sources are told")
     parser.add_argument("--form", choices=sorted(FORMS), help="write this form, and not that of TABLES")
     add_out(parser)
     parser.add_argument("--program", metavar="SPIN_TABLES", help="the program to call, in place of the one that is found")
@@ -46,11 +50,13 @@ def run(options: argparse.Namespace) -> int:
     """Shortens the command's tables."""
     tables, form = tables_in(options.tables)
     try:
-        done = minimise(tables, options.target, options.exact, options.program)
+        done = minimise(tables, options.target, options.exact, options.program, options.arrivals)
         written = FORMS[options.form](done.tables).encode() if options.form else form(done.tables)
     except (TypeError, ValueError) as error:
         raise Stopped(f"{options.tables}: {error}", BAD_JOB) from None
     write(written, options.out)
+    if options.arrivals and not any(isinstance(row, SourcedRow) for rows in tables.values() for row in rows):
+        print("kulzobad: no row tells by which link its packets come in", file=sys.stderr)
     for chip in done.kept:
         print(f"kulzobad: chip {chip} is as it was: its rows overlap in too many ways", file=sys.stderr)
     for chip in done.too_long:

@@ -7,7 +7,8 @@
 
 The program `spin_tables` makes them. For each key that a row of a given table has, where the first that has it decides, the first row of
 the new table that has it has the same route; and the new table is no longer. A key that no row has may be taken by a row of the new table,
-but not where `exact` is asked for.
+but not where `exact` is asked for. Where `arrivals` is asked for, and a row's `sources` are one link, and its route is the link opposite,
+the new table may have no row for its keys: a router then sends them straight on.
 """
 from __future__ import annotations
 
@@ -18,7 +19,7 @@ from concurrent.futures import ThreadPoolExecutor
 from dataclasses import dataclass, field
 from typing import Dict, Iterator, List, Mapping, Optional, Sequence, Tuple
 
-from .formats import AnyTables, RowsByChip, rows_by_chip
+from .formats import AnyTables, RowsByChip, SourcedRow, rows_by_chip, sourced_by_chip
 from .jobs import Chip
 from .kinds import BrokenAnswer, truth, whole
 from .program import Refused, call, program_of
@@ -59,14 +60,18 @@ def tables_program_of(program: Optional[str] = None) -> str:
     return asked or os.path.join(os.path.dirname(program_of()), NAME)
 
 
-def minimise(tables: AnyTables, target: int = 0, exact: bool = False, program: Optional[str] = None) -> Minimised:
+def minimise(tables: AnyTables, target: int = 0, exact: bool = False, program: Optional[str] = None, arrivals: bool = False) -> Minimised:
     """Tables with fewer rows that give each key the route that the given ones give it. `tables` is an image, or rows by chip: of each a
     key, a mask and a route word (bits 0 to 5 the links, 6 to 23 the cores), as `verify` takes them. A table of at most `target` rows is
     left as it is, and a longer one is shortened until it has so many or less, or no two of its rows can be joined. With `exact`, a key
     that no row of a table has is one that no row of the new one has; that leaves more rows, and takes seconds where there are hundreds of
-    keys that have little in common. Rows whose key has a bit outside the mask match no packet, and are left out. Refused where the program
+    keys that have little in common. With `arrivals`, rows may have `sources` besides, as Rig's: a set of numbers of links, 0 to 5, and of
+    cores. Where all packets of a row come by one link, and its route is the link opposite, it may go, since a packet that no row has goes
+    straight on: it must never come another way. Rows whose key has a bit outside the mask match no packet, and are left out. Refused where the program
     takes the rows for none, as where a route has 25 bits."""
-    given, path = rows_by_chip(tables), tables_program_of(program)
+    told = truth("minimise: arrivals", arrivals)
+    given: Mapping[Chip, Sequence[Row]] = sourced_by_chip(tables) if told else rows_by_chip(tables)
+    path = tables_program_of(program)
     asked = {"target": whole("minimise: target", target), "exact": truth("minimise: exact", exact)}
     shares = list(shares_of(given))
     with ThreadPoolExecutor(min(len(shares), os.cpu_count() or 1) or 1) as workers:
@@ -91,7 +96,7 @@ def shares_of(given: Mapping[Chip, Sequence[Row]]) -> Iterator[Dict[Chip, Sequen
 def minimised(given: Mapping[Chip, Sequence[Row]], asked: Mapping[str, int], path: str) -> Minimised:
     """What one call of the program makes of tables, and of what is asked for besides."""
     # (a row whose key has a bit outside the mask has no key)
-    words = {chip: [[row.key, row.mask, row.route] for row in rows if not row.key & ~row.mask] for chip, rows in given.items()}
+    words = {chip: [item_of(row) for row in rows if not row.key & ~row.mask] for chip, rows in given.items()}
     listed = [{"x": x, "y": y, "rows": rows} for (x, y), rows in words.items()]
     request: Dict[str, object] = {**asked, "tables": listed}
     text = json.dumps(request, separators=(",", ":")).encode()
@@ -102,6 +107,12 @@ def minimised(given: Mapping[Chip, Sequence[Row]], asked: Mapping[str, int], pat
     if list(found.tables) != list(given):
         raise BrokenAnswer("the tables are of other chips than those given")
     return found
+
+
+def item_of(row: Row) -> List[int]:
+    """A row as the program takes it: behind its words stands the link by which its packets come in, where that is told."""
+    link = row.arrival if isinstance(row, SourcedRow) else None
+    return [row.key, row.mask, row.route, *([] if link is None else [link])]
 
 
 def read_minimised(text: str) -> Minimised:

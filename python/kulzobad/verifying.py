@@ -249,15 +249,16 @@ def words_of(chip: Chip, place: int, row: Any) -> Words:
     return key, mask, route
 
 
-def words_by_chip(tables: Tables) -> Dict[Chip, List[Words]]:
-    """Of each chip, by x and y, its rows as words."""
+def listed_by_chip(tables: Tables) -> Dict[Chip, Sequence[Any]]:
+    """Of each chip, by x and y, its rows as they are given."""
     given = tables.tables if isinstance(tables, Image) else mapping("tables", tables, "chips to rows")
     chips = {chip_of("tables", chip): rows for chip, rows in given.items()}
-    found: Dict[Chip, List[Words]] = {}
-    for chip, rows in chips.items():
-        listed = rows.rows if isinstance(rows, Table) else items(f"tables[{chip}]", rows, "a list of rows")
-        found[chip] = [words_of(chip, place, row) for place, row in enumerate(listed)]
-    return found
+    return {chip: rows.rows if isinstance(rows, Table) else items(f"tables[{chip}]", rows, "a list of rows") for chip, rows in chips.items()}
+
+
+def words_by_chip(tables: Tables) -> Dict[Chip, List[Words]]:
+    """Of each chip, by x and y, its rows as words."""
+    return {chip: [words_of(chip, place, row) for place, row in enumerate(rows)] for chip, rows in listed_by_chip(tables).items()}
 
 
 def size_of(image: Image) -> str:

@@ -6,10 +6,11 @@ import random
 import tempfile
 import unittest
 from contextlib import redirect_stderr, redirect_stdout
+from types import SimpleNamespace
 
 from kulzobad import Machine, Minimised, Refused, encode, minimise
 from kulzobad.cli import main
-from kulzobad.formats import read_csv, read_dump, write_csv
+from kulzobad.formats import read_csv, read_dump, tables_of_rig, write_csv
 from kulzobad.images import decode
 from kulzobad.minimising import read_minimised, shares_of, tables_program_of
 from kulzobad.kinds import BrokenAnswer
@@ -155,6 +156,94 @@ class Lookups(unittest.TestCase):
             self.assertEqual(words(done.tables[1, 3]), [(0, 0xFFFFFFFE, 1)])
 
 
+# Of the sources that random rows have, those that tell a link are a half.
+SOURCES = [None, set(), {0, 3}, {2, 9}, {None}, {1, None}, {6}, {23}, {0}, {1}, {2}, {3}, {4}, {5}, {0}, {3}]
+
+
+def straight(link):
+    """The route of a packet that came by the link and that no row has."""
+    return 1 << (link + 3) % 6
+
+
+def sourced(rng, rows):
+    """Rows that say where their packets come in, or not: of some the route is that of a packet that no row has."""
+    found = []
+    for key, mask, route in rows:
+        sources = rng.choice(SOURCES)
+        link = next(iter(sources)) if sources and len(sources) == 1 else None
+        if link in range(6) and rng.random() < 0.7:
+            route = straight(link)
+        found.append(SimpleNamespace(key=key, mask=mask, route=route, sources=sources))
+    return found
+
+
+class Arrivals(unittest.TestCase):
+    """Rows that tell by which link their packets come in."""
+
+    def judge(self, rows, new, keys, exact):
+        """Each key of a row goes where it went, by whatever link its packets may come; says how many go by no row."""
+        self.assertLessEqual(len(new), len(rows))
+        gone = 0
+        for key in keys:
+            wanted = next((row for row in rows if key & row.mask == row.key), None)
+            found = looked_up(new, key)
+            if wanted is None:
+                self.assertTrue(found is None or not exact, (rows, new, key))
+                continue
+            told = wanted.sources or {None}
+            for link in told if told <= set(range(6)) else {*range(6), None}:
+                gone += found is None
+                self.assertEqual(found if found is not None or link is None else straight(link), wanted.route, (rows, new, key, link))
+        return gone
+
+    def test_random(self):
+        for seed, kind in enumerate(("any", "ranges", "few")):
+            for exact in (False, True):
+                rng = random.Random(40 + seed)
+                plain, keys = random_tables(20 + seed, kind, 700)
+                tables = {chip: sourced(rng, rows) for chip, rows in plain.items()}
+                done = minimise(tables, exact=exact, arrivals=True)
+                gone = sum(self.judge(rows, words(done.tables[chip]), keys[chip], exact) for chip, rows in tables.items())
+                self.assertGreater(gone, 0)
+                untold = minimise(tables, exact=exact)
+                self.assertLess(done.rows, untold.rows)
+                self.assertEqual(untold, minimise({chip: words(rows) for chip, rows in tables.items()}, exact=exact, arrivals=True))
+
+    def test_by_hand(self):
+        def left(*rows, **asked):
+            given = [SimpleNamespace(key=key, mask=mask, route=route, sources=sources) for key, mask, route, sources in rows]
+            return words(minimise({(0, 0): given}, arrivals=True, **asked).tables[0, 0])
+
+        # from the east to the west, and not to the east, nor to both, nor to a core
+        self.assertEqual(left((0, ONES, 8, {0})), [])
+        for route in (1, 9, 0, 64):
+            self.assertEqual(left((0, ONES, route, {0})), [(0, ONES, route)])
+        for link in range(6):
+            self.assertEqual(left((5, ONES, straight(link), {link})), [])
+        # a row behind would take the packets
+        self.assertEqual(left((0, ONES, 8, {0}), (0, 0xFFFFFFF0, 1, None)), [(0, ONES, 8), (0, 0xFFFFFFF0, 1)])
+        self.assertEqual(left((0, ONES, 8, {0}), (0, 0xFFFFFFF0, 16, {1})), [])
+        # rows are joined first, and one that tells nothing keeps what it was joined with
+        self.assertEqual(left((0, ONES, 8, {0}), (1, ONES, 8, None)), [(0, 0xFFFFFFFE, 8)])
+        self.assertEqual(left((0, ONES, 8, {0}), (1, ONES, 8, {1})), [(0, 0xFFFFFFFE, 8)])
+        self.assertEqual(left((0, ONES, 8, {0}), (1, ONES, 8, {0}), (3, ONES, 2, None)), [(3, ONES, 2)])
+        # a table that is short enough is as it was given
+        self.assertEqual(left((0, ONES, 8, {0}), (1, ONES, 1, None), target=2), [(0, ONES, 8), (1, ONES, 1)])
+        self.assertEqual(left((0, ONES, 8, {0}), (1, ONES, 1, None), target=1), [(1, ONES, 1)])
+        # keys behind a wall
+        self.assertEqual(left((0, ONES, 1, None), (1, ONES, 1, None), (3, ONES, 8, {0}), exact=True), [(0, 0xFFFFFFFE, 1)])
+
+    def test_rig(self):
+        class Entry(SimpleNamespace):
+            pass
+
+        rows = [Entry(route={3}, key=0, mask=ONES, sources={0}), Entry(route={3}, key=1, mask=ONES, sources={None}), Entry(route={3}, key=4, mask=ONES)]
+        tables = tables_of_rig({(0, 0): rows})
+        self.assertEqual([getattr(row, "arrival", None) for row in tables[0, 0]], [0, None, None])
+        self.assertEqual(minimise(tables, exact=True).rows, 2)
+        self.assertEqual(words(minimise(tables_of_rig({(0, 0): rows[:1] + rows[2:]}), arrivals=True, exact=True).tables[0, 0]), [(4, ONES, 8)])
+
+
 class Refusals(unittest.TestCase):
     """What is no table."""
 
@@ -181,7 +270,16 @@ class Refusals(unittest.TestCase):
             ({"tables": [{**table, "y": "0"}]}, 4, b"bad job: shape in.tables[0].y\n"),
             ({"tables": [{"x": 0, "y": 0}]}, 4, b"bad job: shape in.tables[0].rows\n"),
             ({"tables": [{**table, "rows": [[0, 0]]}]}, 4, b"bad job: shape in.tables[0].rows[0]\n"),
-            ({"tables": [{**table, "rows": [[0, 0, 1], [0, 0, 1, 1]]}]}, 4, b"bad job: shape in.tables[0].rows[1]\n"),
+            ({"tables": [{**table, "rows": [[0, 0, 1], [0, 0, 1, 1, 1]]}]}, 4, b"bad job: shape in.tables[0].rows[1]\n"),
+            ({"tables": [{**table, "rows": [[0, 0, 1, 0], [0, 0, 1, "0"]]}]}, 4, b"bad job: shape in.tables[0].rows[1]\n"),
+            ({"tables": [{**table, "rows": [[0, 0, 1, 5], [0, 0, 1, None]]}]}, 4, b"bad job: shape in.tables[0].rows[1]\n"),
+            ({"tables": [{**table, "rows": [[0, 0, 1], [0, 0, 1, 6]]}]}, 4, b"bad job: range in.tables[0].rows[1]\n"),
+            ({"tables": [{**table, "rows": [[0, 0, 1, 24]]}]}, 4, b"bad job: range in.tables[0].rows[0]\n"),
+            ({"tables": [{**table, "rows": [[0, 0, 1, -1]]}]}, 4, b"bad job: shape in.tables[0].rows[0]\n"),
+            ({"tables": [{**table, "rows": [[0, 0, 2**24, []]]}]}, 4, b"bad job: range in.tables[0].rows[0]\n"),
+            ({"tables": [{**table, "rows": [[0, 0, 8, 3]]}]}, 0, b"table 0 0 1\n00000000 00000000 000008\n"),
+            ({"tables": [{**table, "rows": [[0, 0, 8, 0]]}]}, 0, b"table 0 0 0\n"),
+            ({"target": 1, "tables": [{**table, "rows": [[0, 0, 8, 0]]}]}, 0, b"table 0 0 1\n00000000 00000000 000008\n"),
             ({"tables": [{**table, "rows": [[2**32, 0, 1]]}]}, 4, b"bad job: range in.tables[0].rows[0]\n"),
             ({"tables": [{**table, "rows": [[0, 2**32, 1]]}]}, 4, b"bad job: range in.tables[0].rows[0]\n"),
             ({"tables": [{**table, "rows": [[0, 0, 2**24]]}]}, 4, b"bad job: range in.tables[0].rows[0]\n"),
@@ -211,6 +309,12 @@ class Refusals(unittest.TestCase):
             minimise({}, "7")
         with self.assertRaises(TypeError):
             minimise({}, exact=1)
+        with self.assertRaises(TypeError):
+            minimise({}, arrivals=1)
+        for sources in (0, "0", [0], {"0"}, {0.0}, {True}):
+            with self.assertRaises(TypeError, msg=sources) as refused_sources:
+                minimise({(1, 2): [(1, 1, 1), SimpleNamespace(key=0, mask=0, route=1, sources=sources)]}, arrivals=True)
+            self.assertTrue(str(refused_sources.exception).startswith("row 1 of chip (1, 2): sources"), sources)
         self.assertEqual(minimise({}), Minimised({}))
         self.assertEqual(words(minimise({(0, 0): [(ONES, 0, 0), (1, 1, 1)]}).tables[0, 0]), [(1, 1, 1)])
 
@@ -272,6 +376,20 @@ class Command(unittest.TestCase):
         csv = write_csv({(2, 2): [(i, ONES, 1) for i in (0, 1, 3)]}).encode()
         self.assertEqual(len(read_csv(self.call(csv)[1].decode())[2, 2]), 1)
         self.assertEqual(words(read_csv(self.call(csv, "--exact")[1].decode())[2, 2]), [(3, ONES, 1), (0, 0xFFFFFFFE, 1)])
+
+    def test_sources(self):
+        csv = b"x,y,key,mask,route,source\n0,0,0,0xffffffff,8,0\n0,0,2,0xffffffff,8,\n0,0,0x13,0xffffffff,4,3\n"
+        status, written, told = self.call(csv, "--arrivals", "--exact")
+        self.assertEqual((status, told, words(read_csv(written.decode())[0, 0])), (0, "", [(0x13, ONES, 4), (0, 0xFFFFFFFD, 8)]))
+        csv = csv.replace(b"0xffffffff,8,\n", b"0xffffffff,1,\n")
+        self.assertEqual(words(read_csv(self.call(csv, "--arrivals")[1].decode())[0, 0]), [(2, ONES, 1), (0x13, ONES, 4)])
+        self.assertEqual(len(read_csv(self.call(csv)[1].decode())[0, 0]), 3)
+        plain = write_csv({(0, 0): [(0, ONES, 8)]}).encode()
+        self.assertEqual(self.call(plain, "--arrivals"), (0, plain, "kulzobad: no row tells by which link its packets come in\n"))
+        for source in (b"6", b"-1", b"E", b"0,0"):
+            status, written, told = self.call(csv.replace(b"4,3\n", b"4," + source + b"\n"), "--arrivals")
+            self.assertEqual(status, 4, source)
+            self.assertIn("line 4: ", told)
 
     def test_spoiled(self):
         for data in (b"x,y,key\n", b"\xff\xfe", b"SPNT", b"0 0 1 2\n", b"table 0 0 1\n", b"x,y,key,mask,route\n0,0,1,1,0x1000000\n"):

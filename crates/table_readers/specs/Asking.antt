@@ -4,6 +4,7 @@ use Rattle.std.proofs.Common.{lit<}
 use Rattle.std.proofs.lemmas.Nat.{mod_below}
 use Rattle.serde_json.specs.Data.{Data}
 use Rattle.spin_base.specs.declared.chips.Chip.{Chip}
+use Rattle.spin_base.specs.declared.chips.Port.TheVariants.{Link, Local}
 use Rattle.spin_base.specs.declared.routes.Route.{Route}
 use Rattle.job_text.specs.declared.faults.JobFault.{JobFault}
 use Rattle.job_text.specs.declared.faults.JobFault.TheVariants.{Shape}
@@ -13,7 +14,7 @@ use Rattle.job_text.specs.Paths.{member_at}
 use Rattle.job_text.specs.Fields.{flag_faults, flag_value, number_faults, number_value, range_unless}
 use Rattle.job_readers.specs.Members.{list_member, list_member_faults}
 use Rattle.job_readers.specs.Blocks.{block_at}
-use Rattle.job_readers.specs.Entries.{chip_of_numbers}
+use Rattle.job_readers.specs.Entries.{chip_of_numbers, link_of}
 use Rattle.job_readers.specs.Items.{items_faults}
 use Rattle.job_readers.specs.RunPart.{items_in}
 use Rattle.table_rules.specs.declared.rows.RoutedBlock.{RoutedBlock}
@@ -36,9 +37,15 @@ abbrev pub numbers_faults : List ℕ → Data → Data → Data → List JobFaul
 numbers_faults path k m r =
     key_faults path k ▹ (key_faults path m ▹ (route_faults path r ▹ range_unless (bit_and (whole_value k) (whole_value m) == whole_value k) path))
 
+-- Or it is [key,mask,route,link], with the number of the link by which its packets come in.
+abbrev pub four_faults : List ℕ → Data → Data → Data → Data → List JobFault
+four_faults path k m r l = numbers_faults path k m r ▹ number_faults path 0 5 None (Some l)
+
 unfoldable pub one_faults : List ℕ → Data → Data → List Data → List JobFault
 one_faults path k m [] = Shape path ∷ []
-one_faults path k m (r ∷ ds) = if length ds == 0 then numbers_faults path k m r else Shape path ∷ []
+one_faults path k m (r ∷ []) = numbers_faults path k m r
+one_faults path k m (r ∷ l ∷ []) = four_faults path k m r l
+one_faults path k m (r ∷ l ∷ d ∷ ds) = Shape path ∷ []
 
 unfoldable pub two_faults : List ℕ → Data → List Data → List JobFault
 two_faults path k [] = Shape path ∷ []
@@ -55,15 +62,20 @@ row_faults path d = three_faults path (items_in d)
 unfoldable pub route_at : ℕ → Route
 route_at bits = record { bits = bits % 16777216; within = mod_below bits 16777216 (lit< tt) }
 
+-- a row of which it is not told by which link its packets come in
 abbrev pub row_of_numbers : ℕ → ℕ → ℕ → RoutedBlock
-row_of_numbers key mask bits = record { block = block_at key mask; route = route_at bits }
+row_of_numbers key mask bits = record { block = block_at key mask; route = route_at bits; port = Local }
 
 abbrev pub numbers_value : Data → Data → Data → RoutedBlock
 numbers_value k m r = row_of_numbers (whole_value k) (whole_value m) (whole_value r)
 
+abbrev pub four_value : Data → Data → Data → Data → RoutedBlock
+four_value k m r l = record { block = block_at (whole_value k) (whole_value m); route = route_at (whole_value r); port = Link (link_of (whole_value l)) }
+
 unfoldable pub one_value : Data → Data → List Data → RoutedBlock
 one_value k m [] = row_of_numbers 0 0 0
-one_value k m (r ∷ ds) = numbers_value k m r
+one_value k m (r ∷ []) = numbers_value k m r
+one_value k m (r ∷ l ∷ ds) = four_value k m r l
 
 unfoldable pub two_value : Data → List Data → RoutedBlock
 two_value k [] = row_of_numbers 0 0 0

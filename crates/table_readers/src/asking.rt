@@ -4,13 +4,14 @@ ghost use Rattle.serde_json.specs.View.{view};
 ghost use Rattle.job_text.specs.Reading.{GivesOrFaults};
 ghost use Rattle.job_text.specs.Paths.{path_text};
 ghost use Rattle.job_readers.specs.Blocks.{block_at};
+ghost use Rattle.job_readers.specs.Entries.{link_of};
 ghost use Rattle.job_readers.specs.Members.{list_member, list_member_faults};
-ghost use Rattle.table_readers.specs.Asking.{HasFewRows, asked_faults, asked_value, chip_numbers, chip_numbers_faults, numbers_faults, numbers_value, one_faults, one_value, route_at, row_faults, row_value, rows_faults, rows_value, table_faults, table_value, tables_exact_faults, tables_exact_value, tables_faults, tables_value, tables_target_faults, tables_target_value, three_faults, three_value, two_faults, two_value};
+ghost use Rattle.table_readers.specs.Asking.{HasFewRows, asked_faults, asked_value, chip_numbers, chip_numbers_faults, four_faults, four_value, numbers_faults, numbers_value, one_faults, one_value, route_at, row_faults, row_value, rows_faults, rows_value, table_faults, table_value, tables_exact_faults, tables_exact_value, tables_faults, tables_value, tables_target_faults, tables_target_value, three_faults, three_value, two_faults, two_value};
 
 use job_readers::{ItemReader, each_item, items_in};
 use job_text::{Path, TextErr, count_to, flag, list, member, number_in, range, shape};
 use serde_json::Value;
-use spin_base::{Block, Chip, Route, Seq};
+use spin_base::{Block, Chip, Dir, Port, Route, Seq};
 use std::alloc::Global;
 use table_rules::RoutedBlock;
 
@@ -19,6 +20,9 @@ const MOST: u64 = 4294967295;
 
 /// The greatest route.
 const MOST_ROUTE: u64 = 16777215;
+
+/// The greatest number of a link.
+const MOST_LINK: u64 = 5;
 
 /// The most tables, and the most rows of one.
 const MOST_ITEMS: u64 = 65536;
@@ -38,7 +42,7 @@ pub struct GivenTable {
     pub rows: Seq<RoutedBlock>,
 }
 
-// Reads a row: a list of a key, a mask and a route.
+// Reads a row: a list of a key, a mask and a route, and of the link by which its packets come in, if that is told.
 #[derive(Clone, Copy)]
 struct Rows;
 
@@ -99,7 +103,7 @@ fn row_of_two(
     row_of_one(alloc, key, mask, rest, path)
 }
 
-// The row of a key and a mask, and of the route that one item is.
+// The row of a key and a mask, and of the route and the link that one item is, or two.
 #[tactic(auto, unfolding(crate::specs::Asking::one_faults, crate::specs::Asking::one_value))]
 fn row_of_one(
     alloc: Global,
@@ -112,13 +116,48 @@ fn row_of_one(
         (one_faults (path_text path.now) (view key.now) (view mask.now) (map view items.now))
         (one_value (view key.now) (view mask.now) (map view items.now)) }
 {
-    let [route, rest @ ..] = items else {
-        return Err(shape(alloc, path));
-    };
-    if rest.is_empty() {
-        return row_of_three(alloc, key, mask, route, path);
+    match items {
+        [route] => row_of_three(alloc, key, mask, route, path),
+        [route, link] => row_of_four(alloc, key, mask, route, link, path),
+        _ => Err(shape(alloc, path)),
     }
-    Err(shape(alloc, path))
+}
+
+// The row that a key, a mask, a route and a link are.
+#[tactic(auto, using(job_readers::proofs::Firsts::firsts))]
+fn row_of_four(
+    alloc: Global,
+    key: &Value,
+    mask: &Value,
+    route: &Value,
+    link: &Value,
+    path: &Path<'_>,
+) -> Result<RoutedBlock, TextErr>
+    ensures { GivesOrFaults (λ r. r) result
+        (four_faults (path_text path.now) (view key.now) (view mask.now) (view route.now) (view link.now))
+        (four_value (view key.now) (view mask.now) (view route.now) (view link.now)) }
+{
+    let row = row_of_three(alloc, key, mask, route, path)?;
+    let number = number_in(alloc, Some(link), path, 0, MOST_LINK, None)?;
+    Ok(RoutedBlock {
+        block: row.block,
+        route: row.route,
+        port: Port::Link(link_of(number)),
+    })
+}
+
+// The link of a number from 0 to 5.
+fn link_of(number: u64) -> Dir
+    ensures { result ≡ link_of number }
+{
+    match number {
+        0 => Dir::East,
+        1 => Dir::NorthEast,
+        2 => Dir::North,
+        3 => Dir::West,
+        4 => Dir::SouthWest,
+        _ => Dir::South,
+    }
 }
 
 // The row that a key, a mask and a route are.
@@ -142,6 +181,7 @@ fn row_of_three(
             Ok(RoutedBlock {
                 block,
                 route: route_of(bits),
+                port: Port::Local,
             })
         }
         None => Err(range(alloc, path)),

@@ -1,4 +1,5 @@
 mod FirstRows
+mod Kept
 mod Sounds
 mod Faithful
 mod Turns

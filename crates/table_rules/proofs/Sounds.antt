@@ -1,4 +1,4 @@
--- A sound table with one row more, and with the pieces of a row, is sound; and a sound table routes its aliases.
+-- A sound table with one row more, and with the pieces of a row, is sound.
 use Rattle.std.proofs.Common.{◌≡◌, ℕ, zero, suc, ◌+◌, ◌^◌, ◌<◌, ◌≤◌, inl, inr, List, [], ◌∷◌, ◌++◌, length, get_or, take, drop, map, refl, sym, ap, ◌∙◌, subst, take-append-drop, get_or-take, get_or-drop, length-take, length-drop, arith}
 use Rattle.std.specs.Prelude.{All, AllPairs, insert}
 use Rattle.std.specs.List.{Contains}
@@ -10,13 +10,13 @@ use Rattle.std.proofs.lemmas.List.Kept.{AllPairs-cons}
 use Rattle.std.proofs.lemmas.List.Sorted.{All-permutation, IsPermutation-sym}
 use Rattle.spin_base.proofs.Pairs.{All-flat_map, AllAcross, AllPairs-head, AllPairs-tail, AllPairs-append, AllPairs-left, AllPairs-right, AllPairs-across}
 use Rattle.spin_base.specs.declared.blocks.Block.{Block}
-use Rattle.spin_base.specs.declared.routes.Route.{Route}
 use Rattle.tern_word.specs.declared.tables.Alias.{Alias}
 use Rattle.tern_word.specs.declared.tables.Row.{Row}
 use Rattle.tern_word.specs.Ternary.{Matches, Intersects, LiesIn, generality}
 use Rattle.tern_word.specs.SoundTable.{HoldsItsAliases, IsSound, Misses, Original, served, served_by}
 use Rattle.cover_merge.specs.Merge.{place_for, PassesDown}
 use Rattle.cover_merge.proofs.Positions.{place_for-below, place_for-above}
+use Rattle.table_rules.specs.declared.rows.RoutedBlock.{RoutedBlock}
 use Rattle.table_rules.specs.Made.{alias_of, piece_row, with_row, with_rows}
 use Rattle.table_rules.specs.Rows.{GoesBy, routed}
 use Rattle.table_rules.proofs.FirstRows.{first_hit, first_miss}
@@ -70,18 +70,18 @@ module _ (rows : List Row) (row : Row) (sound : IsSound rows) where
 
 -- ---- with the pieces of a row
 
-module _ (route : Route) where
+module _ (given : RoutedBlock) where
   pub sound_with_pieces : (pieces : List Block) (rows : List Row) → IsSound rows → All (λ (r : Row). All (λ (p : Block). Intersects r.block p → ⊥) pieces) rows
-      → AllPairs (λ (p q : Block). Intersects p q → ⊥) pieces → IsSound (with_rows rows (map (piece_row route) pieces))
+      → AllPairs (λ (p q : Block). Intersects p q → ⊥) pieces → IsSound (with_rows rows (map (piece_row given) pieces))
   sound_with_pieces [] rows sound clear apart = sound
   sound_with_pieces (p ∷ pieces) rows sound clear apart =
-      sound_with_pieces pieces (with_row rows (piece_row route p))
-      (sound_with rows (piece_row route p) sound
-      (All-cons (λ (a : Alias). LiesIn a.block p) (alias_of p) [] (λ k small m. m) (All-nil (λ (a : Alias). LiesIn a.block p)))
-      (λ k d within. All-cons (λ (a : Alias). Intersects (get_or rows k d).block a.block → ⊥) (alias_of p) [] (here k d within) (All-nil (λ (a : Alias). Intersects (get_or rows k d).block a.block → ⊥)))
+      sound_with_pieces pieces (with_row rows (piece_row given p))
+      (sound_with rows (piece_row given p) sound
+      (All-cons (λ (a : Alias). LiesIn a.block p) (alias_of given.port p) [] (λ k small m. m) (All-nil (λ (a : Alias). LiesIn a.block p)))
+      (λ k d within. All-cons (λ (a : Alias). Intersects (get_or rows k d).block a.block → ⊥) (alias_of given.port p) [] (here k d within) (All-nil (λ (a : Alias). Intersects (get_or rows k d).block a.block → ⊥)))
       (λ r d from within m e inside met.
       here r d within (record { key = met.key; small = met.small; first = sound.inside r d within m e inside met.key met.small met.second; second = met.first })))
-      (all_insert (λ (r : Row). All (λ (q : Block). Intersects r.block q → ⊥) pieces) rows (place_for rows (generality p)) (piece_row route p)
+      (all_insert (λ (r : Row). All (λ (q : Block). Intersects r.block q → ⊥) pieces) rows (place_for rows (generality p)) (piece_row given p)
       (λ k d within. All-tail (λ (q : Block). Intersects (get_or rows k d).block q → ⊥) p pieces (clear k d within))
       (AllPairs-head (λ (x y : Block). Intersects x y → ⊥) p pieces apart))
       (AllPairs-tail (λ (x y : Block). Intersects x y → ⊥) p pieces apart)
@@ -127,37 +127,11 @@ served_news [] rows i d o within among = absurd (omega arith)
 served_news (r ∷ news) rows zero d o within among = served_keeps_all news (with_row rows r) o (served_new rows r o among)
 served_news (r ∷ news) rows (suc i) d o within among = served_news news (with_row rows r) i d o (omega arith) among
 
--- ---- a sound table routes its aliases
+-- ---- a sound table without its first row
 
-tail_sound : (r : Row) (rows : List Row) → IsSound (r ∷ rows) → IsSound rows
+pub tail_sound : (r : Row) (rows : List Row) → IsSound (r ∷ rows) → IsSound rows
 tail_sound r rows sound = record {
   ordered = AllPairs-tail (λ (x y : Row). generality x.block ≤ generality y.block) r rows sound.ordered;
   inside = All-tail HoldsItsAliases r rows sound.inside;
   unmet = AllPairs-tail (λ (x y : Row). Misses x.block y) r rows sound.unmet;
 }
-
-goes : (rows : List Row) → IsSound rows → (j : ℕ) (d : Row) → j < length rows → (i : ℕ) (e : Alias) → i < length (get_or rows j d).aliases
-    → (k : ℕ) → k < 2 ^ 32 → Matches (get_or (get_or rows j d).aliases i e).block k → GoesBy (map routed rows) k (get_or rows j d).route
-goes [] sound j d within i e inside k small hit = absurd (omega arith)
-goes (r ∷ rows) sound zero d within i e inside k small hit = record {
-  row = routed r;
-  first = first_hit (routed r) (map routed rows) k (sound.inside 0 d within i e inside k small hit);
-  by = refl;
-}
-goes (r ∷ rows) sound (suc j) d within i e inside k small hit =
-    let rest = goes rows (tail_sound r rows sound) j d (omega arith) i e inside k small hit in record {
-      row = rest.row;
-      first = first_miss (routed r) (map routed rows) k (λ met. sound.unmet 0 (suc j) d (omega arith) within i e inside (record { key = k; small = small; first = met; second = hit })) ∙ rest.first;
-      by = rest.by;
-    }
-
--- the keys of an original block go by its route
-abbrev pub GoesWhere : List Row → Original → Type 0
-GoesWhere rows o = (k : ℕ) → k < 2 ^ 32 → Matches o.block k → GoesBy (map routed rows) k o.route
-
-pub all_go : (table rows : List Row) → IsSound rows → IsPermutation (served table) (served rows) → All (GoesWhere rows) (served table)
-all_go table rows sound same =
-    All-permutation (GoesWhere rows) (served rows) (served table) (IsPermutation-sym (served table) (served rows) same)
-    (All-flat_map (GoesWhere rows) served_by rows (λ j d within.
-    let r = get_or rows j d in
-    All-map (GoesWhere rows) (λ (a : Alias). let o : Original = record { block = a.block; port = a.port; route = r.route } in o) r.aliases (λ i e inside k small hit. goes rows sound j d within i e inside k small hit)))

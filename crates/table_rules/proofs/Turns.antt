@@ -4,33 +4,34 @@ use Rattle.std.proofs.lemmas.Bool.{eq-eqb}
 use Rattle.std.proofs.lemmas.Bool.Decides.{eqb_tells}
 use Rattle.std.proofs.lemmas.List.{drop_all, drop_more, map_push, take_more}
 use Rattle.std.proofs.lemmas.List.Edits.{length-insert}
+use Rattle.std.proofs.lemmas.Option.{slice_get-get_or}
+use Rattle.std.specs.Prelude.{All}
 use Rattle.spin_base.specs.declared.blocks.Block.{Block}
-use Rattle.spin_base.specs.declared.routes.Route.{Route}
 use Rattle.tern_word.specs.declared.tables.Row.{Row}
 use Rattle.tern_word.specs.Ternary.{generality}
-use Rattle.cover_merge.specs.Merge.{place_for, PassesDown}
+use Rattle.cover_merge.specs.Merge.{place_for, PassesDown, rows_at}
 use Rattle.cover_merge.specs.Covering.{Covers}
-use Rattle.cover_merge.proofs.Positions.{place_for-le}
+use Rattle.cover_merge.proofs.Positions.{place_for-le, rows_at-push}
 use Rattle.block_cuts.specs.Cuts.{cut}
 use Rattle.table_rules.specs.declared.rows.RoutedBlock.{RoutedBlock}
 use Rattle.table_rules.specs.Rows.{routed}
-use Rattle.table_rules.specs.Shortened.{IsCoveredFrom, IsShortenedTo, no_shorter, shorter}
+use Rattle.table_rules.specs.Shortened.{AreLeft, IsCoveredFrom, IsShortenedTo, no_shorter, shorter}
 use Rattle.table_rules.specs.Made.{HasTooManyPieces, IsTableFrom, IsTableMadeOf, IsRowAdded, StandsBefore, row_blocks, done, here, later, more, piece_row, with_row, with_rows}
 
 -- ---- pieces as rows
 
-module _ (route : Route) (pieces : List Block) (i : ℕ) (rows all : List Row) where
-  pub piece_turn : (piece : Block) (row : Row) (new : List Row) → i < length pieces → piece ≡ get_or pieces i piece → with_rows rows (map (piece_row route) (drop i pieces)) ≡ all
-      → row ≡ piece_row route piece → new ≡ with_row rows row → with_rows new (map (piece_row route) (drop (i + 1) pieces)) ≡ all
+module _ (given : RoutedBlock) (pieces : List Block) (i : ℕ) (rows all : List Row) where
+  pub piece_turn : (piece : Block) (row : Row) (new : List Row) → i < length pieces → piece ≡ get_or pieces i piece → with_rows rows (map (piece_row given) (drop i pieces)) ≡ all
+      → row ≡ piece_row given piece → new ≡ with_row rows row → with_rows new (map (piece_row given) (drop (i + 1) pieces)) ≡ all
   piece_turn piece row new within read so_far is put =
-      let rest = map (piece_row route) (drop (i + 1) pieces) in
+      let rest = map (piece_row given) (drop (i + 1) pieces) in
       ap (λ rs. with_rows rs rest) (put ∙ ap (with_row rows) is)
-      ∙ (ap (λ x. with_rows (with_row rows (piece_row route x)) rest) read
-      ∙ (sym (ap (λ l. with_rows rows (map (piece_row route) l)) (drop_more pieces i piece within))
+      ∙ (ap (λ x. with_rows (with_row rows (piece_row given x)) rest) read
+      ∙ (sym (ap (λ l. with_rows rows (map (piece_row given) l)) (drop_more pieces i piece within))
       ∙ so_far))
 
-  pub pieces_all : length pieces ≤ i → with_rows rows (map (piece_row route) (drop i pieces)) ≡ all → rows ≡ all
-  pieces_all past so_far = sym (ap (λ l. with_rows rows (map (piece_row route) l)) (drop_all i pieces past)) ∙ so_far
+  pub pieces_all : length pieces ≤ i → with_rows rows (map (piece_row given) (drop i pieces)) ≡ all → rows ≡ all
+  pieces_all past so_far = sym (ap (λ l. with_rows rows (map (piece_row given) l)) (drop_all i pieces past)) ∙ so_far
 
 pub length_with : (rows new : List Row) (row : Row) → new ≡ with_row rows row → length new ≡ length rows + 1
 length_with rows new row put = ap length put ∙ length-insert rows (place_for rows (generality row.block)) row (place_for-le rows (generality row.block))
@@ -100,8 +101,25 @@ module _ (target room : ℕ) (given : List RoutedBlock) (table rows : List Row) 
   covered_from : IsCoveredFrom target room given rows
   covered_from = record { long = long; table = table; made = made; sets = sets; covered = covers }
 
-  pub is_shorter : (list : List Row) (new : List RoutedBlock) → list ≡ rows → length rows < length given → new ≡ map routed list → IsShortenedTo target room given new
-  is_shorter list new same less is = subst (IsShortenedTo target room given) (sym (is ∙ ap (map routed) same)) (shorter rows covered_from less)
+  module _ (list : List Row) (left : List RoutedBlock) (same : list ≡ rows) (are : AreLeft list left) where
+    left_of : AreLeft rows left
+    left_of = subst (λ l. AreLeft l left) same are
 
-  pub is_no_shorter : (new : List RoutedBlock) → length given ≤ length rows → new ≡ given → IsShortenedTo target room given new
-  is_no_shorter new most is = subst (IsShortenedTo target room given) (sym is) (no_shorter rows covered_from most)
+    pub is_shorter : length left < length given → IsShortenedTo target room given left
+    is_shorter less = shorter rows left covered_from left_of less
+
+    pub is_no_shorter : (new : List RoutedBlock) → length given ≤ length left → new ≡ given → IsShortenedTo target room given new
+    is_no_shorter new most is = subst (IsShortenedTo target room given) (sym is) (no_shorter rows left covered_from left_of most)
+
+-- the row at one more place
+pub places_more : (rows : List Row) (places : List ℕ) (i : ℕ) (row : Row) (new : RoutedBlock) (old all : List RoutedBlock) → All (λ s. s < length rows) places → i < length places →
+    row ≡ get_or rows (get_or places i 0) row → new ≡ routed row → old ≡ map routed (rows_at rows (take i places)) → all ≡ old ++ new ∷ [] →
+    all ≡ map routed (rows_at rows (take (i + 1) places))
+places_more rows places i row new old all in_range within read is so_far put =
+    let s : ℕ = get_or places i 0 in
+    let there = slice_get-get_or rows s row (in_range i 0 within) ∙ ap Some (sym read) in
+    put
+    ∙ (ap (λ x. old ++ x ∷ []) is
+    ∙ (ap (λ l. l ++ routed row ∷ []) so_far
+    ∙ (sym (map_push routed (rows_at rows (take i places)) row)
+    ∙ ap (map routed) (sym (ap (rows_at rows) (take_more places i 0 within) ∙ rows_at-push rows (take i places) s row there)))))

@@ -1,36 +1,43 @@
 -- Behind a wall no key is new: the rows of its route have all keys, and those before them have none of the wall's.
-use Rattle.std.proofs.Common.{◌≡◌, ℕ, ◌+◌, ◌-◌, ◌<◌, ◌≤◌, ◌==◌, Bool, true, false, cond, inl, inr, List, [], ◌∷◌, ◌++◌, length, get_or, take, drop, map, Option, Some, None, refl, sym, ap, ◌∙◌, subst, append_assoc, length-append, arith}
-use Rattle.std.specs.Prelude.{All, bit_and, bit_xor, fold, nat_le, not, slice_get, if◌then◌else◌}
+use Rattle.std.proofs.Common.{◌≡◌, ℕ, suc, take-append-drop, length-take, ◌+◌, ◌-◌, ◌<◌, ◌≤◌, ◌==◌, Bool, true, false, cond, inl, inr, List, [], ◌∷◌, ◌++◌, length, get_or, take, drop, map, Option, Some, None, refl, sym, ap, ◌∙◌, subst, append_assoc, length-append, arith}
+use Rattle.std.specs.Prelude.{All, AllPairs, nat_lt, bit_and, bit_xor, fold, nat_le, not, slice_get}
 use Rattle.std.specs.Int.{bit_at, bit_not, w32}
-use Rattle.std.specs.List.{cons_option}
+use Rattle.std.specs.List.{Contains, cons_option, position, position_or_len}
 use Rattle.std.specs.Option.{option_or}
-use Rattle.std.proofs.lemmas.Bool.{eq-eqb}
+use Rattle.std.proofs.lemmas.Bool.{ltb-false, ltb-true}
 use Rattle.std.proofs.lemmas.Bool.Decides.{eqb_tells, nat_tests}
-use Rattle.std.proofs.lemmas.List.{append-nil, drop_all, drop_more, take_more}
-use Rattle.std.proofs.lemmas.List.Elements.{All-nil, All-append, All-cons, All-drop, All-head, All-map, All-tail, All-take}
+use Rattle.std.proofs.lemmas.List.{take_all, take_more}
+use Rattle.std.proofs.lemmas.List.Elements.{All-nil, All-append, All-cons, All-drop, All-head, All-map, All-tail, All-take, Contains-append_cases, Contains-append_left, Contains-append_right}
 use Rattle.std.proofs.lemmas.List.Folds.{find-append}
-use Rattle.std.proofs.lemmas.List.Sums.{sum_by-append}
+use Rattle.std.proofs.lemmas.List.Sums.{sum_by-append, take_while-cons}
 use Rattle.std.specs.List.Sorted.{IsPermutation}
 use Rattle.std.proofs.lemmas.Nat.{and_le_l, and_le_r}
 use Rattle.std.proofs.lemmas.Nat.Bits.{bit_at-zero}
 use Rattle.std.proofs.lemmas.Option.{none-some, same_Some}
+use Rattle.spin_base.proofs.Pairs.{All-flat_map, AllPairs-head, AllPairs-left}
 use Rattle.spin_base.proofs.Places.{All-at}
+use Rattle.spin_base.specs.declared.chips.Port.{Port}
 use Rattle.spin_base.specs.declared.blocks.Block.{Block}
 use Rattle.spin_base.specs.declared.routes.Route.{Route}
 use Rattle.tern_word.specs.declared.tables.Row.{Row}
-use Rattle.tern_word.specs.Ternary.{Matches, all_keys, generality, merge_two}
-use Rattle.tern_word.specs.SoundTable.{IsSound, served}
+use Rattle.tern_word.specs.declared.tables.Alias.{Alias}
+use Rattle.tern_word.specs.Ternary.{Intersects, Matches, all_keys, generality, merge_two}
+use Rattle.tern_word.specs.SoundTable.{HoldsItsAliases, IsSound, Misses, Original, served, served_by}
 use Rattle.tern_word.proofs.BlockLaws.{generality-mono}
 use Rattle.cover_merge.specs.Merge.{after, has_row, insert_place, kept, merge_rows, merged_row, place_for, rows_at}
 use Rattle.cover_merge.specs.Covering.{Covers, merged, short, stuck}
 use Rattle.cover_merge.proofs.Lists.{All-picked}
+use Rattle.cover_merge.proofs.Positions.{All-has, rows_at-from}
 use Rattle.table_rules.specs.declared.rows.RoutedBlock.{RoutedBlock}
 use Rattle.table_rules.specs.Exact.{IsCoveredWithin, IsFree, IsShortenedWithin, no_shorter, rows_before, shorter, wall_of, walled}
 use Rattle.table_rules.specs.Made.{IsTableFrom, IsTableMadeOf, IsRowAdded, StandsBefore, done, in_pieces, left_out, more, piece_row, whole, whole_row}
-use Rattle.table_rules.specs.Rows.{HasNoNewKeys, KeepsRoutes, first_with, routed, takes_key}
-use Rattle.table_rules.proofs.Faithful.{keeps}
+use Rattle.table_rules.specs.Rows.{HasNoNewKeys, KeepsRoutes, first_with, takes_key}
+use Rattle.table_rules.specs.Shortened.{AreLeft}
+use Rattle.table_rules.proofs.Faithful.{IsServed, is_served, sent_on}
+use Rattle.table_rules.proofs.Kept.{none_of}
 use Rattle.table_rules.proofs.FirstRows.{first_hit, first_miss, first_next, has_tells}
-use Rattle.table_rules.proofs.Sounds.{all_insert, all_with_rows}
+use Rattle.default_routes.proofs.StripLemmas.{kept_places}
+use Rattle.table_rules.proofs.Sounds.{all_insert, all_with_rows, tail_sound}
 
 -- ---- blocks of all keys
 
@@ -47,6 +54,24 @@ fold_none b (c ∷ bs) none = fold_none (merge_two b c) bs (omega (arith, and_le
 -- no block is more general
 most_general : (b other : Block) → b.mask ≡ 0 → generality other ≤ generality b
 most_general b other none = generality-mono other b (λ i v want. let no : 0 ≡ 1 = sym (bit_at-zero i) ∙ (ap (λ m. bit_at m i) (sym none) ∙ want.cares) in absurd (omega (arith, no)))
+
+-- ---- original blocks of a sound table
+
+-- one of a row has its route
+of_row : (r : Row) (o : Original) → Contains (served_by r) o → o.route ≡ r.route
+of_row r o among =
+    subst (λ (x : Original). x.route ≡ r.route) among.2
+    (All-map (λ (x : Original). x.route ≡ r.route) (λ (a : Alias). let x : Original = record { block = a.block; port = a.port; route = r.route } in x) r.aliases (λ i d inside. refl) among.0 o among.1)
+
+-- the first row meets none of the rest
+misses_rest : (r : Row) (rows : List Row) (o : Original) → IsSound (r ∷ rows) → Contains (served rows) o → Intersects r.block o.block → ⊥
+misses_rest r rows o sound among =
+    let P = λ (x : Original). Intersects r.block x.block → ⊥ in
+    let rest = AllPairs-head (λ (x y : Row). Misses x.block y) r rows sound.unmet in
+    let all : All P (served rows) = All-flat_map P served_by rows (λ j d within.
+    let s = get_or rows j d in
+    All-map P (λ (a : Alias). let x : Original = record { block = a.block; port = a.port; route = s.route } in x) s.aliases (rest j d within)) in
+    subst P among.2 (all among.0 o among.1)
 
 -- ---- rows of the route of these bits have all keys
 
@@ -98,8 +123,8 @@ module _ (bits : ℕ) where
   wide_put rows given pieces next (left_out none) all wide = all
   wide_put rows given pieces next (whole some stands) all wide = all_insert AreWide rows (place_for rows (generality given.block)) (whole_row given pieces) all wide
   wide_put rows given pieces next (in_pieces some stands_not) all wide =
-      all_with_rows AreWide (map (piece_row given.route) pieces) rows all
-      (All-map AreWide (piece_row given.route) pieces (λ i d within is. absurd (stands_not (stands_last given.block rows (wide is)))))
+      all_with_rows AreWide (map (piece_row given) pieces) rows all
+      (All-map AreWide (piece_row given) pieces (λ i d within is. absurd (stands_not (stands_last given.block rows (wide is)))))
 
   wide_from : (room : ℕ) (before : List RoutedBlock) (rows : List Row) (given : List RoutedBlock) (table : List Row) → IsTableFrom room before rows given table → All AreWide rows → All IsWideGiven given → All AreWide table
   wide_from room before rows given table (done n b r) all wide = all
@@ -108,36 +133,60 @@ module _ (bits : ℕ) where
 
   -- ---- the rows before the first of the route
 
-  abbrev Wides : List RoutedBlock → Type 0
-  Wides rows = All IsWideGiven rows
+  stops_at : (r : Row) (rows : List Row) → (r.route.bits == bits) ≡ true → rows_before bits (r ∷ rows) ≡ []
+  stops_at r rows is = take_while-cons (λ (x : Row). not (x.route.bits == bits)) r rows ∙ ap (λ b. cond (not b) (r ∷ rows_before bits rows) []) is
 
-  -- the first row that has a key stands before them, if its route is another
-  before_keeps : (rows : List RoutedBlock) (k : ℕ) (row : RoutedBlock) → Wides rows → (row.route.bits ≡ bits → ⊥) → first_with rows k ≡ Some row → first_with (rows_before bits rows) k ≡ Some row
-  before_keeps [] k row wide other first = first
-  before_keeps (r ∷ rows) k row wide other first = elim (eqb_tells r.route.bits bits) [
-    | inl same ↦
-        let here = first_hit r rows k (all_match r.block k (All-head IsWideGiven r rows wide same.1)) in
-        absurd (other (subst (λ (x : RoutedBlock). x.route.bits ≡ bits) (same_Some r row (sym here ∙ first)) same.1))
-    | inr apart ↦
-        subst (λ b. first_with (if b then [] else r ∷ rows_before bits rows) k ≡ Some row) (sym apart.0) (
-        elim (has_tells k r) [
-          | inl hit ↦ first_hit r (rows_before bits rows) k hit.1 ∙ (sym (first_hit r rows k hit.1) ∙ first)
-          | inr miss ↦
-              first_miss r (rows_before bits rows) k miss.1
-              ∙ before_keeps rows k row (All-tail IsWideGiven r rows wide) other (sym (first_miss r rows k miss.1) ∙ first)
-        ])
+  goes_past : (r : Row) (rows : List Row) → (r.route.bits == bits) ≡ false → rows_before bits (r ∷ rows) ≡ r ∷ rows_before bits rows
+  goes_past r rows is = take_while-cons (λ (x : Row). not (x.route.bits == bits)) r rows ∙ ap (λ b. cond (not b) (r ∷ rows_before bits rows) []) is
+
+  sound_before : (rows : List Row) → IsSound rows → IsSound (rows_before bits rows)
+  sound_before rows sound =
+      let n = position_or_len (λ (r : Row). r.route.bits == bits) rows in
+      record {
+        ordered = pairs_of (λ (r s : Row). generality r.block ≤ generality s.block) n sound.ordered;
+        inside = All-take HoldsItsAliases n rows sound.inside;
+        unmet = pairs_of (λ (r s : Row). Misses r.block s) n sound.unmet;
+      }
+    where
+      pairs_of : (R : Row → Row → Type 0) (n : ℕ) → AllPairs R rows → AllPairs R (take n rows)
+      pairs_of R n all = AllPairs-left R (take n rows) (drop n rows) (subst (AllPairs R) (sym (take-append-drop n rows)) all)
+
+  -- what is served by another route is served before it
+  served_before : (rows : List Row) (k : ℕ) (port : Port) (route : Route) → IsSound rows → All AreWide rows → k < 2 ^ 32 → (route.bits ≡ bits → ⊥) → IsServed rows k port route
+      → IsServed (rows_before bits rows) k port route
+  served_before [] k port route sound wide small other it = it
+  served_before (r ∷ rows) k port route sound wide small other it = elim (Contains-append_cases (served_by r) (served rows) it.original it.among) [
+    | inl here ↦ elim (eqb_tells r.route.bits bits) [
+      | inl same ↦ absurd (other (ap (λ (x : Route). x.bits) (sym it.by ∙ of_row r it.original here) ∙ same.1))
+      | inr apart ↦
+          subst (λ l. IsServed l k port route) (sym (goes_past r rows apart.0))
+          (record { original = it.original; among = Contains-append_left (served_by r) (served (rows_before bits rows)) it.original here; has = it.has; comes = it.comes; by = it.by })
+    ]
+    | inr there ↦ elim (eqb_tells r.route.bits bits) [
+      | inl same ↦
+          absurd (misses_rest r rows it.original sound there (record { key = k; small = small; first = all_match r.block k (All-head AreWide r rows wide same.1); second = it.has }))
+      | inr apart ↦
+          let rest : IsServed rows k port route = record { original = it.original; among = there; has = it.has; comes = it.comes; by = it.by } in
+          let left = served_before rows k port route (tail_sound r rows sound) (All-tail AreWide r rows wide) small other rest in
+          subst (λ l. IsServed l k port route) (sym (goes_past r rows apart.0))
+          (record { original = left.original; among = Contains-append_right (served_by r) (served (rows_before bits rows)) left.original left.among; has = left.has; comes = left.comes; by = left.by })
+    ]
   ]
 
-  -- and if it is of the route, none of them has the key
-  before_none : (rows : List RoutedBlock) (k : ℕ) (row : RoutedBlock) → row.route.bits ≡ bits → first_with rows k ≡ Some row → first_with (rows_before bits rows) k ≡ None
-  before_none [] k row is first = refl
-  before_none (r ∷ rows) k row is first = elim (eqb_tells r.route.bits bits) [
-    | inl same ↦ ap (λ b. first_with (if b then [] else r ∷ rows_before bits rows) k) same.0
+  -- and none of the rows before it has a key that is served by its route
+  none_before_wall : (rows : List Row) (k : ℕ) (o : Original) → IsSound rows → k < 2 ^ 32 → Contains (served rows) o → Matches o.block k → o.route.bits ≡ bits
+      → All (λ (r : Row). Matches r.block k → ⊥) (rows_before bits rows)
+  none_before_wall [] k o sound small among hit is = All-nil (λ (r : Row). Matches r.block k → ⊥)
+  none_before_wall (r ∷ rows) k o sound small among hit is = elim (eqb_tells r.route.bits bits) [
+    | inl same ↦ subst (All (λ (x : Row). Matches x.block k → ⊥)) (sym (stops_at r rows same.0)) (All-nil (λ (x : Row). Matches x.block k → ⊥))
     | inr apart ↦
-        subst (λ b. first_with (if b then [] else r ∷ rows_before bits rows) k ≡ None) (sym apart.0) (
-        elim (has_tells k r) [
-          | inl hit ↦ absurd (apart.1 (subst (λ (x : RoutedBlock). x.route.bits ≡ bits) (same_Some row r (sym first ∙ first_hit r rows k hit.1)) is))
-          | inr miss ↦ first_miss r (rows_before bits rows) k miss.1 ∙ before_none rows k row is (sym (first_miss r rows k miss.1) ∙ first)
+        subst (All (λ (x : Row). Matches x.block k → ⊥)) (sym (goes_past r rows apart.0)) (
+        elim (Contains-append_cases (served_by r) (served rows) o among) [
+          | inl here ↦ absurd (apart.1 (ap (λ (x : Route). x.bits) (sym (of_row r o here)) ∙ is))
+          | inr there ↦
+              All-cons (λ (x : Row). Matches x.block k → ⊥) r (rows_before bits rows)
+              (λ met. misses_rest r rows o sound there (record { key = k; small = small; first = met; second = hit }))
+              (none_before_wall rows k o (tail_sound r rows sound) small there hit is)
         ])
   ]
 
@@ -151,24 +200,31 @@ module _ (bits : ℕ) where
 
 -- ---- covered within a wall
 
-module _ (target room : ℕ) (given : List RoutedBlock) (route : Route) (rows : List Row) (within : IsCoveredWithin target room given route rows) (keeps : KeepsRoutes (walled given route) (map routed rows)) where
-  wide_rows : Wides route.bits (map routed rows)
+module _ (target room : ℕ) (given : List RoutedBlock) (route : Route) (rows : List Row) (left : List RoutedBlock) (within : IsCoveredWithin target room given route rows)
+    (sound : IsSound rows) (same : IsPermutation (served within.covered.table) (served rows)) (are : AreLeft (rows_before route.bits rows) left) where
+  wide_rows : All (AreWide route.bits) rows
   wide_rows =
-      All-map (IsWideGiven route.bits) routed rows
-      (wide_covered route.bits target within.covered.table within.covered.sets rows within.covered.covered
+      wide_covered route.bits target within.covered.table within.covered.sets rows within.covered.covered
       (wide_from route.bits room [] [] (walled given route) within.covered.table within.covered.made (All-nil (AreWide route.bits))
-      (All-append (IsWideGiven route.bits) given (wall_of route ∷ []) (λ i d inside is. absurd (within.free i d inside is)) (All-cons (IsWideGiven route.bits) (wall_of route) [] (λ is. refl) (All-nil (IsWideGiven route.bits))))))
+      (All-append (IsWideGiven route.bits) given (wall_of route ∷ []) (λ i d inside is. absurd (within.free i d inside is)) (All-cons (IsWideGiven route.bits) (wall_of route) [] (λ is. refl) (All-nil (IsWideGiven route.bits)))))
 
-  pub keeps_before : KeepsRoutes given (rows_before route.bits (map routed rows))
+  pub keeps_before : KeepsRoutes given left
   keeps_before k row small first =
-      let way = keeps k row small (find-append (takes_key k) given (wall_of route ∷ []) ∙ ap (λ o. option_or o (first_with (wall_of route ∷ []) k)) first) in
+      let among = find-append (takes_key k) given (wall_of route ∷ []) ∙ ap (λ o. option_or o (first_with (wall_of route ∷ []) k)) first in
+      let it = is_served room (walled given route) within.covered.table rows within.covered.made same k row small among in
       let other = found_holds route.bits (λ (r : RoutedBlock). r.route.bits ≡ route.bits → ⊥) given k row within.free first in
-      record { row = way.row; first = before_keeps route.bits (map routed rows) k way.row wide_rows (λ is. other (ap (λ (r : Route). r.bits) (sym way.by) ∙ is)) way.first; by = way.by }
+      sent_on (rows_before route.bits rows) left k row.port row.route (sound_before route.bits rows sound) are small (served_before route.bits rows k row.port row.route sound wide_rows small other it)
 
-  pub no_new_keys : HasNoNewKeys given (rows_before route.bits (map routed rows))
+  pub no_new_keys : HasNoNewKeys given left
   no_new_keys k small none =
-      let way = keeps k (wall_of route) small (first_next given (wall_of route ∷ []) k none ∙ first_hit (wall_of route) [] k (all_match all_keys k refl)) in
-      before_none route.bits (map routed rows) k way.row (ap (λ (r : Route). r.bits) way.by) way.first
+      let here = first_next given (wall_of route ∷ []) k none ∙ first_hit (wall_of route) [] k (all_match all_keys k refl) in
+      let it = is_served room (walled given route) within.covered.table rows within.covered.made same k (wall_of route) small here in
+      let before = rows_before route.bits rows in
+      let miss = none_before_wall route.bits rows k it.original sound small it.among it.has (ap (λ (r : Route). r.bits) it.by) in
+      let in_range = (kept_places before are.places are.kept).in_range in
+      subst (λ l. first_with l k ≡ None) (sym are.are)
+      (none_of (rows_at before are.places) k
+      (rows_at-from (λ (r : Row). Matches r.block k → ⊥) before are.places (λ s d found. miss s d (All-has (λ n. n < length before) are.places s in_range found))))
 
 pub none_new : (given : List RoutedBlock) → HasNoNewKeys given given
 none_new given k small none = none
@@ -184,28 +240,41 @@ module _ (P : RoutedBlock → Type 0) (given : List RoutedBlock) (i : ℕ) (row 
   pub all_has : All P given → P row
   all_has all = subst P (sym read) (all i row within)
 
-module _ (bits : ℕ) (rows : List Row) (i : ℕ) (row : Row) (new all : List RoutedBlock) (within : i < length rows) (read : row ≡ get_or rows i row) (so_far : new ++ rows_before bits (map routed (drop i rows)) ≡ all) where
-  behind : drop i rows ≡ row ∷ drop (i + 1) rows
-  behind = drop_more rows i row within ∙ ap (λ x. x ∷ drop (i + 1) rows) (sym read)
+-- the rows before it, from the slice that was read
+module _ (bits : ℕ) (rows list before : List Row) (same : list ≡ rows) (is : before ≡ rows_before bits list) where
+  pub sound_wall : IsSound rows → IsSound before
+  sound_wall sound = subst IsSound (sym (is ∙ ap (rows_before bits) same)) (sound_before bits rows sound)
 
-  at_row : (b : Bool) → (row.route.bits == bits) ≡ b → new ++ (if b then [] else routed row ∷ rows_before bits (map routed (drop (i + 1) rows))) ≡ all
-  at_row b is =
-      ap (λ x. new ++ (if x then [] else routed row ∷ rows_before bits (map routed (drop (i + 1) rows)))) (sym is)
-      ∙ (ap (λ l. new ++ rows_before bits (map routed l)) (sym behind) ∙ so_far)
+  pub few_wall : length before ≤ length rows
+  few_wall = omega (arith, ap length is, ap length same, length-take (position_or_len (λ (r : Row). r.route.bits == bits) list) list)
 
-  pub before_stop : row.route.bits ≡ bits → new ≡ all
-  before_stop same = sym (append-nil new) ∙ at_row true (eq-eqb row.route.bits bits same)
+-- the place of the first of the route, as the code finds it
+module _ (bits : ℕ) (rows : List Row) (o : Option ℕ) (is : o ≡ position (λ (r : Row). r.route.bits == bits) rows) where
+  n : ℕ
+  n = position_or_len (λ (r : Row). r.route.bits == bits) rows
 
-  pub before_turn : (row.route.bits ≡ bits → ⊥) → (next : List RoutedBlock) → next ≡ new ++ routed row ∷ [] → next ++ rows_before bits (map routed (drop (i + 1) rows)) ≡ all
-  before_turn other next put = elim (eqb_tells row.route.bits bits) [
-    | inl same ↦ absurd (other same.1)
-    | inr apart ↦
-        let rest = rows_before bits (map routed (drop (i + 1) rows)) in
-        ap (λ l. l ++ rest) put ∙ (append_assoc new (routed row ∷ []) rest ∙ at_row false apart.0)
-  ]
+  pub place_within : (place : ℕ) → o ≡ Some place → place < length rows
+  place_within place some = by_test (nat_lt n (length rows)) refl (sym is ∙ some)
+    where
+      by_test : (b : Bool) → nat_lt n (length rows) ≡ b → cond b (Some n) None ≡ Some place → place < length rows
+      by_test true less found = subst (λ i. i < length rows) (same_Some n place found) (ltb-true n (length rows) less)
+      by_test false most found = absurd (none-some place found)
 
-pub before_all : (bits : ℕ) (rows : List Row) (i : ℕ) (new all : List RoutedBlock) → length rows ≤ i → new ++ rows_before bits (map routed (drop i rows)) ≡ all → new ≡ all
-before_all bits rows i new all past so_far = sym (append-nil new) ∙ (ap (λ l. new ++ rows_before bits (map routed l)) (sym (drop_all i rows past)) ∙ so_far)
+  pub before_place : (place : ℕ) → o ≡ Some place → take place rows ≡ rows_before bits rows
+  unfolding n
+  before_place place some = ap (λ i. take i rows) (sym (by_test (nat_lt n (length rows)) (sym is ∙ some)))
+    where
+      by_test : (b : Bool) → cond b (Some n) None ≡ Some place → n ≡ place
+      by_test true found = same_Some n place found
+      by_test false found = absurd (none-some place found)
+
+  pub before_end : o ≡ None → rows ≡ rows_before bits rows
+  unfolding n
+  before_end absent = sym (take_all n rows (by_test (nat_lt n (length rows)) refl (sym is ∙ absent)))
+    where
+      by_test : (b : Bool) → nat_lt n (length rows) ≡ b → cond b (Some n) None ≡ None → length rows ≤ n
+      by_test true less found = absurd (none-some n (sym found))
+      by_test false most found = ltb-false n (length rows) most
 
 -- one number more that is no free route
 pub none_free : (given : List RoutedBlock) (routes bits : ℕ) → ((b : ℕ) → bits + 1 ≤ b → b < routes → IsFree given b → ⊥) → (IsFree given bits → ⊥) → (b : ℕ) → bits ≤ b → b < routes → IsFree given b → ⊥
@@ -222,22 +291,19 @@ module _ (target room : ℕ) (given : List RoutedBlock) (route : Route) (table r
     covered = record { long = omega (arith, long, length-append given (wall_of route ∷ [])); table = table; made = made; sets = sets; covered = covers };
   }
 
-  module _ (list : List Row) (new : List RoutedBlock) (same : list ≡ rows) (is : new ≡ rows_before route.bits (map routed list)) where
-    new_is : new ≡ rows_before route.bits (map routed rows)
-    new_is = is ∙ ap (λ l. rows_before route.bits (map routed l)) same
+  module _ (list before : List Row) (left : List RoutedBlock) (same : list ≡ rows) (is : before ≡ rows_before route.bits list) (are : AreLeft before left) where
+    before_wall : AreLeft (rows_before route.bits rows) left
+    before_wall = subst (λ l. AreLeft l left) (is ∙ ap (rows_before route.bits) same) are
 
-    pub is_within : length new < length given → IsShortenedWithin target room given new
-    is_within less = subst (IsShortenedWithin target room given) (sym new_is) (shorter route rows within (omega (arith, less, ap length new_is)))
+    pub is_within : length left < length given → IsShortenedWithin target room given left
+    is_within less = shorter route rows left within before_wall less
 
-    pub is_own : length given ≤ length new → (own : List RoutedBlock) → own ≡ given → IsShortenedWithin target room given own
-    is_own most own same_rows = subst (IsShortenedWithin target room given) (sym same_rows) (no_shorter route rows within (omega (arith, most, ap length new_is)))
+    pub is_own : length given ≤ length left → (own : List RoutedBlock) → own ≡ given → IsShortenedWithin target room given own
+    is_own most own same_rows = subst (IsShortenedWithin target room given) (sym same_rows) (no_shorter route rows left within before_wall most)
 
     module _ (sound : IsSound rows) (serves : IsPermutation (served table) (served rows)) where
-      all_kept : KeepsRoutes (walled given route) (map routed rows)
-      all_kept = keeps room (walled given route) table rows made sound serves
+      pub keeps_within : KeepsRoutes given left
+      keeps_within = keeps_before target room given route rows left within sound serves before_wall
 
-      pub keeps_within : KeepsRoutes given new
-      keeps_within = subst (KeepsRoutes given) (sym new_is) (keeps_before target room given route rows within all_kept)
-
-      pub keys_within : HasNoNewKeys given new
-      keys_within = subst (HasNoNewKeys given) (sym new_is) (no_new_keys target room given route rows within all_kept)
+      pub keys_within : HasNoNewKeys given left
+      keys_within = no_new_keys target room given route rows left within sound serves before_wall

@@ -1,12 +1,13 @@
 -- Shorter rows that have no new keys (this project's own).
-use Rattle.std.specs.Prelude.{◌≡◌, ◌==◌, ℕ, ◌<◌, ◌≤◌, ◌^◌, if◌then◌else◌, List, [], ◌∷◌, ◌++◌, All, length, map}
+use Rattle.std.specs.Prelude.{◌≡◌, ◌==◌, ℕ, ◌<◌, ◌≤◌, ◌^◌, List, [], ◌∷◌, ◌++◌, All, length}
+use Rattle.std.specs.List.{before_first}
+use Rattle.spin_base.specs.declared.chips.Port.TheVariants.{Local}
 use Rattle.spin_base.specs.declared.routes.Route.{Route}
 use Rattle.tern_word.specs.declared.tables.Row.{Row}
 use Rattle.tern_word.specs.Ternary.{all_keys}
 use Rattle.table_rules.specs.declared.rows.RoutedBlock.{RoutedBlock}
 use Rattle.table_rules.specs.Made.{HasTooManyPieces}
-use Rattle.table_rules.specs.Rows.{routed}
-use Rattle.table_rules.specs.Shortened.{IsCoveredFrom}
+use Rattle.table_rules.specs.Shortened.{AreLeft, IsCoveredFrom}
 
 -- no row has a route of these bits
 abbrev pub IsFree : List RoutedBlock → ℕ → Type 0
@@ -18,16 +19,15 @@ HasAllRoutes routes rows = (bits : ℕ) → bits < routes → IsFree rows bits �
 
 -- a row of all keys
 abbrev pub wall_of : Route → RoutedBlock
-wall_of route = record { block = all_keys; route = route }
+wall_of route = record { block = all_keys; route = route; port = Local }
 
 -- The rows with a wall behind them. It decides for the keys that no row has, so no merge may have one of them.
 abbrev pub walled : List RoutedBlock → Route → List RoutedBlock
 walled given route = given ++ wall_of route ∷ []
 
 -- the rows before the first whose route has these bits
-abbrev pub rows_before : ℕ → List RoutedBlock → List RoutedBlock
-rows_before bits [] = []
-rows_before bits (r ∷ rows) = if r.route.bits == bits then [] else r ∷ rows_before bits rows
+abbrev pub rows_before : ℕ → List Row → List Row
+rows_before bits rows = before_first (λ (r : Row). r.route.bits == bits) rows
 
 -- the covered table that is made of the given rows and a wall, whose route no row has
 pub record IsCoveredWithin (target room : ℕ) (given : List RoutedBlock) (route : Route) (rows : List Row) : Type 0 where
@@ -36,13 +36,14 @@ pub record IsCoveredWithin (target room : ℕ) (given : List RoutedBlock) (route
   pub covered : IsCoveredFrom target room (walled given route) rows
 
 -- A table of at most target rows is its own, as is one whose rows have all routes. Else it is covered with a wall, and has the rows
--- before that; and where they are no fewer, it is its own.
+-- before that which default routing does not replace; and where they are no fewer, it is its own.
 pub data IsShortenedWithin (target room : ℕ) (given : List RoutedBlock) : List RoutedBlock → Type 0 where
   short : length given ≤ target → IsShortenedWithin target room given given
   no_route : target < length given → HasAllRoutes (2 ^ 24) given → IsShortenedWithin target room given given
-  shorter : (route : Route) (rows : List Row) → IsCoveredWithin target room given route rows → length (rows_before route.bits (map routed rows)) < length given
-      → IsShortenedWithin target room given (rows_before route.bits (map routed rows))
-  no_shorter : (route : Route) (rows : List Row) → IsCoveredWithin target room given route rows → length given ≤ length (rows_before route.bits (map routed rows)) → IsShortenedWithin target room given given
+  shorter : (route : Route) (rows : List Row) (left : List RoutedBlock) → IsCoveredWithin target room given route rows → AreLeft (rows_before route.bits rows) left → length left < length given
+      → IsShortenedWithin target room given left
+  no_shorter : (route : Route) (rows : List Row) (left : List RoutedBlock) → IsCoveredWithin target room given route rows → AreLeft (rows_before route.bits rows) left → length given ≤ length left
+      → IsShortenedWithin target room given given
 
 -- the rows of a table that is longer than wanted, and a wall of a route that no row has, are cut into too many pieces
 pub record AreTooManyWithin (target room : ℕ) (given : List RoutedBlock) : Type 0 where

@@ -1,8 +1,7 @@
 -- The table that is made of rows, each with the blocks for whose keys it decides as aliases (this project's own).
 use Rattle.std.specs.Prelude.{◌≡◌, ℕ, ◌-◌, ◌<◌, List, [], ◌∷◌, ◌++◌, Some, None, length, map, insert}
 use Rattle.spin_base.specs.declared.blocks.Block.{Block}
-use Rattle.spin_base.specs.declared.chips.Port.TheVariants.{Local}
-use Rattle.spin_base.specs.declared.routes.Route.{Route}
+use Rattle.spin_base.specs.declared.chips.Port.{Port}
 use Rattle.tern_word.specs.declared.tables.Alias.{Alias}
 use Rattle.tern_word.specs.declared.tables.Row.{Row}
 use Rattle.tern_word.specs.Ternary.{generality}
@@ -10,17 +9,17 @@ use Rattle.cover_merge.specs.Merge.{place_for, PassesDown}
 use Rattle.block_cuts.specs.Cuts.{cut}
 use Rattle.table_rules.specs.declared.rows.RoutedBlock.{RoutedBlock}
 
--- a piece as an alias, of which nothing is known where its packets arrive
-abbrev pub alias_of : Block → Alias
-alias_of piece = record { block = piece; port = Local }
+-- a piece as an alias of packets that come in by the port
+abbrev pub alias_of : Port → Block → Alias
+alias_of port piece = record { block = piece; port = port }
 
 -- a row with its pieces as aliases
 abbrev pub whole_row : RoutedBlock → List Block → Row
-whole_row given pieces = record { block = given.block; route = given.route; aliases = map alias_of pieces }
+whole_row given pieces = record { block = given.block; route = given.route; aliases = map (alias_of given.port) pieces }
 
 -- a piece as a row
-abbrev pub piece_row : Route → Block → Row
-piece_row route piece = record { block = piece; route = route; aliases = alias_of piece ∷ [] }
+abbrev pub piece_row : RoutedBlock → Block → Row
+piece_row given piece = record { block = piece; route = given.route; aliases = alias_of given.port piece ∷ [] }
 
 -- the rows with one more, which stands behind all that are at most as general
 abbrev pub with_row : List Row → Row → List Row
@@ -40,7 +39,7 @@ StandsBefore block rows = PassesDown rows block (place_for rows (generality bloc
 pub data IsRowAdded (rows : List Row) (given : RoutedBlock) (pieces : List Block) : List Row → Type 0 where
   left_out : pieces ≡ [] → IsRowAdded rows given pieces rows
   whole : 0 < length pieces → StandsBefore given.block rows → IsRowAdded rows given pieces (with_row rows (whole_row given pieces))
-  in_pieces : 0 < length pieces → (StandsBefore given.block rows → ⊥) → IsRowAdded rows given pieces (with_rows rows (map (piece_row given.route) pieces))
+  in_pieces : 0 < length pieces → (StandsBefore given.block rows → ⊥) → IsRowAdded rows given pieces (with_rows rows (map (piece_row given) pieces))
 
 abbrev pub row_blocks : List RoutedBlock → List Block
 row_blocks rows = map (λ (r : RoutedBlock). r.block) rows

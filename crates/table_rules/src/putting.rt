@@ -4,7 +4,7 @@ ghost use Rattle.table_rules.specs.Made.{IsRowAdded, alias_of, piece_row, whole_
 
 use crate::rows::RoutedBlock;
 use cover_merge::{passes_down, place_for};
-use spin_base::{Block, Memory, Port, Route, Seq};
+use spin_base::{Block, Memory, Port, Seq};
 use std::alloc::Global;
 use tern_word::{Alias, Row, generality};
 
@@ -27,7 +27,7 @@ pub(crate) fn put(
     if passes_down(rows, given.block, place) {
         put_whole(alloc, rows, given, pieces)
     } else {
-        put_pieces(alloc, rows, given.route, pieces)
+        put_pieces(alloc, rows, given, pieces)
     }
 }
 
@@ -49,7 +49,7 @@ fn put_whole(
 fn whole_row(alloc: Global, given: RoutedBlock, pieces: &[Block]) -> Result<Row, Memory>
     ensures { IfOk result (λ row. row ≡ whole_row given pieces.now) }
 {
-    let aliases = aliases_of(alloc, pieces)?;
+    let aliases = aliases_of(alloc, given.port, pieces)?;
     Ok(Row {
         block: given.block,
         route: given.route,
@@ -57,25 +57,22 @@ fn whole_row(alloc: Global, given: RoutedBlock, pieces: &[Block]) -> Result<Row,
     })
 }
 
-// The pieces as aliases.
-fn aliases_of(alloc: Global, pieces: &[Block]) -> Result<Seq<Alias>, Memory>
-    ensures { IfOk result (λ aliases. aliases ≡ map alias_of pieces.now) }
+// The pieces as aliases of packets that come in by the port.
+fn aliases_of(alloc: Global, port: Port, pieces: &[Block]) -> Result<Seq<Alias>, Memory>
+    ensures { IfOk result (λ aliases. aliases ≡ map (alias_of port) pieces.now) }
 {
     let mut aliases = Seq::new(alloc);
     for piece in pieces {
-        aliases.push(alias_of(*piece))?;
+        aliases.push(alias_of(port, *piece))?;
     }
     Ok(aliases)
 }
 
-// A piece as an alias. Nothing is known of where its packets arrive.
-fn alias_of(piece: Block) -> Alias
-    ensures { result ≡ alias_of piece }
+// A piece as an alias of packets that come in by the port.
+fn alias_of(port: Port, piece: Block) -> Alias
+    ensures { result ≡ alias_of port piece }
 {
-    Alias {
-        block: piece,
-        port: Port::Local,
-    }
+    Alias { block: piece, port }
 }
 
 // Puts a row behind all rows that are at most as general.
@@ -92,30 +89,30 @@ fn put_row(rows: &mut Vec<Row>, row: Row) -> Result<(), Memory>
 fn put_pieces(
     alloc: Global,
     rows: &mut Vec<Row>,
-    route: Route,
+    given: RoutedBlock,
     pieces: &[Block],
 ) -> Result<(), Memory>
     requires { length rows.old.items + length pieces.now < 2 ^ 32 }
     ensures put { OnOk result
-        (rows.new.items ≡ with_rows rows.old.items (map (piece_row route) pieces.now)) }
+        (rows.new.items ≡ with_rows rows.old.items (map (piece_row given) pieces.now)) }
     ensures few { OnOk result (length rows.new.items ≤ length rows.old.items + length pieces.now) }
 {
     for piece in pieces {
-        let row = piece_row(alloc, route, *piece)?;
+        let row = piece_row(alloc, given, *piece)?;
         put_row(rows, row)?;
     }
     Ok(())
 }
 
 // A piece as a row.
-fn piece_row(alloc: Global, route: Route, piece: Block) -> Result<Row, Memory>
-    ensures { IfOk result (λ row. row ≡ piece_row route piece) }
+fn piece_row(alloc: Global, given: RoutedBlock, piece: Block) -> Result<Row, Memory>
+    ensures { IfOk result (λ row. row ≡ piece_row given piece) }
 {
     let mut aliases = Seq::new(alloc);
-    aliases.push(alias_of(piece))?;
+    aliases.push(alias_of(given.port, piece))?;
     Ok(Row {
         block: piece,
-        route,
+        route: given.route,
         aliases,
     })
 }

@@ -1,22 +1,26 @@
 // Shorter rows.
-ghost use Rattle.std.specs.Prelude.{◌≡◌, ◌<◌, ◌≤◌, ◌^◌, [], IfOk, IfSome, MatchOption, length, map};
+ghost use Rattle.std.specs.Prelude.{◌≡◌, ◌<◌, ◌≤◌, ◌^◌, [], All, IfOk, IfSome, MatchOption, length, map};
+ghost use Rattle.tern_word.specs.SoundTable.{IsSound};
+ghost use Rattle.cover_merge.specs.Merge.{rows_at};
 ghost use Rattle.table_rules.specs.Made.{HasTooManyPieces, IsTableMadeOf};
 ghost use Rattle.table_rules.specs.Rows.{KeepsRoutes, routed};
-ghost use Rattle.table_rules.specs.Shortened.{IsShortenedTo};
+ghost use Rattle.table_rules.specs.Shortened.{AreLeft, IsShortenedTo};
 
 use crate::making::made_table;
 use crate::rows::RoutedBlock;
 use cover_merge::cover;
-use spin_base::{Memory, Seq};
+use default_routes::strip;
+use spin_base::{Memory, Port, Seq};
 use std::alloc::Global;
 use tern_word::{Row, Table};
 
 /// The rows of a table with fewer rows, if there is one, that gives each key the route that the given one gives it.
 ///
 /// Of a table of more than `target` rows a sound table is made, which is covered until it has at most `target` rows, or no two
-/// can be joined; where that is no shorter, and where the table has at most `target` rows, it is given back as it is. There is
-/// nothing exactly where a longer table's rows are cut into more than `room` pieces. For each key that a row of the given table
-/// has, where the first that has it decides, the first row of the new one that has it has the same route.
+/// can be joined; then the rows are left out that default routing replaces. Where that is no shorter, and where the table has at
+/// most `target` rows, it is given back as it is. There is nothing exactly where a longer table's rows are cut into more than
+/// `room` pieces. For each key that a row of the given table has, where the first that has it decides, the first row of the new one
+/// that has it has the same route; or none has it, and packets of the row's port go straight on by that route.
 pub fn shorten_rows(
     alloc: Global,
     given: &[RoutedBlock],
@@ -42,7 +46,7 @@ pub fn shorten_rows(
     }
 }
 
-// The rows of the covered table, where they are fewer, and else those given.
+// The rows of the covered table that default routing does not replace, where they are fewer, and else those given.
 fn covered_rows(
     alloc: Global,
     given: &[RoutedBlock],
@@ -58,31 +62,44 @@ fn covered_rows(
     ensures few { IfOk result (λ rows. length rows ≤ length given.now) }
 {
     let covered = cover(alloc, table, target)?;
-    if covered.table.rows.len() < given.len() {
-        rows_of(alloc, covered.table.rows.as_slice())
-    } else {
-        copy(alloc, given)
+    let left = rows_left(alloc, covered.table.rows.as_slice())?;
+    if left.len() < given.len() {
+        return Ok(left);
     }
+    copy(alloc, given)
 }
 
-// The rows without their aliases.
-fn rows_of(alloc: Global, rows: &[Row]) -> Result<Seq<RoutedBlock>, Memory>
-    ensures { IfOk result (λ new. new ≡ map routed rows.now) }
+// The rows that default routing does not replace, without their aliases.
+pub(crate) fn rows_left(alloc: Global, rows: &[Row]) -> Result<Seq<RoutedBlock>, Memory>
+    requires few { length rows.now < 2 ^ 32 }
+    requires sound { IsSound rows.now }
+    ensures { IfOk result (AreLeft rows.now) }
+{
+    let kept = strip(alloc, rows)?;
+    let left = rows_at(alloc, rows, kept.as_slice())?;
+    Ok(left)
+}
+
+// The rows at the places, without their aliases.
+fn rows_at(alloc: Global, rows: &[Row], places: &[u32]) -> Result<Seq<RoutedBlock>, Memory>
+    requires { All (λ s. s < length rows.now) places.now }
+    ensures { IfOk result (λ new. new ≡ map routed (rows_at rows.now places.now)) }
 {
     let mut new = Seq::new(alloc);
-    for row in rows {
-        new.push(routed(row))?;
+    for place in places {
+        new.push(routed(&rows[*place as usize]))?;
     }
     Ok(new)
 }
 
-// A row without its aliases.
-pub(crate) fn routed(row: &Row) -> RoutedBlock
+// A row without its aliases, of whose packets nothing is told.
+fn routed(row: &Row) -> RoutedBlock
     ensures { result ≡ routed row.now }
 {
     RoutedBlock {
         block: row.block,
         route: row.route,
+        port: Port::Local,
     }
 }
 

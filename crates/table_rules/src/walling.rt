@@ -1,14 +1,14 @@
 // Shorter rows that have no new keys.
-ghost use Rattle.std.specs.Prelude.{◌≡◌, ◌<◌, ◌≤◌, ◌^◌, [], IfOk, IfSome, MatchBool, MatchOption, length, map};
+ghost use Rattle.std.specs.Prelude.{◌≡◌, ◌==◌, ◌<◌, ◌≤◌, ◌^◌, [], IfOk, IfSome, MatchBool, MatchOption, length, position};
 ghost use Rattle.table_rules.specs.Exact.{AreTooManyWithin, HasAllRoutes, IsFree, IsShortenedWithin, rows_before, wall_of, walled};
 ghost use Rattle.table_rules.specs.Made.{HasTooManyPieces, IsTableMadeOf};
-ghost use Rattle.table_rules.specs.Rows.{HasNoNewKeys, KeepsRoutes, routed};
+ghost use Rattle.table_rules.specs.Rows.{HasNoNewKeys, KeepsRoutes};
 
 use crate::making::made_table;
 use crate::rows::RoutedBlock;
-use crate::shortening::{copy, routed};
+use crate::shortening::{copy, rows_left};
 use cover_merge::cover;
-use spin_base::{Block, Memory, Route, Seq};
+use spin_base::{Block, Memory, Port, Route, Seq};
 use std::alloc::Global;
 use tern_word::{Row, Table};
 
@@ -19,7 +19,7 @@ const ROUTES: u32 = 16777216;
 ///
 /// The table is covered with a wall behind its rows: a row of all keys, of a route that none of them has. It decides for the keys
 /// that none of them has, so no merge has one of these. Its pieces count among the `room`, and it counts among the rows that are
-/// compared with `target`. The new rows are those before it.
+/// compared with `target`. The new rows are those before it that default routing does not replace.
 pub fn shorten_within(
     alloc: Global,
     given: &[RoutedBlock],
@@ -116,10 +116,11 @@ fn wall(route: Route) -> RoutedBlock
     RoutedBlock {
         block: Block { key: 0, mask: 0 },
         route,
+        port: Port::Local,
     }
 }
 
-// The rows of the covered table before its wall, where they are fewer, and else those given.
+// The rows of the covered table before its wall that default routing does not replace, where they are fewer, and else those given.
 fn covered_within(
     alloc: Global,
     given: &[RoutedBlock],
@@ -138,23 +139,27 @@ fn covered_within(
     ensures few { IfOk result (λ rows. length rows ≤ length given.now) }
 {
     let covered = cover(alloc, table, target)?;
-    let rows = rows_before(alloc, covered.table.rows.as_slice(), route.bits)?;
-    if rows.len() < given.len() {
-        return Ok(rows);
+    let before = rows_before(covered.table.rows.as_slice(), route.bits);
+    let left = rows_left(alloc, before)?;
+    if left.len() < given.len() {
+        return Ok(left);
     }
     copy(alloc, given)
 }
 
-// The rows before the first whose route has these bits, without their aliases.
-fn rows_before(alloc: Global, rows: &[Row], bits: u32) -> Result<Seq<RoutedBlock>, Memory>
-    ensures { IfOk result (λ new. new ≡ rows_before bits (map routed rows.now)) }
+// The rows before the first whose route has these bits.
+fn rows_before(rows: &[Row], bits: u32) -> &[Row]
+    ensures { result.now ≡ rows_before bits rows.now }
 {
-    let mut new = Seq::new(alloc);
-    for row in rows {
-        if row.route.bits == bits {
-            return Ok(new);
-        }
-        new.push(routed(row))?;
+    match place_of(rows, bits) {
+        Some(place) => &rows[..place],
+        None => rows,
     }
-    Ok(new)
+}
+
+// The place of the first row whose route has these bits, if there is one.
+fn place_of(rows: &[Row], bits: u32) -> Option<usize>
+    ensures { result ≡ position (λ (row : Row). row.route.bits == bits) rows.now }
+{
+    rows.iter().position(|row| row.route.bits == bits)
 }

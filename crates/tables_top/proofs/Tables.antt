@@ -4,12 +4,14 @@ use Rattle.std.specs.Prelude.{IfSome, MatchOption, find}
 use Rattle.std.proofs.lemmas.List.{length-map, take_all, take_more}
 use Rattle.std.proofs.lemmas.Option.{none-some, same_Some}
 use Rattle.spin_base.specs.declared.blocks.Entry.{Entry}
+use Rattle.spin_base.specs.declared.chips.Port.{Port}
+use Rattle.spin_base.specs.declared.routes.Route.{Route}
 use Rattle.spin_base.specs.Lookup.{matches}
 use Rattle.table_rules.specs.declared.rows.RoutedBlock.{RoutedBlock}
-use Rattle.table_rules.specs.Rows.{HasNoNewKeys, KeepsRoutes, first_with, takes_key}
+use Rattle.table_rules.specs.Rows.{LeaveBy, HasNoNewKeys, KeepsRoutes, by_default, by_row, first_with, takes_key}
 use Rattle.table_readers.specs.declared.asking.GivenTable.{GivenTable}
 use Rattle.table_text.specs.declared.writing.ShortTable.{ShortTable}
-use Rattle.tables_top.specs.Shorter.{AreBeside, AreShortRows, AreShorter, AreTooManyPieces, IsShorterTable, KeepsTable, as_given, entry_at, more, none, short_at, shortened}
+use Rattle.tables_top.specs.Shorter.{AreBeside, AreShortRows, AreShorter, AreTooManyPieces, GoOut, IsShorterTable, KeepsTable, as_given, by_entry, entry_at, more, none, short_at, shortened, straight}
 
 -- ---- lists beside each other
 
@@ -47,15 +49,18 @@ no_entry (r ∷ rows) k absent = by_test (no_entry rows k) (takes_key k r) absen
     by_test behind true some = absurd (none-some r (sym some))
     by_test behind false same = behind same
 
+-- packets go out by the entries as they are sent by the rows
+go_out : (rows : List RoutedBlock) (k : ℕ) (port : Port) (route : Route) → LeaveBy rows k port route → GoOut (map entry_at rows) k port route
+go_out rows k port route (by_row way) = by_entry (record { entry = entry_at way.row; first = first_entry rows k way.row way.first; by = way.by })
+go_out rows k port route (by_default arrival comes goes none) = straight arrival comes goes (no_entry rows k none)
+
 -- the table of rows that keep the routes of those given
 keeps_table : (exact : Bool) (given : GivenTable) (rows : List RoutedBlock) (kept : Bool) → KeepsRoutes given.rows rows → (exact ≡ true → HasNoNewKeys given.rows rows) → length rows ≤ length given.rows
     → KeepsTable exact given (short_at given.chip rows kept)
 keeps_table exact given rows kept keeps no_new few = record {
   chip = refl;
   no_longer = omega (arith, length-map rows entry_at, few);
-  routes = λ k row small first.
-      let way = keeps k row small first in
-      record { entry = entry_at way.row; first = first_entry rows k way.row way.first; by = way.by };
+  routes = λ k row small first. go_out rows k row.port row.route (keeps k row small first);
   keys = λ is k small absent. no_entry rows k (no_new is k small absent);
 }
 
@@ -82,5 +87,5 @@ short_kept target exact given read put new short told no_rows same same_rows is 
     let all : AreToldOf target exact given.rows None = subst (λ l. AreToldOf target exact l None) same (subst (AreToldOf target exact read) no_rows told) in
     subst (IsShorterTable target exact given) (sym here) (record {
       shorter = as_given all.rows;
-      keeps = keeps_table exact given given.rows true (λ k row small first. record { row = row; first = first; by = refl }) (λ is k small absent. absent) (omega arith);
+      keeps = keeps_table exact given given.rows true (λ k row small first. by_row (record { row = row; first = first; by = refl })) (λ is k small absent. absent) (omega arith);
     })

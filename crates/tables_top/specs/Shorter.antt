@@ -3,8 +3,11 @@ use Rattle.std.specs.Prelude.{◌≡◌, ℕ, ◌<◌, ◌≤◌, ◌^◌, Bool,
 use Rattle.std.specs.List.{list_any}
 use Rattle.spin_base.specs.declared.blocks.Entry.{Entry}
 use Rattle.spin_base.specs.declared.chips.Chip.{Chip}
+use Rattle.spin_base.specs.declared.chips.Dir.{Dir}
+use Rattle.spin_base.specs.declared.chips.Port.{Port}
+use Rattle.spin_base.specs.declared.chips.Port.TheVariants.{Link}
 use Rattle.spin_base.specs.declared.routes.Route.{Route}
-use Rattle.spin_base.specs.Lookup.{matches}
+use Rattle.spin_base.specs.Lookup.{matches, straight_on}
 use Rattle.table_rules.specs.declared.rows.RoutedBlock.{RoutedBlock}
 use Rattle.table_rules.specs.Exact.{AreTooManyWithin, IsShortenedWithin}
 use Rattle.table_rules.specs.Made.{HasTooManyPieces}
@@ -40,12 +43,19 @@ pub record IsSentBy (entries : List Entry) (k : ℕ) (route : Route) : Type 0 wh
   pub first : find (λ (e : Entry). matches e k) entries ≡ Some entry
   pub by : entry.route ≡ route
 
--- The table is of the same chip, and no longer. For each key that some of the given rows has, where the first that has it decides, the
--- first entry that matches it has the same route. Where no key may be new, one that no given row has is matched by no entry.
+-- Packets with the key that come in by the port go out by the route: the first entry that matches the key has the route; or none
+-- matches it, and they come by a link, and the route is the one by which they then go straight on (default routing, SpiNNaker datasheet).
+pub data GoOut (entries : List Entry) (k : ℕ) (port : Port) (route : Route) : Type 0 where
+  by_entry : IsSentBy entries k route → GoOut entries k port route
+  straight : (arrival : Dir) → port ≡ Link arrival → route ≡ straight_on arrival → find (λ (e : Entry). matches e k) entries ≡ None → GoOut entries k port route
+
+-- The table is of the same chip, and no longer. For each key that some of the given rows has, where the first that has it decides, its
+-- packets go out by that row's route; an entry matches them, unless the row tells by which link they come in. Where no key may be new,
+-- one that no given row has is matched by no entry.
 pub record KeepsTable (exact : Bool) (given : GivenTable) (short : ShortTable) : Type 0 where
   pub chip : short.table.chip ≡ given.chip
   pub no_longer : length short.table.entries ≤ length given.rows
-  pub routes : (k : ℕ) (row : RoutedBlock) → k < 2 ^ 32 → first_with given.rows k ≡ Some row → IsSentBy short.table.entries k row.route
+  pub routes : (k : ℕ) (row : RoutedBlock) → k < 2 ^ 32 → first_with given.rows k ≡ Some row → GoOut short.table.entries k row.port row.route
   pub keys : exact ≡ true → (k : ℕ) → k < 2 ^ 32 → first_with given.rows k ≡ None → find (λ (e : Entry). matches e k) short.table.entries ≡ None
 
 -- the second list has one item for each of the first, in order, and this is so of the two

@@ -33,7 +33,8 @@ struct Made {
 /// Shortens the tables that the source's bytes are, and writes them, or one line, to the sink. There are no words.
 ///
 /// For each key that a row of a given table has, where the first that has it decides, the first entry of the new table that matches it
-/// has the same route. Where `exact` is asked for, a key that no row of a given table has is matched by no entry of the new one. A table
+/// has the same route; or none matches it, and by default packets go on by that route, since the row tells by which link they come in,
+/// and its route is the link opposite. Where `exact` is asked for, a key that no row of a given table has is matched by no entry of the new one. A table
 /// is shortened until it has the target's rows, or no two can be joined; none gets longer. The whole text stands before its first byte
 /// is written, and a refusal writes its line and nothing else.
 ///

@@ -4,4 +4,4 @@ use Rattle.table_rules.specs.Made.{alias_of}
 use Rattle.table_rules.proofs.putting.aliases_of.Given as goal
 
 abbrev pub invariant-loop-piece : goal.invariant-loop-piece
-invariant-loop-piece l = l.aliases ≡ map alias_of (take l.piece-index l.pieces)
+invariant-loop-piece l = l.aliases ≡ map (alias_of l.port) (take l.piece-index l.pieces)

@@ -24,7 +24,7 @@ returns-then-passes_down-clause-put c =
 pub returns-else-passes_down-clause-put : goal.returns-else-passes_down-clause-put
 returns-else-passes_down-clause-put c =
     IfOk-weaker c.put_pieces.result
-    (λ _. c.put_pieces.new.rows.items ≡ with_rows c.args.rows.now.items (map (piece_row c.args.given.route) c.args.pieces.now))
+    (λ _. c.put_pieces.new.rows.items ≡ with_rows c.args.rows.now.items (map (piece_row c.args.given) c.args.pieces.now))
     (λ _. IsRowAdded c.args.rows.now.items c.args.given c.args.pieces.now c.put_pieces.new.rows.items)
     (λ u is. subst (IsRowAdded c.args.rows.now.items c.args.given c.args.pieces.now) (sym is)
     (in_pieces (some_pieces c.args.pieces.now c.if-is_empty.ensures)
