@@ -6,6 +6,7 @@ pub mod EntryLengths
 mod PlaceSteps
 mod SlotSteps
 mod BlockSteps
+mod RangeSteps
 mod GraphSteps
 mod RunSteps
 mod VerbSteps

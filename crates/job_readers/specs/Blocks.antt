@@ -1,5 +1,5 @@
 -- Blocks of keys that a job fixes for its nets (SpiNNaker datasheet; which may be fixed is this project's own).
-use Rattle.std.specs.Prelude.{◌≡◌, ℕ, ◌-◌, ◌%◌, ◌<◌, ◌^◌, Bool, ◌&&◌, ◌==◌, nat_le, Option, Some, None, bit_and, bit_xor}
+use Rattle.std.specs.Prelude.{◌≡◌, ℕ, ◌+◌, ◌-◌, ◌%◌, ◌<◌, ◌≤◌, ◌^◌, Bool, ◌&&◌, ◌==◌, nat_le, Option, Some, None, bit_and, bit_xor}
 use Rattle.std.specs.Int.{is_power_of_two}
 use Rattle.std.specs.Int.Bits.{and_self}
 use Rattle.std.proofs.Common.{◌∙◌, ap, lit<}
@@ -38,3 +38,11 @@ block_from (Some p) = block_at p.0 p.1
 -- Two blocks share a key where they agree on the bits for which both care.
 abbrev pub shares_key : Block → Block → Bool
 shares_key a b = bit_and (bit_and (bit_xor a.key b.key) a.mask) b.mask == 0
+
+-- A block whose mask is ones followed by some number of zeros has the keys from its first to its last.
+abbrev pub IsRange : Block → Type 0
+IsRange b = (zeros : ℕ) × (zeros ≤ 32) × (b.mask + 2 ^ zeros ≡ 2 ^ 32)
+
+-- the last key of a range
+abbrev pub last_key_of : Block → ℕ
+last_key_of b = b.key + (4294967295 - b.mask)

@@ -10,6 +10,7 @@ pub mod Items
 pub mod Members
 pub mod Entries
 pub mod Blocks
+pub mod FixedRanges
 pub mod Hung
 pub mod Listed
 pub mod MachinePart

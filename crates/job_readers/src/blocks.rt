@@ -1,10 +1,9 @@
 // Blocks of keys that are fixed for nets.
-ghost use Rattle.std.specs.Prelude.{◌≡◌, ◌++◌, IfSome, OnOk, is_some, option_to_list};
-ghost use Rattle.std.specs.List.{list_any};
+ghost use Rattle.std.specs.Prelude.{◌≡◌, IfSome, is_some};
 ghost use Rattle.app_graph.specs.ValidGraph.{IsFixedFor};
-ghost use Rattle.job_readers.specs.Blocks.{may_be_fixed, block_at, shares_key};
+ghost use Rattle.job_readers.specs.Blocks.{may_be_fixed, block_at};
 
-use spin_base::{Block, Memory};
+use spin_base::Block;
 
 /// The greatest number of 32 bits.
 const MOST: u64 = 4294967295;
@@ -39,28 +38,4 @@ pub(crate) fn block_for(key: u64, mask: u64, keys: u64) -> Option<Block>
         key: key as u32,
         mask: mask as u32,
     })
-}
-
-// Whether two blocks share a key.
-fn shares_key(a: Block, b: Block) -> bool
-    ensures { result ≡ shares_key a b }
-{
-    (a.key ^ b.key) & a.mask & b.mask == 0
-}
-
-// Whether the block shares a key with one of the others.
-pub(crate) fn meets_any(block: Block, others: &[Block]) -> bool
-    ensures { result ≡ list_any (shares_key block) others.now }
-{
-    others.iter().any(|other| shares_key(block, *other))
-}
-
-// Puts the block behind the others, where there is one.
-pub(crate) fn put_behind(others: &mut Vec<Block>, block: Option<Block>) -> Result<(), Memory>
-    ensures { OnOk result (others.new.items ≡ others.old.items ++ option_to_list block) }
-{
-    if let Some(block) = block {
-        others.push(block)?;
-    }
-    Ok(())
 }

@@ -13,9 +13,10 @@ ghost use Rattle.job_readers.specs.Job.{job_own_faults};
 ghost use Rattle.job_readers.specs.GraphPart.{name_value, name_faults, at_faults, at_value, device_faults, device_value, vertex_faults, vertex_value, next_vertex_faults, vertices_faults, vertices_value, vertex_names_of, sender_in, net_source_faults, source_value, some_faults, targets_faults, targets_value, fixed_faults, fixed_value, net_faults, net_value, next_net_faults, nets_faults, nets_value, graph_members_faults, graph_members, graph_faults, graph_value};
 ghost use Rattle.job_text.specs.Paths.{path_text};
 
-use crate::blocks::{block_for, meets_any, put_behind};
+use crate::blocks::block_for;
 use crate::devices::Devices;
 use crate::entries::{chip_in, link_in, pair};
+use crate::fixed_blocks::FixedBlocks;
 use crate::items::{ItemReader, each_item};
 use crate::members::{list_of, member_from, number_of};
 use crate::named_vertices::NamedVertices;
@@ -281,7 +282,7 @@ fn fixed_block(
     path: &Path<'_>,
     version: u32,
     keys: u64,
-    before: &[Block],
+    before: &FixedBlocks,
 ) -> Result<Option<Block>, TextErr>
     ensures read { GivesOrFaults (λ b. b) result
         (fixed_faults version before.now keys (path_text path.now)
@@ -299,7 +300,7 @@ fn fixed_block(
     let Some(block) = block_for(key, mask, keys) else {
         return Err(range(alloc, &path));
     };
-    if meets_any(block, before) {
+    if before.meets(block) {
         return Err(clash(alloc, &path));
     }
     Ok(Some(block))
@@ -309,7 +310,7 @@ fn fixed_block(
 #[derive(Clone, Copy)]
 struct NetsBefore<'a, 'b> {
     names: &'a Names<'b>,
-    blocks: &'a [Block],
+    blocks: &'a FixedBlocks,
 }
 
 // The net that an item is, after nets with these names and blocks.
@@ -365,18 +366,17 @@ fn each_net(
     ensures fixed { IfOk result (λ ns. AllPairs AreFixedApart ns) }
 {
     let mut names = Names::new(alloc, items.len())?;
-    let mut blocks = Vec::new(alloc);
+    let mut blocks = FixedBlocks::new(alloc);
     let mut nets = Seq::new(alloc);
     for (i, item) in items.iter().enumerate() {
         let path = Path::Item(&*path, i as u64);
-        let others = blocks.as_slice();
         let before = NetsBefore {
             names: &names,
-            blocks: others,
+            blocks: &blocks,
         };
         let net = net(alloc, item, &path, version, &before, among)?;
         names = names.with(said_name(item))?;
-        put_behind(&mut blocks, net.fixed)?;
+        blocks = blocks.and(net.fixed)?;
         nets.push(net)?;
     }
     Ok(nets)

@@ -11,6 +11,7 @@ mod blocks;
 mod devices;
 mod entries;
 mod events;
+mod fixed_blocks;
 mod graph_parts;
 mod items;
 mod jobs;

@@ -19,8 +19,7 @@ returns-in_err-net-clause-read c =
     let xs = c.args.items.now in
     let f = next_net_faults c.args.version c.args.among.now.vertices.now in
     let value = net_value c.args.version c.args.among.now.vertices.now in
-    let held = c.as_slice-others.ensures.value ∙ c.loop-i.invariant.held in
-    let same = next_net c.args.version c.args.among.now.vertices.now c.loop-i.names c.as_slice-others.result.now c.loop-i.nets (item_at (path_text c.args.path.now) c.loop-i.i) (view c.index-items-i.result) c.loop-i.invariant.called held in
+    let same = next_net c.args.version c.args.among.now.vertices.now c.loop-i.names c.loop-i.blocks c.loop-i.nets (item_at (path_text c.args.path.now) c.loop-i.i) (view c.index-items-i.result) c.loop-i.invariant.called c.loop-i.invariant.held in
     rw (p.1, p.2) (following-fail view xs c.loop-i.i c.index-items-i.result (omega arith) c.index-items-i.is f value c.loop-i.nets (path_text c.args.path.now) (item_at (path_text c.args.path.now) c.loop-i.i) (following_faults f value [] (path_text c.args.path.now) 0 (map view xs)) refl c.in_err-net.field-0.0 (subst (IsFirstFault c.in_err-net.field-0.0) same c.in_err-net.ensures.read) c.loop-i.invariant.left)
 
 pub loop-i-preserved : goal.loop-i-preserved
@@ -31,8 +30,7 @@ loop-i-preserved c =
     let value = net_value c.args.version vertices in
     let ns = c.loop-i.nets in
     let n = c.in_ok-net.net in
-    let held = c.as_slice-others.ensures.value ∙ c.loop-i.invariant.held in
-    let same = next_net c.args.version vertices c.loop-i.names c.as_slice-others.result.now ns (item_at (path_text c.args.path.now) c.loop-i.i) (view c.index-items-i.result) c.loop-i.invariant.called held in
+    let same = next_net c.args.version vertices c.loop-i.names c.loop-i.blocks ns (item_at (path_text c.args.path.now) c.loop-i.i) (view c.index-items-i.result) c.loop-i.invariant.called c.loop-i.invariant.held in
     let is : n ≡ net_value c.args.version vertices (view c.index-items-i.result) = c.in_ok-net.ensures.read.1 in
     let pushed : c.push.new.self ≡ ns ++ n ∷ [] = c.in_ok-push.ensures.ok in
     let pushed_value : c.push.new.self ≡ ns ++ net_value c.args.version vertices (view c.index-items-i.result) ∷ [] = rw (← is) pushed in
@@ -42,10 +40,10 @@ loop-i-preserved c =
       read = values-more view xs c.loop-i.i c.index-items-i.result (omega arith) c.index-items-i.is value ns c.push.new.self c.loop-i.invariant.read pushed_value;
       counted = rw (c.in_ok-names-2.ensures, length-append) (omega arith);
       called = net_names_more ns c.push.new.self n c.loop-i.names c.in_ok-names-2.names c.said_name.result.now pushed c.loop-i.invariant.called c.in_ok-names-2.ensures said;
-      held = blocks_more ns c.push.new.self n c.loop-i.blocks.items c.put_behind.new.others.items pushed c.loop-i.invariant.held c.in_ok-put_behind.ensures;
+      held = blocks_more ns c.push.new.self n c.loop-i.blocks c.in_ok-blocks.blocks pushed c.loop-i.invariant.held c.in_ok-blocks.ensures;
       valid = rw pushed (All-push (IsValidNet (length vertices)) ns n c.loop-i.invariant.valid c.in_ok-net.ensures.valid);
       sources = rw pushed (All-push (HasSendingSource vertices) ns n c.loop-i.invariant.sources c.in_ok-net.ensures.sends);
-      fixed = apart_more ns c.push.new.self n c.as_slice-others.result.now pushed held c.in_ok-net.ensures.fresh c.loop-i.invariant.fixed;
+      fixed = apart_more ns c.push.new.self n c.loop-i.blocks pushed c.loop-i.invariant.held c.in_ok-net.ensures.fresh c.loop-i.invariant.fixed;
     }
 
 pub returns-clause-read : goal.returns-clause-read

@@ -13,7 +13,7 @@ invariant-loop-i l = record {
   read : l.nets ≡ map (net_value l.version l.among.vertices.now) (map view (take l.i l.items));
   counted : length l.names ≡ l.i;
   called : l.names ≡ net_names l.nets;
-  held : l.blocks.items ≡ fixed_blocks_of l.nets;
+  held : l.blocks ≡ fixed_blocks_of l.nets;
   valid : All (IsValidNet (length l.among.vertices.now)) l.nets;
   sources : All (HasSendingSource l.among.vertices.now) l.nets;
   fixed : AllPairs AreFixedApart l.nets;
