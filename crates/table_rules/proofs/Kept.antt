@@ -3,8 +3,8 @@ use Rattle.std.proofs.Common.{◌≡◌, ℕ, suc, ◌^◌, ◌<◌, ◌≤◌, 
 use Rattle.std.specs.Prelude.{All}
 use Rattle.std.specs.List.{Contains, cons_option}
 use Rattle.std.proofs.lemmas.Bool.{cases_lt}
-use Rattle.std.proofs.lemmas.List.Elements.{All-map}
-use Rattle.std.proofs.lemmas.Option.{get_or_from_slice_get}
+use Rattle.std.proofs.lemmas.List.Elements.{All-nil, All-cons, All-map}
+use Rattle.std.proofs.lemmas.Option.{get_or_from_slice_get, slice_get_within}
 use Rattle.spin_base.proofs.Pairs.{All-flat_map}
 use Rattle.spin_base.specs.declared.blocks.Block.{Block}
 use Rattle.spin_base.specs.declared.chips.Port.{Port}
@@ -28,7 +28,13 @@ none_of rows k none =
 -- a row in front that has not the key changes nothing
 sent_behind : (r : RoutedBlock) (rows : List RoutedBlock) (k : ℕ) (port : Port) (route : Route) → (Matches r.block k → ⊥) → LeaveBy rows k port route → LeaveBy (r ∷ rows) k port route
 sent_behind r rows k port route miss (by_row way) = by_row (record { row = way.row; first = first_miss r rows k miss ∙ way.first; by = way.by })
-sent_behind r rows k port route miss (by_default arrival comes goes none) = by_default arrival comes goes (first_miss r rows k miss ∙ none)
+sent_behind r rows k port route miss (by_default arrival comes on none) = by_default arrival comes on (first_miss r rows k miss ∙ none)
+
+-- kept places are places of rows
+pub kept_within : (rows : List Row) (i : ℕ) (kept : List ℕ) → KeptFrom rows i kept → All (λ s. s < length rows) kept
+kept_within rows i kept ends = All-nil (λ s. s < length rows)
+kept_within rows i kept (goes n row rest here strip later) = kept_within rows (suc n) rest later
+kept_within rows i kept (stays n row rest here keep later) = All-cons (λ s. s < length rows) n rest (slice_get_within rows n row here) (kept_within rows (suc n) rest later)
 
 -- the packets of an original block are sent on
 abbrev pub IsSentOn : List RoutedBlock → Original → Type 0

@@ -1,10 +1,10 @@
 -- Behind a wall no key is new: the rows of its route have all keys, and those before them have none of the wall's.
-use Rattle.std.proofs.Common.{◌≡◌, ℕ, suc, take-append-drop, length-take, ◌+◌, ◌-◌, ◌<◌, ◌≤◌, ◌==◌, Bool, true, false, cond, inl, inr, List, [], ◌∷◌, ◌++◌, length, get_or, take, drop, map, Option, Some, None, refl, sym, ap, ◌∙◌, subst, append_assoc, length-append, arith}
+use Rattle.std.proofs.Common.{◌≡◌, ℕ, suc, take-append-drop, length-take, ◌+◌, ◌-◌, ◌<◌, ◌≤◌, ◌^◌, ◌==◌, Bool, true, false, cond, inl, inr, List, [], ◌∷◌, ◌++◌, length, get_or, take, drop, map, Option, Some, None, refl, sym, ap, ◌∙◌, subst, append_assoc, length-append, arith}
 use Rattle.std.specs.Prelude.{All, AllPairs, nat_lt, bit_and, bit_xor, fold, nat_le, not, slice_get}
 use Rattle.std.specs.Int.{bit_at, bit_not, w32}
 use Rattle.std.specs.List.{Contains, cons_option, position, position_or_len}
 use Rattle.std.specs.Option.{option_or}
-use Rattle.std.proofs.lemmas.Bool.{ltb-false, ltb-true}
+use Rattle.std.proofs.lemmas.Bool.{ltb-false}
 use Rattle.std.proofs.lemmas.Bool.Decides.{eqb_tells, nat_tests}
 use Rattle.std.proofs.lemmas.List.{take_all, take_more}
 use Rattle.std.proofs.lemmas.List.Elements.{All-nil, All-append, All-cons, All-drop, All-head, All-map, All-tail, All-take, Contains-append_cases, Contains-append_left, Contains-append_right}
@@ -34,9 +34,8 @@ use Rattle.table_rules.specs.Made.{IsTableFrom, IsTableMadeOf, IsRowAdded, Stand
 use Rattle.table_rules.specs.Rows.{HasNoNewKeys, KeepsRoutes, first_with, takes_key}
 use Rattle.table_rules.specs.Shortened.{AreLeft}
 use Rattle.table_rules.proofs.Faithful.{IsServed, is_served, sent_on}
-use Rattle.table_rules.proofs.Kept.{none_of}
+use Rattle.table_rules.proofs.Kept.{kept_within, none_of}
 use Rattle.table_rules.proofs.FirstRows.{first_hit, first_miss, first_next, has_tells}
-use Rattle.default_routes.proofs.StripLemmas.{kept_places}
 use Rattle.table_rules.proofs.Sounds.{all_insert, all_with_rows, tail_sound}
 
 -- ---- blocks of all keys
@@ -221,7 +220,7 @@ module _ (target room : ℕ) (given : List RoutedBlock) (route : Route) (rows : 
       let it = is_served room (walled given route) within.covered.table rows within.covered.made same k (wall_of route) small here in
       let before = rows_before route.bits rows in
       let miss = none_before_wall route.bits rows k it.original sound small it.among it.has (ap (λ (r : Route). r.bits) it.by) in
-      let in_range = (kept_places before are.places are.kept).in_range in
+      let in_range = kept_within before 0 are.places are.kept in
       subst (λ l. first_with l k ≡ None) (sym are.are)
       (none_of (rows_at before are.places) k
       (rows_at-from (λ (r : Row). Matches r.block k → ⊥) before are.places (λ s d found. miss s d (All-has (λ n. n < length before) are.places s in_range found))))
@@ -252,21 +251,6 @@ module _ (bits : ℕ) (rows list before : List Row) (same : list ≡ rows) (is :
 module _ (bits : ℕ) (rows : List Row) (o : Option ℕ) (is : o ≡ position (λ (r : Row). r.route.bits == bits) rows) where
   n : ℕ
   n = position_or_len (λ (r : Row). r.route.bits == bits) rows
-
-  pub place_within : (place : ℕ) → o ≡ Some place → place < length rows
-  place_within place some = by_test (nat_lt n (length rows)) refl (sym is ∙ some)
-    where
-      by_test : (b : Bool) → nat_lt n (length rows) ≡ b → cond b (Some n) None ≡ Some place → place < length rows
-      by_test true less found = subst (λ i. i < length rows) (same_Some n place found) (ltb-true n (length rows) less)
-      by_test false most found = absurd (none-some place found)
-
-  pub before_place : (place : ℕ) → o ≡ Some place → take place rows ≡ rows_before bits rows
-  unfolding n
-  before_place place some = ap (λ i. take i rows) (sym (by_test (nat_lt n (length rows)) (sym is ∙ some)))
-    where
-      by_test : (b : Bool) → cond b (Some n) None ≡ Some place → n ≡ place
-      by_test true found = same_Some n place found
-      by_test false found = absurd (none-some place found)
 
   pub before_end : o ≡ None → rows ≡ rows_before bits rows
   unfolding n
@@ -303,7 +287,9 @@ module _ (target room : ℕ) (given : List RoutedBlock) (route : Route) (table r
 
     module _ (sound : IsSound rows) (serves : IsPermutation (served table) (served rows)) where
       pub keeps_within : KeepsRoutes given left
+      unfolding within
       keeps_within = keeps_before target room given route rows left within sound serves before_wall
 
       pub keys_within : HasNoNewKeys given left
+      unfolding within
       keys_within = no_new_keys target room given route rows left within sound serves before_wall

@@ -12,32 +12,32 @@ cover-requires-clause-sound c = made_is_sound c.args.room (walled c.args.given.n
 
 pub rows_left-requires-clause-few : goal.rows_left-requires-clause-few
 rows_left-requires-clause-few c =
-    omega (arith, few_wall c.args.route.bits c.in_ok-covered.covered.table.rows c.as_slice.result.now c.rows_before.result.now c.as_slice.ensures c.rows_before.ensures, c.in_ok-covered.ensures.few, c.requires.few)
+    omega (arith, few_wall c.args.route.bits c.in_ok-covered.covered.table.rows c.as_slice.result.now c.rows_before-before.result.now c.as_slice.ensures c.rows_before-before.ensures, c.in_ok-covered.ensures.few, c.requires.few)
 
 pub rows_left-requires-clause-sound : goal.rows_left-requires-clause-sound
 rows_left-requires-clause-sound c =
-    sound_wall c.args.route.bits c.in_ok-covered.covered.table.rows c.as_slice.result.now c.rows_before.result.now c.as_slice.ensures c.rows_before.ensures c.in_ok-covered.ensures.sound
+    sound_wall c.args.route.bits c.in_ok-covered.covered.table.rows c.as_slice.result.now c.rows_before-before.result.now c.as_slice.ensures c.rows_before-before.ensures c.in_ok-covered.ensures.sound
 
 pub returns-then-len-given-clause-rows : goal.returns-then-len-given-clause-rows
 returns-then-len-given-clause-rows c =
     is_within c.args.target c.args.room c.args.given.now c.args.route c.args.table.rows c.in_ok-covered.covered.table.rows _ c.requires.long c.requires.free c.requires.made c.in_ok-covered.ensures.covered
-    c.as_slice.result.now c.rows_before.result.now c.in_ok-left.left c.as_slice.ensures c.rows_before.ensures c.in_ok-left.ensures (omega arith)
+    c.as_slice.result.now c.rows_before-before.result.now c.in_ok-left.left c.as_slice.ensures c.rows_before-before.ensures c.in_ok-left.ensures (omega arith)
 
 pub returns-then-len-given-clause-routes : goal.returns-then-len-given-clause-routes
 returns-then-len-given-clause-routes c =
     keeps_within c.args.target c.args.room c.args.given.now c.args.route c.args.table.rows c.in_ok-covered.covered.table.rows _ c.requires.long c.requires.free c.requires.made c.in_ok-covered.ensures.covered
-    c.as_slice.result.now c.rows_before.result.now c.in_ok-left.left c.as_slice.ensures c.rows_before.ensures c.in_ok-left.ensures c.in_ok-covered.ensures.sound c.in_ok-covered.ensures.serves
+    c.as_slice.result.now c.rows_before-before.result.now c.in_ok-left.left c.as_slice.ensures c.rows_before-before.ensures c.in_ok-left.ensures c.in_ok-covered.ensures.sound c.in_ok-covered.ensures.serves
 
 pub returns-then-len-given-clause-keys : goal.returns-then-len-given-clause-keys
 returns-then-len-given-clause-keys c =
     keys_within c.args.target c.args.room c.args.given.now c.args.route c.args.table.rows c.in_ok-covered.covered.table.rows _ c.requires.long c.requires.free c.requires.made c.in_ok-covered.ensures.covered
-    c.as_slice.result.now c.rows_before.result.now c.in_ok-left.left c.as_slice.ensures c.rows_before.ensures c.in_ok-left.ensures c.in_ok-covered.ensures.sound c.in_ok-covered.ensures.serves
+    c.as_slice.result.now c.rows_before-before.result.now c.in_ok-left.left c.as_slice.ensures c.rows_before-before.ensures c.in_ok-left.ensures c.in_ok-covered.ensures.sound c.in_ok-covered.ensures.serves
 
 pub returns-clause-rows : goal.returns-clause-rows
 returns-clause-rows c =
     IfOk-weaker c.copy.result (λ own. own ≡ c.args.given.now) (IsShortenedWithin c.args.target c.args.room c.args.given.now)
     (λ own same. is_own c.args.target c.args.room c.args.given.now c.args.route c.args.table.rows c.in_ok-covered.covered.table.rows _ c.requires.long c.requires.free c.requires.made c.in_ok-covered.ensures.covered
-    c.as_slice.result.now c.rows_before.result.now c.in_ok-left.left c.as_slice.ensures c.rows_before.ensures c.in_ok-left.ensures (omega arith) own same)
+    c.as_slice.result.now c.rows_before-before.result.now c.in_ok-left.left c.as_slice.ensures c.rows_before-before.ensures c.in_ok-left.ensures (omega arith) own same)
     c.copy.ensures
 
 pub returns-clause-routes : goal.returns-clause-routes

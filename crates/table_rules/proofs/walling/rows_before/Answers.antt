@@ -1,5 +1,5 @@
--- The rows before the place, or all.
-use Rattle.table_rules.proofs.Walls.{before_end, before_place}
+-- All rows, where there is no place.
+use Rattle.table_rules.proofs.Walls.{before_end}
 use Rattle.table_rules.proofs.walling.rows_before.Goals as goal
 
 pub returns-in-None : goal.returns-in-None
