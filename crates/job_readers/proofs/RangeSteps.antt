@@ -1,6 +1,6 @@
 -- Blocks that are ranges: when two share a key, and what their first keys by their last keys tell of one more.
-use Rattle.std.proofs.Common.{◌≡◌, ◌≢◌, ℕ, ◌+◌, ◌-◌, ◌/◌, ◌*◌, ◌%◌, ◌^◌, ◌<◌, ◌≤◌, ◌↔◌, List, [], ◌∷◌, ◌++◌, Bool, true, false, true≢false, Option, Some, None, IfSome, inl, inr, refl, ap, sym, ◌∙◌, subst, arith, Less, Equal, Greater, nat_cmp}
-use Rattle.std.specs.Prelude.{bit_and, All, Contains, nat_le}
+use Rattle.std.proofs.Common.{◌≡◌, ◌≢◌, ℕ, ◌+◌, ◌-◌, ◌/◌, ◌*◌, ◌%◌, ◌^◌, ◌<◌, ◌≤◌, ◌↔◌, List, [], ◌∷◌, ◌++◌, true, false, true≢false, Option, Some, None, IfSome, inl, inr, ap, sym, ◌∙◌, subst, arith, Less, Equal, Greater, nat_cmp}
+use Rattle.std.specs.Prelude.{bit_and, Contains, nat_le}
 use Rattle.std.specs.List.{list_any}
 use Rattle.std.specs.Cmp.{nat_cmp_is}
 use Rattle.std.specs.Ordering.{is_eq, is_gt}
@@ -9,7 +9,7 @@ use Rattle.std.proofs.lemmas.Nat.{and_le_r, pow_pos, shr_split}
 use Rattle.std.proofs.lemmas.Nat.Bits.{and_high_mask}
 use Rattle.std.proofs.lemmas.List.Elements.{All-push, All-contains, Contains-append_left, Contains-append_right}
 use Rattle.std.proofs.lemmas.List.Folds.{list_any_at, list_any_none}
-use Rattle.spin_base.proofs.Members.{Contains-first, Contains-only}
+use Rattle.spin_base.proofs.Members.{Contains-first}
 use Rattle.spin_base.proofs.Places.{All-each}
 use Rattle.spin_base.specs.declared.blocks.Block.{Block}
 use Rattle.tern_word.proofs.BlockLaws.{range_keys, key_small, meet_where_agree, agree_where_meet}
