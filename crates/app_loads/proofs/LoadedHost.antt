@@ -1,5 +1,6 @@
 -- A host to which an application came.
-use Rattle.std.proofs.Common.{◌≡◌, ◌≢◌, ℕ, zero, suc, ◌+◌, ◌<◌, ◌≤◌, ◌==◌, true, false, List, [], ◌∷◌, ◌++◌, length, take, refl, sym, ap, ◌∙◌, subst, inl, inr, arith, Option, None, Some, append-nil, append_assoc, ltb, not, ◌&&◌, if◌then◌else◌, get_or}
+use Rattle.std.proofs.Common.{◌≡◌, ◌≢◌, ℕ, zero, suc, ◌+◌, ◌<◌, ◌≤◌, ◌==◌, true, false, List, [], ◌∷◌, ◌++◌, ◌∙◌, Option, None, Some, ◌&&◌, if◌then◌else◌}
+use Rattle.std.proofs.Common.{length, take, refl, sym, ap, subst, inl, inr, arith, append-nil, append_assoc, ltb, not, get_or}
 use Rattle.std.specs.Option.{option_map_or}
 use Rattle.std.specs.List.{list_any, slice_get, slice_set, All, AllPairs, Contains, flat_map, filter_map, enumerate_from, cons_option}
 use Rattle.std.proofs.lemmas.Bool.{cases_Bool, cases_eq, eq-eqb, eqb-true, false≢true, and_parts, ne_eqb, or_parts}

@@ -1,5 +1,6 @@
 -- Ranges taken one after the other for claims, and given back.
-use Rattle.std.proofs.Common.{◌≡◌, ◌≢◌, ℕ, ◌+◌, ◌%◌, ◌<◌, ◌≤◌, zero, suc, Bool, true, false, not, ◌&&◌, ◌||◌, ◌⊎◌, ◌==◌, ltb, List, [], ◌∷◌, ◌++◌, take, drop, get_or, length, refl, sym, ap, ◌∙◌, subst, inl, inr, arith, Option, None, Some, IfSome, append_assoc, append-nil, count_by, replicate, if◌then◌else◌}
+use Rattle.std.proofs.Common.{◌≡◌, ◌≢◌, ℕ, ◌+◌, ◌%◌, ◌<◌, ◌≤◌, zero, suc, Bool, true, false, ◌&&◌, ◌||◌, ◌⊎◌, ◌==◌, List, [], ◌∷◌, ◌++◌, ◌∙◌, Option, None, Some, if◌then◌else◌}
+use Rattle.std.proofs.Common.{not, ltb, take, drop, get_or, length, refl, sym, ap, subst, inl, inr, arith, IfSome, append_assoc, append-nil, count_by, replicate}
 use Rattle.std.specs.List.{slice_get, slice_set, All, AllPairs, Contains}
 use Rattle.std.proofs.lemmas.Bool.{cases_Bool, cases_eq, eqb-true, eq-eqb, and_parts, and_from, lt-ltb, ne_eqb, and_right, or_right}
 use Rattle.std.proofs.lemmas.List.{length-set, length_push, take_at, take-append-le, map-set, drop_more}
@@ -198,7 +199,12 @@ module _ (m : Description) (claims : List Claim) (old mid : List Region) (ranges
       record {
         within = subst (λ n. All (IsRangeWithin m n) ranges) (sym long) t.within;
         apart = t.apart;
-        free = subst (λ l. AreFreeBeside m (taken ++ ranges) l) (sym (ap frees set ∙ (map-set free_places_in mid (place_of m claim.region) after ∙ (ap (slice_set (frees mid) (place_of m claim.region)) same ∙ set-slice_get (frees mid) (place_of m claim.region) (free_places_in before) (slice_get-mapped free_places_in mid (place_of m claim.region) before at))))) t.free;
+        free = subst (λ l. AreFreeBeside m (taken ++ ranges) l) (sym (
+            ap frees set
+            ∙ (map-set free_places_in mid (place_of m claim.region) after
+            ∙ (ap (slice_set (frees mid) (place_of m claim.region)) same
+            ∙ set-slice_get (frees mid) (place_of m claim.region) (free_places_in before) (slice_get-mapped free_places_in mid (place_of m claim.region) before at)))
+            )) t.free;
       }
 
   pub room_still : (after : Region) (new : List Region) → new ≡ slice_set mid (place_of m claim.region) after → ((n : ℕ) → n ≤ of_region (place_of m claim.region) ranges → n ≤ before.spare → n ≤ after.spare) → HaveRoom ranges new
@@ -329,8 +335,8 @@ module _ (m : Description) (others : List Range) (range : Range) (rest : List Ra
 
 -- ---- ranges given back in a loop
 
-module _ (ranges : List Range) (i : ℕ) (d : Range) (below : i < length ranges) (regions : List Region) (e : Region)
-    (m : Description) (others : List Range) (taken : AreTaken m others (drop i ranges) regions) where
+module _ (ranges : List Range) {others : List Range} {i : ℕ} {regions : List Region} {m : Description} (d : Range) (e : Region) (below : i < length ranges)
+    (taken : AreTaken m others (drop i ranges) regions) where
   abbrev range : Range
   range = get_or ranges i d
 
@@ -389,8 +395,8 @@ module _ (ranges : List Range) (i : ℕ) (d : Range) (below : i < length ranges)
     ]
 
 -- where all are given back, none is left
-pub all_back : (m : Description) (others ranges : List Range) (i : ℕ) (regions : List Region) → length ranges ≤ i → AreFreeBeside m (others ++ drop i ranges) (frees regions) → AreFreeBeside m others (frees regions)
-all_back m others ranges i regions end free = subst (λ l. AreFreeBeside m l (frees regions)) (ap (λ l. others ++ l) (none_left ranges i end) ∙ append-nil others) free
+pub all_back : {m : Description} {others : List Range} {i : ℕ} (ranges : List Range) (regions : List Region) → length ranges ≤ i → AreFreeBeside m (others ++ drop i ranges) (frees regions) → AreFreeBeside m others (frees regions)
+all_back {m} {others} {i} ranges regions end free = subst (λ l. AreFreeBeside m l (frees regions)) (ap (λ l. others ++ l) (none_left ranges i end) ∙ append-nil others) free
   where
     none_left : {X : Type 0} (xs : List X) (n : ℕ) → length xs ≤ n → drop n xs ≡ []
     none_left [] n le = nothing n
@@ -403,8 +409,8 @@ all_back m others ranges i regions end free = subst (λ l. AreFreeBeside m l (fr
 
 -- ---- the claims of a list, in a loop
 
-module _ (m : Description) (claims : List Claim) (old mid : List Region) (ranges : List Range) (i : ℕ) (d : Claim) (e : Region) (below : i < length claims) (each_one : length ranges ≡ i)
-    (so_far : HaveServed m claims old ranges mid) (can : CanServe m claims old) (at : ℕ) (at_is : at ≡ place_of m (get_or claims i d).region) where
+module _ {m : Description} {claims : List Claim} {old mid : List Region} {ranges : List Range} {i at : ℕ} (d : Claim) (e : Region) (below : i < length claims) (each_one : length ranges ≡ i)
+    (so_far : HaveServed m claims old ranges mid) (can : CanServe m claims old) (at_is : at ≡ place_of m (get_or claims i d).region) where
   abbrev claim : Claim
   claim = get_or claims i d
 
@@ -465,7 +471,9 @@ module _ (m : Description) (claims : List Claim) (old mid : List Region) (ranges
     pub counts_more : (place : ℕ) (list : List Range) → list ≡ ranges ++ range_here place ∷ [] → (next : ℕ) → next ≡ get_or counts at f + 1 →
         (k n : ℕ) → slice_get (slice_set counts at next) k ≡ Some n → n ≡ of_region k list
     counts_more place list pushed next is k n got =
-        counted_push ranges (range_at m claim place) counts (get_or counts at f) next (ap (slice_get counts) (sym at_is) ∙ slice_get-get_or counts at f count_there) counted is k n (ap (λ x. slice_get (slice_set counts x next) k) (sym at_is) ∙ got) ∙ ap (of_region k) (sym (pushed ∙ listed place))
+        counted_push ranges (range_at m claim place) counts (get_or counts at f) next (ap (slice_get counts) (sym at_is) ∙ slice_get-get_or counts at f count_there) counted
+        is k n (ap (λ x. slice_get (slice_set counts x next) k) (sym at_is) ∙ got)
+        ∙ ap (of_region k) (sym (pushed ∙ listed place))
 
   pub claim_served : (after : Region) (place : ℕ) (list : List Range) (held : ℕ) → held ≡ of_region at ranges → list ≡ ranges ++ range_here place ∷ [] → ServesClaim claim before' after place →
       held + 1 ≤ after.spare → HaveServed m claims old list (slice_set mid at after)
@@ -484,8 +492,8 @@ module _ (m : Description) (claims : List Claim) (old mid : List Region) (ranges
   claim_room after held counted stays =
       room_still m claims old mid ranges so_far claim is_claim before' at_claim after (slice_set mid at after) (ap (λ k. slice_set mid k after) at_is) (λ n le. stays n (let same = ap (λ k. of_region k ranges) at_is in omega (arith, le, counted, same)))
 
-pub all_served : (m : Description) (claims : List Claim) (old mid : List Region) (ranges : List Range) (i : ℕ) → length claims ≤ i → length ranges ≡ i → HaveServed m claims old ranges mid → AreServedAlways m claims old ranges
-all_served m claims old mid ranges i end each_one so_far taken apart free =
+pub all_served : {m : Description} {claims : List Claim} {old mid : List Region} {ranges : List Range} {i : ℕ} → length claims ≤ i → length ranges ≡ i → HaveServed m claims old ranges mid → AreServedAlways m claims old ranges
+all_served end each_one so_far taken apart free =
     let first = so_far.served taken apart free in
     let few = first.few in
     record { first = first; all = omega (arith, end, each_one, few) }

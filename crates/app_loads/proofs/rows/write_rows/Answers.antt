@@ -1,51 +1,50 @@
 use Rattle.std.proofs.Common.{◌+◌, [], refl, sym, ap, subst, arith, take, length, List}
 use Rattle.tern_word.specs.declared.tables.Row.{Row}
-use Rattle.app_loads.proofs.Copying.{inside_of, rows_at, there, place_of_no_rows, j_below, j_in_tables, j_in_rows, T_long, R_fits, place_small, all_copied, copied_skip, copied_more, put_same}
+use Rattle.app_loads.proofs.Copying.{of_chip, there, place_of_no_rows, j_below, j_in_tables, j_in_rows, T_long, R_fits, place_small, all_copied, copied_skip, copied_more, put_same}
 use Rattle.app_loads.specs.Writing.{AreCopied}
 use Rattle.app_loads.proofs.rows.write_rows.Goals as goal
 
 pub bounds-tables-at : goal.bounds-tables-at
-bounds-tables-at c = j_in_tables c.args.machine.now c.args.tables.now c.args.rows.now c.args.ranges.now c.requires c.loop-range.tables c.loop-range.range-index _ c.loop-range-test.true c.loop-range.invariant c.in-Rows.chip (inside_of c.args.machine.now c.at.result c.in-Rows.chip c.in-Rows.is c.at.ensures.its) (rows_at c.args.machine.now c.at.result c.in-Rows.chip _ c.in-Rows.is c.at.ensures.place) c.index-at.result c.index-at.ensures.value
+bounds-tables-at c = j_in_tables _ c.requires c.loop-range-test.true c.loop-range.invariant (of_chip c.in-Rows.is c.at.ensures.its c.at.ensures.place c.index-at.ensures.value)
 
 pub bounds-rows-at : goal.bounds-rows-at
-bounds-rows-at c = j_in_rows c.args.machine.now c.args.tables.now c.args.rows.now c.args.ranges.now c.requires c.loop-range.tables c.loop-range.range-index _ c.loop-range-test.true c.loop-range.invariant c.in-Rows.chip (inside_of c.args.machine.now c.at.result c.in-Rows.chip c.in-Rows.is c.at.ensures.its) (rows_at c.args.machine.now c.at.result c.in-Rows.chip _ c.in-Rows.is c.at.ensures.place) c.index-at.result c.index-at.ensures.value
+bounds-rows-at c = j_in_rows _ c.requires c.loop-range-test.true c.loop-range.invariant (of_chip c.in-Rows.is c.at.ensures.its c.at.ensures.place c.index-at.ensures.value)
 
 pub offset_bounds-tables-at : goal.offset_bounds-tables-at
 offset_bounds-tables-at c =
-    let below = j_below c.args.machine.now c.args.tables.now c.args.rows.now c.args.ranges.now c.requires c.loop-range.tables c.loop-range.range-index _ c.loop-range-test.true c.loop-range.invariant c.in-Rows.chip (inside_of c.args.machine.now c.at.result c.in-Rows.chip c.in-Rows.is c.at.ensures.its) (rows_at c.args.machine.now c.at.result c.in-Rows.chip _ c.in-Rows.is c.at.ensures.place) c.index-at.result c.index-at.ensures.value in
+    let below = j_below _ c.requires c.loop-range-test.true c.loop-range.invariant (of_chip c.in-Rows.is c.at.ensures.its c.at.ensures.place c.index-at.ensures.value) in
     let few = c.index-at.ensures.few in
     record { fits = omega (arith, below, few) }
 
 pub offset_bounds-rows-at : goal.offset_bounds-rows-at
 offset_bounds-rows-at c =
-    let below = j_below c.args.machine.now c.args.tables.now c.args.rows.now c.args.ranges.now c.requires c.loop-range.tables c.loop-range.range-index _ c.loop-range-test.true c.loop-range.invariant c.in-Rows.chip (inside_of c.args.machine.now c.at.result c.in-Rows.chip c.in-Rows.is c.at.ensures.its) (rows_at c.args.machine.now c.at.result c.in-Rows.chip _ c.in-Rows.is c.at.ensures.place) c.index-at.result c.index-at.ensures.value in
+    let below = j_below _ c.requires c.loop-range-test.true c.loop-range.invariant (of_chip c.in-Rows.is c.at.ensures.its c.at.ensures.place c.index-at.ensures.value) in
     let few = c.index-at.ensures.few in
     record { fits = omega (arith, below, few) }
 
 pub overflow_cast-range : goal.overflow_cast-range
-overflow_cast-range c = record { fits = place_small c.args.machine.now c.args.tables.now c.args.rows.now c.args.ranges.now c.requires c.loop-range.tables c.loop-range.range-index _ c.loop-range-test.true c.loop-range.invariant c.in-Rows.chip (inside_of c.args.machine.now c.at.result c.in-Rows.chip c.in-Rows.is c.at.ensures.its) (rows_at c.args.machine.now c.at.result c.in-Rows.chip _ c.in-Rows.is c.at.ensures.place) c.index-at.result c.index-at.ensures.value c.index-tables-at.result (record { rows = [] }) }
+overflow_cast-range c = record { fits = place_small _ c.requires c.loop-range-test.true c.loop-range.invariant (of_chip c.in-Rows.is c.at.ensures.its c.at.ensures.place c.index-at.ensures.value) c.index-tables-at.result (record { rows = [] }) }
 
 pub put_rows-requires : goal.put_rows-requires
 put_rows-requires c = record {
-  size = T_long c.args.machine.now c.args.tables.now c.args.rows.now c.args.ranges.now c.requires c.loop-range.tables c.loop-range.range-index _ c.loop-range-test.true c.loop-range.invariant c.in-Rows.chip (inside_of c.args.machine.now c.at.result c.in-Rows.chip c.in-Rows.is c.at.ensures.its) (rows_at c.args.machine.now c.at.result c.in-Rows.chip _ c.in-Rows.is c.at.ensures.place) c.index-at.result c.index-at.ensures.value c.index-tables-at.result c.index-rows-at.result;
-  fits = let fits = R_fits c.args.machine.now c.args.tables.now c.args.rows.now c.args.ranges.now c.requires c.loop-range.tables c.loop-range.range-index _ c.loop-range-test.true c.loop-range.invariant c.in-Rows.chip (inside_of c.args.machine.now c.at.result c.in-Rows.chip c.in-Rows.is c.at.ensures.its) (rows_at c.args.machine.now c.at.result c.in-Rows.chip _ c.in-Rows.is c.at.ensures.place) c.index-at.result c.index-at.ensures.value c.index-tables-at.result c.index-rows-at.result in
+  size = T_long _ c.requires c.loop-range-test.true c.loop-range.invariant (of_chip c.in-Rows.is c.at.ensures.its c.at.ensures.place c.index-at.ensures.value) c.index-tables-at.result c.index-rows-at.result;
+  fits = let fits = R_fits _ c.requires c.loop-range-test.true c.loop-range.invariant (of_chip c.in-Rows.is c.at.ensures.its c.at.ensures.place c.index-at.ensures.value) c.index-tables-at.result c.index-rows-at.result in
       let same = ap (λ (l : List Row). length l) c.as_slice.ensures in
       omega (arith, fits, same);
 }
 
 pub at-requires : goal.at-requires
-at-requires c = there c.args.machine.now c.args.tables.now c.args.rows.now c.args.ranges.now c.requires c.loop-range.tables c.loop-range.range-index _ c.loop-range-test.true c.loop-range.invariant
+at-requires c = there _ c.requires c.loop-range-test.true c.loop-range.invariant
 
 pub loop-range-preserved : goal.loop-range-preserved
 loop-range-preserved c = elim c.match-at.branch [
   | goal.in-Rows w ↦
       subst (AreCopied c.args.machine.now c.args.rows.now (take (c.loop-range.range-index + 1) c.args.ranges.now) c.args.tables.now) (sym w.tables-is)
-      (copied_more c.args.machine.now c.args.tables.now c.args.rows.now c.args.ranges.now c.requires c.loop-range.tables c.loop-range.range-index _ c.loop-range-test.true c.loop-range.invariant w.in-Rows.chip (inside_of c.args.machine.now c.at.result w.in-Rows.chip w.in-Rows.is c.at.ensures.its) (rows_at c.args.machine.now c.at.result w.in-Rows.chip _ w.in-Rows.is c.at.ensures.place) w.index-at.result w.index-at.ensures.value w.index-tables-at.result w.index-rows-at.result _ refl w.put_rows.new.table
+      (copied_more _ c.requires c.loop-range-test.true c.loop-range.invariant (of_chip w.in-Rows.is c.at.ensures.its c.at.ensures.place w.index-at.ensures.value) w.index-tables-at.result w.index-rows-at.result _ refl w.put_rows.new.table
       (put_same _ _ _ _ _ w.put_rows.ensures w.as_slice.ensures))
   | goal.in_default w ↦
       subst (AreCopied c.args.machine.now c.args.rows.now (take (c.loop-range.range-index + 1) c.args.ranges.now) c.args.tables.now) (sym w.tables-is)
-      (copied_skip c.args.machine.now c.args.tables.now c.args.rows.now c.args.ranges.now c.requires c.loop-range.tables c.loop-range.range-index _ c.loop-range-test.true c.loop-range.invariant
-      (place_of_no_rows c.args.machine.now c.at.result w.in_default.not-Rows c.at.ensures.its _ c.at.ensures.place))
+      (copied_skip _ c.requires c.loop-range-test.true c.loop-range.invariant (place_of_no_rows c.args.machine.now c.at.result w.in_default.not-Rows c.at.ensures.its _ c.at.ensures.place))
 ]
 
 pub returns : goal.returns
