@@ -32,7 +32,8 @@ loop-at-preserved c = elim c.match-claim.branch [
   | goal.in-KeysOut w ↦ record {
     long = ap (λ (v : Vec Block Global). length v.items) w.blocks-is ∙ (length-set c.loop-at.blocks.items w.in-KeysOut.net w.block_of.result ∙ c.loop-at.invariant.long);
     each = subst (λ (v : Vec Block Global). HaveBlocksBelow c.args.claims.now c.args.ranges.now v.items (c.loop-at.at + 1)) (sym w.blocks-is)
-        (block_more no_claim no_range c.requires c.loop-at-test.true w.in-KeysOut.is c.loop-at.blocks.items w.block_of.result c.loop-at.invariant.long w.block_of.ensures.key w.block_of.ensures.mask c.loop-at.invariant.each);
+        (block_more no_claim no_range c.requires c.loop-at-test.true w.in-KeysOut.is c.loop-at.blocks.items
+        w.block_of.result c.loop-at.invariant.long w.block_of.ensures.key w.block_of.ensures.mask c.loop-at.invariant.each);
   }
   | goal.in_default w ↦ record {
     long = ap (λ (v : Vec Block Global). length v.items) w.blocks-is ∙ c.loop-at.invariant.long;

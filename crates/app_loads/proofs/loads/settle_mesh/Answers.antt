@@ -41,6 +41,6 @@ put_together-requires c =
 pub returns-in-Ok-send-clause-settled : goal.returns-in-Ok-send-clause-settled
 returns-in-Ok-send-clause-settled c =
     parted_settled (c.parts.view_is ∙ c.take_apart-parts.ensures.parts) c.requires c.take_apart-parts.ensures.mesh
-    c.deref_mut.ensures.value (with_items_is c.parts.inside.unsent c.send.new.unsent (c.send.auto.unsent ∙ c.deref_mut.ensures.len))
-    c.in-Ok-send.ensures.sent c.install.ensures.setup c.put_together.ensures
-    (subst (λ (m : Description). ArePlain m c.args.app.now c.in-Ok.rows) c.machine.ensures (c.in-Ok.ensures.long, c.in-Ok.ensures.plain)) c.as_slice.ensures c.as_slice-in-Ok-send.ensures c.install.ensures.copied
+    c.deref_mut.ensures.value (with_items_is c.parts.inside.unsent c.send.new.unsent (c.send.auto.unsent ∙ c.deref_mut.ensures.len)) c.in-Ok-send.ensures.sent c.install.ensures.setup
+    c.put_together.ensures (subst (λ (m : Description). ArePlain m c.args.app.now c.in-Ok.rows) c.machine.ensures (c.in-Ok.ensures.long, c.in-Ok.ensures.plain))
+    c.as_slice.ensures c.as_slice-in-Ok-send.ensures c.install.ensures.copied

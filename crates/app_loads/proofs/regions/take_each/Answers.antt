@@ -41,8 +41,8 @@ pub returns-in-Err-clause-room : goal.returns-in-Err-clause-room
 returns-in-Err-clause-room c =
     claim_room _ c.index-regions-at.result c.loop-claim-test.true c.loop-claim.invariant.each_one c.loop-claim.invariant.served c.requires.can c.place-at.ensures
     c.take_claim.new.region _
-    (count_held _ c.index-regions-at.result c.loop-claim-test.true c.loop-claim.invariant.each_one c.loop-claim.invariant.served c.requires.can c.place-at.ensures c.loop-claim.counts _ c.loop-claim.invariant.counts c.loop-claim.invariant.counted)
-    c.in-Err.ensures.room_stays
+    (count_held _ c.index-regions-at.result c.loop-claim-test.true c.loop-claim.invariant.each_one c.loop-claim.invariant.served c.requires.can c.place-at.ensures
+    c.loop-claim.counts _ c.loop-claim.invariant.counts c.loop-claim.invariant.counted) c.in-Err.ensures.room_stays
 
 pub loop-claim-preserved : goal.loop-claim-preserved
 loop-claim-preserved c =

@@ -14,7 +14,8 @@ pub loop-range-preserved : goal.loop-range-preserved
 loop-range-preserved c = elim c.match-at.branch [
   | goal.in-Rows w ↦
       subst (AreUnused c.args.machine.now (take (c.loop-range.range-index + 1) c.args.ranges.now) c.args.tables.now) (sym w.tables-is)
-      (unused_more _ c.requires c.loop-range-test.true c.loop-range.invariant (of_chip w.in-Rows.is c.at.ensures.its c.at.ensures.place w.index.ensures.value) w.index-tables-index.result w.clear_entries.new.table w.clear_entries.ensures)
+      (unused_more _ c.requires c.loop-range-test.true c.loop-range.invariant (of_chip w.in-Rows.is c.at.ensures.its c.at.ensures.place w.index.ensures.value)
+      w.index-tables-index.result w.clear_entries.new.table w.clear_entries.ensures)
   | goal.in_default w ↦
       subst (AreUnused c.args.machine.now (take (c.loop-range.range-index + 1) c.args.ranges.now) c.args.tables.now) (sym w.tables-is)
       (unused_skip _ c.requires c.loop-range-test.true c.loop-range.invariant (place_of_no_rows c.args.machine.now c.at.result w.in_default.not-Rows c.at.ensures.its _ c.at.ensures.place))

@@ -23,15 +23,16 @@ offset_bounds-rows-at c =
     record { fits = omega (arith, below, few) }
 
 pub overflow_cast-range : goal.overflow_cast-range
-overflow_cast-range c = record { fits = place_small _ c.requires c.loop-range-test.true c.loop-range.invariant (of_chip c.in-Rows.is c.at.ensures.its c.at.ensures.place c.index-at.ensures.value) c.index-tables-at.result (record { rows = [] }) }
+overflow_cast-range c =
+    let of = of_chip c.in-Rows.is c.at.ensures.its c.at.ensures.place c.index-at.ensures.value in
+    record { fits = place_small _ c.requires c.loop-range-test.true c.loop-range.invariant of c.index-tables-at.result (record { rows = [] }) }
 
 pub put_rows-requires : goal.put_rows-requires
-put_rows-requires c = record {
-  size = T_long _ c.requires c.loop-range-test.true c.loop-range.invariant (of_chip c.in-Rows.is c.at.ensures.its c.at.ensures.place c.index-at.ensures.value) c.index-tables-at.result c.index-rows-at.result;
-  fits = let fits = R_fits _ c.requires c.loop-range-test.true c.loop-range.invariant (of_chip c.in-Rows.is c.at.ensures.its c.at.ensures.place c.index-at.ensures.value) c.index-tables-at.result c.index-rows-at.result in
-      let same = ap (λ (l : List Row). length l) c.as_slice.ensures in
-      omega (arith, fits, same);
-}
+put_rows-requires c =
+    let of = of_chip c.in-Rows.is c.at.ensures.its c.at.ensures.place c.index-at.ensures.value in
+    let fits = R_fits _ c.requires c.loop-range-test.true c.loop-range.invariant of c.index-tables-at.result c.index-rows-at.result in
+    let same = ap (λ (l : List Row). length l) c.as_slice.ensures in
+    record { size = T_long _ c.requires c.loop-range-test.true c.loop-range.invariant of c.index-tables-at.result c.index-rows-at.result; fits = omega (arith, fits, same) }
 
 pub at-requires : goal.at-requires
 at-requires c = there _ c.requires c.loop-range-test.true c.loop-range.invariant
@@ -40,8 +41,8 @@ pub loop-range-preserved : goal.loop-range-preserved
 loop-range-preserved c = elim c.match-at.branch [
   | goal.in-Rows w ↦
       subst (AreCopied c.args.machine.now c.args.rows.now (take (c.loop-range.range-index + 1) c.args.ranges.now) c.args.tables.now) (sym w.tables-is)
-      (copied_more _ c.requires c.loop-range-test.true c.loop-range.invariant (of_chip w.in-Rows.is c.at.ensures.its c.at.ensures.place w.index-at.ensures.value) w.index-tables-at.result w.index-rows-at.result _ refl w.put_rows.new.table
-      (put_same _ _ _ _ _ w.put_rows.ensures w.as_slice.ensures))
+      (copied_more _ c.requires c.loop-range-test.true c.loop-range.invariant (of_chip w.in-Rows.is c.at.ensures.its c.at.ensures.place w.index-at.ensures.value)
+      w.index-tables-at.result w.index-rows-at.result _ refl w.put_rows.new.table (put_same _ _ _ _ _ w.put_rows.ensures w.as_slice.ensures))
   | goal.in_default w ↦
       subst (AreCopied c.args.machine.now c.args.rows.now (take (c.loop-range.range-index + 1) c.args.ranges.now) c.args.tables.now) (sym w.tables-is)
       (copied_skip _ c.requires c.loop-range-test.true c.loop-range.invariant (place_of_no_rows c.args.machine.now c.at.result w.in_default.not-Rows c.at.ensures.its _ c.at.ensures.place))
