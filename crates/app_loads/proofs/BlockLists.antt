@@ -68,8 +68,8 @@ module _ {claims : List Claim} {ranges : List Range} {nets at : ℕ} (d : Claim)
         absurd (none n (ap (λ (x : Claim). x.refusal) one ∙ of_net))
   ]
 
-pub all_blocks : {claims : List Claim} {ranges : List Range} {nets at : ℕ} (blocks : List Block) → AreKeyed claims ranges nets → length claims ≤ at → length blocks ≡ nets → HaveBlocksBelow claims ranges blocks at →
-    HaveBlocks claims ranges blocks
+pub all_blocks : {claims : List Claim} {ranges : List Range} {nets at : ℕ} (blocks : List Block) → AreKeyed claims ranges nets → length claims ≤ at → length blocks ≡ nets →
+    HaveBlocksBelow claims ranges blocks at → HaveBlocks claims ranges blocks
 all_blocks {claims} blocks keyed end long so_far net block has =
     let found = keyed.all net (let w = slice_get_within blocks net block has in omega (arith, w, long)) in
     let inside = slice_get_within claims found.0 found.1 found.2 in

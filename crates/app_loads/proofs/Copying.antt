@@ -28,8 +28,8 @@ use Rattle.range_store.proofs.HolePlaces.{clash}
 
 -- ---- a list with a part written
 
-pub put_more : {X : Type 0} (old b : List X) (first p : ℕ) (x : X) (m n : List X) → length b ≡ p → first + p < length old → m ≡ take first old ++ (b ++ drop (first + p) old) → n ≡ set m (first + p) x →
-    n ≡ take first old ++ ((b ++ x ∷ []) ++ drop (first + (p + 1)) old)
+pub put_more : {X : Type 0} (old b : List X) (first p : ℕ) (x : X) (m n : List X) → length b ≡ p → first + p < length old → m ≡ take first old ++ (b ++ drop (first + p) old) →
+    n ≡ set m (first + p) x → n ≡ take first old ++ ((b ++ x ∷ []) ++ drop (first + (p + 1)) old)
 put_more {X} old b first p x m n many inside before given =
     let a : List X = take first old in
     let y : X = get_or old (first + p) x in

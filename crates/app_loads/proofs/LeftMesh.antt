@@ -21,8 +21,8 @@ pub mesh_with : (s : State) (tables : List (List Entry)) (delivered : List Deliv
     IsMesh (record s { setup = record s.setup { tables = tables }; delivered = delivered; dumped = dumped })
 mesh_with s tables delivered dumped mesh long = changed_mesh s tables s.unsent delivered dumped mesh long refl mesh.unsent_at_start
 
-pub parted_whole : {s t : State} {u : Setup} {delivered : List Delivery} {dumped : List DumpRec} → s ≡ t → IsMesh t → u ≡ record s.setup { tables = u.tables } → length u.tables ≡ length s.setup.tables →
-    IsMesh (record s { setup = u; delivered = delivered; dumped = dumped })
+pub parted_whole : {s t : State} {u : Setup} {delivered : List Delivery} {dumped : List DumpRec} → s ≡ t → IsMesh t → u ≡ record s.setup { tables = u.tables } →
+    length u.tables ≡ length s.setup.tables → IsMesh (record s { setup = u; delivered = delivered; dumped = dumped })
 parted_whole {s} {u = u} {delivered = delivered} {dumped = dumped} same mesh setup long =
     subst (λ (v : Setup). IsMesh (record s { setup = v; delivered = delivered; dumped = dumped })) (sym setup) (mesh_with s u.tables delivered dumped (subst IsMesh (sym same) mesh) long)
 

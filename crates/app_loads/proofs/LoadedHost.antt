@@ -318,8 +318,8 @@ module _ (h : Host) (apps : AreApps h) (number : ℕ) (plan : AppPlan) (may : Ma
   }
 
 -- why an application is not loaded
-pub why_not : (h : Host) (apps : AreApps h) (number : ℕ) (plan : AppPlan) (old : List Region) → frees old ≡ h.regions → is_loaded h.apps number ≡ false → IsPlan h.mesh.setup.machine plan → (err : LoadErr) →
-    IsDueAlways h.mesh.setup.machine (claims_of h.mesh.setup.machine plan) old err → IsWhyNotLoaded h number plan err
+pub why_not : (h : Host) (apps : AreApps h) (number : ℕ) (plan : AppPlan) (old : List Region) → frees old ≡ h.regions → is_loaded h.apps number ≡ false → IsPlan h.mesh.setup.machine plan →
+    (err : LoadErr) → IsDueAlways h.mesh.setup.machine (claims_of h.mesh.setup.machine plan) old err → IsWhyNotLoaded h number plan err
 why_not h apps number plan old same none valid Memory due = tt
 why_not h apps number plan old same none valid (Refused refusal) due = by_kind refusal (due (all_ranges h.apps) apps.apart (subst (AreFreeBeside h.mesh.setup.machine (all_ranges h.apps)) (sym same) apps.free))
   where

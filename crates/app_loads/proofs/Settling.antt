@@ -266,8 +266,8 @@ sent_at_start spots app (suc n) before after start sent =
     (All-set (λ q. All (λ (k : McCopy). k.hop ≡ 0) q) sent.0 one.vertex (one.queue ++ _ ∷ []) (All-push (λ (k : McCopy). k.hop ≡ 0) one.queue _ (All-at (λ q. All (λ (k : McCopy). k.hop ≡ 0) q) sent.0 one.vertex one.queue rest one.at) refl) rest)
 
 -- a mesh with other tables, unsent copies, deliveries and records
-pub changed_mesh : (s : State) (tables : List (List Entry)) (q : List (List McCopy)) (delivered : List Delivery) (dumped : List DumpRec) → IsMesh s → length tables ≡ length s.setup.tables → length q ≡ length s.unsent →
-    All (λ l. All (λ (k : McCopy). k.hop ≡ 0) l) q → IsMesh (record s { setup = record s.setup { tables = tables }; unsent = q; delivered = delivered; dumped = dumped })
+pub changed_mesh : (s : State) (tables : List (List Entry)) (q : List (List McCopy)) (delivered : List Delivery) (dumped : List DumpRec) → IsMesh s → length tables ≡ length s.setup.tables →
+    length q ≡ length s.unsent → All (λ l. All (λ (k : McCopy). k.hop ≡ 0) l) q → IsMesh (record s { setup = record s.setup { tables = tables }; unsent = q; delivered = delivered; dumped = dumped })
 changed_mesh s tables q delivered dumped mesh long as_long at_start = record {
   size = mesh.size;
   different = mesh.different;
@@ -287,8 +287,8 @@ changed_mesh s tables q delivered dumped mesh long as_long at_start = record {
   no_hand_on_dead_chips = mesh.no_hand_on_dead_chips;
 }
 
-pub settled_mesh : (s : State) (app : LoadedApp) (n : ℕ) (q : List (List McCopy)) (tables : List (List Entry)) → IsMesh s → AreSent s.setup.spots app n s.unsent q → length tables ≡ length s.setup.tables →
-    IsMesh (record s { setup = record s.setup { tables = tables }; unsent = q })
+pub settled_mesh : (s : State) (app : LoadedApp) (n : ℕ) (q : List (List McCopy)) (tables : List (List Entry)) → IsMesh s → AreSent s.setup.spots app n s.unsent q →
+    length tables ≡ length s.setup.tables → IsMesh (record s { setup = record s.setup { tables = tables }; unsent = q })
 settled_mesh s app n q tables mesh sent long =
     changed_mesh s tables q s.delivered s.dumped mesh long (sent_long s.setup.spots app n s.unsent q sent) (sent_at_start s.setup.spots app n s.unsent q mesh.unsent_at_start sent)
 
@@ -327,8 +327,8 @@ module _ {s t : State} {app : LoadedApp} (same : s ≡ t) (can : CanSettle t app
         subst (λ (l : List (List McCopy)). IsMesh (record s { setup = u; unsent = l })) (sym put_is)
         (subst IsMesh (with_setup s u q setup) (settled_mesh s app (length app.plan.packets) q u.tables whole sent_from long))
 
-    pub parted_settled : {rows lent : List Table} {ranges : List Range} {new : State} → new ≡ record s { setup = u; unsent = put } → ArePlain t.setup.machine app rows → lent ≡ rows → ranges ≡ app.ranges →
-        AreCopied s.setup.machine lent ranges s.setup.tables u.tables → IsSettled app t new
+    pub parted_settled : {rows lent : List Table} {ranges : List Range} {new : State} → new ≡ record s { setup = u; unsent = put } → ArePlain t.setup.machine app rows → lent ≡ rows →
+        ranges ≡ app.ranges → AreCopied s.setup.machine lent ranges s.setup.tables u.tables → IsSettled app t new
     parted_settled {rows} {new = new} new_is plain is_rows is_ranges copied =
         subst (λ (x : State). IsSettled app x new) same
         (subst (IsSettled app s) (sym (new_is ∙ ap (λ (l : List (List McCopy)). record s { setup = u; unsent = l }) put_is))

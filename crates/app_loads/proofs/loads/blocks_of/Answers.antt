@@ -21,11 +21,7 @@ pub block_of-requires : goal.block_of-requires
 block_of-requires c = let k = key_range _ no_range c.requires c.loop-at-test.true c.in-KeysOut.is in record { power = k.power; fits = k.few; aligned = k.aligned }
 
 pub index_mut-requires : goal.index_mut-requires
-index_mut-requires c =
-    let w = net_there _ no_range c.requires c.loop-at-test.true c.in-KeysOut.is in
-    let l = c.loop-at.invariant.long in
-    let o = c.loop-at.blocks.ok in
-    omega (arith, w, l, o)
+index_mut-requires c = omega (arith, net_there _ no_range c.requires c.loop-at-test.true c.in-KeysOut.is, c.loop-at.invariant.long, c.loop-at.blocks.ok)
 
 pub loop-at-preserved : goal.loop-at-preserved
 loop-at-preserved c = elim c.match-claim.branch [

@@ -29,11 +29,9 @@ loop-range-preserved c =
 pub overflow_add-counts : goal.overflow_add-counts
 overflow_add-counts c =
     let counted = region_there c.args.ranges.now none c.loop-range-test.true c.loop-range.counts c.requires.there c.loop-range.invariant.counts in
-    let few = few_counted c.args.ranges.now none c.loop-range-test.true c.loop-range.counts 0 counted c.loop-range.invariant.counted c.requires.few in
-    omega (arith, few)
+    omega (arith, few_counted c.args.ranges.now none c.loop-range-test.true c.loop-range.counts 0 counted c.loop-range.invariant.counted c.requires.few)
 
 pub overflow_add-count : goal.overflow_add-count
 overflow_add-count c =
     let counted = region_there c.args.ranges.now none c.loop-range-test.true c.loop-range.counts c.requires.there c.loop-range.invariant.counts in
-    let few = few_counted c.args.ranges.now none c.loop-range-test.true c.loop-range.counts 0 counted c.loop-range.invariant.counted c.requires.few in
-    omega (arith, few)
+    omega (arith, few_counted c.args.ranges.now none c.loop-range-test.true c.loop-range.counts 0 counted c.loop-range.invariant.counted c.requires.few)

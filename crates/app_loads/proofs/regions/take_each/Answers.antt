@@ -22,9 +22,11 @@ none = record { region = Keys; size = 0; align = 0; fixed = None; refusal = Load
 pub take_claim-requires : goal.take_claim-requires
 take_claim-requires c = record {
   fair = claim_fair _ c.index-regions-at.result c.loop-claim-test.true c.loop-claim.invariant.each_one c.loop-claim.invariant.served c.requires.can c.place-at.ensures;
-  few = let few = few_held none c.index-regions-at.result c.loop-claim-test.true c.loop-claim.invariant.each_one c.loop-claim.invariant.served c.requires.can c.place-at.ensures
-      c.loop-claim.counts 0 c.loop-claim.invariant.counts c.loop-claim.invariant.counted c.requires.few in
-      omega (arith, few);
+  few = omega (
+    arith,
+    few_held none c.index-regions-at.result c.loop-claim-test.true c.loop-claim.invariant.each_one c.loop-claim.invariant.served c.requires.can c.place-at.ensures
+        c.loop-claim.counts 0 c.loop-claim.invariant.counts c.loop-claim.invariant.counted c.requires.few,
+  );
 }
 
 pub returns-in-Err-clause-refused : goal.returns-in-Err-clause-refused
@@ -66,9 +68,11 @@ returns-clause-served c = all_served c.loop-claim-test.false c.loop-claim.invari
 
 pub overflow_add-counts : goal.overflow_add-counts
 overflow_add-counts c =
-    let few = few_held none c.index-regions-at.result c.loop-claim-test.true c.loop-claim.invariant.each_one c.loop-claim.invariant.served c.requires.can c.place-at.ensures
-    c.loop-claim.counts 0 c.loop-claim.invariant.counts c.loop-claim.invariant.counted c.requires.few in
-    omega (arith, few)
+    omega (
+      arith,
+      few_held none c.index-regions-at.result c.loop-claim-test.true c.loop-claim.invariant.each_one c.loop-claim.invariant.served c.requires.can c.place-at.ensures
+          c.loop-claim.counts 0 c.loop-claim.invariant.counts c.loop-claim.invariant.counted c.requires.few,
+    )
 
 pub place-at-requires : goal.place-at-requires
 place-at-requires c = (c.requires.can.1 c.loop-claim.claim-index _ c.loop-claim-test.true).region

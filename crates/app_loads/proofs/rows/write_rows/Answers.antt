@@ -13,14 +13,12 @@ bounds-rows-at c = j_in_rows _ c.requires c.loop-range-test.true c.loop-range.in
 pub offset_bounds-tables-at : goal.offset_bounds-tables-at
 offset_bounds-tables-at c =
     let below = j_below _ c.requires c.loop-range-test.true c.loop-range.invariant (of_chip c.in-Rows.is c.at.ensures.its c.at.ensures.place c.index-at.ensures.value) in
-    let few = c.index-at.ensures.few in
-    record { fits = omega (arith, below, few) }
+    record { fits = omega (arith, below, c.index-at.ensures.few) }
 
 pub offset_bounds-rows-at : goal.offset_bounds-rows-at
 offset_bounds-rows-at c =
     let below = j_below _ c.requires c.loop-range-test.true c.loop-range.invariant (of_chip c.in-Rows.is c.at.ensures.its c.at.ensures.place c.index-at.ensures.value) in
-    let few = c.index-at.ensures.few in
-    record { fits = omega (arith, below, few) }
+    record { fits = omega (arith, below, c.index-at.ensures.few) }
 
 pub overflow_cast-range : goal.overflow_cast-range
 overflow_cast-range c =

@@ -27,9 +27,7 @@ numbered : (c : After-len) → IsOut c.self.inside c.args.self.now c.in-Some.mes
 numbered c taken =
     let served = IfOk-at_ok (λ (a : LoadedApp). IsServedApp c.in-Some.mesh.setup.machine c.deref_mut.result.now c.args.number c.self.inside.packets c.args.plan.now a c.join-mesh.new.regions)
     c.in-Ok.is c.join-mesh.ensures.served in
-    let fit = packets_fit taken c.args.plan.now c.requires in
-    let long = c.len.ensures ∙ ap (λ (p : AppPlan). length p.packets) served.plan_is in
-    omega (arith, fit, long)
+    omega (arith, packets_fit taken c.args.plan.now c.requires, c.len.ensures ∙ ap (λ (p : AppPlan). length p.packets) served.plan_is)
 
 -- the application joined
 joined : (c : After-add) → Joins c.self.inside (record {
@@ -90,9 +88,7 @@ pub join-mesh-requires : goal.join-mesh-requires
 join-mesh-requires c = can_join (out (goal.at.join-mesh-requires c).After-deref_mut) c.args.plan.now c.requires
 
 pub overflow_cast-self : goal.overflow_cast-self
-overflow_cast-self c =
-    let fit = numbered (goal.at.overflow_cast-self c).After-len (out (goal.at.overflow_cast-self c).After-deref_mut) in
-    record { fits = omega (arith, fit) }
+overflow_cast-self c = record { fits = omega (arith, numbered (goal.at.overflow_cast-self c).After-len (out (goal.at.overflow_cast-self c).After-deref_mut)) }
 
 pub overflow_add-self : goal.overflow_add-self
 overflow_add-self c = record { fits = numbered (goal.at.overflow_add-self c).After-len (out (goal.at.overflow_add-self c).After-deref_mut) }
