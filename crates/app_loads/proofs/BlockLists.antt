@@ -12,7 +12,12 @@ use Rattle.app_loads.specs.Joining.{AreKeyed, IsKeyRange, HaveBlocks}
 use Rattle.app_loads.proofs.Serving.{set_cases}
 use Rattle.app_loads.proofs.ClaimCases.{same_net}
 
-module _ (claims : List Claim) (ranges : List Range) (nets : ℕ) (keyed : AreKeyed claims ranges nets) (at : ℕ) (d : Claim) (e : Range) (below : at < length claims) where
+-- the nets of the claims up to a place have their blocks
+abbrev pub HaveBlocksBelow : List Claim → List Range → List Block → ℕ → Type 0
+HaveBlocksBelow claims ranges blocks at =
+    (i net : ℕ) (claim : Claim) (block : Block) → i < at → slice_get claims i ≡ Some claim → claim.refusal ≡ KeysOut net → slice_get blocks net ≡ Some block → IsBlockOf claims ranges net block
+
+module _ {claims : List Claim} {ranges : List Range} {nets at : ℕ} (d : Claim) (e : Range) (keyed : AreKeyed claims ranges nets) (below : at < length claims) where
   abbrev claim : Claim
   claim = get_or claims at d
 
@@ -28,7 +33,7 @@ module _ (claims : List Claim) (ranges : List Range) (nets : ℕ) (keyed : AreKe
   is_range : slice_get ranges at ≡ Some range
   is_range = slice_get-get_or ranges at e range_below
 
-  module _ (net : ℕ) (its : claim.refusal ≡ KeysOut net) where
+  module _ {net : ℕ} (its : claim.refusal ≡ KeysOut net) where
     both : IsKeyRange range × (net < nets)
     both = keyed.each at net claim range is_claim its is_range
 
@@ -38,9 +43,8 @@ module _ (claims : List Claim) (ranges : List Range) (nets : ℕ) (keyed : AreKe
     pub net_there : net < nets
     net_there = both.1
 
-    pub block_more : (blocks : List Block) (block : Block) → length blocks ≡ nets → block.key ≡ range.place → block.mask + range.size ≡ 2 ^ 32 →
-        ((i n : ℕ) (c : Claim) (b : Block) → i < at → slice_get claims i ≡ Some c → c.refusal ≡ KeysOut n → slice_get blocks n ≡ Some b → IsBlockOf claims ranges n b) →
-        (i n : ℕ) (c : Claim) (b : Block) → i < at + 1 → slice_get claims i ≡ Some c → c.refusal ≡ KeysOut n → slice_get (slice_set blocks net block) n ≡ Some b → IsBlockOf claims ranges n b
+    pub block_more : (blocks : List Block) (block : Block) → length blocks ≡ nets → block.key ≡ range.place → block.mask + range.size ≡ 2 ^ 32 → HaveBlocksBelow claims ranges blocks at →
+        HaveBlocksBelow claims ranges (slice_set blocks net block) (at + 1)
     block_more blocks block long key mask so_far i n c b less is of_net has =
         elim (set_cases blocks net n (get_or blocks net block) block b (slice_get-get_or blocks net block (let w = net_there in omega (arith, w, long))) has) [
           | inl mine ↦ subst (λ (x : Block). IsBlockOf claims ranges n x) (sym mine.1) (subst (λ k. IsBlockOf claims ranges k block) (sym mine.0)
@@ -55,9 +59,7 @@ module _ (claims : List Claim) (ranges : List Range) (nets : ℕ) (keyed : AreKe
         ]
 
   -- a claim of no net's keys makes no block
-  pub block_skip : (blocks : List Block) → ((net : ℕ) → claim.refusal ≡ KeysOut net → ⊥) →
-      ((i n : ℕ) (c : Claim) (b : Block) → i < at → slice_get claims i ≡ Some c → c.refusal ≡ KeysOut n → slice_get blocks n ≡ Some b → IsBlockOf claims ranges n b) →
-      (i n : ℕ) (c : Claim) (b : Block) → i < at + 1 → slice_get claims i ≡ Some c → c.refusal ≡ KeysOut n → slice_get blocks n ≡ Some b → IsBlockOf claims ranges n b
+  pub block_skip : (blocks : List Block) → ((net : ℕ) → claim.refusal ≡ KeysOut net → ⊥) → HaveBlocksBelow claims ranges blocks at → HaveBlocksBelow claims ranges blocks (at + 1)
   block_skip blocks none so_far i n c b less is of_net has = elim (cases_lt i at) [
     | inl before ↦ so_far i n c b before is of_net has
     | inr here ↦
@@ -66,9 +68,9 @@ module _ (claims : List Claim) (ranges : List Range) (nets : ℕ) (keyed : AreKe
         absurd (none n (ap (λ (x : Claim). x.refusal) one ∙ of_net))
   ]
 
-pub all_blocks : (claims : List Claim) (ranges : List Range) (nets : ℕ) (blocks : List Block) (at : ℕ) → AreKeyed claims ranges nets → length claims ≤ at → length blocks ≡ nets →
-    ((i n : ℕ) (c : Claim) (b : Block) → i < at → slice_get claims i ≡ Some c → c.refusal ≡ KeysOut n → slice_get blocks n ≡ Some b → IsBlockOf claims ranges n b) → HaveBlocks claims ranges blocks
-all_blocks claims ranges nets blocks at keyed end long so_far net block has =
+pub all_blocks : {claims : List Claim} {ranges : List Range} {nets at : ℕ} (blocks : List Block) → AreKeyed claims ranges nets → length claims ≤ at → length blocks ≡ nets →
+    HaveBlocksBelow claims ranges blocks at → HaveBlocks claims ranges blocks
+all_blocks {claims} blocks keyed end long so_far net block has =
     let found = keyed.all net (let w = slice_get_within blocks net block has in omega (arith, w, long)) in
     let inside = slice_get_within claims found.0 found.1 found.2 in
     so_far found.0 net found.1 block (omega (arith, inside, end)) found.2 found.3 has

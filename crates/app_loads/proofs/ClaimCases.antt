@@ -1,5 +1,6 @@
 -- What the claims of a plan are, and that each net and chip has its own.
-use Rattle.std.proofs.Common.{◌≡◌, ◌≢◌, ℕ, zero, suc, ◌+◌, ◌%◌, ◌^◌, ◌<◌, ◌≤◌, ◌==◌, leb, cond, Bool, true, false, List, [], ◌∷◌, ◌++◌, length, map, refl, sym, ap, ◌∙◌, subst, inl, inr, arith, Option, None, Some, IfSome, if◌then◌else◌, count_by}
+use Rattle.std.proofs.Common.{◌≡◌, ◌≢◌, ℕ, zero, suc, ◌+◌, ◌%◌, ◌^◌, ◌<◌, ◌≤◌, ◌==◌, Bool, true, false, List, [], ◌∷◌, ◌++◌, ◌∙◌, Option, None, Some, if◌then◌else◌}
+use Rattle.std.proofs.Common.{leb, cond, length, map, refl, sym, ap, subst, inl, inr, arith, IfSome, count_by}
 use Rattle.std.specs.Prelude.{find, unwrap_or, zip}
 use Rattle.std.specs.List.{slice_get, Contains, flat_map, range_with_len}
 use Rattle.std.proofs.lemmas.Bool.{cases_eq, le-leb, leb-true, both_ways, eq-eqb, ne_eqb}
@@ -28,7 +29,10 @@ use Rattle.app_loads.proofs.Blocks.{block_aligned, block_room}
 
 -- ---- the size for a number of keys
 
-find_in_row : (p : ℕ → Bool) (f : ℕ → ℕ) (n a : ℕ) → p (f (a + n)) ≡ true → (k : ℕ) × (k ≤ n) × (find p (map f (range_with_len a (suc n))) ≡ Some (f (a + k))) × (p (f (a + k)) ≡ true)
+abbrev IsFoundWithin : (ℕ → Bool) → (ℕ → ℕ) → ℕ → ℕ → Type 0
+IsFoundWithin p f n a = (k : ℕ) × (k ≤ n) × (find p (map f (range_with_len a (suc n))) ≡ Some (f (a + k))) × (p (f (a + k)) ≡ true)
+
+find_in_row : (p : ℕ → Bool) (f : ℕ → ℕ) (n a : ℕ) → p (f (a + n)) ≡ true → IsFoundWithin p f n a
 find_in_row p f zero a last =
     (0, omega arith, (let z : a + 0 ≡ a = omega arith in found (p (f a)) (ap (λ i. p (f i)) (sym z) ∙ last) ∙ ap (λ i. Some (f i)) (sym z)), last)
   where
@@ -37,7 +41,7 @@ find_in_row p f zero a last =
     found false e = cc
 find_in_row p f (suc n) a last = by_first (p (f a)) refl (find_in_row p f n (a + 1) (let next : a + 1 + n ≡ a + suc n = omega arith in ap (λ i. p (f i)) next ∙ last))
   where
-    by_first : (b : Bool) → p (f a) ≡ b → ((k : ℕ) × (k ≤ n) × (find p (map f (range_with_len (a + 1) (suc n))) ≡ Some (f (a + 1 + k))) × (p (f (a + 1 + k)) ≡ true)) → (k : ℕ) × (k ≤ suc n) × (cond (p (f a)) (Some (f a)) (find p (map f (range_with_len (a + 1) (suc n)))) ≡ Some (f (a + k))) × (p (f (a + k)) ≡ true)
+    by_first : (b : Bool) → p (f a) ≡ b → IsFoundWithin p f n (a + 1) → IsFoundWithin p f (suc n) a
     by_first true e rest =
         let z : a + 0 ≡ a = omega arith in
         (0, omega arith, ap (λ b. cond b (Some (f a)) (find p (map f (range_with_len (a + 1) (suc n))))) e ∙ ap (λ i. Some (f i)) (sym z), ap (λ i. p (f i)) z ∙ e)

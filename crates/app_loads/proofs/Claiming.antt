@@ -102,8 +102,8 @@ size_is keys size some few power enough half_below = by_power power.0 power.1
 
 -- ---- all claims
 
-pub claims_joined : (m : Description) (plan : AppPlan) (spots : List Spot) (sdram : List ℕ) (fixed keys rows : List AppNet) (x0 x1 x2 x3 x4 : List Claim) → x0 ≡ [] → spots ≡ plan.spots → sdram ≡ plan.sdram →
-    x1 ≡ x0 ++ gathered memory_claim 0 (zip spots sdram) → fixed ≡ plan.nets → x2 ≡ x1 ++ gathered (λ j (net : AppNet). fixed_claim j net.fixed) 0 fixed → keys ≡ plan.nets →
+pub claims_joined : (m : Description) (plan : AppPlan) (spots : List Spot) (sdram : List ℕ) (fixed keys rows : List AppNet) (x0 x1 x2 x3 x4 : List Claim) → x0 ≡ [] → spots ≡ plan.spots →
+    sdram ≡ plan.sdram → x1 ≡ x0 ++ gathered memory_claim 0 (zip spots sdram) → fixed ≡ plan.nets → x2 ≡ x1 ++ gathered (λ j (net : AppNet). fixed_claim j net.fixed) 0 fixed → keys ≡ plan.nets →
     x3 ≡ x2 ++ gathered (λ j (net : AppNet). key_claim j net.keys net.fixed) 0 keys → rows ≡ plan.nets → x4 ≡ x3 ++ flat_map (row_claim m rows) (range_with_len 0 (chip_count m)) →
     x4 ≡ claims_of m plan
 claims_joined m plan spots sdram fixed keys rows x0 x1 x2 x3 x4 e0 is_spots is_sdram e1 is_fixed e2 is_keys e3 is_rows e4 =

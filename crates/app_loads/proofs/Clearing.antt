@@ -15,15 +15,11 @@ use Rattle.app_loads.specs.declared.loaded.Range.{Range}
 use Rattle.app_loads.specs.declared.places.Region.TheVariants.{Rows}
 use Rattle.app_loads.specs.Regions.{IsRangeWithin, chip_count, range_has, is_taken, place_of, region_size}
 use Rattle.app_loads.specs.Writing.{AreUnused, AreUnusedFrom, CanClear}
-use Rattle.app_loads.proofs.Copying.{changed_here, same_elsewhere, was_here, none_more, taken_more}
+use Rattle.app_loads.proofs.Copying.{IsOfChip, changed_here, same_elsewhere, was_here, none_more, taken_more}
 use Rattle.app_loads.proofs.Settling.{rows_size}
 use Rattle.std.proofs.Math.Bool.{or-false}
 
--- ---- entries of one table
-
--- ---- entries of ranges
-
-module _ (m : Description) (old : List (List Entry)) (ranges : List Range) (can : CanClear m old ranges) (cur : List (List Entry)) (i : ℕ) (d : Range) (below : i < length ranges)
+module _ {m : Description} {old cur : List (List Entry)} {ranges : List Range} {i : ℕ} (d : Range) (can : CanClear m old ranges) (below : i < length ranges)
     (so_far : AreUnused m (take i ranges) old cur) where
   abbrev range : Range
   range = get_or ranges i d
@@ -52,15 +48,12 @@ module _ (m : Description) (old : List (List Entry)) (ranges : List Range) (can 
     others = λ c k inside free. so_far.others c k inside (none_more ranges i range (place_of m (Rows c)) k at free).0;
   }
 
-  module _ (c0 : Chip) (inside0 : IsInside m c0) (is_rows : place_of m (Rows c0) ≡ range.region) (j : ℕ) (is_index : j ≡ index_of m c0) where
-    index0 : index_of m c0 ≡ j
-    index0 = sym is_index
-
+  module _ {c0 : Chip} {j : ℕ} (of : IsOfChip m range.region c0 j) where
     pub table_below : j < n
-    table_below = let b = index_below m c0 inside0 in omega (arith, b, is_index)
+    table_below = let b = index_below m c0 of.inside in let e = of.index_is in omega (arith, b, e)
 
     region_at : range.region ≡ 1 + (n + j)
-    region_at = sym is_rows ∙ ap (λ k. 1 + (n + k)) index0
+    region_at = of.region_is ∙ ap (λ k. 1 + (n + k)) of.index_is
 
     pub range_fits : range.place + range.size ≤ 1024
     range_fits = subst (λ r. range.place + range.size ≤ r) (ap (region_size m) region_at ∙ rows_size m j) within.within
@@ -76,7 +69,7 @@ module _ (m : Description) (old : List (List Entry)) (ranges : List Range) (can 
       T = get_or cur j dt
 
       pub T_long : length T ≡ 1024
-      T_long = ap length (sym (was_here m cur cur_long j table_below dt T c0 index0)) ∙ so_far.long c0 inside0
+      T_long = ap length (sym (was_here m cur cur_long j table_below dt T c0 of.index_is)) ∙ so_far.long c0 of.inside
 
       pub unused_more : (table : List Entry) → AreUnusedFrom range.place range.size T table → AreUnused m (take (i + 1) ranges) old (slice_set cur j table)
       unused_more table done = record {

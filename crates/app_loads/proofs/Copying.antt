@@ -31,8 +31,8 @@ use Rattle.range_store.proofs.HolePlaces.{clash}
 
 -- ---- a list with a part written
 
-pub put_more : {X : Type 0} (old b : List X) (first p : ℕ) (x : X) (m n : List X) → length b ≡ p → first + p < length old → m ≡ take first old ++ (b ++ drop (first + p) old) → n ≡ set m (first + p) x →
-    n ≡ take first old ++ ((b ++ x ∷ []) ++ drop (first + (p + 1)) old)
+pub put_more : {X : Type 0} (old b : List X) (first p : ℕ) (x : X) (m n : List X) → length b ≡ p → first + p < length old → m ≡ take first old ++ (b ++ drop (first + p) old) →
+    n ≡ set m (first + p) x → n ≡ take first old ++ ((b ++ x ∷ []) ++ drop (first + (p + 1)) old)
 put_more {X} old b first p x m n many inside before given =
     let a : List X = take first old in
     let y : X = get_or old (first + p) x in
@@ -162,13 +162,14 @@ put_listed table old first marks lists j d is same =
     subst (λ (l : List Row). table ≡ take first old ++ (map entry_of l ++ drop (first + length l) old)) (sym (rows_listed marks lists j d same))
     (is ∙ ap (λ k. take first old ++ (map entry_of (map row_of_mark marks) ++ drop (first + k) old)) (sym (length-map marks row_of_mark)))
 
--- a region that is a chip's entries
-module _ (m : Description) (r : Region) (c : Chip) where
-  pub inside_of : r ≡ Rows c → IsRegion m r → IsInside m c
-  inside_of is its = subst (IsRegion m) is its
+-- a region is the entries of a chip, which has an index
+pub record IsOfChip (m : Description) (region : ℕ) (c : Chip) (j : ℕ) : Type 0 where
+  pub inside : IsInside m c
+  pub region_is : region ≡ place_of m (Rows c)
+  pub index_is : index_of m c ≡ j
 
-  pub rows_at : (k : ℕ) → r ≡ Rows c → place_of m r ≡ k → place_of m (Rows c) ≡ k
-  rows_at k is at = sym (ap (place_of m) is) ∙ at
+pub of_chip : {m : Description} {r : Region} {c : Chip} {region j : ℕ} → r ≡ Rows c → IsRegion m r → place_of m r ≡ region → j ≡ index_of m c → IsOfChip m region c j
+of_chip {m} is its at index = record { inside = subst (IsRegion m) is its; region_is = sym at ∙ ap (place_of m) is; index_is = sym index }
 
 -- the place of a region of no table is at most as great as there are chips
 pub place_of_no_rows : (m : Description) (r : Region) → ((c : Chip) → r ≡ Rows c → ⊥) → IsRegion m r → (k : ℕ) → place_of m r ≡ k → k ≤ chip_count m
@@ -178,7 +179,7 @@ place_of_no_rows m (Rows c) other is k at = absurd (other c refl)
 
 -- ---- rows copied
 
-module _ (m : Description) (old : List (List Entry)) (rows : List Table) (ranges : List Range) (can : CanCopy m old rows ranges) (cur : List (List Entry)) (i : ℕ) (d : Range) (below : i < length ranges)
+module _ {m : Description} {old cur : List (List Entry)} {rows : List Table} {ranges : List Range} {i : ℕ} (d : Range) (can : CanCopy m old rows ranges) (below : i < length ranges)
     (so_far : AreCopied m rows (take i ranges) old cur) where
   abbrev range : Range
   range = get_or ranges i d
@@ -204,18 +205,12 @@ module _ (m : Description) (old : List (List Entry)) (rows : List Table) (ranges
     others = λ c k inside free. so_far.others c k inside (none_more ranges i range (place_of m (Rows c)) k at free).0;
   }
 
-  module _ (c0 : Chip) (inside0 : IsInside m c0) (is_rows : place_of m (Rows c0) ≡ range.region) (j : ℕ) (is_index : j ≡ index_of m c0) where
-    index0 : index_of m c0 ≡ j
-    index0 = sym is_index
-
+  module _ {c0 : Chip} {j : ℕ} (of : IsOfChip m range.region c0 j) where
     pub j_below : j < n
-    j_below = let b = index_below m c0 inside0 in omega (arith, b, is_index)
-
-    region0 : range.region ≡ place_of m (Rows c0)
-    region0 = sym is_rows
+    j_below = let b = index_below m c0 of.inside in let e = of.index_is in omega (arith, b, e)
 
     region_at : range.region ≡ 1 + (n + j)
-    region_at = region0 ∙ ap (λ k. 1 + (n + k)) index0
+    region_at = of.region_is ∙ ap (λ k. 1 + (n + k)) of.index_is
 
     pub j_in_tables : j < length cur
     j_in_tables = let a = so_far.all in let b = can.tables_long in let c = j_below in omega (arith, a, b, c)
@@ -231,16 +226,16 @@ module _ (m : Description) (old : List (List Entry)) (rows : List Table) (ranges
       R = get_or rows j dr
 
       T_is : table_at m cur c0 ≡ T
-      T_is = ap (λ k. get_or cur k []) index0 ∙ get_or_from_slice_get cur j T [] (slice_get-get_or cur j dt j_in_tables)
+      T_is = ap (λ k. get_or cur k []) of.index_is ∙ get_or_from_slice_get cur j T [] (slice_get-get_or cur j dt j_in_tables)
 
       pub T_long : length T ≡ 1024
-      T_long = ap length (sym T_is) ∙ so_far.long c0 inside0
+      T_long = ap length (sym T_is) ∙ so_far.long c0 of.inside
 
       R_at : slice_get rows (index_of m c0) ≡ Some R
-      R_at = ap (slice_get rows) index0 ∙ slice_get-get_or rows j dr j_in_rows
+      R_at = ap (slice_get rows) of.index_is ∙ slice_get-get_or rows j dr j_in_rows
 
       fit : (range.place + length R.rows ≤ 1024) × (range.size ≡ length R.rows)
-      fit = can.fit range (Contains-at ranges i range at) c0 R inside0 region0 R_at
+      fit = can.fit range (Contains-at ranges i range at) c0 R of.inside of.region_is R_at
 
       pub R_fits : range.place + length R.rows ≤ 1024
       R_fits = fit.0
@@ -292,7 +287,7 @@ module _ (m : Description) (old : List (List Entry)) (rows : List Table) (ranges
         cur_at = was_here m cur cur_long j j_below dt table
 
         region_of : (c : Chip) → index_of m c ≡ j → range.region ≡ place_of m (Rows c)
-        region_of c same = region0 ∙ ap (λ k. 1 + (n + k)) (index0 ∙ sym same)
+        region_of c same = of.region_is ∙ ap (λ k. 1 + (n + k)) (of.index_is ∙ sym same)
 
         -- an earlier range is apart from this one
         earlier_apart : (other : Range) → Contains (take i ranges) other → ShareNoPlace other range
@@ -318,7 +313,7 @@ module _ (m : Description) (old : List (List Entry)) (rows : List Table) (ranges
                   (λ k low high. outside k (apart_here c other before same region k low high))
                   ∙ (ap (λ l. take other.size (drop other.place l)) (sym (cur_at c same)) ∙ so_far.copied other before c t inside region is_t))
               | inr mine ↦
-                  let one : t ≡ R = same_Some _ _ (sym is_t ∙ (ap (slice_get rows) (same ∙ sym index0) ∙ R_at)) in
+                  let one : t ≡ R = same_Some _ _ (sym is_t ∙ (ap (slice_get rows) (same ∙ sym of.index_is) ∙ R_at)) in
                   ap (λ (r : Range). take r.size (drop r.place (table_at m (slice_set cur j table) c))) mine
                   ∙ (ap (λ l. take range.size (drop range.place l)) (here_at c same ∙ table_is)
                   ∙ (part_of (take range.place T) b (drop (range.place + length b) T) range.place range.size (length-take-le range.place T (let f = fit.0 in let w = T_long in omega (arith, f, w))) (fit.1 ∙ sym b_long)

@@ -100,9 +100,6 @@ module _ (one_way : HasOneWay) (s t : State) (nets : List NetPlan) (asked : ℕ 
   abbrev is_own : Delivery → Bool
   is_own d = own d.copy.packet
 
-  abbrev IsWayAt : Description → List Spot → NetPlan → Spot → List Exit → ℕ → ℕ → Type 0
-  IsWayAt m on net target branch from to = IsWayOn m on net target branch from to
-
   there : (net : NetPlan) (target : Spot) (branch : List Exit) (from to : ℕ) → IsWayOn s.setup.machine s.setup.spots net target branch from to →
       IsWayOn t.setup.machine t.setup.spots net target branch from to
   there net target branch from to way =

@@ -1,7 +1,7 @@
 -- Deliveries that came earlier change nothing of what events do, and where no copy waits, all that is unsent keeps its ledger without
 -- them.
 use Rattle.std.proofs.Common.{◌≡◌, ℕ, ◌/◌, ◌%◌, ◌≤◌, ◌&&◌, Bool, true, false, List, [], ◌∷◌, ◌++◌, count_by, refl, sym, ap, ◌∙◌, subst, arith, inl, inr, Option, None, Some, if◌then◌else◌, not}
-use Rattle.std.specs.Prelude.{unwrap_or, slice_set, is_some}
+use Rattle.std.specs.Prelude.{unwrap_or, slice_set}
 use Rattle.std.specs.List.{slice_get, Contains}
 use Rattle.std.proofs.lemmas.Bool.{eq-eqb}
 use Rattle.std.proofs.lemmas.List.{append_assoc, append-nil}
@@ -24,12 +24,10 @@ use Rattle.machine_desc.specs.Branch.{Exit}
 use Rattle.machine_desc.specs.Live.{chip_of, index_of}
 use Rattle.machine_desc.specs.NetsOn.{vertex_at}
 use Rattle.machine_desc.specs.declared.nets.NetPlan.{NetPlan}
-use Rattle.mesh_core.specs.declared.places.Did.{Did}
-use Rattle.mesh_core.specs.declared.places.Did.TheVariants.{Moved, Idle}
 use Rattle.mesh_core.specs.Expected.{NothingWaits}
 use Rattle.mesh_core.specs.Ledger.{Label, MeetsLedger, all_hand_marks, core_marks, delivered_marks, dumped_marks, hand_marks, input_marks, marks_at, marks_of, port_of, unsent_marks}
 use Rattle.mesh_core.specs.State.{State, Hand, IsMesh, Queue, behind, input, core, nowhere, queue_at}
-use Rattle.mesh_core.specs.Step.{after_event, after_events, after_serving, answer, collect_of, dump_of, has_room_behind, inject_of, push_behind, send_of, serves, step_of, take_of}
+use Rattle.mesh_core.specs.Step.{after_event, after_events, after_serving, collect_of, dump_of, has_room_behind, inject_of, push_behind, send_of, serves, step_of, take_of}
 use Rattle.mesh_core.specs.Trail.{Mark, Station, in_queue, at_core, is_packet_on_trail, on_trail, unsent}
 use Rattle.mesh_core.proofs.LedgerLaw.{one_net}
 use Rattle.mesh_drain.specs.Draining.{IsReachedDropless, MeetsSomeLedger}
@@ -104,22 +102,12 @@ module _ (ds : List Delivery) where
   stepped s (Dump c o) = dropped s c o (slice_get s.hands (index_of s.setup.machine c))
   stepped s (Collect v) = collected s v (slice_get s.cores v)
 
-  later_is : (o : Option State) → is_some (later o) ≡ is_some o
-  later_is (Some t) = refl
-  later_is None = refl
-
   later_or : (o : Option State) (s : State) → unwrap_or (later o) (we s) ≡ we (unwrap_or o s)
   later_or (Some t) s = refl
   later_or None s = refl
 
   pub event_with : (s : State) (e : Event) → after_event (we s) e ≡ we (after_event s e)
   event_with s e = ap (λ o. unwrap_or o (we s)) (stepped s e) ∙ later_or (step_of s e) s
-
-  pub answer_with : (s : State) (e : Event) → answer (we s) e ≡ answer s e
-  answer_with s e = ap answer_by (ap is_some (stepped s e) ∙ later_is (step_of s e))
-    where
-      answer_by : Bool → Did
-      answer_by b = if b then Moved else Idle
 
   pub events_with : (s : State) (es : List Event) → after_events (we s) es ≡ we (after_events s es)
   events_with s [] = refl

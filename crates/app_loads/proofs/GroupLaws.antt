@@ -3,8 +3,8 @@ use Rattle.std.proofs.Common.{◌≡◌, ◌≢◌, ℕ, zero, suc, ◌+◌, ◌
 use Rattle.std.specs.List.{All, filter, list_any, slice_get, slice_index_or, slice_set}
 use Rattle.std.proofs.lemmas.Bool.{and_from, and_parts, cases_Bool, cases_lt, false≢true, le-leb, leb-true, lt-ltb, ltb-true, not-false, not-true, or_parts}
 use Rattle.std.proofs.lemmas.Grind.{flat_map-append}
-use Rattle.std.proofs.lemmas.List.{append_assoc, append-nil, length-append, map-append}
-use Rattle.std.proofs.lemmas.List.Elements.{All-append, All-cons, All-head, All-map, All-nil, All-tail, All-weaker, filter-append}
+use Rattle.std.proofs.lemmas.List.{append_assoc, append-nil, length-append}
+use Rattle.std.proofs.lemmas.List.Elements.{All-head, All-map, All-tail, All-weaker, filter-append}
 use Rattle.std.proofs.lemmas.List.Filters.{length-filter_both}
 use Rattle.std.proofs.lemmas.Option.{same_Some, slice_get-get_or}
 use Rattle.spin_base.proofs.Pairs.{All-flat_map}
@@ -13,28 +13,14 @@ use Rattle.app_loads.specs.declared.group.Arrival.{Arrival}
 use Rattle.app_loads.specs.declared.group.Group.TheInside.{Inside}
 use Rattle.app_loads.specs.declared.group.Sent.{Sent}
 use Rattle.app_loads.specs.declared.loaded.LoadedApp.{LoadedApp}
-use Rattle.app_loads.specs.Grouping.{Grouped, HasPut, IsAtLeast, IsAtMost, all_grouped, is_mixed_group, is_others_group, is_own_group}
+use Rattle.app_loads.specs.Grouping.{Grouped, HasPut, all_grouped, is_mixed_group, is_others_group, is_own_group}
 use Rattle.app_loads.specs.Groups.{IsBetween, IsGroup, arrival_of, deliveries_at, deliveries_in, delivery_of, grouped_of, sent_of}
 use Rattle.app_loads.specs.Leaving.{is_delivery_of, is_packet_of}
 
 -- ---- one group
 
--- a delivery more of the only packet
-pub extended : (p : Sent) (arrivals : List Arrival) (d : Delivery) → p ≡ sent_of d → deliveries_in (p ∷ []) (arrivals ++ arrival_of d ∷ []) ≡ deliveries_in (p ∷ []) arrivals ++ d ∷ []
-extended p arrivals d is =
-    append-nil (deliveries_at (arrivals ++ arrival_of d ∷ []) p)
-    ∙ (map-append (delivery_of p) arrivals (arrival_of d ∷ [])
-    ∙ (ap (λ (x : Delivery). deliveries_at arrivals p ++ x ∷ []) (ap (λ q. delivery_of q (arrival_of d)) is)
-    ∙ ap (λ l. l ++ d ∷ []) (sym (append-nil (deliveries_at arrivals p)))))
-
 pub first_of : (sent : List Sent) (arrivals : List Arrival) (d : Delivery) → sent ≡ sent_of d ∷ [] → arrivals ≡ arrival_of d ∷ [] → deliveries_in sent arrivals ≡ d ∷ []
 first_of sent arrivals d sent_is arrivals_are = ap (λ l. deliveries_in l arrivals) sent_is ∙ ap (λ l. deliveries_in (sent_of d ∷ []) l) arrivals_are
-
-pub more_of : (sent : List Sent) (arrivals more : List Arrival) (d : Delivery) → sent ≡ sent_of d ∷ [] → more ≡ arrivals ++ arrival_of d ∷ [] → deliveries_in sent more ≡ deliveries_in sent arrivals ++ d ∷ []
-more_of sent arrivals more d sent_is more_is =
-    ap (λ l. deliveries_in l more) sent_is
-    ∙ (ap (λ l. deliveries_in (sent_of d ∷ []) l) more_is
-    ∙ (extended (sent_of d) arrivals d refl ∙ ap (λ l. deliveries_in l arrivals ++ d ∷ []) (sym sent_is)))
 
 -- a packet more that came to the same vertices
 pub joined : (sent : List Sent) (q : Sent) (arrivals other : List Arrival) → other ≡ arrivals → deliveries_in (sent ++ q ∷ []) arrivals ≡ deliveries_in sent arrivals ++ deliveries_in (q ∷ []) other
@@ -45,16 +31,6 @@ pub joined_of : (sent all own : List Sent) (q : Sent) (arrivals other : List Arr
     deliveries_in all arrivals ≡ deliveries_in sent arrivals ++ deliveries_in own other
 joined_of sent all own q arrivals other all_is own_is same =
     ap (λ l. deliveries_in l arrivals) all_is ∙ (joined sent q arrivals other same ∙ ap (λ l. deliveries_in sent arrivals ++ deliveries_in l other) (sym own_is))
-
--- the packets lie between lesser and greater numbers too, and so does one more
-pub between_more : (sent all : List Sent) (q : Sent) (least greatest low high : ℕ) → all ≡ sent ++ q ∷ [] → All (IsBetween least greatest) sent → IsAtMost low least q.packet → IsAtLeast high greatest q.packet →
-    All (IsBetween low high) all
-between_more sent all q least greatest low high all_is between at_most at_least =
-    subst (All (IsBetween low high)) (sym all_is)
-    (All-append (IsBetween low high) sent (q ∷ [])
-    (All-weaker (IsBetween least greatest) (IsBetween low high)
-    (λ p is. let l = at_most.first in let h = at_least.first in let a = is.low in let b = is.high in record { low = omega (arith, l, a); high = omega (arith, h, b) }) sent between)
-    (All-cons (IsBetween low high) q [] (record { low = at_most.second; high = at_least.second }) (All-nil (IsBetween low high))))
 
 module _ (app : LoadedApp) (g : Inside) (is : IsGroup g) where
   -- what holds of all numbers between the least and the greatest holds of all deliveries
@@ -105,6 +81,10 @@ not_own app g unmixed own = not-false (is_others_group app g) (sym (ap (λ b. no
 
 -- ---- groups
 
+-- what was put with what stays, by a test, where what stays is told otherwise
+pub rest_is : (p : Delivery → Bool) (own all : List Delivery) {lent rest : List Grouped} → lent ≡ rest → own ++ filter p (all_grouped lent) ≡ filter p all → own ++ filter p (all_grouped rest) ≡ filter p all
+rest_is p own all is = subst (λ (gs : List Grouped). own ++ filter p (all_grouped gs) ≡ filter p all) is
+
 -- deliveries that were put into the last group, or not, were so into all
 pub put_last : (b : Bool) (gs : List Grouped) (n : ℕ) (g new : Grouped) (more : List Delivery) → slice_get gs n ≡ Some g → length gs ≡ n + 1 → HasPut b g.deliveries more new.deliveries →
     HasPut b (all_grouped gs) more (all_grouped (slice_set gs n new))
@@ -123,13 +103,20 @@ pub grouped_push : (gs : List Grouped) (g : Grouped) → all_grouped (gs ++ g �
 grouped_push gs g = flat_map-append (λ (x : Grouped). x.deliveries) gs (g ∷ []) ∙ ap (λ l. all_grouped gs ++ l) (append-nil g.deliveries)
 
 -- all pass a test, or none
-pub all_pass : {X : Type 0} (p : X → Bool) (xs : List X) → All (λ x. p x ≡ true) xs → filter p xs ≡ xs
+all_pass : {X : Type 0} (p : X → Bool) (xs : List X) → All (λ x. p x ≡ true) xs → filter p xs ≡ xs
 all_pass p [] all = refl
 all_pass p (x ∷ xs) all = ap (λ b. cond b (x ∷ filter p xs) (filter p xs)) (All-head (λ y. p y ≡ true) x xs all) ∙ ap (λ l. x ∷ l) (all_pass p xs (All-tail (λ y. p y ≡ true) x xs all))
 
-pub none_pass : {X : Type 0} (p : X → Bool) (xs : List X) → All (λ x. p x ≡ false) xs → filter p xs ≡ []
+none_pass : {X : Type 0} (p : X → Bool) (xs : List X) → All (λ x. p x ≡ false) xs → filter p xs ≡ []
 none_pass p [] all = refl
 none_pass p (x ∷ xs) all = ap (λ b. cond b (x ∷ filter p xs) (filter p xs)) (All-head (λ y. p y ≡ false) x xs all) ∙ none_pass p xs (All-tail (λ y. p y ≡ false) x xs all)
+
+-- where all pass a test none passes its opposite, and where none does all do
+pub all_apart : {X : Type 0} (p : X → Bool) (xs : List X) → All (λ x. p x ≡ true) xs → (filter p xs ≡ xs) × (filter (λ x. not (p x)) xs ≡ [])
+all_apart p xs all = (all_pass p xs all, none_pass (λ x. not (p x)) xs (All-weaker (λ x. p x ≡ true) (λ x. not (p x) ≡ false) (λ x yes'. ap not yes') xs all))
+
+pub none_apart : {X : Type 0} (p : X → Bool) (xs : List X) → All (λ x. p x ≡ false) xs → (filter p xs ≡ []) × (filter (λ x. not (p x)) xs ≡ xs)
+none_apart p xs none = (none_pass p xs none, all_pass (λ x. not (p x)) xs (All-weaker (λ x. p x ≡ false) (λ x. not (p x) ≡ true) (λ x no'. ap not no') xs none))
 
 -- what was put into the last of so many groups was put into all
 pub last_put : (b : Bool) (gs : List Grouped) (count : ℕ) (g new : Grouped) (more : List Delivery) → count ≡ length gs → count ≢ 0 → g ≡ slice_index_or gs (count - 1) g →

@@ -22,7 +22,8 @@ zipped R [] (y ∷ ys) long each = absurd (omega (arith, long))
 zipped R (x ∷ xs) [] long each = absurd (omega (arith, long))
 zipped R (x ∷ xs) (y ∷ ys) long each = (each 0 x y refl refl, zipped R xs ys (omega (arith, long)) (λ i a b p q. each (suc i) a b p q))
 
-pub loaded_from : (m : Description) (taken : List Range) (new : List Region) (plan : AppPlan) (app : LoadedApp) → IsPlan m plan → app.plan ≡ plan → AreServed m taken (claims_of m plan) app.ranges → AreTaken m taken app.ranges new → AreBlocks (claims_of m plan) app.ranges plan.nets app.blocks → IsLoadedOn m app
+pub loaded_from : (m : Description) (taken : List Range) (new : List Region) (plan : AppPlan) (app : LoadedApp) → IsPlan m plan → app.plan ≡ plan → AreServed m taken (claims_of m plan) app.ranges →
+    AreTaken m taken app.ranges new → AreBlocks (claims_of m plan) app.ranges plan.nets app.blocks → IsLoadedOn m app
 loaded_from m taken new plan app valid is served have blocks = record {
   plan = subst (IsPlan m) (sym is) valid;
   ranges = subst (λ (p : AppPlan). AllZip (IsRangeFor m) (claims_of m p) app.ranges) (sym is)
@@ -31,8 +32,12 @@ loaded_from m taken new plan app valid is served have blocks = record {
   blocks = subst (λ (p : AppPlan). AreBlocks (claims_of m p) app.ranges p.nets app.blocks) (sym is) blocks;
 }
 
-pub can_settle : (s : State) (old new : List Region) (number first : ℕ) (plan : AppPlan) (app : LoadedApp) → CanJoin s old first plan → IsServedApp s.setup.machine old number first plan app new → CanSettle s app
-can_settle s old new number first plan app can served =
+-- an application is served on the machine that this one is
+pub served_on : {m n : Description} {old new : List Region} {number first : ℕ} {plan : AppPlan} {app : LoadedApp} → m ≡ n → IsServedApp m old number first plan app new → IsServedApp n old number first plan app new
+served_on {old = old} {new = new} {number = number} {first = first} {plan = plan} {app = app} = subst (λ (d : Description). IsServedApp d old number first plan app new)
+
+pub can_settle : {s : State} {old new : List Region} {number first : ℕ} {plan : AppPlan} {app : LoadedApp} → CanJoin s old first plan → IsServedApp s.setup.machine old number first plan app new → CanSettle s app
+can_settle {s} {new = new} {first = first} {plan = plan} {app = app} can served =
     let m = s.setup.machine in
     let own = can.of_machine in
     let taken = served.taken own.taken own.apart own.free in

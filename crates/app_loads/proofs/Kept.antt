@@ -1,29 +1,25 @@
 -- A mesh whose earlier deliveries are held apart, seen as one mesh.
-use Rattle.std.proofs.Common.{◌≡◌, Bool, ℕ, ◌+◌, ◌^◌, ◌<◌, not, List, [], ◌++◌, length, refl, sym, ap, ◌∙◌, subst, inl, inr, arith, Option, None, Some, Result, Ok, Err, OnErr, OnOk, map}
-use Rattle.std.specs.Prelude.{IfSome}
+use Rattle.std.proofs.Common.{◌≡◌, Bool, ℕ, ◌+◌, ◌^◌, ◌<◌, List, [], ◌++◌, length, refl, sym, ap, ◌∙◌, subst, inl, inr, arith, Result, Ok, Err, OnOk, map}
 use Rattle.std.specs.List.{Contains, filter}
 use Rattle.std.proofs.lemmas.List.{map-append}
 use Rattle.std.proofs.lemmas.List.Sums.{count_by-le-length, length-filter}
-use Rattle.std.proofs.lemmas.List.Elements.{All-nil, filter-append}
+use Rattle.std.proofs.lemmas.List.Elements.{All-nil}
 use Rattle.spin_base.proofs.Members.{Among, among_contains, among_either, among_left, among_map, among_right, contains_among}
 use Rattle.spin_base.specs.declared.copies.Delivery.{Delivery}
-use Rattle.range_store.specs.Views.{Region}
-use Rattle.mesh_core.specs.Expected.{IsAtRest, NothingWaits}
+use Rattle.mesh_core.specs.Expected.{NothingWaits}
 use Rattle.mesh_core.specs.HasRun.{DropsNone}
 use Rattle.mesh_core.specs.Ledger.{all_hand_marks, core_marks, delivered_marks, dumped_marks, input_marks, marks_of, unsent_marks}
 use Rattle.mesh_core.specs.State.{State, IsMesh}
 use Rattle.mesh_core.specs.Trail.{Mark, IsUnderWayAt, delivered}
-use Rattle.mesh_drain.specs.Draining.{IsMoved, IsReachedDropless, MaySend, MeetsSomeLedger, SendAlone}
+use Rattle.mesh_drain.specs.Draining.{IsMoved, IsReachedDropless, MaySend, SendAlone}
 use Rattle.mesh_drain.proofs.Frame.{dumped_reached, kept_reached}
-use Rattle.app_loads.specs.declared.answers.Ended.{Ended}
 use Rattle.app_loads.specs.declared.answers.UnloadErr.{UnloadErr}
 use Rattle.app_loads.specs.declared.answers.UnloadErr.TheVariants.{NotLoaded, Waiting, Memory}
-use Rattle.app_loads.specs.declared.leaving.Left.{Left}
 use Rattle.app_loads.specs.declared.loaded.LoadedApp.{LoadedApp}
 use Rattle.app_loads.specs.Earlier.{with_earlier}
-use Rattle.app_loads.specs.Joining.{CanSettle, IsSettled}
-use Rattle.app_loads.specs.Leaving.{NoneUnderWay, WaitsIn, is_delivery_of, mesh_without}
-use Rattle.app_loads.specs.Removing.{CanLeaveFrom, HasLeft, HasLeftMesh, IsWhyHere}
+use Rattle.app_loads.specs.Joining.{CanSettle}
+use Rattle.app_loads.specs.Leaving.{NoneUnderWay, WaitsIn}
+use Rattle.app_loads.specs.Removing.{IsWhyHere}
 use Rattle.app_loads.specs.Running.{IsClean}
 use Rattle.app_loads.proofs.Earlier.{kept_without, reached_with}
 use Rattle.app_loads.proofs.LeftMesh.{mesh_with}
@@ -32,10 +28,6 @@ use Rattle.app_loads.proofs.LeftMesh.{mesh_with}
 pub ok_then : {X E : Type 0} {P Q : Type 0} (r : Result X E) → (P → Q) → OnOk r P → OnOk r Q
 ok_then (Ok x) f p = f p
 ok_then (Err e) f p = tt
-
-pub err_then : {X E : Type 0} {P Q : Type 0} (r : Result X E) → (P → Q) → OnErr r P → OnErr r Q
-err_then (Ok x) f p = tt
-err_then (Err e) f p = f p
 
 -- ---- the same mesh, whose deliveries are held otherwise
 
@@ -48,13 +40,6 @@ quiet_still s t is quiet = subst NothingWaits (sym is) (record { inputs_empty = 
 -- it is the whole one, where none are held apart
 pub whole_is : (xs ys : List Delivery) (s t : State) → t ≡ record s { delivered = t.delivered } → ys ++ t.delivered ≡ xs ++ s.delivered → ys ≡ [] → t ≡ with_earlier xs s
 whole_is xs ys s t is all none = ap (λ l. with_earlier l t) (sym none) ∙ same_mesh xs ys s t is all
-
-pub alone_still : (s t : State) (vertices : List ℕ) → t ≡ record s { delivered = t.delivered } → SendAlone vertices s → SendAlone vertices t
-alone_still s t vertices is alone = subst (SendAlone vertices) (sym is) (record {
-  quiet = record { inputs_empty = alone.quiet.inputs_empty; hands_empty = alone.quiet.hands_empty; cores_empty = alone.quiet.cores_empty };
-  there = alone.there;
-  others = alone.others;
-})
 
 pub moved_as : (a s t b : State) → s ≡ a → b ≡ t → IsMoved s t → IsMoved a b
 moved_as a s t b from to moved = subst (λ x. IsMoved x b) from (subst (IsMoved s) (sym to) moved)
@@ -75,52 +60,13 @@ module _ (ds : List Delivery) where
   pub can_settle_own : (s : State) (app : LoadedApp) → CanSettle (we s) app → CanSettle s app
   can_settle_own s app can = record { loaded = can.loaded; apart = can.apart; numbers = can.numbers; vertices = can.vertices; none = can.none; long = can.long }
 
-  pub alone_own : (s : State) (vertices : List ℕ) → SendAlone vertices (we s) → SendAlone vertices s
-  alone_own s vertices alone = record {
-    quiet = record { inputs_empty = alone.quiet.inputs_empty; hands_empty = alone.quiet.hands_empty; cores_empty = alone.quiet.cores_empty };
-    there = alone.there;
-    others = alone.others;
-  }
-
-  known_own : (s : State) (senders : Option (List ℕ)) → IfSome senders (λ vertices. SendAlone vertices (we s)) → IfSome senders (λ vertices. SendAlone vertices s)
-  known_own s None known = tt
-  known_own s (Some vertices) known = alone_own s vertices known
-
-  pub can_leave_own : (s : State) (regions : List Region) (senders : Option (List ℕ)) (app : LoadedApp) → CanLeaveFrom (we s) regions senders app → CanLeaveFrom s regions senders app
-  can_leave_own s regions senders app leave = record {
-    can = record { others = leave.can.others; taken = leave.can.taken; few = leave.can.few; long = leave.can.long };
-    known = known_own s senders leave.known;
-  }
-
-  -- ---- and the other way round
-
-  pub settled_with : (app : LoadedApp) (s t : State) → IsSettled app s t → IsSettled app (we s) (we t)
-  settled_with app s t settled = record { mesh = ap we settled.mesh; sent = settled.sent; written = settled.written }
+  -- ---- with earlier ones too
 
   pub alone_with : (s : State) (vertices : List ℕ) → SendAlone vertices s → SendAlone vertices (we s)
   alone_with s vertices alone = record {
     quiet = record { inputs_empty = alone.quiet.inputs_empty; hands_empty = alone.quiet.hands_empty; cores_empty = alone.quiet.cores_empty };
     there = alone.there;
     others = alone.others;
-  }
-
-  pub rest_with : (s : State) → IsAtRest s → IsAtRest (we s)
-  rest_with s rest = record {
-    waits = record { inputs_empty = rest.waits.inputs_empty; hands_empty = rest.waits.hands_empty; cores_empty = rest.waits.cores_empty };
-    all_sent = rest.all_sent;
-  }
-
-  pub left_with : (app : LoadedApp) (others : List Delivery) (s t : State) (left : Left) (ended : Ended) (own : List Delivery) → HasLeftMesh app s left t →
-      own ≡ filter (is_delivery_of app) ds → others ≡ filter (λ d. not (is_delivery_of app d)) ds → ended.delivered ≡ own ++ left.delivered → ended.dumped ≡ left.dumped →
-      HasLeft app (we s) ended (with_earlier others t)
-  left_with app others s t left ended own has own_is others_is delivered_is dumped_is = record {
-    delivered = delivered_is ∙ (ap (λ l. l ++ left.delivered) own_is
-        ∙ (ap (λ l. filter (is_delivery_of app) ds ++ l) has.delivered ∙ sym (filter-append (is_delivery_of app) ds s.delivered)));
-    dumped = dumped_is ∙ has.dumped;
-    mesh = ap (λ (u : State). record u { delivered = others ++ u.delivered }) has.mesh
-        ∙ ap (λ l. record (mesh_without app t.setup.tables s) { delivered = l })
-        (ap (λ l. l ++ filter (λ d. not (is_delivery_of app d)) s.delivered) others_is ∙ sym (filter-append (λ d. not (is_delivery_of app d)) ds s.delivered));
-    cleared = has.cleared;
   }
 
   -- ---- what is under way
@@ -173,16 +119,6 @@ module _ (ds : List Delivery) where
   why_with s app Memory why = why
 
 -- ---- a clean mesh
-
--- deliveries are held apart
-pub clean_kept : (xs ys : List Delivery) (s t : State) → MeetsSomeLedger (with_earlier xs s) → NothingWaits s → s.dumped ≡ [] → t ≡ record s { delivered = t.delivered } →
-    ys ++ t.delivered ≡ xs ++ s.delivered → t.delivered ≡ [] → IsClean ys t
-clean_kept xs ys s t kept quiet none is all delivered_all = record {
-  kept = subst MeetsSomeLedger (sym (same_mesh xs ys s t is all)) kept;
-  quiet = quiet_still s t is quiet;
-  none_delivered = delivered_all;
-  none_dumped = ap (λ (u : State). u.dumped) is ∙ none;
-}
 
 pub may_send : (xs : List Delivery) (s : State) → IsClean xs s → MaySend s
 may_send xs s clean = record { kept = kept_without xs s clean.kept (mesh_own xs s clean.kept.mesh) clean.quiet clean.none_delivered clean.none_dumped; quiet = clean.quiet }

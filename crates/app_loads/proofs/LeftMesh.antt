@@ -21,13 +21,13 @@ pub mesh_with : (s : State) (tables : List (List Entry)) (delivered : List Deliv
     IsMesh (record s { setup = record s.setup { tables = tables }; delivered = delivered; dumped = dumped })
 mesh_with s tables delivered dumped mesh long = changed_mesh s tables s.unsent delivered dumped mesh long refl mesh.unsent_at_start
 
-pub parted_whole : (s t : State) → s ≡ t → IsMesh t → (u : Setup) (delivered : List Delivery) (dumped : List DumpRec) → u ≡ record s.setup { tables = u.tables } → length u.tables ≡ length s.setup.tables →
-    IsMesh (record s { setup = u; delivered = delivered; dumped = dumped })
-parted_whole s t same mesh u delivered dumped setup long =
+pub parted_whole : {s t : State} {u : Setup} {delivered : List Delivery} {dumped : List DumpRec} → s ≡ t → IsMesh t → u ≡ record s.setup { tables = u.tables } →
+    length u.tables ≡ length s.setup.tables → IsMesh (record s { setup = u; delivered = delivered; dumped = dumped })
+parted_whole {s} {u = u} {delivered = delivered} {dumped = dumped} same mesh setup long =
     subst (λ (v : Setup). IsMesh (record s { setup = v; delivered = delivered; dumped = dumped })) (sym setup) (mesh_with s u.tables delivered dumped (subst IsMesh (sym same) mesh) long)
 
-pub can_clear : (s t : State) → s ≡ t → IsMesh t → (regions : List Region) (app : LoadedApp) → CanLeave t regions app → (lent : List Range) → lent ≡ app.ranges → CanClear s.setup.machine s.setup.tables lent
-can_clear s t same mesh regions app can lent lent_is =
+pub can_clear : {s t : State} {regions : List Region} {app : LoadedApp} {lent : List Range} → s ≡ t → IsMesh t → CanLeave t regions app → lent ≡ app.ranges → CanClear s.setup.machine s.setup.tables lent
+can_clear {t = t} {regions = regions} {app = app} {lent = lent} same mesh can lent_is =
     subst (λ (x : State). CanClear x.setup.machine x.setup.tables lent) (sym same) (subst (CanClear t.setup.machine t.setup.tables) (sym lent_is) (record {
       tables_long = mesh.table_list;
       each_long = can.long;

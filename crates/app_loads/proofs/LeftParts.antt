@@ -6,7 +6,6 @@ use Rattle.std.specs.List.{slice_get, Contains}
 use Rattle.std.proofs.lemmas.Bool.{cases_Bool, eqb-true}
 use Rattle.std.proofs.lemmas.Option.{slice_get-get_or, slice_get_within, same_Some}
 use Rattle.spin_base.proofs.Members.{Contains-at, any_among, position_nowhere, position_there}
-use Rattle.machine_desc.specs.Description.{Description}
 use Rattle.range_store.specs.Views.{Region}
 use Rattle.mesh_core.specs.State.{State}
 use Rattle.mesh_drain.specs.Draining.{SendAlone}
@@ -15,18 +14,16 @@ use Rattle.app_loads.specs.declared.answers.UnloadErr.{UnloadErr}
 use Rattle.app_loads.specs.declared.answers.UnloadErr.TheVariants.{NotLoaded, Waiting, Memory}
 use Rattle.app_loads.specs.declared.apps.Apps.TheInside.{Inside}
 use Rattle.app_loads.specs.declared.loaded.LoadedApp.{LoadedApp}
-use Rattle.app_loads.specs.declared.loaded.Range.{Range}
 use Rattle.app_loads.specs.Applications.{AreApps}
 use Rattle.app_loads.specs.Host.{Host, all_ranges, is_loaded}
 use Rattle.app_loads.specs.Inner.{host_of, IsHost, mesh_in, numbers_of}
 use Rattle.app_loads.specs.Leaving.{NoneUnderWay, others_than}
-use Rattle.app_loads.specs.Regions.{AreFreeBeside}
 use Rattle.app_loads.specs.Removing.{CanLeave, HasLeft, IsWhyHere}
-use Rattle.app_loads.specs.Taking.{AreTaken, frees}
+use Rattle.app_loads.specs.Taking.{AreGivenBack, frees}
 use Rattle.app_loads.specs.Unloading.{HasUnloaded, IsWhyNotUnloaded, NoneWaits}
 use Rattle.app_loads.proofs.FewClaims.{few_ranges}
 use Rattle.app_loads.proofs.LeftHost.{apps_left, has_unloaded, loaded_one, none_waits, taken_beside}
-use Rattle.app_loads.proofs.LoadedParts.{one_host, still_host}
+use Rattle.app_loads.proofs.LoadedParts.{IsOut, host_is, mesh_h, old_is}
 use Rattle.app_loads.proofs.Others.{without_one}
 use Rattle.app_loads.proofs.Resting.{left_alone}
 
@@ -50,107 +47,110 @@ found_number apps number at app is here =
     let found = position_there (λ (a : LoadedApp). a.number == number) apps at app is in
     ap (λ (a : LoadedApp). a.number) (same_Some _ _ (sym here ∙ found.1)) ∙ eqb-true found.0.number number found.3
 
-one_app : (apps : List LoadedApp) (at : ℕ) (a b : LoadedApp) → slice_get apps at ≡ Some a → slice_get apps at ≡ Some b → b ≡ a
-one_app apps at a b first second = same_Some _ _ (sym second ∙ first)
-
 -- what a call answered where it succeeded
-pub on_ok_is : {A E : Type 0} (P : Type 0) (r : Result A E) (x : A) → r ≡ Ok x → OnOk r P → P
-on_ok_is P r x is if = subst (λ z. OnOk z P) is if
+pub on_ok_is : {A E : Type 0} (P : Type 0) {r : Result A E} {x : A} → r ≡ Ok x → OnOk r P → P
+on_ok_is P is if = subst (λ z. OnOk z P) is if
 
-module _ (i : Inside) (mesh : State) (is : i.mesh ≡ Some mesh) (host : IsHost i) (number at : ℕ) (place : position (λ (app : LoadedApp). app.number == number) i.apps.items ≡ Some at)
-    (app : LoadedApp) (value : app ≡ get_or i.apps.items at app) (given : List Region) (given_is : given ≡ i.regions.items) where
+-- the application of a number is found, and the mesh is taken out
+pub record Leaves (i : Inside) (now : Host) (number at : ℕ) (app : LoadedApp) (mesh : State) (given : List Region) : Type 0 where
+  pub out : IsOut i now mesh given
+  pub place : position (λ (app : LoadedApp). app.number == number) now.apps ≡ Some at
+  pub value : app ≡ get_or i.apps.items at app
+
+module _ {i : Inside} {now : Host} {number at : ℕ} {app : LoadedApp} {mesh : State} {given : List Region} (leaves : Leaves i now number at app mesh given) where
   abbrev h : Host
   h = host_of i
 
-  mesh_h : h.mesh ≡ mesh
-  mesh_h = ap mesh_in is
+  apps : AreApps h
+  apps = leaves.out.stands.host.apps
 
-  machine_h : h.mesh.setup.machine ≡ mesh.setup.machine
-  machine_h = ap (λ (s : State). s.setup.machine) mesh_h
+  its_mesh : h.mesh ≡ mesh
+  its_mesh = mesh_h leaves.out
 
-  old_is : frees given ≡ h.regions
-  old_is = ap frees given_is
+  place : position (λ (a : LoadedApp). a.number == number) i.apps.items ≡ Some at
+  place = ap (λ (x : Host). position (λ (a : LoadedApp). a.number == number) x.apps) leaves.out.stands.view ∙ leaves.place
 
   here : slice_get i.apps.items at ≡ Some app
-  here = found_there i.apps.items number at app place value
+  here = found_there i.apps.items number at app place leaves.value
 
   its : app.number ≡ number
   its = found_number i.apps.items number at app place here
-
-  -- the application that is taken out
-  pub gone : (other : LoadedApp) → other ≡ get_or i.apps.items at other → other ≡ app
-  gone other is_other = one_app i.apps.items at app other here (found_there i.apps.items number at other place is_other)
 
   in_apps : Contains h.apps app
   in_apps = Contains-at i.apps.items at app here
 
   pub can_leave : CanLeave mesh given app
-  can_leave = subst (λ (s : State). CanLeave s given app) mesh_h (record {
+  can_leave = subst (λ (s : State). CanLeave s given app) its_mesh (record {
     others = all_ranges (others_than number h.apps);
-    taken = taken_beside h host.apps number app in_apps its given old_is;
-    few = few_ranges h.mesh.setup.machine host.apps.mesh.size app (loaded_one h host.apps number app in_apps its);
-    long = host.apps.rows.long;
+    taken = taken_beside h apps number app in_apps its given (old_is leaves.out);
+    few = few_ranges h.mesh.setup.machine apps.mesh.size app (loaded_one h apps number app in_apps its);
+    long = apps.rows.long;
   })
 
-  pub senders_known : (lent : Option (List ℕ)) → lent ≡ i.senders → IfSome lent (λ vertices. SendAlone vertices mesh)
-  senders_known lent lent_is =
-      subst (λ (o : Option (List ℕ)). IfSome o (λ vertices. SendAlone vertices mesh)) (sym lent_is)
-      (subst (λ (s : State). IfSome i.senders (λ vertices. SendAlone vertices s)) mesh_h host.rest)
+  pub senders_known : IfSome i.senders (λ vertices. SendAlone vertices mesh)
+  senders_known = subst (λ (s : State). IfSome i.senders (λ vertices. SendAlone vertices s)) its_mesh leaves.out.stands.host.rest
 
-  pub ok_none : NoneUnderWay mesh app → NoneWaits h number
-  ok_none none = none_waits h host.apps number app in_apps its (subst (λ (s : State). NoneUnderWay s app) (sym mesh_h) none)
+  pub ok_none : NoneUnderWay mesh app → NoneWaits now number
+  ok_none none = subst (λ (x : Host). NoneWaits x number) leaves.out.stands.view (none_waits h apps number app in_apps its (subst (λ (s : State). NoneUnderWay s app) (sym its_mesh) none))
 
-  module _ (new : List Region) (back : (others : List Range) → AreTaken mesh.setup.machine others app.ranges given → AreFreeBeside mesh.setup.machine others (frees new))
-      (ended : Ended) (result : State) (left : HasLeft app mesh ended result) (none : NoneUnderWay mesh app)
-      (j : Inside) (j_mesh : j.mesh ≡ Some result) (j_regions : j.regions.items ≡ new) (j_apps : j.apps.items ≡ take at i.apps.items ++ drop (suc at) i.apps.items) (j_packets : j.packets ≡ i.packets) where
-    left_h : HasLeft app h.mesh ended result
-    left_h = subst (λ (s : State). HasLeft app s ended result) (sym mesh_h) left
-
-    none_h : NoneUnderWay h.mesh app
-    none_h = subst (λ (s : State). NoneUnderWay s app) (sym mesh_h) none
-
-    back_h : AreTaken h.mesh.setup.machine (all_ranges (others_than number h.apps)) app.ranges given → AreFreeBeside h.mesh.setup.machine (all_ranges (others_than number h.apps)) (frees new)
-    back_h = subst (λ (d : Description). AreTaken d (all_ranges (others_than number h.apps)) app.ranges given → AreFreeBeside d (all_ranges (others_than number h.apps)) (frees new)) (sym machine_h) (back (all_ranges (others_than number h.apps)))
-
-    others_are : j.apps.items ≡ others_than number i.apps.items
-    others_are = j_apps ∙ without_one number i.apps.items at app here its host.apps.numbers
-
-    is_now : host_of j ≡ record { mesh = result; regions = frees new; apps = others_than number h.apps; packets = h.packets }
-    is_now = one_host (mesh_in j.mesh) result (frees j.regions.items) (frees new) j.apps.items (others_than number h.apps) j.packets h.packets (ap mesh_in j_mesh) (ap frees j_regions) others_are j_packets
-
-    pub ok_apps : AreApps (host_of j)
-    ok_apps = subst AreApps (sym is_now) (apps_left h host.apps number app in_apps its given new old_is back_h ended result left_h none_h)
-
-    pub ok_unloaded : HasUnloaded h number ended (host_of j)
-    ok_unloaded = subst (HasUnloaded h number ended) (sym is_now) (has_unloaded h host.apps number app in_apps its given new old_is back_h ended result left_h none_h)
-
-    pub ok_host : j.numbers.items ≡ take at i.numbers.items ++ drop (suc at) i.numbers.items → j.senders ≡ i.senders → IsHost j
-    ok_host j_numbers j_senders = record {
-      there = ap is_some j_mesh;
-      apps = ok_apps;
-      numbers = j_numbers
-          ∙ (ap (λ (l : List ℕ). take at l ++ drop (suc at) l) host.numbers
-          ∙ (ap (λ (l : List ℕ). l ++ drop (suc at) (numbers_of i.apps.items)) (take-map (λ (a : LoadedApp). a.number) at i.apps.items)
-          ∙ (ap (λ (l : List ℕ). numbers_of (take at i.apps.items) ++ l) (drop-map (λ (a : LoadedApp). a.number) (suc at) i.apps.items)
-          ∙ (sym (map-append (λ (a : LoadedApp). a.number) (take at i.apps.items) (drop (suc at) i.apps.items)) ∙ ap numbers_of (sym j_apps)))));
-      rest = subst (λ (o : Option State). IfSome j.senders (λ vertices. SendAlone vertices (mesh_in o))) (sym j_mesh)
-          (subst (λ (o : Option (List ℕ)). IfSome o (λ vertices. SendAlone vertices result)) (sym j_senders)
-          (left_alone app h.mesh result result.setup.tables i.senders left_h.mesh host.rest));
-    }
-
-  module _ (j : Inside) (result : State) (refused : result ≡ mesh) (new : List Region) (same : frees new ≡ frees given)
-      (j_mesh : j.mesh ≡ Some result) (j_regions : j.regions.items ≡ new) (j_apps : j.apps.items ≡ i.apps.items) (j_packets : j.packets ≡ i.packets) where
-    pub stays_same : host_of j ≡ host_of i
-    stays_same =
-        one_host (mesh_in j.mesh) h.mesh (frees j.regions.items) h.regions j.apps.items h.apps j.packets h.packets (ap mesh_in j_mesh ∙ (refused ∙ sym mesh_h)) (ap frees j_regions ∙ (same ∙ old_is)) j_apps j_packets
-
-    pub stays_host : j.numbers.items ≡ i.numbers.items → j.senders ≡ i.senders → IsHost j
-    stays_host numbers senders = still_host i j host (ap is_some j_mesh) stays_same numbers senders
-
-  pub why_stays : (cause : UnloadErr) → IsWhyHere mesh app cause → IsWhyNotUnloaded h number cause
-  why_stays cause why = by_cause cause (subst (λ (s : State). IsWhyHere s app cause) (sym mesh_h) why)
+  pub why_stays : (cause : UnloadErr) → IsWhyHere mesh app cause → IsWhyNotUnloaded now number cause
+  why_stays cause why = subst (λ (x : Host). IsWhyNotUnloaded x number cause) leaves.out.stands.view (by_cause cause (subst (λ (s : State). IsWhyHere s app cause) (sym its_mesh) why))
     where
       by_cause : (e : UnloadErr) → IsWhyHere h.mesh app e → IsWhyNotUnloaded h number e
       by_cause NotLoaded w = absurd w
       by_cause (Waiting packet) w = record { app = app; is = in_apps; number_is = its; waits = w.0; least = w.1 }
       by_cause Memory w = tt
+
+-- it left, and the fields are put back
+pub record HasGone (i j : Inside) (mesh : State) (given : List Region) (number at : ℕ) (app : LoadedApp) (ended : Ended) : Type 0 where
+  pub after : State
+  pub new : List Region
+  pub back : AreGivenBack mesh.setup.machine app.ranges given new
+  pub left : HasLeft app mesh ended after
+  pub none : NoneUnderWay mesh app
+  pub mesh_is : j.mesh ≡ Some after
+  pub regions : j.regions.items ≡ new
+  pub apps : j.apps.items ≡ take at i.apps.items ++ drop (suc at) i.apps.items
+  pub packets : j.packets ≡ i.packets
+  pub numbers : j.numbers.items ≡ take at i.numbers.items ++ drop (suc at) i.numbers.items
+  pub senders : j.senders ≡ i.senders
+
+module _ {i j : Inside} {now : Host} {number at : ℕ} {app : LoadedApp} {mesh : State} {given : List Region} {ended : Ended} (leaves : Leaves i now number at app mesh given) (gone : HasGone i j mesh given number at app ended) where
+  abbrev old : Host
+  old = host_of i
+
+  abbrev new : Host
+  new = record { mesh = gone.after; regions = frees gone.new; apps = others_than number old.apps; packets = old.packets }
+
+  left : HasLeft app old.mesh ended gone.after
+  left = subst (λ (s : State). HasLeft app s ended gone.after) (sym (its_mesh leaves)) gone.left
+
+  is_now : host_of j ≡ new
+  is_now =
+      host_is j new (ap mesh_in gone.mesh_is) (ap frees gone.regions)
+      (gone.apps ∙ without_one number i.apps.items at app (here leaves) (its leaves) (apps leaves).numbers) gone.packets
+
+  both : AreApps new × HasUnloaded old number ended new
+  both =
+      let none = subst (λ (s : State). NoneUnderWay s app) (sym (its_mesh leaves)) gone.none in
+      let back = subst (λ (s : State). AreGivenBack s.setup.machine app.ranges given gone.new) (sym (its_mesh leaves)) gone.back (all_ranges (others_than number old.apps)) in (
+        apps_left old (apps leaves) number app (in_apps leaves) (its leaves) given gone.new (old_is leaves.out) back ended gone.after left none,
+        has_unloaded old (apps leaves) number app (in_apps leaves) (its leaves) given gone.new (old_is leaves.out) back ended gone.after left none,
+      )
+
+  pub ok_unloaded : HasUnloaded now number ended (host_of j)
+  ok_unloaded = subst (λ (x : Host). HasUnloaded x number ended (host_of j)) leaves.out.stands.view (subst (HasUnloaded old number ended) (sym is_now) both.1)
+
+  pub ok_host : IsHost j
+  ok_host = record {
+    there = ap is_some gone.mesh_is;
+    apps = subst AreApps (sym is_now) both.0;
+    numbers = gone.numbers
+        ∙ (ap (λ (l : List ℕ). take at l ++ drop (suc at) l) leaves.out.stands.host.numbers
+        ∙ (ap (λ (l : List ℕ). l ++ drop (suc at) (numbers_of i.apps.items)) (take-map (λ (a : LoadedApp). a.number) at i.apps.items)
+        ∙ (ap (λ (l : List ℕ). numbers_of (take at i.apps.items) ++ l) (drop-map (λ (a : LoadedApp). a.number) (suc at) i.apps.items)
+        ∙ (sym (map-append (λ (a : LoadedApp). a.number) (take at i.apps.items) (drop (suc at) i.apps.items)) ∙ ap numbers_of (sym gone.apps)))));
+    rest = subst (λ (o : Option State). IfSome j.senders (λ vertices. SendAlone vertices (mesh_in o))) (sym gone.mesh_is)
+        (subst (λ (o : Option (List ℕ)). IfSome o (λ vertices. SendAlone vertices gone.after)) (sym gone.senders)
+        (left_alone app old.mesh gone.after gone.after.setup.tables i.senders left.mesh leaves.out.stands.host.rest));
+  }

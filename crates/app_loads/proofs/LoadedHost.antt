@@ -1,5 +1,6 @@
 -- A host to which an application came.
-use Rattle.std.proofs.Common.{◌≡◌, ◌≢◌, ℕ, zero, suc, ◌+◌, ◌<◌, ◌≤◌, ◌==◌, true, false, List, [], ◌∷◌, ◌++◌, length, take, refl, sym, ap, ◌∙◌, subst, inl, inr, arith, Option, None, Some, append-nil, append_assoc, ltb, not, ◌&&◌, if◌then◌else◌, get_or}
+use Rattle.std.proofs.Common.{◌≡◌, ◌≢◌, ℕ, zero, suc, ◌+◌, ◌<◌, ◌≤◌, ◌==◌, true, false, List, [], ◌∷◌, ◌++◌, ◌∙◌, Option, None, Some, ◌&&◌, if◌then◌else◌}
+use Rattle.std.proofs.Common.{length, take, refl, sym, ap, subst, inl, inr, arith, append-nil, append_assoc, ltb, not, get_or}
 use Rattle.std.specs.Option.{option_map_or}
 use Rattle.std.specs.List.{list_any, slice_get, slice_set, All, AllPairs, Contains, flat_map, filter_map, enumerate_from, cons_option}
 use Rattle.std.proofs.lemmas.Bool.{cases_Bool, cases_eq, eq-eqb, eqb-true, false≢true, and_parts, ne_eqb, or_parts}
@@ -317,8 +318,8 @@ module _ (h : Host) (apps : AreApps h) (number : ℕ) (plan : AppPlan) (may : Ma
   }
 
 -- why an application is not loaded
-pub why_not : (h : Host) (apps : AreApps h) (number : ℕ) (plan : AppPlan) (old : List Region) → frees old ≡ h.regions → is_loaded h.apps number ≡ false → IsPlan h.mesh.setup.machine plan → (err : LoadErr) →
-    IsDueAlways h.mesh.setup.machine (claims_of h.mesh.setup.machine plan) old err → IsWhyNotLoaded h number plan err
+pub why_not : (h : Host) (apps : AreApps h) (number : ℕ) (plan : AppPlan) (old : List Region) → frees old ≡ h.regions → is_loaded h.apps number ≡ false → IsPlan h.mesh.setup.machine plan →
+    (err : LoadErr) → IsDueAlways h.mesh.setup.machine (claims_of h.mesh.setup.machine plan) old err → IsWhyNotLoaded h number plan err
 why_not h apps number plan old same none valid Memory due = tt
 why_not h apps number plan old same none valid (Refused refusal) due = by_kind refusal (due (all_ranges h.apps) apps.apart (subst (AreFreeBeside h.mesh.setup.machine (all_ranges h.apps)) (sym same) apps.free))
   where

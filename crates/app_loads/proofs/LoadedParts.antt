@@ -11,7 +11,6 @@ use Rattle.mesh_drain.specs.Draining.{SendAlone}
 use Rattle.app_loads.specs.declared.answers.LoadErr.{LoadErr}
 use Rattle.app_loads.specs.declared.apps.Apps.TheInside.{Inside}
 use Rattle.app_loads.specs.declared.loaded.LoadedApp.{LoadedApp}
-use Rattle.app_loads.specs.declared.plans.AppNet.{AppNet}
 use Rattle.app_loads.specs.declared.plans.AppPlan.{AppPlan}
 use Rattle.app_loads.specs.Applications.{AreApps, IsLoadedOn}
 use Rattle.app_loads.specs.Claims.{claims_of}
@@ -26,100 +25,148 @@ use Rattle.app_loads.proofs.LoadedHost.{apps_now, loaded_host, none_unsent, same
 use Rattle.app_loads.specs.Sending.{AreWithSources}
 use Rattle.app_loads.proofs.Resting.{with_alone}
 
-pub one_host : (a b : State) (r s : List Free) (p q : List LoadedApp) (n k : ℕ) → a ≡ b → r ≡ s → p ≡ q → n ≡ k →
+one_host : (a b : State) (r s : List Free) (p q : List LoadedApp) (n k : ℕ) → a ≡ b → r ≡ s → p ≡ q → n ≡ k →
     (let x : Host = record { mesh = a; regions = r; apps = p; packets = n } in let y : Host = record { mesh = b; regions = s; apps = q; packets = k } in x ≡ y)
 one_host a b r s p q n k ea er ep en = cc
 
--- a host of the same parts
-pub still_host : (i j : Inside) → IsHost i → is_some j.mesh ≡ true → host_of j ≡ host_of i → j.numbers.items ≡ i.numbers.items → j.senders ≡ i.senders → IsHost j
-still_host i j host there same numbers senders = record {
-  there = there;
-  apps = subst AreApps (sym same) host.apps;
-  numbers = numbers ∙ (host.numbers ∙ ap (λ (h : Host). numbers_of h.apps) (sym same));
-  rest = subst (λ (o : Option (List ℕ)). IfSome o (λ vertices. SendAlone vertices (host_of j).mesh)) (sym senders)
-      (subst (λ (h : Host). IfSome i.senders (λ vertices. SendAlone vertices h.mesh)) (sym same) host.rest);
-}
+-- the host of fields, part by part
+pub host_is : (j : Inside) (h : Host) → mesh_in j.mesh ≡ h.mesh → frees j.regions.items ≡ h.regions → j.apps.items ≡ h.apps → j.packets ≡ h.packets → host_of j ≡ h
+host_is j h = one_host (mesh_in j.mesh) h.mesh (frees j.regions.items) h.regions j.apps.items h.apps j.packets h.packets
+
+-- the fields are a host's, which is this one
+pub record Stands (i : Inside) (now : Host) : Type 0 where
+  pub host : IsHost i
+  pub view : host_of i ≡ now
+
+-- fields that say the same are the same host's
+pub still : {i j : Inside} {now : Host} → Stands i now → j.mesh ≡ i.mesh → frees j.regions.items ≡ frees i.regions.items → j.apps.items ≡ i.apps.items → j.packets ≡ i.packets →
+    j.numbers.items ≡ i.numbers.items → j.senders ≡ i.senders → Stands j now
+still {i} {j} stands mesh regions apps packets numbers senders =
+    let same : host_of j ≡ host_of i = host_is j (host_of i) (ap mesh_in mesh) regions apps packets in
+    let host = stands.host in
+    record {
+      host = record {
+        there = ap is_some mesh ∙ host.there;
+        apps = subst AreApps (sym same) host.apps;
+        numbers = numbers ∙ (host.numbers ∙ ap (λ (h : Host). numbers_of h.apps) (sym same));
+        rest = subst (λ (o : Option (List ℕ)). IfSome o (λ vertices. SendAlone vertices (host_of j).mesh)) (sym senders)
+            (subst (λ (h : Host). IfSome i.senders (λ vertices. SendAlone vertices h.mesh)) (sym same) host.rest);
+      };
+      view = same ∙ stands.view;
+    }
 
 pub never_none : (o r : Option State) → is_some o ≡ true → r ≡ o → r ≡ None → ⊥
 never_none None r some same none = cc
 never_none (Some x) r some same none = cc
 
-pub on_err : {A E : Type 0} (P : Type 0) (r : Result A E) (x : E) → r ≡ Err x → OnErr r P → P
-on_err P r x is if = subst (λ z. OnErr z P) is if
+pub on_err : {A E : Type 0} (P : Type 0) {r : Result A E} {x : E} → r ≡ Err x → OnErr r P → P
+on_err P is if = subst (λ z. OnErr z P) is if
 
 pub on_ok : {A E : Type 0} (P : Type 0) (r : Result A E) → is_err r ≡ false → OnOk r P → P
 on_ok P (Ok x) none on = on
 on_ok P (Err e) none on = cc
 
-module _ (i : Inside) (mesh : State) (is : i.mesh ≡ Some mesh) (host : IsHost i) (number : ℕ) (plan : AppPlan) (may : MayLoad (host_of i) plan) (given : List Region) (given_is : given ≡ i.regions.items) where
+-- the mesh is taken out of a host, and the regions are lent
+pub record IsOut (i : Inside) (now : Host) (mesh : State) (given : List Region) : Type 0 where
+  pub stands : Stands i now
+  pub is : i.mesh ≡ Some mesh
+  pub given_is : given ≡ i.regions.items
+
+module _ {i : Inside} {now : Host} {mesh : State} {given : List Region} (out : IsOut i now mesh given) where
   abbrev h : Host
   h = host_of i
 
-  mesh_h : h.mesh ≡ mesh
-  mesh_h = ap mesh_in is
+  pub mesh_h : h.mesh ≡ mesh
+  mesh_h = ap mesh_in out.is
 
-  old_is : frees given ≡ h.regions
-  old_is = ap frees given_is
+  pub old_is : frees given ≡ h.regions
+  old_is = ap frees out.given_is
 
-  pub can_join : CanJoin mesh given i.packets plan
-  can_join = subst (λ (s : State). CanJoin s given i.packets plan) mesh_h (record {
-    valid = may.valid;
-    of_machine = record { taken = all_ranges h.apps; apart = host.apps.apart; free = subst (AreFreeBeside h.mesh.setup.machine (all_ranges h.apps)) (sym old_is) host.apps.free };
-    numbers = may.numbers;
-    vertices = host.apps.vertices;
-    none = none_unsent h host.apps plan may;
-    long = host.apps.rows.long;
-  })
+  free : AreFreeBeside h.mesh.setup.machine (all_ranges h.apps) (frees given)
+  free = subst (AreFreeBeside h.mesh.setup.machine (all_ranges h.apps)) (sym old_is) out.stands.host.apps.free
 
-  pub packets_fit : i.packets + length plan.packets < 2 ^ 32
-  packets_fit = may.numbers
+  -- ranges that were given back are free as before
+  pub free_again : (new : List Region) → AreFreeAgain mesh.setup.machine given new → frees new ≡ h.regions
+  free_again new back =
+      same_frees h.mesh.setup.machine (all_ranges h.apps) (frees new) h.regions
+      (subst (λ (s : State). AreFreeAgain s.setup.machine given new) (sym mesh_h) back (all_ranges h.apps) out.stands.host.apps.apart free) out.stands.host.apps.free
 
-  module _ (not_loaded : is_loaded h.apps number ≡ false) (new : List Region) (app : LoadedApp) (result : State) (served : IsServedApp mesh.setup.machine given number i.packets plan app new) (settled : IsSettled app mesh result)
-      (j : Inside) (j_mesh : j.mesh ≡ Some result) (j_regions : j.regions.items ≡ new) (j_apps : j.apps.items ≡ i.apps.items ++ app ∷ []) (j_packets : j.packets ≡ i.packets + length plan.packets) where
-    served_h : IsServedApp h.mesh.setup.machine given number h.packets plan app new
-    served_h = subst (λ (s : State). IsServedApp s.setup.machine given number i.packets plan app new) (sym mesh_h) served
+  module _ (plan : AppPlan) (may : MayLoad now plan) where
+    may_h : MayLoad h plan
+    may_h = subst (λ (x : Host). MayLoad x plan) (sym out.stands.view) may
 
-    settled_h : IsSettled app h.mesh result
-    settled_h = subst (λ (s : State). IsSettled app s result) (sym mesh_h) settled
+    pub can_join : CanJoin mesh given i.packets plan
+    can_join = subst (λ (s : State). CanJoin s given i.packets plan) mesh_h (record {
+      valid = may_h.valid;
+      of_machine = record { taken = all_ranges h.apps; apart = out.stands.host.apps.apart; free = free };
+      numbers = may_h.numbers;
+      vertices = out.stands.host.apps.vertices;
+      none = none_unsent h out.stands.host.apps plan may_h;
+      long = out.stands.host.apps.rows.long;
+    })
 
-    abbrev now : Host
-    now = record { mesh = result; regions = frees new; apps = h.apps ++ app ∷ []; packets = h.packets + length plan.packets }
+    pub packets_fit : i.packets + length plan.packets < 2 ^ 32
+    packets_fit = may_h.numbers
 
-    is_now : host_of j ≡ now
-    is_now = one_host (mesh_in j.mesh) result (frees j.regions.items) (frees new) j.apps.items (h.apps ++ app ∷ []) j.packets (h.packets + length plan.packets) (ap mesh_in j_mesh) (ap frees j_regions) j_apps j_packets
+    pub err_why : (number : ℕ) (err : LoadErr) → is_loaded now.apps number ≡ false → IsDueAlways mesh.setup.machine (claims_of mesh.setup.machine plan) given err → IsWhyNotLoaded now number plan err
+    err_why number err none due =
+        subst (λ (x : Host). IsWhyNotLoaded x number plan err) out.stands.view
+        (why_not h out.stands.host.apps number plan given old_is (ap (λ (x : Host). is_loaded x.apps number) out.stands.view ∙ none) may_h.valid err
+        (subst (λ (s : State). IsDueAlways s.setup.machine (claims_of s.setup.machine plan) given err) (sym mesh_h) due))
 
-    pub ok_apps : AreApps (host_of j)
-    ok_apps = subst AreApps (sym is_now) (apps_now h host.apps number plan may not_loaded given new old_is app result served_h settled_h)
+-- an application joined it, and the fields are put back
+pub record Joins (i j : Inside) (now : Host) (mesh : State) (given : List Region) (number : ℕ) (plan : AppPlan) (app : LoadedApp) : Type 0 where
+  pub may : MayLoad now plan
+  pub none : is_loaded now.apps number ≡ false
+  pub after : State
+  pub new : List Region
+  pub served : IsServedApp mesh.setup.machine given number i.packets plan app new
+  pub settled : IsSettled app mesh after
+  pub mesh_is : j.mesh ≡ Some after
+  pub regions : j.regions.items ≡ new
+  pub apps : j.apps.items ≡ i.apps.items ++ app ∷ []
+  pub packets : j.packets ≡ i.packets + length app.plan.packets
+  pub numbers : j.numbers.items ≡ i.numbers.items ++ app.number ∷ []
+  pub sources : IfSome j.senders (AreWithSources after app.plan.nets i.senders)
 
-    pub ok_loaded : HasLoaded h number plan (host_of j)
-    ok_loaded = subst (HasLoaded h number plan) (sym is_now) (loaded_host h host.apps number plan may not_loaded given new old_is app result served_h settled_h)
+module _ {i j : Inside} {now : Host} {mesh : State} {given : List Region} {number : ℕ} {plan : AppPlan} {app : LoadedApp} (out : IsOut i now mesh given) (joins : Joins i j now mesh given number plan app) where
+  abbrev old : Host
+  old = host_of i
 
-    pub ok_host : j.numbers.items ≡ i.numbers.items ++ app.number ∷ [] → (nets : List AppNet) → nets ≡ app.plan.nets → IfSome j.senders (AreWithSources result nets i.senders) → IsHost j
-    ok_host j_numbers nets nets_are are = record {
-      there = ap is_some j_mesh;
-      apps = ok_apps;
-      numbers = j_numbers
-          ∙ (ap (λ (l : List ℕ). l ++ app.number ∷ []) host.numbers
-          ∙ (sym (map-append (λ (a : LoadedApp). a.number) i.apps.items (app ∷ [])) ∙ ap numbers_of (sym j_apps)));
-      rest = subst (λ (o : Option State). IfSome j.senders (λ vertices. SendAlone vertices (mesh_in o))) (sym j_mesh)
-          (with_alone (host_of j).mesh.setup.machine h.mesh result app on settled_h i.senders j.senders nets nets_are host.rest are);
-    }
-      where
-        on : IsLoadedOn (host_of j).mesh.setup.machine app
-        on = All-contains (IsLoadedOn (host_of j).mesh.setup.machine) j.apps.items app ok_apps.loaded
-            (subst (λ (l : List LoadedApp). Contains l app) (sym j_apps) (among_contains app (i.apps.items ++ app ∷ []) (among_right app i.apps.items (app ∷ []) (inl refl))))
+  abbrev new : Host
+  new = record { mesh = joins.after; regions = frees joins.new; apps = old.apps ++ app ∷ []; packets = old.packets + length plan.packets }
 
-  module _ (j : Inside) (result : State) (refused : result ≡ mesh) (new : List Region)
-      (back : AreFreeAgain mesh.setup.machine given new)
-      (j_mesh : j.mesh ≡ Some result) (j_regions : j.regions.items ≡ new) (j_apps : j.apps.items ≡ i.apps.items) (j_packets : j.packets ≡ i.packets) where
-    pub err_same : host_of j ≡ host_of i
-    err_same =
-        one_host (mesh_in j.mesh) h.mesh (frees j.regions.items) h.regions j.apps.items h.apps j.packets h.packets (ap mesh_in j_mesh ∙ (refused ∙ sym mesh_h))
-        (ap frees j_regions ∙ same_frees h.mesh.setup.machine (all_ranges h.apps) (frees new) h.regions
-        (subst (λ (s : State). AreFreeAgain s.setup.machine given new) (sym mesh_h) back (all_ranges h.apps) host.apps.apart (subst (AreFreeBeside h.mesh.setup.machine (all_ranges h.apps)) (sym old_is) host.apps.free)) host.apps.free) j_apps j_packets
+  settled : IsSettled app old.mesh joins.after
+  settled = subst (λ (s : State). IsSettled app s joins.after) (sym (mesh_h out)) joins.settled
 
-    pub err_host : j.numbers.items ≡ i.numbers.items → j.senders ≡ i.senders → IsHost j
-    err_host numbers senders = still_host i j host (ap is_some j_mesh) err_same numbers senders
+  is_now : host_of j ≡ new
+  is_now =
+      host_is j new (ap mesh_in joins.mesh_is) (ap frees joins.regions) joins.apps
+      (joins.packets ∙ ap (λ (p : AppPlan). i.packets + length p.packets) joins.served.plan_is)
 
-  pub err_why : is_loaded h.apps number ≡ false → (err : LoadErr) → IsDueAlways mesh.setup.machine (claims_of mesh.setup.machine plan) given err → IsWhyNotLoaded h number plan err
-  err_why none err due = why_not h host.apps number plan given old_is none may.valid err (subst (λ (s : State). IsDueAlways s.setup.machine (claims_of s.setup.machine plan) given err) (sym mesh_h) due)
+  both : AreApps new × HasLoaded old number plan new
+  both =
+      let served = subst (λ (s : State). IsServedApp s.setup.machine given number i.packets plan app joins.new) (sym (mesh_h out)) joins.served in
+      let may = may_h out plan joins.may in
+      let none = ap (λ (x : Host). is_loaded x.apps number) out.stands.view ∙ joins.none in (
+        apps_now old out.stands.host.apps number plan may none given joins.new (old_is out) app joins.after served settled,
+        loaded_host old out.stands.host.apps number plan may none given joins.new (old_is out) app joins.after served settled,
+      )
+
+  pub ok_loaded : HasLoaded now number plan (host_of j)
+  ok_loaded = subst (λ (x : Host). HasLoaded x number plan (host_of j)) out.stands.view (subst (HasLoaded old number plan) (sym is_now) both.1)
+
+  pub ok_host : IsHost j
+  ok_host = record {
+    there = ap is_some joins.mesh_is;
+    apps = subst AreApps (sym is_now) both.0;
+    numbers = joins.numbers
+        ∙ (ap (λ (l : List ℕ). l ++ app.number ∷ []) out.stands.host.numbers
+        ∙ (sym (map-append (λ (a : LoadedApp). a.number) i.apps.items (app ∷ [])) ∙ ap numbers_of (sym joins.apps)));
+    rest = subst (λ (o : Option State). IfSome j.senders (λ vertices. SendAlone vertices (mesh_in o))) (sym joins.mesh_is)
+        (with_alone (host_of j).mesh.setup.machine old.mesh joins.after app on settled i.senders j.senders app.plan.nets refl out.stands.host.rest joins.sources);
+  }
+    where
+      on : IsLoadedOn (host_of j).mesh.setup.machine app
+      on = All-contains (IsLoadedOn (host_of j).mesh.setup.machine) j.apps.items app (subst AreApps (sym is_now) both.0).loaded
+          (subst (λ (l : List LoadedApp). Contains l app) (sym joins.apps) (among_contains app (i.apps.items ++ app ∷ []) (among_right app i.apps.items (app ∷ []) (inl refl))))

@@ -49,8 +49,8 @@ use Rattle.app_loads.proofs.Settling.{has_chip-true}
 
 -- ---- lookup in a table where all that match agree
 
-found : (key : ℕ) (o : Out) (w : Bool) (other : Route) (es : List Entry) → ((e : Entry) → Contains es e → matches e key ≡ true → has e.route o ≡ w) → (x : Entry) → Contains es x → matches x key ≡ true →
-    has (option_map_or (λ (e : Entry). e.route) (find (λ (e : Entry). matches e key) es) other) o ≡ w
+found : (key : ℕ) (o : Out) (w : Bool) (other : Route) (es : List Entry) → ((e : Entry) → Contains es e → matches e key ≡ true → has e.route o ≡ w) → (x : Entry) → Contains es x →
+    matches x key ≡ true → has (option_map_or (λ (e : Entry). e.route) (find (λ (e : Entry). matches e key) es) other) o ≡ w
 found key o w other [] each x there hit = absurd (Contains-none x there)
 found key o w other (e ∷ es) each x there hit = elim (cases_Bool (matches e key)) [
   | inl mine ↦

@@ -11,12 +11,12 @@ use Rattle.app_loads.specs.Taking.{free_places_in, frees, HaveRoom}
 use Rattle.app_loads.proofs.Serving.{counted_push, more_here, none_elsewhere, of_region, set_cases}
 use Rattle.app_loads.proofs.RegionLaws.{one_free}
 
-module _ (ranges : List Range) (i : ℕ) (d : Range) (below : i < length ranges) where
+module _ (ranges : List Range) {i : ℕ} (d : Range) (below : i < length ranges) where
   abbrev range : Range
   range = get_or ranges i d
 
-  pub region_there : {X : Type 0} (xs : List X) (n : ℕ) → All (λ (r : Range). r.region < n) ranges → length xs ≡ n → range.region < length xs
-  region_there xs n there long = let w = there i d below in omega (arith, w, long)
+  pub region_there : {X : Type 0} (xs : List X) {n : ℕ} → All (λ (r : Range). r.region < n) ranges → length xs ≡ n → range.region < length xs
+  region_there xs there long = let w = there i d below in omega (arith, w, long)
 
   one_further : take (i + 1) ranges ≡ take i ranges ++ range ∷ []
   one_further = take_more_at ranges i range (slice_get-get_or ranges i d below)

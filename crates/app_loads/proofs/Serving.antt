@@ -1,5 +1,6 @@
 -- Ranges taken one after the other for claims, and given back.
-use Rattle.std.proofs.Common.{◌≡◌, ◌≢◌, ℕ, ◌+◌, ◌%◌, ◌<◌, ◌≤◌, zero, suc, Bool, true, false, not, ◌&&◌, ◌||◌, ◌⊎◌, ◌==◌, ltb, List, [], ◌∷◌, ◌++◌, take, drop, get_or, length, refl, sym, ap, ◌∙◌, subst, inl, inr, arith, Option, None, Some, IfSome, append_assoc, append-nil, count_by, replicate, if◌then◌else◌}
+use Rattle.std.proofs.Common.{◌≡◌, ◌≢◌, ℕ, ◌+◌, ◌%◌, ◌<◌, ◌≤◌, zero, suc, Bool, true, false, ◌&&◌, ◌||◌, ◌⊎◌, ◌==◌, List, [], ◌∷◌, ◌++◌, ◌∙◌, Option, None, Some, if◌then◌else◌}
+use Rattle.std.proofs.Common.{not, ltb, take, drop, get_or, length, refl, sym, ap, subst, inl, inr, arith, IfSome, append_assoc, append-nil, count_by, replicate}
 use Rattle.std.specs.List.{slice_get, slice_set, All, AllPairs, Contains}
 use Rattle.std.proofs.lemmas.Bool.{cases_Bool, cases_eq, eqb-true, eq-eqb, and_parts, and_from, lt-ltb, ne_eqb, and_right, or_right}
 use Rattle.std.proofs.lemmas.List.{length-set, length_push, take_at, take-append-le, map-set, drop_more}
@@ -96,13 +97,13 @@ pub by_taken : (ranges : List Range) (region k : ℕ) → is_taken ranges region
 by_taken ranges region k e = let found = any_among (range_has region k) ranges e in (found.0, among_contains found.0 ranges found.1, found.2)
 
 -- the free places beside one range more
-free_beside_more : (m : Description) (taken : List Range) (old : List Region) (claim : Claim) (before after : Region) (range : Range) → range.region ≡ (place_of m claim.region) →
-    AreFreeBeside m taken (frees old) → slice_get old (place_of m claim.region) ≡ Some before → IsFreeBeside m (taken ++ range ∷ []) (place_of m claim.region) (free_places_in after) →
-    AreFreeBeside m (taken ++ range ∷ []) (frees (slice_set old (place_of m claim.region) after))
-free_beside_more m taken old claim before after range its beside at here = record {
-  all = ap length (map-set free_places_in old (place_of m claim.region) after) ∙ (length-set (frees old) (place_of m claim.region) (free_places_in after) ∙ beside.all);
+free_beside_more : (m : Description) (taken : List Range) (old : List Region) (p : ℕ) (before after : Region) (range : Range) → range.region ≡ p → AreFreeBeside m taken (frees old) →
+    slice_get old p ≡ Some before → IsFreeBeside m (taken ++ range ∷ []) p (free_places_in after) → AreFreeBeside m (taken ++ range ∷ []) (frees (slice_set old p after))
+free_beside_more m taken old p before after range its beside at here = record {
+  all = ap length (map-set free_places_in old p after) ∙ (length-set (frees old) p (free_places_in after) ∙ beside.all);
   each = λ region f is.
-      elim (set_cases (frees old) (place_of m claim.region) region (free_places_in before) (free_places_in after) f (slice_get-mapped free_places_in old (place_of m claim.region) before at) (sym (ap (λ l. slice_get l region) (map-set free_places_in old (place_of m claim.region) after)) ∙ is)) [
+      elim (set_cases (frees old) p region (free_places_in before) (free_places_in after) f (slice_get-mapped free_places_in old p before at)
+      (sym (ap (λ l. slice_get l region) (map-set free_places_in old p after)) ∙ is)) [
         | inl mine ↦ subst (λ (g : Free). IsFreeBeside m (taken ++ range ∷ []) region g) (sym mine.1) (subst (λ r. IsFreeBeside m (taken ++ range ∷ []) r (free_places_in after)) (sym mine.0) here)
         | inr other ↦
             let was = beside.each region f other.1 in
@@ -125,12 +126,15 @@ apart_from_open m taken claim place may other has region k in_other in_mine =
 
 module _ (m : Description) (claims : List Claim) (old mid : List Region) (ranges : List Range) (so_far : HaveServed m claims old ranges mid)
     (claim : Claim) (is : slice_get claims (length ranges) ≡ Some claim) (before : Region) (at : slice_get mid (place_of m claim.region) ≡ Some before) where
-  -- what was taken
-  beside_in : (taken : List Range) → AreFreeBeside m taken (frees mid) → IsFreeBeside m taken (place_of m claim.region) (free_places_in before)
-  beside_in taken free = free.each (place_of m claim.region) (free_places_in before) (slice_get-mapped free_places_in mid (place_of m claim.region) before at)
+  abbrev number : ℕ
+  number = place_of m claim.region
 
-  pub served_more : (after : Region) (place : ℕ) (new : List Region) → 0 < claim.size → new ≡ slice_set mid (place_of m claim.region) after → ServesClaim claim before after place → of_region (place_of m claim.region) ranges + 1 ≤ after.spare →
-      HaveServed m claims old (ranges ++ range_at m claim place ∷ []) new
+  -- what was taken
+  beside_in : (taken : List Range) → AreFreeBeside m taken (frees mid) → IsFreeBeside m taken number (free_places_in before)
+  beside_in taken free = free.each number (free_places_in before) (slice_get-mapped free_places_in mid number before at)
+
+  pub served_more : (after : Region) (place : ℕ) (new : List Region) → 0 < claim.size → new ≡ slice_set mid number after → ServesClaim claim before after place →
+      of_region number ranges + 1 ≤ after.spare → HaveServed m claims old (ranges ++ range_at m claim place ∷ []) new
   served_more after place new some set serves spare = record {
     served = λ taken apart free.
         let was = so_far.served taken apart free in
@@ -153,27 +157,28 @@ module _ (m : Description) (claims : List Claim) (old mid : List Region) (ranges
         let t = so_far.taken taken apart free in
         let now = serves m (taken ++ ranges) (beside_in (taken ++ ranges) t.free) in
         let assoc : (taken ++ ranges) ++ r ∷ [] ≡ taken ++ (ranges ++ r ∷ []) = append_assoc taken ranges (r ∷ []) in
-        let long : length new ≡ length mid = ap length set ∙ length-set mid (place_of m claim.region) after in
+        let long : length new ≡ length mid = ap length set ∙ length-set mid number after in
         record {
           within = All-append (IsRangeWithin m (length new)) ranges (r ∷ []) (subst (λ n. All (IsRangeWithin m n) ranges) (sym long) t.within)
-              (All-cons (IsRangeWithin m (length new)) r [] (record { there = subst (λ n. (place_of m claim.region) < n) (sym long) (slice_get_within mid (place_of m claim.region) before at); some = some; within = now.0.may.within }) (All-nil (IsRangeWithin m (length new))));
+              (All-cons (IsRangeWithin m (length new)) r [] (record { there = subst (λ n. number < n) (sym long) (slice_get_within mid number before at); some = some; within = now.0.may.within })
+              (All-nil (IsRangeWithin m (length new))));
           apart = subst (AllPairs ShareNoPlace) assoc (pairs_with_last ShareNoPlace (taken ++ ranges) r t.apart (apart_from_open m (taken ++ ranges) claim place now.0.may));
           free = subst (λ l. AreFreeBeside m l (frees new)) assoc
               (subst (λ l. AreFreeBeside m ((taken ++ ranges) ++ r ∷ []) (frees l)) (sym set)
-              (free_beside_more m (taken ++ ranges) mid claim before after r refl t.free at now.1));
+              (free_beside_more m (taken ++ ranges) mid number before after r refl t.free at now.1));
         };
-    room = λ i region is_region. elim (set_cases mid (place_of m claim.region) i before after region at (sym (ap (λ l. slice_get l i) set) ∙ is_region)) [
+    room = λ i region is_region. elim (set_cases mid number i before after region at (sym (ap (λ l. slice_get l i) set) ∙ is_region)) [
       | inl mine ↦
           let more = more_here ranges r in
           let same : region.spare ≡ after.spare = ap (λ (x : Region). x.spare) mine.1 in
-          let counted : of_region i (ranges ++ r ∷ []) ≡ of_region (place_of m claim.region) (ranges ++ r ∷ []) = ap (λ n. of_region n (ranges ++ r ∷ [])) mine.0 in
+          let counted : of_region i (ranges ++ r ∷ []) ≡ of_region number (ranges ++ r ∷ []) = ap (λ n. of_region n (ranges ++ r ∷ [])) mine.0 in
           omega (arith, more, spare, same, counted)
       | inr other ↦
           let was = so_far.room i region other.1 in
           let same = none_elsewhere ranges r i other.0 in
           omega (arith, was, same)
     ];
-    long = ap length set ∙ (length-set mid (place_of m claim.region) after ∙ so_far.long);
+    long = ap length set ∙ (length-set mid number after ∙ so_far.long);
   }
     where
       r : Range
@@ -191,22 +196,23 @@ module _ (m : Description) (claims : List Claim) (old mid : List Region) (ranges
   }
 
   -- and nothing of it is taken
-  pub taken_still : (after : Region) (new : List Region) → new ≡ slice_set mid (place_of m claim.region) after → free_places_in after ≡ free_places_in before → AreTakenAlways m old ranges new
+  pub taken_still : (after : Region) (new : List Region) → new ≡ slice_set mid number after → free_places_in after ≡ free_places_in before → AreTakenAlways m old ranges new
   taken_still after new set same taken apart free =
       let t = so_far.taken taken apart free in
-      let long : length new ≡ length mid = ap length set ∙ length-set mid (place_of m claim.region) after in
+      let long : length new ≡ length mid = ap length set ∙ length-set mid number after in
       record {
         within = subst (λ n. All (IsRangeWithin m n) ranges) (sym long) t.within;
         apart = t.apart;
-        free = subst (λ l. AreFreeBeside m (taken ++ ranges) l) (sym (ap frees set ∙ (map-set free_places_in mid (place_of m claim.region) after ∙ (ap (slice_set (frees mid) (place_of m claim.region)) same ∙ set-slice_get (frees mid) (place_of m claim.region) (free_places_in before) (slice_get-mapped free_places_in mid (place_of m claim.region) before at))))) t.free;
+        free = subst (λ l. AreFreeBeside m (taken ++ ranges) l) (sym (ap frees set ∙ (map-set free_places_in mid number after ∙ (ap (slice_set (frees mid) number) same
+            ∙ set-slice_get (frees mid) number (free_places_in before) (slice_get-mapped free_places_in mid number before at))))) t.free;
       }
 
-  pub room_still : (after : Region) (new : List Region) → new ≡ slice_set mid (place_of m claim.region) after → ((n : ℕ) → n ≤ of_region (place_of m claim.region) ranges → n ≤ before.spare → n ≤ after.spare) → HaveRoom ranges new
-  room_still after new set more i region is_region = elim (set_cases mid (place_of m claim.region) i before after region at (sym (ap (λ l. slice_get l i) set) ∙ is_region)) [
+  pub room_still : (after : Region) (new : List Region) → new ≡ slice_set mid number after → ((n : ℕ) → n ≤ of_region number ranges → n ≤ before.spare → n ≤ after.spare) → HaveRoom ranges new
+  room_still after new set more i region is_region = elim (set_cases mid number i before after region at (sym (ap (λ l. slice_get l i) set) ∙ is_region)) [
     | inl mine ↦
-        let was = more (of_region (place_of m claim.region) ranges) (omega arith) (so_far.room (place_of m claim.region) before at) in
+        let was = more (of_region number ranges) (omega arith) (so_far.room number before at) in
         let same : region.spare ≡ after.spare = ap (λ (x : Region). x.spare) mine.1 in
-        let counted : of_region i ranges ≡ of_region (place_of m claim.region) ranges = ap (λ n. of_region n ranges) mine.0 in
+        let counted : of_region i ranges ≡ of_region number ranges = ap (λ n. of_region n ranges) mine.0 in
         omega (arith, was, same, counted)
     | inr other ↦ so_far.room i region other.1
   ]
@@ -277,7 +283,8 @@ module _ (m : Description) (others : List Range) (range : Range) (rest : List Ra
     free = record {
       all = ap length (ap frees set ∙ map-set free_places_in old range.region after) ∙ (length-set (frees old) range.region (free_places_in after) ∙ taken.free.all);
       each = λ region f is.
-          elim (set_cases (frees old) range.region region (free_places_in before) (free_places_in after) f (slice_get-mapped free_places_in old range.region before at) (sym (ap (λ l. slice_get l region) (ap frees set ∙ map-set free_places_in old range.region after)) ∙ is)) [
+          elim (set_cases (frees old) range.region region (free_places_in before) (free_places_in after) f (slice_get-mapped free_places_in old range.region before at)
+          (sym (ap (λ l. slice_get l region) (ap frees set ∙ map-set free_places_in old range.region after)) ∙ is)) [
             | inl here ↦ subst (λ (g : Free). IsFreeBeside m (others ++ rest) region g) (sym here.1) (subst (λ r. IsFreeBeside m (others ++ rest) r (free_places_in after)) (sym here.0) back)
             | inr other ↦
                 let was = taken.free.each region f other.1 in
@@ -329,8 +336,8 @@ module _ (m : Description) (others : List Range) (range : Range) (rest : List Ra
 
 -- ---- ranges given back in a loop
 
-module _ (ranges : List Range) (i : ℕ) (d : Range) (below : i < length ranges) (regions : List Region) (e : Region)
-    (m : Description) (others : List Range) (taken : AreTaken m others (drop i ranges) regions) where
+module _ (ranges : List Range) {others : List Range} {i : ℕ} {regions : List Region} {m : Description} (d : Range) (e : Region) (below : i < length ranges)
+    (taken : AreTaken m others (drop i ranges) regions) where
   abbrev range : Range
   range = get_or ranges i d
 
@@ -389,8 +396,8 @@ module _ (ranges : List Range) (i : ℕ) (d : Range) (below : i < length ranges)
     ]
 
 -- where all are given back, none is left
-pub all_back : (m : Description) (others ranges : List Range) (i : ℕ) (regions : List Region) → length ranges ≤ i → AreFreeBeside m (others ++ drop i ranges) (frees regions) → AreFreeBeside m others (frees regions)
-all_back m others ranges i regions end free = subst (λ l. AreFreeBeside m l (frees regions)) (ap (λ l. others ++ l) (none_left ranges i end) ∙ append-nil others) free
+pub all_back : {m : Description} {others : List Range} {i : ℕ} (ranges : List Range) (regions : List Region) → length ranges ≤ i → AreFreeBeside m (others ++ drop i ranges) (frees regions) → AreFreeBeside m others (frees regions)
+all_back {m} {others} {i} ranges regions end free = subst (λ l. AreFreeBeside m l (frees regions)) (ap (λ l. others ++ l) (none_left ranges i end) ∙ append-nil others) free
   where
     none_left : {X : Type 0} (xs : List X) (n : ℕ) → length xs ≤ n → drop n xs ≡ []
     none_left [] n le = nothing n
@@ -403,8 +410,8 @@ all_back m others ranges i regions end free = subst (λ l. AreFreeBeside m l (fr
 
 -- ---- the claims of a list, in a loop
 
-module _ (m : Description) (claims : List Claim) (old mid : List Region) (ranges : List Range) (i : ℕ) (d : Claim) (e : Region) (below : i < length claims) (each_one : length ranges ≡ i)
-    (so_far : HaveServed m claims old ranges mid) (can : CanServe m claims old) (at : ℕ) (at_is : at ≡ place_of m (get_or claims i d).region) where
+module _ {m : Description} {claims : List Claim} {old mid : List Region} {ranges : List Range} {i at : ℕ} (d : Claim) (e : Region) (below : i < length claims) (each_one : length ranges ≡ i)
+    (so_far : HaveServed m claims old ranges mid) (can : CanServe m claims old) (at_is : at ≡ place_of m (get_or claims i d).region) where
   abbrev claim : Claim
   claim = get_or claims i d
 
@@ -465,13 +472,16 @@ module _ (m : Description) (claims : List Claim) (old mid : List Region) (ranges
     pub counts_more : (place : ℕ) (list : List Range) → list ≡ ranges ++ range_here place ∷ [] → (next : ℕ) → next ≡ get_or counts at f + 1 →
         (k n : ℕ) → slice_get (slice_set counts at next) k ≡ Some n → n ≡ of_region k list
     counts_more place list pushed next is k n got =
-        counted_push ranges (range_at m claim place) counts (get_or counts at f) next (ap (slice_get counts) (sym at_is) ∙ slice_get-get_or counts at f count_there) counted is k n (ap (λ x. slice_get (slice_set counts x next) k) (sym at_is) ∙ got) ∙ ap (of_region k) (sym (pushed ∙ listed place))
+        counted_push ranges (range_at m claim place) counts (get_or counts at f) next (ap (slice_get counts) (sym at_is) ∙ slice_get-get_or counts at f count_there) counted
+        is k n (ap (λ x. slice_get (slice_set counts x next) k) (sym at_is) ∙ got)
+        ∙ ap (of_region k) (sym (pushed ∙ listed place))
 
   pub claim_served : (after : Region) (place : ℕ) (list : List Range) (held : ℕ) → held ≡ of_region at ranges → list ≡ ranges ++ range_here place ∷ [] → ServesClaim claim before' after place →
       held + 1 ≤ after.spare → HaveServed m claims old list (slice_set mid at after)
   claim_served after place list held counted pushed serves spare =
       subst (λ l. HaveServed m claims old l (slice_set mid at after)) (sym (pushed ∙ listed place))
-      (served_more m claims old mid ranges so_far claim is_claim before' at_claim after place (slice_set mid at after) claim_some (ap (λ k. slice_set mid k after) at_is) serves (let same = ap (λ k. of_region k ranges) at_is in omega (arith, spare, counted, same)))
+      (served_more m claims old mid ranges so_far claim is_claim before' at_claim after place (slice_set mid at after) claim_some (ap (λ k. slice_set mid k after) at_is) serves
+      (let same = ap (λ k. of_region k ranges) at_is in omega (arith, spare, counted, same)))
 
   pub claim_due : (err : LoadErr) → IsDueOf claim before' err → IsDueAlways m claims old err
   claim_due Memory due = tt
@@ -482,10 +492,11 @@ module _ (m : Description) (claims : List Claim) (old mid : List Region) (ranges
 
   pub claim_room : (after : Region) (held : ℕ) → held ≡ of_region at ranges → ((n : ℕ) → n ≤ held → n ≤ before'.spare → n ≤ after.spare) → HaveRoom ranges (slice_set mid at after)
   claim_room after held counted stays =
-      room_still m claims old mid ranges so_far claim is_claim before' at_claim after (slice_set mid at after) (ap (λ k. slice_set mid k after) at_is) (λ n le. stays n (let same = ap (λ k. of_region k ranges) at_is in omega (arith, le, counted, same)))
+      room_still m claims old mid ranges so_far claim is_claim before' at_claim after (slice_set mid at after) (ap (λ k. slice_set mid k after) at_is)
+      (λ n le. stays n (let same = ap (λ k. of_region k ranges) at_is in omega (arith, le, counted, same)))
 
-pub all_served : (m : Description) (claims : List Claim) (old mid : List Region) (ranges : List Range) (i : ℕ) → length claims ≤ i → length ranges ≡ i → HaveServed m claims old ranges mid → AreServedAlways m claims old ranges
-all_served m claims old mid ranges i end each_one so_far taken apart free =
+pub all_served : {m : Description} {claims : List Claim} {old mid : List Region} {ranges : List Range} {i : ℕ} → length claims ≤ i → length ranges ≡ i → HaveServed m claims old ranges mid → AreServedAlways m claims old ranges
+all_served end each_one so_far taken apart free =
     let first = so_far.served taken apart free in
     let few = first.few in
     record { first = first; all = omega (arith, end, each_one, few) }

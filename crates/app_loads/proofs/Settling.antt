@@ -1,5 +1,6 @@
 -- An application's rows and packets on a mesh.
-use Rattle.std.proofs.Common.{◌≡◌, ℕ, zero, suc, ◌+◌, ◌-◌, ◌*◌, ◌/◌, ◌%◌, ◌^◌, ◌<◌, ◌≤◌, ◌==◌, leb, Bool, true, false, List, [], ◌∷◌, ◌++◌, length, drop, take, map, refl, sym, ap, ◌∙◌, subst, inl, inr, ◌⊎◌, arith, Option, None, Some, count_by, if◌then◌else◌}
+use Rattle.std.proofs.Common.{◌≡◌, ℕ, zero, suc, ◌+◌, ◌-◌, ◌*◌, ◌/◌, ◌%◌, ◌^◌, ◌<◌, ◌≤◌, ◌==◌, Bool, true, false, List, [], ◌∷◌, ◌++◌, ◌∙◌, ◌⊎◌, Option, None, Some, if◌then◌else◌}
+use Rattle.std.proofs.Common.{leb, length, drop, take, map, refl, sym, ap, subst, inl, inr, arith, count_by}
 use Rattle.std.specs.Option.{option_map_or}
 use Rattle.std.specs.List.{list_any, slice_get, All, Contains}
 use Rattle.std.proofs.lemmas.Bool.{cases_Bool, or_left, or_right, or_cases}
@@ -176,6 +177,10 @@ module _ (s : State) (app : LoadedApp) (can : CanSettle s app) where
       };
     }
 
+-- the rows of an application, chip by chip
+abbrev pub ArePlain : Description → LoadedApp → List Table → Type 0
+ArePlain m app rows = (length rows ≡ m.width * m.height) × AtEach m rows (IsPlainTable m (nets_of app))
+
 module _ (s : State) (app : LoadedApp) (can : CanSettle s app) (mesh : IsMesh s) where
   abbrev m : Description
   m = s.setup.machine
@@ -216,31 +221,31 @@ module _ (s : State) (app : LoadedApp) (can : CanSettle s app) (mesh : IsMesh s)
     none = λ net has v vertex. ap (λ (l : List (List McCopy)). slice_get l v) is ∙ can.none net has v vertex;
   }
 
-  module _ (rows : List Table) (rows_long : length rows ≡ m.width * m.height) (plain : AtEach m rows (IsPlainTable m (nets_of app))) where
-    pub can_copy : (given : List Table) (ranges : List Range) → given ≡ rows → ranges ≡ app.ranges → CanCopy m s.setup.tables given ranges
-    can_copy given ranges is_rows is_ranges = subst (λ (l : List Table). CanCopy m s.setup.tables l ranges) (sym is_rows) (subst (CanCopy m s.setup.tables rows) (sym is_ranges) (record {
+  module _ {rows lent : List Table} {ranges : List Range} (plain : ArePlain m app rows) (is_rows : lent ≡ rows) (is_ranges : ranges ≡ app.ranges) where
+    pub can_copy : CanCopy m s.setup.tables lent ranges
+    can_copy = subst (λ (l : List Table). CanCopy m s.setup.tables l ranges) (sym is_rows) (subst (CanCopy m s.setup.tables rows) (sym is_ranges) (record {
       tables_long = mesh.table_list;
-      rows_long = rows_long;
+      rows_long = plain.0;
       each_long = can.long;
       apart = can.apart;
       there = λ range has. (All-contains (IsRangeWithin m (1 + (chip_count m + chip_count m))) app.ranges range can.loaded.within has).there;
       fit = λ range has c t inside region at.
           let size = range_size s app can range has c inside region in
-          let many = plain_count m c app.plan.nets app.blocks t.rows can.loaded.blocks.all (plain c t inside at) in
+          let many = plain_count m c app.plan.nets app.blocks t.rows can.loaded.blocks.all (plain.1 c t inside at) in
           let within = (All-contains (IsRangeWithin m (1 + (chip_count m + chip_count m))) app.ranges range can.loaded.within has).within in
           let room : range.place + range.size ≤ 1024 = subst (λ r. range.place + range.size ≤ r) (ap (region_size m) region ∙ rows_size m (index_of m c)) within in
           (omega (arith, size, many, room), size ∙ sym many);
     }))
 
-    pub written : (given : List Table) (ranges : List Range) (new : List (List Entry)) → given ≡ rows → ranges ≡ app.ranges → AreCopied m given ranges s.setup.tables new → AreWritten m app s.setup.tables new
-    written given ranges new is_rows is_ranges copied =
-        let c' = subst (λ (l : List Table). AreCopied m l app.ranges s.setup.tables new) is_rows (subst (λ (l : List Range). AreCopied m given l s.setup.tables new) is_ranges copied) in
+    pub written : (new : List (List Entry)) → AreCopied m lent ranges s.setup.tables new → AreWritten m app s.setup.tables new
+    written new copied =
+        let c' = subst (λ (l : List Table). AreCopied m l app.ranges s.setup.tables new) is_rows (subst (λ (l : List Range). AreCopied m lent l s.setup.tables new) is_ranges copied) in
         record {
           all = c'.all;
           long = c'.long;
           rows = λ range has c inside region.
-              let t = slice_get_there rows (index_of m c) (let w = index_below m c inside in omega (arith, w, rows_long)) in
-              record { rows = t.0.rows; plain = plain c t.0 inside t.1; entries = c'.copied range has c t.0 inside region t.1 };
+              let t = slice_get_there rows (index_of m c) (let w = index_below m c inside in let l = plain.0 in omega (arith, w, l)) in
+              record { rows = t.0.rows; plain = plain.1 c t.0 inside t.1; entries = c'.copied range has c t.0 inside region t.1 };
           others = c'.others;
         }
 
@@ -261,8 +266,8 @@ sent_at_start spots app (suc n) before after start sent =
     (All-set (λ q. All (λ (k : McCopy). k.hop ≡ 0) q) sent.0 one.vertex (one.queue ++ _ ∷ []) (All-push (λ (k : McCopy). k.hop ≡ 0) one.queue _ (All-at (λ q. All (λ (k : McCopy). k.hop ≡ 0) q) sent.0 one.vertex one.queue rest one.at) refl) rest)
 
 -- a mesh with other tables, unsent copies, deliveries and records
-pub changed_mesh : (s : State) (tables : List (List Entry)) (q : List (List McCopy)) (delivered : List Delivery) (dumped : List DumpRec) → IsMesh s → length tables ≡ length s.setup.tables → length q ≡ length s.unsent →
-    All (λ l. All (λ (k : McCopy). k.hop ≡ 0) l) q → IsMesh (record s { setup = record s.setup { tables = tables }; unsent = q; delivered = delivered; dumped = dumped })
+pub changed_mesh : (s : State) (tables : List (List Entry)) (q : List (List McCopy)) (delivered : List Delivery) (dumped : List DumpRec) → IsMesh s → length tables ≡ length s.setup.tables →
+    length q ≡ length s.unsent → All (λ l. All (λ (k : McCopy). k.hop ≡ 0) l) q → IsMesh (record s { setup = record s.setup { tables = tables }; unsent = q; delivered = delivered; dumped = dumped })
 changed_mesh s tables q delivered dumped mesh long as_long at_start = record {
   size = mesh.size;
   different = mesh.different;
@@ -282,8 +287,8 @@ changed_mesh s tables q delivered dumped mesh long as_long at_start = record {
   no_hand_on_dead_chips = mesh.no_hand_on_dead_chips;
 }
 
-pub settled_mesh : (s : State) (app : LoadedApp) (n : ℕ) (q : List (List McCopy)) (tables : List (List Entry)) → IsMesh s → AreSent s.setup.spots app n s.unsent q → length tables ≡ length s.setup.tables →
-    IsMesh (record s { setup = record s.setup { tables = tables }; unsent = q })
+pub settled_mesh : (s : State) (app : LoadedApp) (n : ℕ) (q : List (List McCopy)) (tables : List (List Entry)) → IsMesh s → AreSent s.setup.spots app n s.unsent q →
+    length tables ≡ length s.setup.tables → IsMesh (record s { setup = record s.setup { tables = tables }; unsent = q })
 settled_mesh s app n q tables mesh sent long =
     changed_mesh s tables q s.delivered s.dumped mesh long (sent_long s.setup.spots app n s.unsent q sent) (sent_at_start s.setup.spots app n s.unsent q mesh.unsent_at_start sent)
 
@@ -293,44 +298,38 @@ with_setup s u q is = ap (λ (v : Setup). record s { setup = v; unsent = q }) (s
 
 -- ---- the same from the mesh that was taken apart
 
-module _ (s t : State) (same : s ≡ t) (app : LoadedApp) (can : CanSettle t app) (mesh : IsMesh t) where
+module _ {s t : State} {app : LoadedApp} (same : s ≡ t) (can : CanSettle t app) (mesh : IsMesh t) where
   own : CanSettle s app
   own = subst (λ (x : State). CanSettle x app) (sym same) can
 
   whole : IsMesh s
   whole = subst IsMesh (sym same) mesh
 
-  pub parted_send : (q : List (List McCopy)) → q ≡ s.unsent → CanSend s.setup app q
-  parted_send = can_send s app own whole
+  here : (rows : List Table) → ArePlain t.setup.machine app rows → ArePlain s.setup.machine app rows
+  here rows = subst (λ (x : State). ArePlain x.setup.machine app rows) (sym same)
 
-  pub parted_mesh : (given q written' : List (List McCopy)) → given ≡ s.unsent → q ≡ given → written' ≡ q → IsMesh (record s { unsent = written' })
-  parted_mesh given q written' is kept put = subst (λ (l : List (List McCopy)). IsMesh (record s { unsent = l })) (sym (put ∙ (kept ∙ is))) whole
+  pub parted_send : {q : List (List McCopy)} → q ≡ s.unsent → CanSend s.setup app q
+  parted_send {q} = can_send s app own whole q
 
-  pub sent_as_long : (given q : List (List McCopy)) → given ≡ s.unsent → AreSent s.setup.spots app (length app.plan.packets) given q → length q ≡ length s.unsent
-  sent_as_long given q is sent = sent_long s.setup.spots app (length app.plan.packets) given q sent ∙ ap length is
+  pub parted_mesh : {given q put : List (List McCopy)} → given ≡ s.unsent → q ≡ given → put ≡ q → IsMesh (record s { unsent = put })
+  parted_mesh is kept put_is = subst (λ (l : List (List McCopy)). IsMesh (record s { unsent = l })) (sym (put_is ∙ (kept ∙ is))) whole
 
-  pub parted_copy : (rows given : List Table) (ranges : List Range) → length rows ≡ t.setup.machine.width * t.setup.machine.height → AtEach t.setup.machine rows (IsPlainTable t.setup.machine (nets_of app)) → given ≡ rows → ranges ≡ app.ranges →
-      CanCopy s.setup.machine s.setup.tables given ranges
-  parted_copy rows given ranges long plain = subst (λ (x : State). length rows ≡ x.setup.machine.width * x.setup.machine.height → AtEach x.setup.machine rows (IsPlainTable x.setup.machine (nets_of app)) → given ≡ rows → ranges ≡ app.ranges →
-      CanCopy s.setup.machine s.setup.tables given ranges) same (λ long' plain'. can_copy s app own whole rows long' plain' given ranges) long plain
+  pub parted_copy : {rows lent : List Table} {ranges : List Range} → ArePlain t.setup.machine app rows → lent ≡ rows → ranges ≡ app.ranges → CanCopy s.setup.machine s.setup.tables lent ranges
+  parted_copy {rows} plain = can_copy s app own whole (here rows plain)
 
-  pub parted_whole : (given q written' : List (List McCopy)) (u : Setup) → written' ≡ q → given ≡ s.unsent → AreSent s.setup.spots app (length app.plan.packets) given q → u ≡ record s.setup { tables = u.tables } → length u.tables ≡ length s.setup.tables → IsMesh (record s { setup = u; unsent = written' })
-  parted_whole given q written' u put is sent setup long =
-      subst (λ (l : List (List McCopy)). IsMesh (record s { setup = u; unsent = l })) (sym put) (subst IsMesh (with_setup s u q setup) (settled_mesh s app (length app.plan.packets) q u.tables whole (subst (λ (l : List (List McCopy)). AreSent s.setup.spots app (length app.plan.packets) l q) is sent) long))
+  -- packets were sent, and the tables are others
+  module _ {given q put : List (List McCopy)} {u : Setup} (is : given ≡ s.unsent) (put_is : put ≡ q) (sent : AreSent s.setup.spots app (length app.plan.packets) given q) (setup : u ≡ record s.setup { tables = u.tables }) where
+    sent_from : AreSent s.setup.spots app (length app.plan.packets) s.unsent q
+    sent_from = subst (λ (l : List (List McCopy)). AreSent s.setup.spots app (length app.plan.packets) l q) is sent
 
-  pub parted_settled : (given q written' : List (List McCopy)) (u : Setup) (rows lent : List Table) (ranges : List Range) (new : State) → written' ≡ q → new ≡ record s { setup = u; unsent = written' } → given ≡ s.unsent → AreSent s.setup.spots app (length app.plan.packets) given q → u ≡ record s.setup { tables = u.tables } →
-      length rows ≡ t.setup.machine.width * t.setup.machine.height → AtEach t.setup.machine rows (IsPlainTable t.setup.machine (nets_of app)) → lent ≡ rows → ranges ≡ app.ranges →
-      AreCopied s.setup.machine lent ranges s.setup.tables u.tables → IsSettled app t new
-  parted_settled given q written' u rows lent ranges new put new_is is sent setup long plain is_rows is_ranges copied =
-      subst (λ (x : State). IsSettled app x new) same (
-      subst (IsSettled app s) (sym (new_is ∙ ap (λ (l : List (List McCopy)). record s { setup = u; unsent = l }) put)) (record {
-        mesh = sym (with_setup s u q setup);
-        sent = subst (λ (l : List (List McCopy)). AreSent s.setup.spots app (length app.plan.packets) l q) is sent;
-        written = written s app own whole rows long' plain' lent ranges u.tables is_rows is_ranges copied;
-      }))
-    where
-      long' : length rows ≡ s.setup.machine.width * s.setup.machine.height
-      long' = subst (λ (x : State). length rows ≡ x.setup.machine.width * x.setup.machine.height) (sym same) long
+    pub parted_whole : length u.tables ≡ length s.setup.tables → IsMesh (record s { setup = u; unsent = put })
+    parted_whole long =
+        subst (λ (l : List (List McCopy)). IsMesh (record s { setup = u; unsent = l })) (sym put_is)
+        (subst IsMesh (with_setup s u q setup) (settled_mesh s app (length app.plan.packets) q u.tables whole sent_from long))
 
-      plain' : AtEach s.setup.machine rows (IsPlainTable s.setup.machine (nets_of app))
-      plain' = subst (λ (x : State). AtEach x.setup.machine rows (IsPlainTable x.setup.machine (nets_of app))) (sym same) plain
+    pub parted_settled : {rows lent : List Table} {ranges : List Range} {new : State} → new ≡ record s { setup = u; unsent = put } → ArePlain t.setup.machine app rows → lent ≡ rows →
+        ranges ≡ app.ranges → AreCopied s.setup.machine lent ranges s.setup.tables u.tables → IsSettled app t new
+    parted_settled {rows} {new = new} new_is plain is_rows is_ranges copied =
+        subst (λ (x : State). IsSettled app x new) same
+        (subst (IsSettled app s) (sym (new_is ∙ ap (λ (l : List (List McCopy)). record s { setup = u; unsent = l }) put_is))
+        (record { mesh = sym (with_setup s u q setup); sent = sent_from; written = written s app own whole (here rows plain) is_rows is_ranges u.tables copied }))

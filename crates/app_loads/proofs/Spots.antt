@@ -8,13 +8,11 @@ use Rattle.spin_base.proofs.Members.{Contains-from_filter}
 use Rattle.spin_base.proofs.Places.{All-each}
 use Rattle.spin_base.specs.declared.chips.Spot.{Spot}
 use Rattle.machine_desc.specs.Description.{Description}
-use Rattle.machine_desc.specs.Live.{index_of, chip_of, is_usable, IsSite}
+use Rattle.machine_desc.specs.Live.{index_of, chip_of, is_usable, IsSite, IsInside, IsUsable}
 use Rattle.machine_desc.proofs.Live.{index_of-chip_of}
-use Rattle.machine_desc.proofs.Sites.{usable_site}
+use Rattle.machine_desc.proofs.Sites.{usable_site, usable_parts}
 use Rattle.spin_base.proofs.Pairs.{All-flat_map}
-use Rattle.machine_desc.specs.Live.{IsInside, IsUsable}
 use Rattle.machine_desc.proofs.Far.{live_inside}
-use Rattle.machine_desc.proofs.Sites.{usable_parts}
 use Rattle.app_loads.specs.declared.loaded.LoadedApp.{LoadedApp}
 use Rattle.app_loads.specs.Applications.{AreApps, IsLoadedOn}
 use Rattle.app_loads.specs.Host.{Host, all_spots}

@@ -131,8 +131,8 @@ pub all_cleared : (sources : List ℕ) (old cur : List (List McCopy)) (i : ℕ) 
 all_cleared sources old cur i end same empty = record { beside = same; empty = λ v has. empty v (subst (λ (l : List ℕ). Contains l v) (sym (take_all i sources end)) has) }
 
 -- Where the sources had nothing unsent, all is as before.
-pub put_back : (spots : List Spot) (nets : List AppNet) (sources : List ℕ) (old mid new : List (List McCopy)) → AreSources spots nets sources → NoneUnsent spots nets old → IsSameBeside sources old mid →
-    AreCleared sources mid new → new ≡ old
+pub put_back : (spots : List Spot) (nets : List AppNet) (sources : List ℕ) (old mid new : List (List McCopy)) → AreSources spots nets sources → NoneUnsent spots nets old →
+    IsSameBeside sources old mid → AreCleared sources mid new → new ≡ old
 put_back spots nets sources old mid new are none same cleared =
     same_lists new old (cleared.beside.long ∙ same.long) (λ k d below. sym (unwrap_or-slice_get new k d) ∙ (ap (λ o. unwrap_or o d) (each k) ∙ unwrap_or-slice_get old k d))
   where
@@ -160,14 +160,14 @@ put_back spots nets sources old mid new are none same cleared =
 -- ---- the sources of nets
 
 -- what looking the source up gives
-pub source_is : (u : Setup) (nets : List AppNet) (i : ℕ) (net : AppNet) → All (IsSendingFrom u) nets → slice_get nets i ≡ Some net → (o : Option ℕ) → o ≡ vertex_at u.spots net.source → (v : ℕ) → v ≡ unwrap_or o 0 →
-    vertex_at u.spots net.source ≡ Some v
+pub source_is : (u : Setup) (nets : List AppNet) (i : ℕ) (net : AppNet) → All (IsSendingFrom u) nets → slice_get nets i ≡ Some net → (o : Option ℕ) → o ≡ vertex_at u.spots net.source → (v : ℕ) →
+    v ≡ unwrap_or o 0 → vertex_at u.spots net.source ≡ Some v
 source_is u nets i net all at o found v is =
     let sending = All-at (IsSendingFrom u) nets i net all at in
     sending.is ∙ ap Some (sym (is ∙ ap (λ p. unwrap_or p 0) (found ∙ sending.is)))
 
-pub sources_more : (spots : List Spot) (nets : List AppNet) (vertices after : List ℕ) (i v : ℕ) (net : AppNet) → slice_get nets i ≡ Some net → vertex_at spots net.source ≡ Some v → after ≡ vertices ++ v ∷ [] →
-    length vertices ≡ i → ((j w : ℕ) (n : AppNet) → slice_get nets j ≡ Some n → slice_get vertices j ≡ Some w → vertex_at spots n.source ≡ Some w) →
+pub sources_more : (spots : List Spot) (nets : List AppNet) (vertices after : List ℕ) (i v : ℕ) (net : AppNet) → slice_get nets i ≡ Some net → vertex_at spots net.source ≡ Some v →
+    after ≡ vertices ++ v ∷ [] → length vertices ≡ i → ((j w : ℕ) (n : AppNet) → slice_get nets j ≡ Some n → slice_get vertices j ≡ Some w → vertex_at spots n.source ≡ Some w) →
     (j w : ℕ) (n : AppNet) → slice_get nets j ≡ Some n → slice_get after j ≡ Some w → vertex_at spots n.source ≡ Some w
 sources_more spots nets vertices after i v net at is pushed long each j w n at_j here = elim (slice_get-push_cases vertices v w j (sym (ap (λ l. slice_get l j) pushed) ∙ here)) [
   | inl old ↦ each j w n at_j old.1

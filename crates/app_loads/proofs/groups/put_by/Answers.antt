@@ -1,41 +1,45 @@
-use Rattle.std.proofs.Common.{◌≡◌, ◌∙◌, ◌++◌, List, ap, length, false, not, sym, true}
+use Rattle.std.proofs.Common.{◌≡◌, ◌∙◌, ◌++◌, List, [], ap, length, not, sym}
+use Rattle.std.specs.List.{filter}
 use Rattle.std.proofs.lemmas.List.{append-nil}
-use Rattle.std.proofs.lemmas.List.Elements.{All-weaker}
 use Rattle.spin_base.specs.declared.copies.Delivery.{Delivery}
 use Rattle.app_loads.specs.Grouping.{all_grouped}
 use Rattle.app_loads.specs.Leaving.{is_delivery_of}
-use Rattle.app_loads.proofs.GroupLaws.{all_pass, grouped_push, none_pass, not_own}
+use Rattle.app_loads.proofs.GroupLaws.{all_apart, grouped_push, none_apart, not_own}
 use Rattle.app_loads.proofs.groups.put_by.Goals as goal
+use Rattle.app_loads.proofs.groups.put_by.Goals.{After-is_others-is_others}
+
+-- none of the others' deliveries is the application's
+apart : (c : After-is_others-is_others) →
+    (filter (is_delivery_of c.args.app.now) c.args.group.deliveries ≡ []) × (filter (λ d. not (is_delivery_of c.args.app.now d)) c.args.group.deliveries ≡ c.args.group.deliveries)
+apart c =
+    none_apart (is_delivery_of c.args.app.now) c.args.group.deliveries
+    (c.is_others-is_others.ensures.none (c.is_others-is_others.ensures.others ∙ not_own c.args.app.now c.args.group c.requires.unmixed (sym c.is_own.ensures.own ∙ c.if-is_own.false)))
 
 pub returns-then-is_own-clause-own : goal.returns-then-is_own-clause-own
 returns-then-is_own-clause-own c =
     ap all_grouped c.push_reserved.ensures.items
     ∙ (grouped_push c.args.own.now.items c.args.group
-    ∙ ap (λ (l : List Delivery). all_grouped c.args.own.now.items ++ l) (sym (all_pass (is_delivery_of c.args.app.now) c.args.group.deliveries (c.is_own.ensures.all c.if-is_own.true))))
+    ∙ ap (λ (l : List Delivery). all_grouped c.args.own.now.items ++ l) (sym (all_apart (is_delivery_of c.args.app.now) c.args.group.deliveries (c.is_own.ensures.all c.if-is_own.true)).0))
 
 pub returns-then-is_own-clause-others : goal.returns-then-is_own-clause-others
 returns-then-is_own-clause-others c =
-    sym (append-nil (all_grouped c.args.others.now.items))
-    ∙ ap (λ (l : List Delivery). all_grouped c.args.others.now.items ++ l)
-    (sym (none_pass (λ d. not (is_delivery_of c.args.app.now d)) c.args.group.deliveries
-    (All-weaker (λ (d : Delivery). is_delivery_of c.args.app.now d ≡ true) (λ (d : Delivery). not (is_delivery_of c.args.app.now d) ≡ false) (λ d own. ap not own) c.args.group.deliveries (c.is_own.ensures.all c.if-is_own.true))))
+    sym (append-nil (all_grouped c.args.others.now.items)) ∙ ap (λ (l : List Delivery). all_grouped c.args.others.now.items ++ l)
+    (sym (all_apart (is_delivery_of c.args.app.now) c.args.group.deliveries (c.is_own.ensures.all c.if-is_own.true)).1)
 
 pub returns-then-is_own-clause-count : goal.returns-then-is_own-clause-count
 returns-then-is_own-clause-count c =
-    c.len-count.ensures ∙ ap (λ (l : List Delivery). length l) (sym (all_pass (is_delivery_of c.args.app.now) c.args.group.deliveries (c.is_own.ensures.all c.if-is_own.true)))
+    c.len-count.ensures ∙ ap (λ (l : List Delivery). length l) (sym (all_apart (is_delivery_of c.args.app.now) c.args.group.deliveries (c.is_own.ensures.all c.if-is_own.true)).0)
 
 pub returns-else-is_own-clause-own : goal.returns-else-is_own-clause-own
 returns-else-is_own-clause-own c =
     sym (append-nil (all_grouped c.args.own.now.items))
-    ∙ ap (λ (l : List Delivery). all_grouped c.args.own.now.items ++ l) (sym (none_pass (is_delivery_of c.args.app.now) c.args.group.deliveries (c.is_others-is_others.ensures.none (c.is_others-is_others.ensures.others ∙ not_own c.args.app.now c.args.group c.requires.unmixed (sym c.is_own.ensures.own ∙ c.if-is_own.false)))))
+    ∙ ap (λ (l : List Delivery). all_grouped c.args.own.now.items ++ l) (sym (apart (goal.at.returns-else-is_own-clause-own c).After-is_others-is_others).0)
 
 pub returns-else-is_own-clause-others : goal.returns-else-is_own-clause-others
 returns-else-is_own-clause-others c =
     ap all_grouped c.push_reserved-else-is_own.ensures.items
     ∙ (grouped_push c.args.others.now.items c.args.group
-    ∙ ap (λ (l : List Delivery). all_grouped c.args.others.now.items ++ l)
-    (sym (all_pass (λ d. not (is_delivery_of c.args.app.now d)) c.args.group.deliveries
-    (All-weaker (λ (d : Delivery). is_delivery_of c.args.app.now d ≡ false) (λ (d : Delivery). not (is_delivery_of c.args.app.now d) ≡ true) (λ d none. ap not none) c.args.group.deliveries (c.is_others-is_others.ensures.none (c.is_others-is_others.ensures.others ∙ not_own c.args.app.now c.args.group c.requires.unmixed (sym c.is_own.ensures.own ∙ c.if-is_own.false)))))))
+    ∙ ap (λ (l : List Delivery). all_grouped c.args.others.now.items ++ l) (sym (apart (goal.at.returns-else-is_own-clause-others c).After-is_others-is_others).1))
 
 pub returns-else-is_own-clause-count : goal.returns-else-is_own-clause-count
-returns-else-is_own-clause-count c = ap (λ (l : List Delivery). length l) (sym (none_pass (is_delivery_of c.args.app.now) c.args.group.deliveries (c.is_others-is_others.ensures.none (c.is_others-is_others.ensures.others ∙ not_own c.args.app.now c.args.group c.requires.unmixed (sym c.is_own.ensures.own ∙ c.if-is_own.false)))))
+returns-else-is_own-clause-count c = ap (λ (l : List Delivery). length l) (sym (apart (goal.at.returns-else-is_own-clause-count c).After-is_others-is_others).0)

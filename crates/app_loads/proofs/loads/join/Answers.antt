@@ -2,10 +2,9 @@ use Rattle.std.proofs.Common.{subst, sym, List, refl}
 use Rattle.machine_desc.specs.Description.{Description}
 use Rattle.app_loads.specs.declared.loaded.Range.{Range}
 use Rattle.app_loads.specs.Claims.{claims_of}
-use Rattle.app_loads.specs.Joining.{IsServedApp}
 use Rattle.app_loads.specs.Plans.{IsPlan}
 use Rattle.app_loads.specs.Taking.{AreFreeAgain, AreRegionsOf, AreTaken, HaveRoom, IsDueAlways}
-use Rattle.app_loads.proofs.JoinLaws.{can_settle}
+use Rattle.app_loads.proofs.JoinLaws.{can_settle, served_on}
 use Rattle.app_loads.proofs.loads.join.Goals as goal
 
 pub serve-requires : goal.serve-requires
@@ -24,25 +23,21 @@ pub returns-in-Err-clause-back : goal.returns-in-Err-clause-back
 returns-in-Err-clause-back c = subst (λ (m : Description). AreFreeAgain m c.args.regions.now c.serve.new.regions) c.machine.ensures c.in-Err.ensures.back
 
 pub settle-mesh-requires : goal.settle-mesh-requires
-settle-mesh-requires c =
-    can_settle c.args.mesh c.args.regions.now c.serve.new.regions c.args.number c.args.first c.args.plan.now c.in-Ok.app c.requires
-    (subst (λ (m : Description). IsServedApp m c.args.regions.now c.args.number c.args.first c.args.plan.now c.in-Ok.app c.serve.new.regions) c.machine.ensures c.in-Ok.ensures.served)
+settle-mesh-requires c = can_settle c.requires (served_on c.machine.ensures c.in-Ok.ensures.served)
 
 pub returns-in-Ok-settled-clause-served : goal.returns-in-Ok-settled-clause-served
-returns-in-Ok-settled-clause-served c =
-    subst (λ (m : Description). IsServedApp m c.args.regions.now c.args.number c.args.first c.args.plan.now c.in-Ok.app c.serve.new.regions) c.machine.ensures c.in-Ok.ensures.served
+returns-in-Ok-settled-clause-served c = served_on c.machine.ensures c.in-Ok.ensures.served
 
 pub give_all-requires : goal.give_all-requires
-give_all-requires c = record {
-  taken = let own = c.requires.of_machine in (
-    c.args.mesh.setup.machine,
-    own.taken,
-    subst (λ (l : List Range). AreTaken c.args.mesh.setup.machine own.taken l c.serve.new.regions) (sym c.as_slice.ensures)
-        ((subst (λ (m : Description). IsServedApp m c.args.regions.now c.args.number c.args.first c.args.plan.now c.in-Ok.app c.serve.new.regions) c.machine.ensures c.in-Ok.ensures.served).taken own.taken own.apart own.free),
-  );
-  room = subst (λ (l : List Range). HaveRoom l c.serve.new.regions) (sym c.as_slice.ensures) c.in-Ok.ensures.room;
-}
+give_all-requires c =
+    let own = c.requires.of_machine in
+    let taken = (served_on c.machine.ensures c.in-Ok.ensures.served).taken own.taken own.apart own.free in
+    record {
+      taken = (c.args.mesh.setup.machine, own.taken, subst (λ (l : List Range). AreTaken c.args.mesh.setup.machine own.taken l c.serve.new.regions) (sym c.as_slice.ensures) taken);
+      room = subst (λ (l : List Range). HaveRoom l c.serve.new.regions) (sym c.as_slice.ensures) c.in-Ok.ensures.room;
+    }
 
 pub returns-in-Err-settled-clause-back : goal.returns-in-Err-settled-clause-back
 returns-in-Err-settled-clause-back c taken apart free =
-    c.give_all.ensures.free c.args.mesh.setup.machine taken (subst (λ (l : List Range). AreTaken c.args.mesh.setup.machine taken l c.serve.new.regions) (sym c.as_slice.ensures) ((subst (λ (m : Description). IsServedApp m c.args.regions.now c.args.number c.args.first c.args.plan.now c.in-Ok.app c.serve.new.regions) c.machine.ensures c.in-Ok.ensures.served).taken taken apart free))
+    c.give_all.ensures.free c.args.mesh.setup.machine taken
+    (subst (λ (l : List Range). AreTaken c.args.mesh.setup.machine taken l c.serve.new.regions) (sym c.as_slice.ensures) ((served_on c.machine.ensures c.in-Ok.ensures.served).taken taken apart free))

@@ -1,13 +1,11 @@
-use Rattle.std.proofs.Common.{refl, ◌≡◌, ◌∙◌, ◌*◌, subst, sym, ap, arith, length}
-use Rattle.std.specs.Vec.{with_items}
+use Rattle.std.proofs.Common.{refl, ◌∙◌, subst, sym, ap}
 use Rattle.std.proofs.lemmas.List.{with_items_is}
 use Rattle.machine_desc.specs.Description.{Description}
-use Rattle.net_tables.specs.PlainTable.{AreRoutedApart, AtEach, IsPlainTable}
-use Rattle.mesh_core.specs.InParts.{state_in}
+use Rattle.net_tables.specs.PlainTable.{AreRoutedApart}
 use Rattle.app_loads.specs.Host.{nets_of}
 use Rattle.app_loads.specs.Writing.{tables_in}
 use Rattle.app_loads.proofs.AppNets.{routed}
-use Rattle.app_loads.proofs.Settling.{settled_bare, parted_send, parted_mesh, parted_copy, parted_whole, parted_settled, sent_as_long}
+use Rattle.app_loads.proofs.Settling.{ArePlain, settled_bare, parted_send, parted_mesh, parted_copy, parted_whole, parted_settled}
 use Rattle.app_loads.proofs.loads.settle_mesh.Goals as goal
 
 pub originals_of-requires : goal.originals_of-requires
@@ -23,24 +21,27 @@ pub returns-in_default-clause-refused : goal.returns-in_default-clause-refused
 returns-in_default-clause-refused c = refl
 
 pub send-requires : goal.send-requires
-send-requires c = parted_send (state_in c.parts.inside) c.args.mesh (c.parts.view_is ∙ c.take_apart-parts.ensures.parts) c.args.app.now c.requires c.take_apart-parts.ensures.mesh c.deref_mut.result.now c.deref_mut.ensures.value
+send-requires c = parted_send (c.parts.view_is ∙ c.take_apart-parts.ensures.parts) c.requires c.take_apart-parts.ensures.mesh c.deref_mut.ensures.value
 
 pub put_together-requires-in-Err : goal.put_together-requires-in-Err
-put_together-requires-in-Err c = parted_mesh (state_in c.parts.inside) c.args.mesh (c.parts.view_is ∙ c.take_apart-parts.ensures.parts) c.args.app.now c.requires c.take_apart-parts.ensures.mesh c.deref_mut.result.now c.send.new.unsent (with_items c.parts.inside.unsent c.send.new.unsent).items c.deref_mut.ensures.value c.in-Err.ensures.refused (with_items_is c.parts.inside.unsent c.send.new.unsent (let a = ap length c.in-Err.ensures.refused in let b = ap length c.deref_mut.ensures.value in let d = c.parts.inside.unsent.ok in omega (arith, a, b, d)))
+put_together-requires-in-Err c =
+    parted_mesh (c.parts.view_is ∙ c.take_apart-parts.ensures.parts) c.requires c.take_apart-parts.ensures.mesh
+    c.deref_mut.ensures.value c.in-Err.ensures.refused (with_items_is c.parts.inside.unsent c.send.new.unsent (c.send.auto.unsent ∙ c.deref_mut.ensures.len))
 
 pub install-requires : goal.install-requires
 install-requires c =
-    parted_copy (state_in c.parts.inside) c.args.mesh (c.parts.view_is ∙ c.take_apart-parts.ensures.parts) c.args.app.now c.requires c.take_apart-parts.ensures.mesh (tables_in c.in-Ok.rows) (tables_in c.as_slice.result.now) c.as_slice-in-Ok-send.result.now
-    (subst (λ (m : Description). length (tables_in c.in-Ok.rows) ≡ m.width * m.height) c.machine.ensures c.in-Ok.ensures.long)
-    (subst (λ (m : Description). AtEach m (tables_in c.in-Ok.rows) (IsPlainTable m (nets_of c.args.app.now))) c.machine.ensures c.in-Ok.ensures.plain) (ap tables_in c.as_slice.ensures) c.as_slice-in-Ok-send.ensures
+    parted_copy (c.parts.view_is ∙ c.take_apart-parts.ensures.parts) c.requires c.take_apart-parts.ensures.mesh
+    (subst (λ (m : Description). ArePlain m c.args.app.now (tables_in c.in-Ok.rows)) c.machine.ensures (c.in-Ok.ensures.long, c.in-Ok.ensures.plain)) (ap tables_in c.as_slice.ensures) c.as_slice-in-Ok-send.ensures
 
 pub put_together-requires : goal.put_together-requires
 put_together-requires c =
-    parted_whole (state_in c.parts.inside) c.args.mesh (c.parts.view_is ∙ c.take_apart-parts.ensures.parts) c.args.app.now c.requires c.take_apart-parts.ensures.mesh c.deref_mut.result.now c.send.new.unsent (with_items c.parts.inside.unsent c.send.new.unsent).items c.install.new.setup (with_items_is c.parts.inside.unsent c.send.new.unsent (let a = sent_as_long (state_in c.parts.inside) c.args.mesh (c.parts.view_is ∙ c.take_apart-parts.ensures.parts) c.args.app.now c.requires c.take_apart-parts.ensures.mesh c.deref_mut.result.now c.send.new.unsent c.deref_mut.ensures.value c.in-Ok-send.ensures.sent in let d = c.parts.inside.unsent.ok in omega (arith, a, d))) c.deref_mut.ensures.value c.in-Ok-send.ensures.sent c.install.ensures.setup c.install.ensures.copied.all
+    parted_whole (c.parts.view_is ∙ c.take_apart-parts.ensures.parts) c.requires c.take_apart-parts.ensures.mesh
+    c.deref_mut.ensures.value (with_items_is c.parts.inside.unsent c.send.new.unsent (c.send.auto.unsent ∙ c.deref_mut.ensures.len))
+    c.in-Ok-send.ensures.sent c.install.ensures.setup c.install.ensures.copied.all
 
 pub returns-in-Ok-send-clause-settled : goal.returns-in-Ok-send-clause-settled
 returns-in-Ok-send-clause-settled c =
-    parted_settled (state_in c.parts.inside) c.args.mesh (c.parts.view_is ∙ c.take_apart-parts.ensures.parts) c.args.app.now c.requires c.take_apart-parts.ensures.mesh c.deref_mut.result.now c.send.new.unsent (with_items c.parts.inside.unsent c.send.new.unsent).items c.install.new.setup (tables_in c.in-Ok.rows) (tables_in c.as_slice.result.now) c.as_slice-in-Ok-send.result.now c.put_together.result (with_items_is c.parts.inside.unsent c.send.new.unsent (let a = sent_as_long (state_in c.parts.inside) c.args.mesh (c.parts.view_is ∙ c.take_apart-parts.ensures.parts) c.args.app.now c.requires c.take_apart-parts.ensures.mesh c.deref_mut.result.now c.send.new.unsent c.deref_mut.ensures.value c.in-Ok-send.ensures.sent in let d = c.parts.inside.unsent.ok in omega (arith, a, d))) c.put_together.ensures c.deref_mut.ensures.value
-    c.in-Ok-send.ensures.sent c.install.ensures.setup
-    (subst (λ (m : Description). length (tables_in c.in-Ok.rows) ≡ m.width * m.height) c.machine.ensures c.in-Ok.ensures.long)
-    (subst (λ (m : Description). AtEach m (tables_in c.in-Ok.rows) (IsPlainTable m (nets_of c.args.app.now))) c.machine.ensures c.in-Ok.ensures.plain) (ap tables_in c.as_slice.ensures) c.as_slice-in-Ok-send.ensures c.install.ensures.copied
+    parted_settled (c.parts.view_is ∙ c.take_apart-parts.ensures.parts) c.requires c.take_apart-parts.ensures.mesh
+    c.deref_mut.ensures.value (with_items_is c.parts.inside.unsent c.send.new.unsent (c.send.auto.unsent ∙ c.deref_mut.ensures.len)) c.in-Ok-send.ensures.sent c.install.ensures.setup
+    c.put_together.ensures (subst (λ (m : Description). ArePlain m c.args.app.now (tables_in c.in-Ok.rows)) c.machine.ensures (c.in-Ok.ensures.long, c.in-Ok.ensures.plain))
+    (ap tables_in c.as_slice.ensures) c.as_slice-in-Ok-send.ensures c.install.ensures.copied

@@ -16,63 +16,63 @@ loop-claim-init c = record {
   counted = λ k n at. none_counted (length c.args.regions.now) k n (ap (λ l. slice_get l k) (sym c.requires.counts) ∙ at) ∙ ap (of_region k) (sym c.requires.none);
 }
 
+abbrev none : Claim
+none = record { region = Keys; size = 0; align = 0; fixed = None; refusal = Loaded }
+
 pub take_claim-requires : goal.take_claim-requires
 take_claim-requires c = record {
-  fair = claim_fair c.args.machine.now c.args.claims.now c.args.regions.now c.loop-claim.regions c.loop-claim.ranges.items c.loop-claim.claim-index _ c.index-regions-at.result c.loop-claim-test.true
-      c.loop-claim.invariant.each_one c.loop-claim.invariant.served c.requires.can c.place-at.result c.place-at.ensures;
-  few = let none : Claim = record { region = Keys; size = 0; align = 0; fixed = None; refusal = Loaded } in
-      let few = few_held c.args.machine.now c.args.claims.now c.args.regions.now c.loop-claim.regions c.loop-claim.ranges.items c.loop-claim.claim-index none c.index-regions-at.result c.loop-claim-test.true
-      c.loop-claim.invariant.each_one c.loop-claim.invariant.served c.requires.can c.place-at.result c.place-at.ensures c.loop-claim.counts 0 c.loop-claim.invariant.counts c.loop-claim.invariant.counted c.requires.few in
-      omega (arith, few);
+  fair = claim_fair _ c.index-regions-at.result c.loop-claim-test.true c.loop-claim.invariant.each_one c.loop-claim.invariant.served c.requires.can c.place-at.ensures;
+  few = omega (
+    arith,
+    few_held none c.index-regions-at.result c.loop-claim-test.true c.loop-claim.invariant.each_one c.loop-claim.invariant.served c.requires.can c.place-at.ensures
+        c.loop-claim.counts 0 c.loop-claim.invariant.counts c.loop-claim.invariant.counted c.requires.few,
+  );
 }
 
 pub returns-in-Err-clause-refused : goal.returns-in-Err-clause-refused
 returns-in-Err-clause-refused c =
-    claim_due c.args.machine.now c.args.claims.now c.args.regions.now c.loop-claim.regions c.loop-claim.ranges.items c.loop-claim.claim-index _ c.index-regions-at.result c.loop-claim-test.true
-    c.loop-claim.invariant.each_one c.loop-claim.invariant.served c.requires.can c.place-at.result c.place-at.ensures c.in-Err.refusal c.in-Err.ensures.refused
+    claim_due _ c.index-regions-at.result c.loop-claim-test.true c.loop-claim.invariant.each_one c.loop-claim.invariant.served c.requires.can c.place-at.ensures
+    c.in-Err.refusal c.in-Err.ensures.refused
 
 pub returns-in-Err-clause-taken : goal.returns-in-Err-clause-taken
 returns-in-Err-clause-taken c =
-    claim_taken c.args.machine.now c.args.claims.now c.args.regions.now c.loop-claim.regions c.loop-claim.ranges.items c.loop-claim.claim-index _ c.index-regions-at.result c.loop-claim-test.true
-    c.loop-claim.invariant.each_one c.loop-claim.invariant.served c.requires.can c.place-at.result c.place-at.ensures c.take_claim.new.region c.in-Err.ensures.unchanged
+    claim_taken _ c.index-regions-at.result c.loop-claim-test.true c.loop-claim.invariant.each_one c.loop-claim.invariant.served c.requires.can c.place-at.ensures
+    c.take_claim.new.region c.in-Err.ensures.unchanged
 
 pub returns-in-Err-clause-room : goal.returns-in-Err-clause-room
 returns-in-Err-clause-room c =
-    claim_room c.args.machine.now c.args.claims.now c.args.regions.now c.loop-claim.regions c.loop-claim.ranges.items c.loop-claim.claim-index _ c.index-regions-at.result c.loop-claim-test.true
-    c.loop-claim.invariant.each_one c.loop-claim.invariant.served c.requires.can c.place-at.result c.place-at.ensures c.take_claim.new.region _
-    (count_held c.args.machine.now c.args.claims.now c.args.regions.now c.loop-claim.regions c.loop-claim.ranges.items c.loop-claim.claim-index _ c.index-regions-at.result c.loop-claim-test.true
-    c.loop-claim.invariant.each_one c.loop-claim.invariant.served c.requires.can c.place-at.result c.place-at.ensures c.loop-claim.counts _ c.loop-claim.invariant.counts c.loop-claim.invariant.counted)
-    c.in-Err.ensures.room_stays
+    claim_room _ c.index-regions-at.result c.loop-claim-test.true c.loop-claim.invariant.each_one c.loop-claim.invariant.served c.requires.can c.place-at.ensures
+    c.take_claim.new.region _
+    (count_held _ c.index-regions-at.result c.loop-claim-test.true c.loop-claim.invariant.each_one c.loop-claim.invariant.served c.requires.can c.place-at.ensures
+    c.loop-claim.counts _ c.loop-claim.invariant.counts c.loop-claim.invariant.counted) c.in-Err.ensures.room_stays
 
 pub loop-claim-preserved : goal.loop-claim-preserved
 loop-claim-preserved c =
     let long = c.loop-claim.invariant.each_one in
     let kept = c.push_reserved.ensures.capacity in
     let room = c.loop-claim.invariant.room in
-    let held = count_held c.args.machine.now c.args.claims.now c.args.regions.now c.loop-claim.regions c.loop-claim.ranges.items c.loop-claim.claim-index _ c.index-regions-at.result c.loop-claim-test.true
-    c.loop-claim.invariant.each_one c.loop-claim.invariant.served c.requires.can c.place-at.result c.place-at.ensures c.loop-claim.counts _ c.loop-claim.invariant.counts c.loop-claim.invariant.counted in
+    let held = count_held _ c.index-regions-at.result c.loop-claim-test.true c.loop-claim.invariant.each_one c.loop-claim.invariant.served c.requires.can c.place-at.ensures
+    c.loop-claim.counts _ c.loop-claim.invariant.counts c.loop-claim.invariant.counted in
     record {
       each_one = let more = pushed_long c.loop-claim.ranges.items c.push_reserved.new.self.items _ c.push_reserved.ensures.items in omega (arith, more, long);
       room = omega (arith, kept, room);
-      served = claim_served c.args.machine.now c.args.claims.now c.args.regions.now c.loop-claim.regions c.loop-claim.ranges.items c.loop-claim.claim-index _ c.index-regions-at.result c.loop-claim-test.true
-          c.loop-claim.invariant.each_one c.loop-claim.invariant.served c.requires.can c.place-at.result c.place-at.ensures c.take_claim.new.region c.in-Ok.place c.push_reserved.new.self.items _ held c.push_reserved.ensures.items c.in-Ok.ensures.taken
-          c.in-Ok.ensures.room;
+      served = claim_served _ c.index-regions-at.result c.loop-claim-test.true c.loop-claim.invariant.each_one c.loop-claim.invariant.served c.requires.can c.place-at.ensures
+          c.take_claim.new.region c.in-Ok.place c.push_reserved.new.self.items _ held c.push_reserved.ensures.items c.in-Ok.ensures.taken c.in-Ok.ensures.room;
       counts = length-set c.loop-claim.counts _ _ ∙ c.loop-claim.invariant.counts;
-      counted = counts_more c.args.machine.now c.args.claims.now c.args.regions.now c.loop-claim.regions c.loop-claim.ranges.items c.loop-claim.claim-index _ c.index-regions-at.result c.loop-claim-test.true
-          c.loop-claim.invariant.each_one c.loop-claim.invariant.served c.requires.can c.place-at.result c.place-at.ensures c.loop-claim.counts _ c.loop-claim.invariant.counts c.loop-claim.invariant.counted
-          c.in-Ok.place c.push_reserved.new.self.items c.push_reserved.ensures.items _ refl;
+      counted = counts_more _ c.index-regions-at.result c.loop-claim-test.true c.loop-claim.invariant.each_one c.loop-claim.invariant.served c.requires.can c.place-at.ensures
+          c.loop-claim.counts _ c.loop-claim.invariant.counts c.loop-claim.invariant.counted c.in-Ok.place c.push_reserved.new.self.items c.push_reserved.ensures.items _ refl;
     }
 
 pub returns-clause-served : goal.returns-clause-served
-returns-clause-served c =
-    all_served c.args.machine.now c.args.claims.now c.args.regions.now c.loop-claim.regions c.loop-claim.ranges.items c.loop-claim.claim-index c.loop-claim-test.false c.loop-claim.invariant.each_one c.loop-claim.invariant.served
+returns-clause-served c = all_served c.loop-claim-test.false c.loop-claim.invariant.each_one c.loop-claim.invariant.served
 
 pub overflow_add-counts : goal.overflow_add-counts
 overflow_add-counts c =
-    let none : Claim = record { region = Keys; size = 0; align = 0; fixed = None; refusal = Loaded } in
-    let few = few_held c.args.machine.now c.args.claims.now c.args.regions.now c.loop-claim.regions c.loop-claim.ranges.items c.loop-claim.claim-index none c.index-regions-at.result c.loop-claim-test.true
-    c.loop-claim.invariant.each_one c.loop-claim.invariant.served c.requires.can c.place-at.result c.place-at.ensures c.loop-claim.counts 0 c.loop-claim.invariant.counts c.loop-claim.invariant.counted c.requires.few in
-    omega (arith, few)
+    omega (
+      arith,
+      few_held none c.index-regions-at.result c.loop-claim-test.true c.loop-claim.invariant.each_one c.loop-claim.invariant.served c.requires.can c.place-at.ensures
+          c.loop-claim.counts 0 c.loop-claim.invariant.counts c.loop-claim.invariant.counted c.requires.few,
+    )
 
 pub place-at-requires : goal.place-at-requires
 place-at-requires c = (c.requires.can.1 c.loop-claim.claim-index _ c.loop-claim-test.true).region

@@ -1,22 +1,22 @@
 use Rattle.std.proofs.Common.{◌+◌, sym, subst, take}
 use Rattle.app_loads.specs.Writing.{AreUnused}
-use Rattle.app_loads.proofs.Copying.{inside_of, rows_at, place_of_no_rows}
+use Rattle.app_loads.proofs.Copying.{of_chip, place_of_no_rows}
 use Rattle.app_loads.proofs.Clearing.{T_long, range_fits, unused_more, unused_skip}
 use Rattle.app_loads.proofs.rows.clear_rows.Goals as goal
 
 pub clear_entries-requires : goal.clear_entries-requires
 clear_entries-requires c = record {
-  size = T_long c.args.machine.now c.args.tables.now c.args.ranges.now c.requires c.loop-range.tables c.loop-range.range-index _ c.loop-range-test.true c.loop-range.invariant c.in-Rows.chip (inside_of c.args.machine.now c.at.result c.in-Rows.chip c.in-Rows.is c.at.ensures.its) (rows_at c.args.machine.now c.at.result c.in-Rows.chip _ c.in-Rows.is c.at.ensures.place) c.index.result c.index.ensures.value c.index-tables-index.result;
-  fits = range_fits c.args.machine.now c.args.tables.now c.args.ranges.now c.requires c.loop-range.tables c.loop-range.range-index _ c.loop-range-test.true c.loop-range.invariant c.in-Rows.chip (inside_of c.args.machine.now c.at.result c.in-Rows.chip c.in-Rows.is c.at.ensures.its) (rows_at c.args.machine.now c.at.result c.in-Rows.chip _ c.in-Rows.is c.at.ensures.place) c.index.result c.index.ensures.value;
+  size = T_long _ c.requires c.loop-range-test.true c.loop-range.invariant (of_chip c.in-Rows.is c.at.ensures.its c.at.ensures.place c.index.ensures.value) c.index-tables-index.result;
+  fits = range_fits _ c.requires c.loop-range-test.true c.loop-range.invariant (of_chip c.in-Rows.is c.at.ensures.its c.at.ensures.place c.index.ensures.value);
 }
 
 pub loop-range-preserved : goal.loop-range-preserved
 loop-range-preserved c = elim c.match-at.branch [
   | goal.in-Rows w ↦
       subst (AreUnused c.args.machine.now (take (c.loop-range.range-index + 1) c.args.ranges.now) c.args.tables.now) (sym w.tables-is)
-      (unused_more c.args.machine.now c.args.tables.now c.args.ranges.now c.requires c.loop-range.tables c.loop-range.range-index _ c.loop-range-test.true c.loop-range.invariant w.in-Rows.chip (inside_of c.args.machine.now c.at.result w.in-Rows.chip w.in-Rows.is c.at.ensures.its) (rows_at c.args.machine.now c.at.result w.in-Rows.chip _ w.in-Rows.is c.at.ensures.place) w.index.result w.index.ensures.value w.index-tables-index.result w.clear_entries.new.table w.clear_entries.ensures)
+      (unused_more _ c.requires c.loop-range-test.true c.loop-range.invariant (of_chip w.in-Rows.is c.at.ensures.its c.at.ensures.place w.index.ensures.value)
+      w.index-tables-index.result w.clear_entries.new.table w.clear_entries.ensures)
   | goal.in_default w ↦
       subst (AreUnused c.args.machine.now (take (c.loop-range.range-index + 1) c.args.ranges.now) c.args.tables.now) (sym w.tables-is)
-      (unused_skip c.args.machine.now c.args.tables.now c.args.ranges.now c.requires c.loop-range.tables c.loop-range.range-index _ c.loop-range-test.true c.loop-range.invariant
-      (place_of_no_rows c.args.machine.now c.at.result w.in_default.not-Rows c.at.ensures.its _ c.at.ensures.place))
+      (unused_skip _ c.requires c.loop-range-test.true c.loop-range.invariant (place_of_no_rows c.args.machine.now c.at.result w.in_default.not-Rows c.at.ensures.its _ c.at.ensures.place))
 ]

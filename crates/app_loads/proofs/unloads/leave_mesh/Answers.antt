@@ -1,7 +1,6 @@
 use Rattle.std.proofs.Common.{◌∙◌, ◌<◌, sym, subst, List, length}
 use Rattle.std.specs.Prelude.{IfSome}
 use Rattle.std.proofs.lemmas.List.Elements.{All-weaker}
-use Rattle.mesh_core.specs.InParts.{state_in}
 use Rattle.mesh_core.specs.State.{State, IsMesh}
 use Rattle.mesh_drain.specs.Draining.{SendAlone}
 use Rattle.app_loads.specs.declared.loaded.Range.{Range}
@@ -31,7 +30,8 @@ returns-in-Some-clause-mesh_refused c = c.put_together.ensures ∙ c.take_apart-
 
 pub make_ready-requires : goal.make_ready-requires
 make_ready-requires c = record {
-  there = All-weaker (IsRangeWithin c.args.mesh.setup.machine (length c.args.regions.now)) (λ (r : Range). r.region < length c.args.regions.now) (λ r within. within.there) c.args.app.now.ranges c.requires.can.taken.within;
+  there = All-weaker (IsRangeWithin c.args.mesh.setup.machine (length c.args.regions.now)) (λ (r : Range). r.region < length c.args.regions.now)
+      (λ r within. within.there) c.args.app.now.ranges c.requires.can.taken.within;
   few = c.requires.can.few;
 }
 
@@ -49,12 +49,10 @@ give_all-requires c = record {
 }
 
 pub uninstall-requires : goal.uninstall-requires
-uninstall-requires c =
-    can_clear (state_in c.parts.inside) c.args.mesh (c.parts.view_is ∙ c.take_apart-parts.ensures.parts) c.take_apart-parts.ensures.mesh c.args.regions.now c.args.app.now c.requires.can c.as_slice-in-Ok.result.now c.as_slice-in-Ok.ensures
+uninstall-requires c = can_clear (c.parts.view_is ∙ c.take_apart-parts.ensures.parts) c.take_apart-parts.ensures.mesh c.requires.can c.as_slice-in-Ok.ensures
 
 pub put_together-requires-in-Ok : goal.put_together-requires-in-Ok
-put_together-requires-in-Ok c =
-    parted_whole (state_in c.parts.inside) c.args.mesh (c.parts.view_is ∙ c.take_apart-parts.ensures.parts) c.take_apart-parts.ensures.mesh c.uninstall.new.setup c.in-Ok.parted.delivered c.in-Ok.parted.dumped c.uninstall.ensures.setup c.uninstall.ensures.cleared.all
+put_together-requires-in-Ok c = parted_whole (c.parts.view_is ∙ c.take_apart-parts.ensures.parts) c.take_apart-parts.ensures.mesh c.uninstall.ensures.setup c.uninstall.ensures.cleared.all
 
 pub returns-in-Ok-clause-given : goal.returns-in-Ok-clause-given
 returns-in-Ok-clause-given c others taken =

@@ -1,93 +1,126 @@
-use Rattle.std.proofs.Common.{◌≡◌, ◌∙◌, ◌+◌, ◌≤◌, ◌++◌, ◌∷◌, [], refl, sym, ap, subst, arith, length, List, Option, ℕ}
+use Rattle.std.proofs.Common.{◌≡◌, ◌∙◌, ◌+◌, ◌<◌, ◌≤◌, ◌++◌, ◌∷◌, [], refl, sym, ap, subst, arith, length, List, Option, Some, ℕ}
 use Rattle.std.specs.Prelude.{IfSome, vec_capacity, vec_len}
 use Rattle.std.specs.Vec.{with_items}
 use Rattle.std.proofs.lemmas.List.{with_items_is}
 use Rattle.std.proofs.lemmas.Result.{IfOk-at_ok, IfErr-at_err}
 use Rattle.app_loads.specs.declared.loaded.LoadedApp.{LoadedApp}
+use Rattle.app_loads.specs.declared.plans.AppNet.{AppNet}
 use Rattle.app_loads.specs.declared.plans.AppPlan.{AppPlan}
 use Rattle.app_loads.specs.Applications.{AreApps}
 use Rattle.app_loads.specs.Claims.{claims_of}
-use Rattle.app_loads.specs.Host.{Host, is_loaded}
-use Rattle.app_loads.specs.Inner.{host_of, mesh_in}
 use Rattle.app_loads.specs.Joining.{IsServedApp, IsSettled}
-use Rattle.app_loads.specs.Loading.{HasLoaded, IsWhyNotLoaded}
-use Rattle.app_loads.specs.Plans.{MayLoad}
 use Rattle.app_loads.specs.Sending.{AreWithSources}
 use Rattle.app_loads.specs.Taking.{AreFreeAgain, IsDueAlways, frees}
-use Rattle.app_loads.proofs.LoadedParts.{can_join, err_host, err_same, err_why, never_none, on_ok, ok_apps, ok_host, ok_loaded, on_err, one_host, packets_fit, still_host}
+use Rattle.app_loads.proofs.LoadedParts.{IsOut, Joins, Stands, can_join, err_why, free_again, never_none, on_err, on_ok, ok_host, ok_loaded, packets_fit, still}
 use Rattle.app_loads.proofs.apps.Apps.load.Goals as goal
+use Rattle.app_loads.proofs.apps.Apps.load.Goals.{After-add, After-deref_mut, After-len, After-put-in-Err, After-reserve_one}
 
-pub returns-then-loaded-clause-why : goal.returns-then-loaded-clause-why
-returns-then-loaded-clause-why c = sym c.loaded.ensures ∙ c.if-loaded.true
+-- room was made, or not
+reserved : (c : After-reserve_one) → Stands (record c.self.inside { apps = c.reserve_one.new.apps; numbers = c.reserve_one.new.numbers }) c.args.self.now
+reserved c = still (record { host = c.self.invariant; view = c.self.view_is }) refl refl c.reserve_one.ensures.apps refl c.reserve_one.ensures.numbers refl
 
-pub returns-then-loaded-clause-refused : goal.returns-then-loaded-clause-refused
-returns-then-loaded-clause-refused c = refl
+out : (c : After-deref_mut) → IsOut c.self.inside c.args.self.now c.in-Some.mesh c.deref_mut.result.now
+out c = record { stands = record { host = c.self.invariant; view = c.self.view_is }; is = sym c.take.ensures.value ∙ c.in-Some.is; given_is = c.deref_mut.ensures.value }
 
-pub returns-then-loaded-clause-apps : goal.returns-then-loaded-clause-apps
-returns-then-loaded-clause-apps c = subst AreApps c.self.view_is c.self.invariant.apps
+-- as many packets more can be numbered
+numbered : (c : After-len) → IsOut c.self.inside c.args.self.now c.in-Some.mesh c.deref_mut.result.now → c.self.inside.packets + c.len.result < 4294967296
+numbered c taken =
+    let served = IfOk-at_ok (λ (a : LoadedApp). IsServedApp c.in-Some.mesh.setup.machine c.deref_mut.result.now c.args.number c.self.inside.packets c.args.plan.now a c.join-mesh.new.regions)
+    c.in-Ok.is c.join-mesh.ensures.served in
+    omega (arith, packets_fit taken c.args.plan.now c.requires, c.len.ensures ∙ ap (λ (p : AppPlan). length p.packets) served.plan_is)
+
+-- the application joined
+joined : (c : After-add) → Joins c.self.inside (record {
+  mesh = c.put.new.held;
+  regions = with_items c.self.inside.regions c.join-mesh.new.regions;
+  apps = c.add.new.apps;
+  packets = c.self.inside.packets + c.len.result;
+  numbers = c.add.new.numbers;
+  senders = c.with_sources.result;
+}) c.args.self.now c.in-Some.mesh c.deref_mut.result.now c.args.number c.args.plan.now c.in-Ok.app
+joined c = record {
+  may = c.requires;
+  none = sym c.loaded.ensures ∙ c.if-loaded.false;
+  after = c.join-mesh.result.0;
+  new = c.join-mesh.new.regions;
+  served = IfOk-at_ok (λ (a : LoadedApp). IsServedApp c.in-Some.mesh.setup.machine c.deref_mut.result.now c.args.number c.self.inside.packets c.args.plan.now a c.join-mesh.new.regions)
+      c.in-Ok.is c.join-mesh.ensures.served;
+  settled = IfOk-at_ok (λ (a : LoadedApp). IsSettled a c.in-Some.mesh c.join-mesh.result.0) c.in-Ok.is c.join-mesh.ensures.settled;
+  mesh_is = c.put.ensures;
+  regions = with_items_is c.self.inside.regions c.join-mesh.new.regions (c.join-mesh.auto.regions ∙ c.deref_mut.ensures.len);
+  apps = c.add.ensures.apps ∙ ap (λ (l : List LoadedApp). l ++ c.in-Ok.app ∷ []) c.reserve_one.ensures.apps;
+  packets = ap (λ n. c.self.inside.packets + n) c.len.ensures;
+  numbers = c.add.ensures.numbers ∙ ap (λ (l : List ℕ). l ++ c.in-Ok.app.number ∷ []) c.reserve_one.ensures.numbers;
+  sources = subst (λ (nets : List AppNet). IfSome c.with_sources.result (AreWithSources c.join-mesh.result.0 nets c.self.inside.senders)) c.as_slice.ensures
+      (subst (λ (o : Option (List ℕ)). IfSome c.with_sources.result (AreWithSources c.join-mesh.result.0 c.as_slice.result.now o)) c.take-in-Ok.ensures.value c.with_sources.ensures);
+}
+
+-- it was refused
+refused : (c : After-put-in-Err) → IsOut c.self.inside c.args.self.now c.in-Some.mesh c.deref_mut.result.now → Stands (record c.self.inside {
+  mesh = c.put-in-Err.new.held;
+  regions = with_items c.self.inside.regions c.join-mesh.new.regions;
+  apps = c.reserve_one.new.apps;
+  numbers = c.reserve_one.new.numbers;
+}) c.args.self.now
+refused c taken =
+    let same = on_err (c.join-mesh.result.0 ≡ c.in-Some.mesh) c.in-Err.is c.join-mesh.ensures.mesh_refused in
+    let back = on_err (AreFreeAgain c.in-Some.mesh.setup.machine c.deref_mut.result.now c.join-mesh.new.regions) c.in-Err.is c.join-mesh.ensures.back in
+    still taken.stands (c.put-in-Err.ensures ∙ (ap Some same ∙ sym taken.is))
+    (ap frees (with_items_is c.self.inside.regions c.join-mesh.new.regions (c.join-mesh.auto.regions ∙ c.deref_mut.ensures.len)) ∙ free_again taken c.join-mesh.new.regions back)
+    c.reserve_one.ensures.apps refl c.reserve_one.ensures.numbers refl
+
+pub returns-then-loaded : goal.returns-then-loaded
+returns-then-loaded c = record { loaded = tt; why = sym c.loaded.ensures ∙ c.if-loaded.true; refused = refl; apps = subst AreApps c.self.view_is c.self.invariant.apps }
 
 pub invariant_of-self : goal.invariant_of-self
-invariant_of-self c = still_host c.self.inside (record { mesh = c.self.inside.mesh; regions = c.self.inside.regions; apps = c.reserve_one.new.apps; packets = c.self.inside.packets; numbers = c.reserve_one.new.numbers; senders = c.self.inside.senders }) c.self.invariant c.self.invariant.there (one_host (mesh_in c.self.inside.mesh) (mesh_in c.self.inside.mesh) (frees c.self.inside.regions.items) (frees c.self.inside.regions.items) c.reserve_one.new.apps.items c.self.inside.apps.items c.self.inside.packets c.self.inside.packets refl refl c.reserve_one.ensures.apps refl) c.reserve_one.ensures.numbers refl
+invariant_of-self c = (reserved (goal.at.invariant_of-self c).After-reserve_one).host
 
-pub returns-then-is_err-clause-refused : goal.returns-then-is_err-clause-refused
-returns-then-is_err-clause-refused c = (one_host (mesh_in c.self.inside.mesh) (mesh_in c.self.inside.mesh) (frees c.self.inside.regions.items) (frees c.self.inside.regions.items) c.reserve_one.new.apps.items c.self.inside.apps.items c.self.inside.packets c.self.inside.packets refl refl c.reserve_one.ensures.apps refl) ∙ c.self.view_is
-
-pub returns-then-is_err-clause-apps : goal.returns-then-is_err-clause-apps
-returns-then-is_err-clause-apps c = subst AreApps (sym (one_host (mesh_in c.self.inside.mesh) (mesh_in c.self.inside.mesh) (frees c.self.inside.regions.items) (frees c.self.inside.regions.items) c.reserve_one.new.apps.items c.self.inside.apps.items c.self.inside.packets c.self.inside.packets refl refl c.reserve_one.ensures.apps refl)) c.self.invariant.apps
+pub returns-then-is_err : goal.returns-then-is_err
+returns-then-is_err c = let it = reserved (goal.at.returns-then-is_err c).After-reserve_one in record { loaded = tt; why = tt; refused = it.view; apps = it.host.apps }
 
 pub invariant_of-self-in_default : goal.invariant_of-self-in_default
 invariant_of-self-in_default c = absurd (never_none c.self.inside.mesh c.take.result c.self.invariant.there c.take.ensures.value c.in_default.is)
 
-pub returns-in_default-clause-refused : goal.returns-in_default-clause-refused
-returns-in_default-clause-refused c = absurd (never_none c.self.inside.mesh c.take.result c.self.invariant.there c.take.ensures.value c.in_default.is)
-
-pub returns-in_default-clause-apps : goal.returns-in_default-clause-apps
-returns-in_default-clause-apps c = absurd (never_none c.self.inside.mesh c.take.result c.self.invariant.there c.take.ensures.value c.in_default.is)
+pub returns-in_default : goal.returns-in_default
+returns-in_default c = absurd (never_none c.self.inside.mesh c.take.result c.self.invariant.there c.take.ensures.value c.in_default.is)
 
 pub join-mesh-requires : goal.join-mesh-requires
-join-mesh-requires c = can_join c.self.inside c.in-Some.mesh (sym c.take.ensures.value ∙ c.in-Some.is) c.self.invariant c.args.number c.args.plan.now (subst (λ (x : Host). MayLoad x c.args.plan.now) (sym c.self.view_is) c.requires) c.deref_mut.result.now c.deref_mut.ensures.value
+join-mesh-requires c = can_join (out (goal.at.join-mesh-requires c).After-deref_mut) c.args.plan.now c.requires
 
 pub overflow_cast-self : goal.overflow_cast-self
-overflow_cast-self c =
-    let fit = packets_fit c.self.inside c.in-Some.mesh (sym c.take.ensures.value ∙ c.in-Some.is) c.self.invariant c.args.number c.args.plan.now (subst (λ (x : Host). MayLoad x c.args.plan.now) (sym c.self.view_is) c.requires) c.deref_mut.result.now c.deref_mut.ensures.value in
-    let long = c.len.ensures ∙ ap (λ (p : AppPlan). length p.packets) (IfOk-at_ok (λ (a : LoadedApp). IsServedApp c.in-Some.mesh.setup.machine c.deref_mut.result.now c.args.number c.self.inside.packets c.args.plan.now a c.join-mesh.new.regions) c.in-Ok.is c.join-mesh.ensures.served).plan_is in
-    record { fits = omega (arith, fit, long) }
+overflow_cast-self c = record { fits = omega (arith, numbered (goal.at.overflow_cast-self c).After-len (out (goal.at.overflow_cast-self c).After-deref_mut)) }
 
 pub overflow_add-self : goal.overflow_add-self
-overflow_add-self c =
-    let fit = packets_fit c.self.inside c.in-Some.mesh (sym c.take.ensures.value ∙ c.in-Some.is) c.self.invariant c.args.number c.args.plan.now (subst (λ (x : Host). MayLoad x c.args.plan.now) (sym c.self.view_is) c.requires) c.deref_mut.result.now c.deref_mut.ensures.value in
-    let long = c.len.ensures ∙ ap (λ (p : AppPlan). length p.packets) (IfOk-at_ok (λ (a : LoadedApp). IsServedApp c.in-Some.mesh.setup.machine c.deref_mut.result.now c.args.number c.self.inside.packets c.args.plan.now a c.join-mesh.new.regions) c.in-Ok.is c.join-mesh.ensures.served).plan_is in
-    record { fits = omega (arith, fit, long) }
+overflow_add-self c = record { fits = numbered (goal.at.overflow_add-self c).After-len (out (goal.at.overflow_add-self c).After-deref_mut) }
 
 pub add-requires : goal.add-requires
-add-requires c = record {
-  room = on_ok (vec_len c.reserve_one.new.apps + 1 ≤ vec_capacity c.reserve_one.new.apps) c.reserve_one.result (sym c.is_err.ensures.value ∙ c.if-is_err.false) c.reserve_one.ensures.room;
-  number_room = on_ok (vec_len c.reserve_one.new.numbers + 1 ≤ vec_capacity c.reserve_one.new.numbers) c.reserve_one.result (sym c.is_err.ensures.value ∙ c.if-is_err.false) c.reserve_one.ensures.number_room;
-}
+add-requires c =
+    let is = sym c.is_err.ensures.value ∙ c.if-is_err.false in
+    record {
+      room = on_ok (vec_len c.reserve_one.new.apps + 1 ≤ vec_capacity c.reserve_one.new.apps) c.reserve_one.result is c.reserve_one.ensures.room;
+      number_room = on_ok (vec_len c.reserve_one.new.numbers + 1 ≤ vec_capacity c.reserve_one.new.numbers) c.reserve_one.result is c.reserve_one.ensures.number_room;
+    }
 
 pub invariant_of-self-in-Ok : goal.invariant_of-self-in-Ok
-invariant_of-self-in-Ok c =
-    ok_host c.self.inside c.in-Some.mesh (sym c.take.ensures.value ∙ c.in-Some.is) c.self.invariant c.args.number c.args.plan.now (subst (λ (x : Host). MayLoad x c.args.plan.now) (sym c.self.view_is) c.requires) c.deref_mut.result.now c.deref_mut.ensures.value (ap (λ (x : Host). is_loaded x.apps c.args.number) c.self.view_is ∙ (sym c.loaded.ensures ∙ c.if-loaded.false)) c.join-mesh.new.regions c.in-Ok.app c.join-mesh.result.0 (IfOk-at_ok (λ (a : LoadedApp). IsServedApp c.in-Some.mesh.setup.machine c.deref_mut.result.now c.args.number c.self.inside.packets c.args.plan.now a c.join-mesh.new.regions) c.in-Ok.is c.join-mesh.ensures.served) (IfOk-at_ok (λ (a : LoadedApp). IsSettled a c.in-Some.mesh c.join-mesh.result.0) c.in-Ok.is c.join-mesh.ensures.settled) (record { mesh = c.put.new.held; regions = with_items c.self.inside.regions c.join-mesh.new.regions; apps = c.add.new.apps; packets = c.self.inside.packets + c.len.result; numbers = c.add.new.numbers; senders = c.with_sources.result }) c.put.ensures (with_items_is c.self.inside.regions c.join-mesh.new.regions (let a = c.join-mesh.auto.regions in let b = ap length c.deref_mut.ensures.value in let d = c.self.inside.regions.ok in omega (arith, a, b, d))) (c.add.ensures.apps ∙ ap (λ (l : List LoadedApp). l ++ c.in-Ok.app ∷ []) c.reserve_one.ensures.apps) (ap (λ n. c.self.inside.packets + n) (c.len.ensures ∙ ap (λ (p : AppPlan). length p.packets) (IfOk-at_ok (λ (a : LoadedApp). IsServedApp c.in-Some.mesh.setup.machine c.deref_mut.result.now c.args.number c.self.inside.packets c.args.plan.now a c.join-mesh.new.regions) c.in-Ok.is c.join-mesh.ensures.served).plan_is))
-    (c.add.ensures.numbers ∙ (ap (λ (l : List ℕ). l ++ c.in-Ok.app.number ∷ []) c.reserve_one.ensures.numbers))
-    c.as_slice.result.now c.as_slice.ensures
-    (subst (λ (o : Option (List ℕ)). IfSome c.with_sources.result (AreWithSources c.join-mesh.result.0 c.as_slice.result.now o)) c.take-in-Ok.ensures.value c.with_sources.ensures)
+invariant_of-self-in-Ok c = ok_host (out (goal.at.invariant_of-self-in-Ok c).After-deref_mut) (joined (goal.at.invariant_of-self-in-Ok c).After-add)
 
 pub invariant_of-self-in-Err : goal.invariant_of-self-in-Err
-invariant_of-self-in-Err c = err_host c.self.inside c.in-Some.mesh (sym c.take.ensures.value ∙ c.in-Some.is) c.self.invariant c.args.number c.args.plan.now (subst (λ (x : Host). MayLoad x c.args.plan.now) (sym c.self.view_is) c.requires) c.deref_mut.result.now c.deref_mut.ensures.value (record { mesh = c.put-in-Err.new.held; regions = with_items c.self.inside.regions c.join-mesh.new.regions; apps = c.reserve_one.new.apps; packets = c.self.inside.packets; numbers = c.reserve_one.new.numbers; senders = c.self.inside.senders }) c.join-mesh.result.0 (on_err (c.join-mesh.result.0 ≡ c.in-Some.mesh) c.join-mesh.result.1 c.in-Err.refusal c.in-Err.is c.join-mesh.ensures.mesh_refused) c.join-mesh.new.regions (on_err (AreFreeAgain c.in-Some.mesh.setup.machine c.deref_mut.result.now c.join-mesh.new.regions) c.join-mesh.result.1 c.in-Err.refusal c.in-Err.is c.join-mesh.ensures.back) c.put-in-Err.ensures (with_items_is c.self.inside.regions c.join-mesh.new.regions (let a = c.join-mesh.auto.regions in let b = ap length c.deref_mut.ensures.value in let d = c.self.inside.regions.ok in omega (arith, a, b, d))) c.reserve_one.ensures.apps refl c.reserve_one.ensures.numbers refl
+invariant_of-self-in-Err c = (refused (goal.at.invariant_of-self-in-Err c).After-put-in-Err (out (goal.at.invariant_of-self-in-Err c).After-deref_mut)).host
 
-pub returns-in-Ok-clause-loaded : goal.returns-in-Ok-clause-loaded
-returns-in-Ok-clause-loaded c = subst (λ (x : Host). HasLoaded x c.args.number c.args.plan.now (host_of (record { mesh = c.put.new.held; regions = with_items c.self.inside.regions c.join-mesh.new.regions; apps = c.add.new.apps; packets = c.self.inside.packets + c.len.result; numbers = c.add.new.numbers; senders = c.with_sources.result }))) c.self.view_is (ok_loaded c.self.inside c.in-Some.mesh (sym c.take.ensures.value ∙ c.in-Some.is) c.self.invariant c.args.number c.args.plan.now (subst (λ (x : Host). MayLoad x c.args.plan.now) (sym c.self.view_is) c.requires) c.deref_mut.result.now c.deref_mut.ensures.value (ap (λ (x : Host). is_loaded x.apps c.args.number) c.self.view_is ∙ (sym c.loaded.ensures ∙ c.if-loaded.false)) c.join-mesh.new.regions c.in-Ok.app c.join-mesh.result.0 (IfOk-at_ok (λ (a : LoadedApp). IsServedApp c.in-Some.mesh.setup.machine c.deref_mut.result.now c.args.number c.self.inside.packets c.args.plan.now a c.join-mesh.new.regions) c.in-Ok.is c.join-mesh.ensures.served) (IfOk-at_ok (λ (a : LoadedApp). IsSettled a c.in-Some.mesh c.join-mesh.result.0) c.in-Ok.is c.join-mesh.ensures.settled) (record { mesh = c.put.new.held; regions = with_items c.self.inside.regions c.join-mesh.new.regions; apps = c.add.new.apps; packets = c.self.inside.packets + c.len.result; numbers = c.add.new.numbers; senders = c.with_sources.result }) c.put.ensures (with_items_is c.self.inside.regions c.join-mesh.new.regions (let a = c.join-mesh.auto.regions in let b = ap length c.deref_mut.ensures.value in let d = c.self.inside.regions.ok in omega (arith, a, b, d))) (c.add.ensures.apps ∙ ap (λ (l : List LoadedApp). l ++ c.in-Ok.app ∷ []) c.reserve_one.ensures.apps) (ap (λ n. c.self.inside.packets + n) (c.len.ensures ∙ ap (λ (p : AppPlan). length p.packets) (IfOk-at_ok (λ (a : LoadedApp). IsServedApp c.in-Some.mesh.setup.machine c.deref_mut.result.now c.args.number c.self.inside.packets c.args.plan.now a c.join-mesh.new.regions) c.in-Ok.is c.join-mesh.ensures.served).plan_is)))
+pub returns-in-Ok : goal.returns-in-Ok
+returns-in-Ok c =
+    let taken = out (goal.at.returns-in-Ok c).After-deref_mut in
+    let all = joined (goal.at.returns-in-Ok c).After-add in
+    record { loaded = ok_loaded taken all; why = tt; refused = tt; apps = (ok_host taken all).apps }
 
-pub returns-in-Ok-clause-apps : goal.returns-in-Ok-clause-apps
-returns-in-Ok-clause-apps c = ok_apps c.self.inside c.in-Some.mesh (sym c.take.ensures.value ∙ c.in-Some.is) c.self.invariant c.args.number c.args.plan.now (subst (λ (x : Host). MayLoad x c.args.plan.now) (sym c.self.view_is) c.requires) c.deref_mut.result.now c.deref_mut.ensures.value (ap (λ (x : Host). is_loaded x.apps c.args.number) c.self.view_is ∙ (sym c.loaded.ensures ∙ c.if-loaded.false)) c.join-mesh.new.regions c.in-Ok.app c.join-mesh.result.0 (IfOk-at_ok (λ (a : LoadedApp). IsServedApp c.in-Some.mesh.setup.machine c.deref_mut.result.now c.args.number c.self.inside.packets c.args.plan.now a c.join-mesh.new.regions) c.in-Ok.is c.join-mesh.ensures.served) (IfOk-at_ok (λ (a : LoadedApp). IsSettled a c.in-Some.mesh c.join-mesh.result.0) c.in-Ok.is c.join-mesh.ensures.settled) (record { mesh = c.put.new.held; regions = with_items c.self.inside.regions c.join-mesh.new.regions; apps = c.add.new.apps; packets = c.self.inside.packets + c.len.result; numbers = c.add.new.numbers; senders = c.with_sources.result }) c.put.ensures (with_items_is c.self.inside.regions c.join-mesh.new.regions (let a = c.join-mesh.auto.regions in let b = ap length c.deref_mut.ensures.value in let d = c.self.inside.regions.ok in omega (arith, a, b, d))) (c.add.ensures.apps ∙ ap (λ (l : List LoadedApp). l ++ c.in-Ok.app ∷ []) c.reserve_one.ensures.apps) (ap (λ n. c.self.inside.packets + n) (c.len.ensures ∙ ap (λ (p : AppPlan). length p.packets) (IfOk-at_ok (λ (a : LoadedApp). IsServedApp c.in-Some.mesh.setup.machine c.deref_mut.result.now c.args.number c.self.inside.packets c.args.plan.now a c.join-mesh.new.regions) c.in-Ok.is c.join-mesh.ensures.served).plan_is))
-
-pub returns-in-Err-clause-why : goal.returns-in-Err-clause-why
-returns-in-Err-clause-why c =
-    subst (λ (x : Host). IsWhyNotLoaded x c.args.number c.args.plan.now c.in-Err.refusal) c.self.view_is
-    (err_why c.self.inside c.in-Some.mesh (sym c.take.ensures.value ∙ c.in-Some.is) c.self.invariant c.args.number c.args.plan.now (subst (λ (x : Host). MayLoad x c.args.plan.now) (sym c.self.view_is) c.requires) c.deref_mut.result.now c.deref_mut.ensures.value (ap (λ (x : Host). is_loaded x.apps c.args.number) c.self.view_is ∙ (sym c.loaded.ensures ∙ c.if-loaded.false)) c.in-Err.refusal (IfErr-at_err (IsDueAlways c.in-Some.mesh.setup.machine (claims_of c.in-Some.mesh.setup.machine c.args.plan.now) c.deref_mut.result.now) c.in-Err.is c.join-mesh.ensures.due))
-
-pub returns-in-Err-clause-refused : goal.returns-in-Err-clause-refused
-returns-in-Err-clause-refused c = err_same c.self.inside c.in-Some.mesh (sym c.take.ensures.value ∙ c.in-Some.is) c.self.invariant c.args.number c.args.plan.now (subst (λ (x : Host). MayLoad x c.args.plan.now) (sym c.self.view_is) c.requires) c.deref_mut.result.now c.deref_mut.ensures.value (record { mesh = c.put-in-Err.new.held; regions = with_items c.self.inside.regions c.join-mesh.new.regions; apps = c.reserve_one.new.apps; packets = c.self.inside.packets; numbers = c.reserve_one.new.numbers; senders = c.self.inside.senders }) c.join-mesh.result.0 (on_err (c.join-mesh.result.0 ≡ c.in-Some.mesh) c.join-mesh.result.1 c.in-Err.refusal c.in-Err.is c.join-mesh.ensures.mesh_refused) c.join-mesh.new.regions (on_err (AreFreeAgain c.in-Some.mesh.setup.machine c.deref_mut.result.now c.join-mesh.new.regions) c.join-mesh.result.1 c.in-Err.refusal c.in-Err.is c.join-mesh.ensures.back) c.put-in-Err.ensures (with_items_is c.self.inside.regions c.join-mesh.new.regions (let a = c.join-mesh.auto.regions in let b = ap length c.deref_mut.ensures.value in let d = c.self.inside.regions.ok in omega (arith, a, b, d))) c.reserve_one.ensures.apps refl ∙ c.self.view_is
-
-pub returns-in-Err-clause-apps : goal.returns-in-Err-clause-apps
-returns-in-Err-clause-apps c = subst AreApps (sym (err_same c.self.inside c.in-Some.mesh (sym c.take.ensures.value ∙ c.in-Some.is) c.self.invariant c.args.number c.args.plan.now (subst (λ (x : Host). MayLoad x c.args.plan.now) (sym c.self.view_is) c.requires) c.deref_mut.result.now c.deref_mut.ensures.value (record { mesh = c.put-in-Err.new.held; regions = with_items c.self.inside.regions c.join-mesh.new.regions; apps = c.reserve_one.new.apps; packets = c.self.inside.packets; numbers = c.reserve_one.new.numbers; senders = c.self.inside.senders }) c.join-mesh.result.0 (on_err (c.join-mesh.result.0 ≡ c.in-Some.mesh) c.join-mesh.result.1 c.in-Err.refusal c.in-Err.is c.join-mesh.ensures.mesh_refused) c.join-mesh.new.regions (on_err (AreFreeAgain c.in-Some.mesh.setup.machine c.deref_mut.result.now c.join-mesh.new.regions) c.join-mesh.result.1 c.in-Err.refusal c.in-Err.is c.join-mesh.ensures.back) c.put-in-Err.ensures (with_items_is c.self.inside.regions c.join-mesh.new.regions (let a = c.join-mesh.auto.regions in let b = ap length c.deref_mut.ensures.value in let d = c.self.inside.regions.ok in omega (arith, a, b, d))) c.reserve_one.ensures.apps refl)) c.self.invariant.apps
+pub returns-in-Err : goal.returns-in-Err
+returns-in-Err c =
+    let taken = out (goal.at.returns-in-Err c).After-deref_mut in
+    let it = refused (goal.at.returns-in-Err c).After-put-in-Err taken in
+    record {
+      loaded = tt;
+      why = err_why taken c.args.plan.now c.requires c.args.number c.in-Err.refusal (sym c.loaded.ensures ∙ c.if-loaded.false)
+          (IfErr-at_err (IsDueAlways c.in-Some.mesh.setup.machine (claims_of c.in-Some.mesh.setup.machine c.args.plan.now) c.deref_mut.result.now) c.in-Err.is c.join-mesh.ensures.due);
+      refused = it.view;
+      apps = it.host.apps;
+    }
