@@ -1,6 +1,6 @@
 -- A range put back among the holes.
-use Rattle.std.proofs.Common.{◌≡◌, ◌≢◌, ℕ, ◌+◌, ◌-◌, ◌<◌, ◌≤◌, Bool, true, false, ◌||◌, List, [], ◌∷◌, ◌++◌, ◌∙◌, zero, suc, Option, Some, None, Result, Ok, Err, if◌then◌else◌}
-use Rattle.std.proofs.Common.{length, get_or, set, take, drop, refl, sym, ap, subst, arith, MatchOption, slice_get, is_ok, IsOk, inl, inr, append_assoc}
+use Rattle.std.proofs.Common.{◌≡◌, ◌≢◌, ℕ, ◌+◌, ◌-◌, ◌<◌, ◌≤◌, Bool, true, false, ◌||◌, List, [], ◌∷◌, ◌++◌, ◌∙◌, zero, suc, Option, Some, None, Result, Ok, Err, if◌then◌else◌, length, get_or, set}
+use Rattle.std.proofs.Common.{take, drop, refl, sym, ap, subst, arith, MatchOption, slice_get, is_ok, IsOk, inl, inr, append_assoc}
 use Rattle.std.proofs.lemmas.Bool.{cases_lt}
 use Rattle.std.proofs.lemmas.Bool.Decides.{nat_tests}
 use Rattle.std.proofs.lemmas.List.{take-append-drop, set_split, set_at, length-take-le}
@@ -59,7 +59,8 @@ has_right k p s r meets = grind (arith, nat_tests)
 has_left : (k p s : ℕ) (l : Hole) → hole_end l ≡ p → has_range k 1 (record { place = l.place; len = l.len + s }) ≡ (is_free (l ∷ []) k || in_range p s k)
 has_left k p s l meets = grind (arith, nat_tests)
 
-has_both : (k p s : ℕ) (l r : Hole) → hole_end l ≡ p → r.place ≡ p + s → has_range k 1 (record { place = l.place; len = l.len + s + r.len }) ≡ (is_free (l ∷ r ∷ []) k || in_range p s k)
+has_both : (k p s : ℕ) (l r : Hole) → hole_end l ≡ p → r.place ≡ p + s →
+    has_range k 1 (record { place = l.place; len = l.len + s + r.len }) ≡ (is_free (l ∷ r ∷ []) k || in_range p s k)
 has_both k p s l r a b = grind (arith, nat_tests)
 
 later : (from to n : ℕ) (post : List Hole) → AreRuns from n post → ((h : Hole) → slice_get post 0 ≡ Some h → to ≤ h.place) → AreRuns to n post

@@ -1,6 +1,6 @@
 -- Holes as runs of free places, and what a range leaves of them.
-use Rattle.std.proofs.Common.{◌≡◌, ◌≢◌, ℕ, ◌+◌, ◌-◌, ◌%◌, ◌<◌, ◌≤◌, Bool, true, false, ◌&&◌, ◌||◌, List, [], ◌∷◌, ◌++◌, ◌∙◌, ◌*◌, ◌/◌, zero, suc, Some}
-use Rattle.std.proofs.Common.{min, max, not, leb, ltb, length, get_or, set, take, drop, refl, sym, ap, ap₂, subst, arith, slice_get, inl, inr, append_assoc}
+use Rattle.std.proofs.Common.{◌≡◌, ◌≢◌, ℕ, ◌+◌, ◌-◌, ◌%◌, ◌<◌, ◌≤◌, Bool, true, false, ◌&&◌, ◌||◌, List, [], ◌∷◌, ◌++◌, ◌∙◌, ◌*◌, ◌/◌, zero, suc, Some, min, max, not, leb, ltb, length, get_or, set}
+use Rattle.std.proofs.Common.{take, drop, refl, sym, ap, ap₂, subst, arith, slice_get, inl, inr, append_assoc}
 use Rattle.std.proofs.lemmas.Bool.{cases_Bool, cases_lt, cases_eq, or_cases, or_parts, or_right}
 use Rattle.std.proofs.lemmas.Option.{get_or_from_slice_get, slice_get_within}
 use Rattle.std.proofs.lemmas.List.{set_split, set_at, length-take-le, length_push, take-append-drop}

@@ -5,7 +5,8 @@ use Rattle.range_store.proofs.gives.put_back.Goals as goal
 
 pub returns-in-None-None-clause-free : goal.returns-in-None-None-clause-free
 returns-in-None-None-clause-free c =
-    subst (λ ys. (k : ℕ) → is_free ys k ≡ (is_free c.args.holes.now.items k || in_range c.args.span.place c.args.span.size k)) (sym (inserted _ _ _ (c.insert.ensures.succeeds c.requires.room) c.insert.ensures.items))
+    subst (λ ys. (k : ℕ) → is_free ys k ≡ (is_free c.args.holes.now.items k || in_range c.args.span.place c.args.span.size k))
+    (sym (inserted _ _ _ (c.insert.ensures.succeeds c.requires.room) c.insert.ensures.items))
     (arm_none c.args.span.some c.args.span.within c.requires.runs c.requires.taken c.as_slice.ensures.value c.neighbours-at.ensures c.in-None-None.is-0 c.in-None-None.is-1).0
 
 pub returns-in-None-None-clause-runs : goal.returns-in-None-None-clause-runs
@@ -30,13 +31,15 @@ returns-in-Some-None-clause-runs c n runs within = (arm_left c.args.span.some wi
 pub returns-in-Some-Some-clause-free : goal.returns-in-Some-Some-clause-free
 returns-in-Some-Some-clause-free c =
     subst (λ ys. (k : ℕ) → is_free ys k ≡ (is_free c.args.holes.now.items k || in_range c.args.span.place c.args.span.size k))
-    (ap (λ ys. set ys (c.neighbours-at.result.0 - 1) (record { place = c.in-Some-Some.left.place; len = c.in-Some-Some.left.len + c.args.span.size + c.in-Some-Some.right.len })) (sym c.remove.ensures.items))
+    (ap (λ ys. set ys (c.neighbours-at.result.0 - 1) (record { place = c.in-Some-Some.left.place; len = c.in-Some-Some.left.len + c.args.span.size + c.in-Some-Some.right.len }))
+    (sym c.remove.ensures.items))
     (arm_both c.args.span.some c.args.span.within c.requires.runs c.requires.taken c.as_slice.ensures.value c.neighbours-at.ensures c.in-Some-Some.is-0 c.in-Some-Some.is-1).0
 
 pub returns-in-Some-Some-clause-runs : goal.returns-in-Some-Some-clause-runs
 returns-in-Some-Some-clause-runs c n runs within =
     subst (AreRuns 0 n)
-    (ap (λ ys. set ys (c.neighbours-at.result.0 - 1) (record { place = c.in-Some-Some.left.place; len = c.in-Some-Some.left.len + c.args.span.size + c.in-Some-Some.right.len })) (sym c.remove.ensures.items))
+    (ap (λ ys. set ys (c.neighbours-at.result.0 - 1) (record { place = c.in-Some-Some.left.place; len = c.in-Some-Some.left.len + c.args.span.size + c.in-Some-Some.right.len }))
+    (sym c.remove.ensures.items))
     (arm_both c.args.span.some within runs c.requires.taken c.as_slice.ensures.value c.neighbours-at.ensures c.in-Some-Some.is-0 c.in-Some-Some.is-1).1
 
 pub overflow_add-left-in-Some-Some : goal.overflow_add-left-in-Some-Some
