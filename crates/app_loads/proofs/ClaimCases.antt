@@ -296,7 +296,8 @@ module _ (m : Description) (plan : AppPlan) (valid : IsPlan m plan) where
         | inl a ↦ (let k = keys_region_of claim a in absurd (omega (arith, k, region)))
         | inr a ↦ (
             let found = among_flat (row_claim m plan.nets) claim (range_with_len 0 n) a in
-            let is = unless_zero (count_by (has_chip m (chip_of m found.0)) plan.nets) (record { region = Rows (chip_of m found.0); size = count_by (has_chip m (chip_of m found.0)) plan.nets; align = 1; fixed = None; refusal = RowsOut (chip_of m found.0) }) claim found.2 in
+            let is = unless_zero (count_by (has_chip m (chip_of m found.0)) plan.nets)
+            (record { region = Rows (chip_of m found.0); size = count_by (has_chip m (chip_of m found.0)) plan.nets; align = 1; fixed = None; refusal = RowsOut (chip_of m found.0) }) claim found.2 in
             let r : place_of m claim.region ≡ 1 + (n + index_of m (chip_of m found.0)) = ap (λ (x : Claim). place_of m x.region) is.0 in
             let index = index_of-chip_of m found.0 in
             let same : found.0 ≡ i = omega (arith, r, region, index) in

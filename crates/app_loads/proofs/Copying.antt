@@ -297,8 +297,7 @@ module _ {m : Description} {old cur : List (List Entry)} {rows : List Table} {ra
             let two = length-append b (drop (range.place + length b) T) in
             let three = length-take-le range.place T (omega (arith, f, t)) in
             let four = length-drop (range.place + length b) T in
-            let five = b_long in
-            omega (arith, f, t, l, one, two, three, four, five)
+            omega (arith, f, t, l, one, two, three, four, b_long)
 
         outside : (k : ℕ) → in_range range.place range.size k ≡ false → slice_get table k ≡ slice_get T k
         outside k out =

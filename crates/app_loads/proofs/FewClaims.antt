@@ -73,8 +73,7 @@ module _ (m : Description) (size : HasSize m) (plan : AppPlan) (valid : IsPlan m
       let spots = few_spots m plan.spots valid.different valid.usable in
       let chips : chip_count m ≤ 64 * 64 = mul-le m.width m.height 64 64 size.width_to_64 size.height_to_64 in
       let indices : length (range_with_len 0 (chip_count m)) ≡ chip_count m = length-range_with_len 0 (chip_count m) in
-      let nets = valid.few_nets in
-      omega (arith, first, second, third, of_memory, of_fixed, of_keys, of_rows, pairs, spots, chips, indices, nets)
+      omega (arith, first, second, third, of_memory, of_fixed, of_keys, of_rows, pairs, spots, chips, indices, valid.few_nets)
 
 -- an application has as few
 pub few_ranges : (m : Description) → HasSize m → (app : LoadedApp) → IsLoadedOn m app → length app.ranges ≤ 262144

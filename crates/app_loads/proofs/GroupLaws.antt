@@ -164,8 +164,7 @@ module _ (p : Delivery → Bool) (all own others : List Delivery) (count left : 
       let split = length-append own (filter p (g ++ rest)) in
       let parts = ap length (filter-append p g rest) in
       let sum = length-append (filter p g) (filter p rest) in
-      let most = both in
-      omega (arith, counted, so_far, whole, split, parts, sum, most, n_is)
+      omega (arith, counted, so_far, whole, split, parts, sum, both, n_is)
 
   -- and when it is put, the rest are still counted
   pub still_counted : (g rest put : List Delivery) (n : ℕ) → own ++ filter p (g ++ rest) ≡ filter p all → put ≡ own ++ filter p g → n ≡ length (filter p g) → (left - n) + length put ≡ count
@@ -179,5 +178,4 @@ module _ (p : Delivery → Bool) (all own others : List Delivery) (count left : 
   left_others own_is others_are =
       let a = ap length (sym (append-nil own) ∙ own_is) in
       let b = ap length (sym (append-nil others) ∙ others_are) in
-      let most = both in
-      omega (arith, counted, so_far, a, b, most)
+      omega (arith, counted, so_far, a, b, both)

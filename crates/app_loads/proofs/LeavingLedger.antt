@@ -247,7 +247,8 @@ module _ (h : Host) (app : LoadedApp) (apps : AreApps h) (has : Contains h.apps 
   of_no_other b in_b i is =
       let kept = Contains-from_filter (λ (other : LoadedApp). not (other.number == app.number)) h.apps b in_b in
       elim (either_pair HaveOtherNumbers h.apps b app apps.ascending kept.0 has) [
-        | inl one ↦ absurd (let off : (b.number == app.number) ≡ false = not-true (b.number == app.number) kept.1 in let on : (b.number == app.number) ≡ true = ap (λ (x : LoadedApp). x.number == app.number) one ∙ eq-eqb app.number app.number refl in cc)
+        | inl one ↦ absurd (let off : (b.number == app.number) ≡ false = not-true (b.number == app.number) kept.1 in
+            let on : (b.number == app.number) ≡ true = ap (λ (x : LoadedApp). x.number == app.number) one ∙ eq-eqb app.number app.number refl in cc)
         | inr (inl before) ↦ (let in_app = bounds app i is in grind (arith, nat_tests, before, in_app))
         | inr (inr after) ↦ (let in_app = bounds app i is in grind (arith, nat_tests, after, in_app))
       ]

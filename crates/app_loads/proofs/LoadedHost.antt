@@ -108,7 +108,8 @@ sent_unsent spots app (suc n) before after sent le v q at =
       | inr other ↦
           ap (λ l. slice_get l v) one.is
           ∙ (slice_get-set_other sent.0 one.vertex v (one.queue ++ first_copy (app.first + n) one.net sent.1 ∷ []) other
-          ∙ (was ∙ ap (λ l. Some (q ++ l)) (sym (listed ∙ (ap (λ l. filter_map (sends v) (enumerate_from app.first (take n app.plan.packets)) ++ l) (is_elsewhere other) ∙ append-nil (filter_map (sends v) (enumerate_from app.first (take n app.plan.packets))))))))
+          ∙ (was ∙ ap (λ l. Some (q ++ l)) (sym (listed ∙ (ap (λ l. filter_map (sends v) (enumerate_from app.first (take n app.plan.packets)) ++ l) (is_elsewhere other)
+          ∙ append-nil (filter_map (sends v) (enumerate_from app.first (take n app.plan.packets))))))))
     ]
   where
     sends : ℕ → ℕ × Packet → Option McCopy
@@ -286,7 +287,8 @@ module _ (h : Host) (apps : AreApps h) (number : ℕ) (plan : AppPlan) (may : Ma
     rows = rows_now;
     right = right_rows m t all loaded_now (subst HaveDisjointBlocks (sym nets_are) disjoint_now) rows_now;
     ledger = subst (λ l. MeetsLedgerFor after l (asked_of all)) (sym nets_are) ledger_now;
-    ascending = pairs_with_last HaveOtherNumbers h.apps app apps.ascending (λ a in_apps. subst (λ n. a.first + length a.plan.packets ≤ n) (sym first_is) (All-contains (λ (x : LoadedApp). x.first + length x.plan.packets ≤ h.packets) h.apps a apps.counted in_apps));
+    ascending = pairs_with_last HaveOtherNumbers h.apps app apps.ascending
+        (λ a in_apps. subst (λ n. a.first + length a.plan.packets ≤ n) (sym first_is) (All-contains (λ (x : LoadedApp). x.first + length x.plan.packets ≤ h.packets) h.apps a apps.counted in_apps));
     counted = All-push (λ (a : LoadedApp). a.first + length a.plan.packets ≤ h.packets + length plan.packets) h.apps app
         (All-weaker (λ (a : LoadedApp). a.first + length a.plan.packets ≤ h.packets) (λ (a : LoadedApp). a.first + length a.plan.packets ≤ h.packets + length plan.packets) (λ a le. omega (arith, le)) h.apps apps.counted)
         (let f = first_is in let p = plan_packets in omega (arith, f, p));

@@ -88,7 +88,8 @@ is_other number app = not (app.number == number)
 all_others : (number : ℕ) (apps : List LoadedApp) → All (λ (a : LoadedApp). number ≢ a.number) apps → others_than number apps ≡ apps
 all_others number [] none = refl
 all_others number (a ∷ apps) none =
-    cond-true (is_other number a) (a ∷ others_than number apps) (others_than number apps) (ap not (ne_eqb a.number number (λ e. none 0 a (omega arith) (sym e)))) ∙ ap (λ l. a ∷ l) (all_others number apps (λ k d within. none (suc k) d (omega (arith, within))))
+    cond-true (is_other number a) (a ∷ others_than number apps) (others_than number apps) (ap not (ne_eqb a.number number (λ e. none 0 a (omega arith) (sym e))))
+    ∙ ap (λ l. a ∷ l) (all_others number apps (λ k d within. none (suc k) d (omega (arith, within))))
 
 -- those that are left where the application at a place is taken out
 pub without_one : (number : ℕ) (apps : List LoadedApp) (at : ℕ) (app : LoadedApp) → slice_get apps at ≡ Some app → app.number ≡ number → HaveNumbers apps → take at apps ++ drop (suc at) apps ≡ others_than number apps

@@ -77,7 +77,8 @@ module _ (app : LoadedApp) (asked : ℕ → Option Asked) where
         let free : upto n i ≡ None = upto_past n i (omega arith) ∙ none i (omega arith) in
         let more = one_packet_more (record s { unsent = sent.0 }) nets (upto n) i a one.vertex one.queue target.0 before one.at free one.is_vertex is_own.0 (keyed n p one.net sent.3 one.is_net) target.1 in
         subst (λ (l : List (List McCopy)). MeetsLedgerFor (record s { unsent = l }) nets (upto (suc n))) (sym one.is)
-        (subst (λ (o : Option Asked). MeetsLedgerFor (record s { unsent = slice_set sent.0 one.vertex (one.queue ++ record { packet = i; key = a.label.key; payload = a.label.payload; hop = 0 } ∷ []) }) nets (λ j. if j == i then o else upto n j)) (sym asks) more)
+        (subst (λ (o : Option Asked). MeetsLedgerFor (record s { unsent = slice_set sent.0 one.vertex (one.queue ++ record { packet = i; key = a.label.key; payload = a.label.payload; hop = 0 } ∷ []) })
+        nets (λ j. if j == i then o else upto n j)) (sym asks) more)
 
 -- ---- packets of all applications
 

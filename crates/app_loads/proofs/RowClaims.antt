@@ -54,7 +54,8 @@ count_run p (x ∷ xs) zero (suc end) le within before inside after =
     omega (arith, rest, one, here)
 count_run p (x ∷ xs) (suc at) zero le within before inside after = absurd (omega (arith, le))
 count_run p (x ∷ xs) (suc at) (suc end) le within before inside after =
-    let rest = count_run p xs at end (omega (arith, le)) (omega (arith, within)) (λ k y less e. before (suc k) y (omega (arith, less)) e) (λ k y low less e. inside (suc k) y (omega (arith, low)) (omega (arith, less)) e) (λ k y low e. after (suc k) y (omega (arith, low)) e) in
+    let rest = count_run p xs at end (omega (arith, le)) (omega (arith, within)) (λ k y less e. before (suc k) y (omega (arith, less)) e)
+    (λ k y low less e. inside (suc k) y (omega (arith, low)) (omega (arith, less)) e) (λ k y low e. after (suc k) y (omega (arith, low)) e) in
     let one = count_by-cons p x xs in
     let here : one_if (p x) ≡ 0 = ap one_if (before 0 x (omega arith) refl) in
     omega (arith, rest, one, here)
@@ -239,8 +240,7 @@ module _ (m : Description) (i : ℕ) (below : i < m.width * m.height) where
       by_end (Some d) is =
           let one = count_by-cons is_i (index_of m d) [] in
           let same : one_if (index_of m d == i) ≡ one_if (chip_eq c d) = ap one_if (one_case m i c d refl below (far_inside m e.chip d e.dir inside is)) in
-          let z = zero_rest in
-          omega (arith, one, same, z)
+          omega (arith, one, same, zero_rest)
         where
           zero_rest : count_by is_i [] ≡ 0
           zero_rest = refl

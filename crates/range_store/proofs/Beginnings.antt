@@ -28,7 +28,8 @@ in_order from n hs runs i j d le inside =
     ]
 
 -- the holes before one that begins before a place end before it, so no range that begins there or later lies in them
-pub none_before : (from n : ℕ) (hs : List Hole) (i b q s : ℕ) (d : Hole) → AreRuns from n hs → i < length hs → (get_or hs i d).place < b → b ≤ q → is_hole_range (take i hs) q s ≡ false
+pub none_before : (from n : ℕ) (hs : List Hole) (i b q s : ℕ) (d : Hole) → AreRuns from n hs → i < length hs → (get_or hs i d).place < b → b ≤ q →
+    is_hole_range (take i hs) q s ≡ false
 none_before from n [] i b q s d runs inside begins behind = absurd (omega arith)
 none_before from n (h ∷ hs) zero b q s d runs inside begins behind = refl
 none_before from n (h ∷ hs) (suc i) b q s d runs inside begins behind =

@@ -1,5 +1,6 @@
 -- A range put back among the holes.
-use Rattle.std.proofs.Common.{◌≡◌, ◌≢◌, ℕ, ◌+◌, ◌-◌, ◌<◌, ◌≤◌, Bool, true, false, ◌||◌, List, [], ◌∷◌, ◌++◌, length, get_or, set, take, drop, refl, sym, ap, ◌∙◌, subst, arith, zero, suc, Option, Some, None, MatchOption, slice_get, Result, Ok, Err, is_ok, IsOk, if◌then◌else◌, inl, inr, append_assoc}
+use Rattle.std.proofs.Common.{◌≡◌, ◌≢◌, ℕ, ◌+◌, ◌-◌, ◌<◌, ◌≤◌, Bool, true, false, ◌||◌, List, [], ◌∷◌, ◌++◌, ◌∙◌, zero, suc, Option, Some, None, Result, Ok, Err, if◌then◌else◌, length, get_or, set}
+use Rattle.std.proofs.Common.{take, drop, refl, sym, ap, subst, arith, MatchOption, slice_get, is_ok, IsOk, inl, inr, append_assoc}
 use Rattle.std.proofs.lemmas.Bool.{cases_lt}
 use Rattle.std.proofs.lemmas.Bool.Decides.{nat_tests}
 use Rattle.std.proofs.lemmas.List.{take-append-drop, set_split, set_at, length-take-le}
@@ -22,14 +23,14 @@ module _ (n p s : ℕ) (pre mid post : List Hole) (m : Hole) (runs : AreRuns 0 n
   regroup false b false false true e = rw e refl
   regroup false b false false false e = rw e refl
 
-  pub put_free : (k : ℕ) → is_free (pre ++ m ∷ post) k ≡ (is_free (pre ++ (mid ++ post)) k || in_range p s k)
+  put_free : (k : ℕ) → is_free (pre ++ m ∷ post) k ≡ (is_free (pre ++ (mid ++ post)) k || in_range p s k)
   put_free k =
       list_any-append (has_range k 1) pre (m ∷ post)
       ∙ regroup (is_free pre k) (has_range k 1 m) (is_free mid k) (is_free post k) (in_range p s k) (same k)
       ∙ ap (λ b. (is_free pre k || b) || in_range p s k) (sym (list_any-append (has_range k 1) mid post))
       ∙ ap (λ b. b || in_range p s k) (sym (list_any-append (has_range k 1) pre (mid ++ post)))
 
-  pub put_runs : next 0 pre ≤ m.place → 0 < m.len → hole_end m ≤ n → AreRuns (hole_end m + 1) n post → AreRuns 0 n (pre ++ m ∷ post)
+  put_runs : next 0 pre ≤ m.place → 0 < m.len → hole_end m ≤ n → AreRuns (hole_end m + 1) n post → AreRuns 0 n (pre ++ m ∷ post)
   put_runs start some within after = runs_join 0 n pre (m ∷ post) (runs_split 0 n pre (mid ++ post) runs).0 (start, some, within, after)
 
 next_last : (from : ℕ) (pre : List Hole) (l : Hole) → next from (pre ++ l ∷ []) ≡ hole_end l + 1
@@ -58,7 +59,8 @@ has_right k p s r meets = grind (arith, nat_tests)
 has_left : (k p s : ℕ) (l : Hole) → hole_end l ≡ p → has_range k 1 (record { place = l.place; len = l.len + s }) ≡ (is_free (l ∷ []) k || in_range p s k)
 has_left k p s l meets = grind (arith, nat_tests)
 
-has_both : (k p s : ℕ) (l r : Hole) → hole_end l ≡ p → r.place ≡ p + s → has_range k 1 (record { place = l.place; len = l.len + s + r.len }) ≡ (is_free (l ∷ r ∷ []) k || in_range p s k)
+has_both : (k p s : ℕ) (l r : Hole) → hole_end l ≡ p → r.place ≡ p + s →
+    has_range k 1 (record { place = l.place; len = l.len + s + r.len }) ≡ (is_free (l ∷ r ∷ []) k || in_range p s k)
 has_both k p s l r a b = grind (arith, nat_tests)
 
 later : (from to n : ℕ) (post : List Hole) → AreRuns from n post → ((h : Hole) → slice_get post 0 ≡ Some h → to ≤ h.place) → AreRuns to n post
@@ -134,20 +136,20 @@ module _ (n p s a : ℕ) (xs : List Hole) (some : 0 < s) (within : p + s ≤ n) 
         put_runs n p s (take i xs) mid (drop j xs) m here same start long below after,
       )
 
-  pub give_none : a ≤ length xs → ((l : Hole) → 0 < a → slice_get xs (a - 1) ≡ Some l → hole_end l ≢ p) → ((r : Hole) → slice_get xs a ≡ Some r → r.place ≢ p + s)
+  give_none : a ≤ length xs → ((l : Hole) → 0 < a → slice_get xs (a - 1) ≡ Some l → hole_end l ≢ p) → ((r : Hole) → slice_get xs a ≡ Some r → r.place ≢ p + s)
       → Gives (take a xs ++ record { place = p; len = s } ∷ drop a xs)
   give_none le no_left no_right =
       gives a a [] (record { place = p; len = s }) _ (sym (take-append-drop a xs)) refl (λ k. has_none k p s)
       (start_none no_left a refl le) some within (after_none no_right)
 
-  pub give_right : (r : Hole) → a ≤ length xs → ((l : Hole) → 0 < a → slice_get xs (a - 1) ≡ Some l → hole_end l ≢ p) → slice_get xs a ≡ Some r → r.place ≡ p + s
+  give_right : (r : Hole) → a ≤ length xs → ((l : Hole) → 0 < a → slice_get xs (a - 1) ≡ Some l → hole_end l ≢ p) → slice_get xs a ≡ Some r → r.place ≡ p + s
       → Gives (set xs a (record { place = p; len = s + r.len }))
   give_right r le no_left e meets =
       let long = some_len 0 n xs a r runs e in
       gives a (suc a) (r ∷ []) (record { place = p; len = s + r.len }) _ (split_got xs a r e) (set_split xs a _ (slice_get_within xs a r e)) (λ k. has_right k p s r meets)
       (start_none no_left a refl le) (omega arith) (omega (arith, long.1)) (earlier (hole_end r + 1) _ n _ (after_right r e) (omega arith))
 
-  pub give_left : (l : Hole) → 0 < a → slice_get xs (a - 1) ≡ Some l → hole_end l ≡ p → ((r : Hole) → slice_get xs a ≡ Some r → r.place ≢ p + s)
+  give_left : (l : Hole) → 0 < a → slice_get xs (a - 1) ≡ Some l → hole_end l ≡ p → ((r : Hole) → slice_get xs a ≡ Some r → r.place ≢ p + s)
       → Gives (set xs (a - 1) (record { place = l.place; len = l.len + s }))
   give_left l some_before e meets no_right =
       let up : suc (a - 1) ≡ a = omega arith in
@@ -158,7 +160,7 @@ module _ (n p s a : ℕ) (xs : List Hole) (some : 0 < s) (within : p + s ≤ n) 
       (λ k. has_left k p s l meets) (start_left (a - 1) l e) (omega arith) (omega arith)
       (earlier (p + s + 1) (hole_end m + 1) n _ (after_none no_right) (omega arith))
 
-  pub give_both : (l r : Hole) → 0 < a → slice_get xs (a - 1) ≡ Some l → hole_end l ≡ p → slice_get xs a ≡ Some r → r.place ≡ p + s
+  give_both : (l r : Hole) → 0 < a → slice_get xs (a - 1) ≡ Some l → hole_end l ≡ p → slice_get xs a ≡ Some r → r.place ≡ p + s
       → Gives (set (take a xs ++ drop (suc a) xs) (a - 1) (record { place = l.place; len = l.len + s + r.len }))
   give_both l r some_before e meets f meets_right =
       let up : suc (a - 1) ≡ a = omega arith in
@@ -175,8 +177,11 @@ module _ (n p s a : ℕ) (xs : List Hole) (some : 0 < s) (within : p + s ≤ n) 
       (λ k. has_both k p s l r meets meets_right) (start_left (a - 1) l e) (omega arith) (omega (arith, long.1))
       (earlier (hole_end r + 1) (hole_end m + 1) n _ (after_right r f) (omega arith))
 
-module _ (n p s a : ℕ) (xs : List Hole) (left right : Option Hole) (some : 0 < s) (within : p + s ≤ n) (runs : AreRuns 0 n xs)
-    (taken : (k : ℕ) → in_range p s k ≡ true → is_free xs k ≡ false) (near : AreNeighbours xs p (p + s) a left right) where
+module _ {n p s a : ℕ} {xs lent : List Hole} {left right : Option Hole} (some : 0 < s) (within : p + s ≤ n) (runs : AreRuns 0 n xs)
+    (taken : (k : ℕ) → in_range p s k ≡ true → is_free xs k ≡ false) (same : lent ≡ xs) (lent_near : AreNeighbours lent p (p + s) a left right) where
+  near : AreNeighbours xs p (p + s) a left right
+  near = subst (λ l. AreNeighbours l p (p + s) a left right) same lent_near
+
   abbrev LeftIs : Option Hole → Type 0
   LeftIs o = MatchOption o ((h : Hole) → 0 < a → slice_get xs (a - 1) ≡ Some h → hole_end h ≢ p)
       (λ h. (0 < a) × (slice_get xs (a - 1) ≡ Some h) × (hole_end h ≡ p))
@@ -190,29 +195,29 @@ module _ (n p s a : ℕ) (xs : List Hole) (left right : Option Hole) (some : 0 <
   pub arm_none : left ≡ None → right ≡ None → Put (take a xs ++ record { place = p; len = s } ∷ drop a xs)
   arm_none l r = give_none n p s a xs some within runs taken near.before near.first near.within (subst LeftIs l near.left_is) (subst RightIs r near.right_is)
 
-  pub arm_right : (y : Hole) → left ≡ None → right ≡ Some y → Put (set xs a (record { place = p; len = s + y.len }))
-  arm_right y l r =
+  pub arm_right : {y : Hole} → left ≡ None → right ≡ Some y → Put (set xs a (record { place = p; len = s + y.len }))
+  arm_right {y} l r =
       let is = subst RightIs r near.right_is in
       give_right n p s a xs some within runs taken near.before near.first y near.within (subst LeftIs l near.left_is) is.0 is.1
 
-  pub arm_left : (x : Hole) → left ≡ Some x → right ≡ None → Put (set xs (a - 1) (record { place = x.place; len = x.len + s }))
-  arm_left x l r =
+  pub arm_left : {x : Hole} → left ≡ Some x → right ≡ None → Put (set xs (a - 1) (record { place = x.place; len = x.len + s }))
+  arm_left {x} l r =
       let is = subst LeftIs l near.left_is in
       give_left n p s a xs some within runs taken near.before near.first x is.0 is.1 is.2 (subst RightIs r near.right_is)
 
-  pub arm_both : (x y : Hole) → left ≡ Some x → right ≡ Some y
+  pub arm_both : {x y : Hole} → left ≡ Some x → right ≡ Some y
       → Put (set (take a xs ++ drop (suc a) xs) (a - 1) (record { place = x.place; len = x.len + s + y.len }))
-  arm_both x y l r =
+  arm_both {x} {y} l r =
       let is = subst LeftIs l near.left_is in
       let at = subst RightIs r near.right_is in
       give_both n p s a xs some within runs taken near.before near.first x y is.0 is.1 is.2 at.0 at.1
 
   -- the neighbours, as numbers
-  pub right_end : (y : Hole) → right ≡ Some y → (a < length xs) × (y.place ≡ p + s) × (hole_end y ≤ n)
-  right_end y r = let is = subst RightIs r near.right_is in (slice_get_within xs a y is.0, is.1, (some_len 0 n xs a y runs is.0).1)
+  pub right_end : {y : Hole} → right ≡ Some y → (a < length xs) × (y.place ≡ p + s) × (hole_end y ≤ n)
+  right_end {y} r = let is = subst RightIs r near.right_is in (slice_get_within xs a y is.0, is.1, (some_len 0 n xs a y runs is.0).1)
 
-  pub left_end : (x : Hole) → left ≡ Some x → (0 < a) × (hole_end x ≡ p)
-  left_end x l = let is = subst LeftIs l near.left_is in (is.0, is.2)
+  pub left_end : {x : Hole} → left ≡ Some x → (0 < a) × (hole_end x ≡ p)
+  left_end l = let is = subst LeftIs l near.left_is in (is.0, is.2)
 
 pub inserted : {E : Type 0} (r : Result (Unit {0}) E) (ys zs : List Hole) {ws : List Hole} → IsOk r → ws ≡ (if is_ok r then ys else zs) → ws ≡ ys
 inserted (Ok x) ys zs ok e = e

@@ -1,5 +1,6 @@
 -- Holes as runs of free places, and what a range leaves of them.
-use Rattle.std.proofs.Common.{◌≡◌, ◌≢◌, ℕ, ◌+◌, ◌-◌, ◌%◌, ◌<◌, ◌≤◌, min, max, Bool, true, false, not, ◌&&◌, ◌||◌, leb, ltb, List, [], ◌∷◌, ◌++◌, length, get_or, set, take, drop, refl, sym, ap, ap₂, ◌∙◌, ◌*◌, ◌/◌, subst, arith, zero, suc, Some, slice_get, inl, inr, append_assoc}
+use Rattle.std.proofs.Common.{◌≡◌, ◌≢◌, ℕ, ◌+◌, ◌-◌, ◌%◌, ◌<◌, ◌≤◌, Bool, true, false, ◌&&◌, ◌||◌, List, [], ◌∷◌, ◌++◌, ◌∙◌, ◌*◌, ◌/◌, zero, suc, Some, min, max, not, leb, ltb, length, get_or, set}
+use Rattle.std.proofs.Common.{take, drop, refl, sym, ap, ap₂, subst, arith, slice_get, inl, inr, append_assoc}
 use Rattle.std.proofs.lemmas.Bool.{cases_Bool, cases_lt, cases_eq, or_cases, or_parts, or_right}
 use Rattle.std.proofs.lemmas.Option.{get_or_from_slice_get, slice_get_within}
 use Rattle.std.proofs.lemmas.List.{set_split, set_at, length-take-le, length_push, take-append-drop}
@@ -297,9 +298,10 @@ pub record IsCut (n p s : ℕ) (xs ys : List Hole) : Type 0 where
   pub runs : AreRuns 0 n ys
   pub free : (k : ℕ) → is_free ys k ≡ (is_free xs k && not (in_range p s k))
 
-pub cut_is : (n p s i : ℕ) (xs ys : List Hole) → AreRuns 0 n xs → 0 < s → FitsAt xs i p s
+pub cut_is : {n p s i : ℕ} {xs lent ys : List Hole} → AreRuns 0 n xs → 0 < s → lent ≡ xs → FitsAt lent i p s
     → ((h : Hole) → slice_get xs i ≡ Some h → ys ≡ take i xs ++ (rest_of p s h ++ drop (i + 1) xs)) → IsCut n p s xs ys
-cut_is n p s i xs ys runs some f is =
+cut_is {n} {p} {s} {i} {xs} {lent} {ys} runs some same at is =
+    let f = subst (λ l. FitsAt l i p s) same at in
     let facts = has_facts p s f.hole f.fits in
     let up : i + 1 ≡ suc i = omega arith in
     let old : xs ≡ take i xs ++ (f.hole ∷ drop (suc i) xs) = sym (take-append-drop i xs) ∙ ap (λ d. take i xs ++ d) (drop_got xs i f.hole f.is) in

@@ -122,7 +122,7 @@ packets_are m spots nets apps packets are all = All-weaker (IsRunPacket nets) (I
 pub nets_on : (n : ℕ) (spots : List Spot) (nets : List Net) → length spots ≡ n → All (IsValidNet n) nets → All (IsValidNet (length spots)) nets
 nets_on n spots nets same valid = subst (λ k. All (IsValidNet k) nets) (sym same) valid
 
-module _ (h : Host) (m : Description) (job : AppJob) (spots : List Spot) (sdram : List ℕ) (apps : List AppNet) (packets : List Packet) (machine : h.mesh.setup.machine ≡ m) (placed : IsPlaced h job spots)
+module _ {h : Host} {m : Description} {job : AppJob} {spots : List Spot} {sdram : List ℕ} {packets : List Packet} (apps : List AppNet) (machine : h.mesh.setup.machine ≡ m) (placed : IsPlaced h job spots)
     (bytes : sdram ≡ map (λ (v : Vertex). v.sdram) job.graph.vertices) (are : AllZip (IsNetFor m spots) job.graph.nets apps) (copied : packets ≡ job.run.packets) where
   abbrev made : AppPlan
   made = record { spots = spots; sdram = sdram; nets = apps; packets = packets }
@@ -152,15 +152,15 @@ pub why_unplaced : (h : Host) (free : Description) (job : AppJob) (e : PlaceErr)
 why_unplaced h free job (places.NoRoom vertex) is none = subst (λ (x : Description). HasNoRoom x job.graph.vertices vertex) is none
 why_unplaced h free job places.Memory is none = tt
 
-pub why_unrouted : (h : Host) (m : Description) (job : AppJob) (spots : List Spot) (e : NetErr) → h.mesh.setup.machine ≡ m → IsPlaced h job spots → IsNetCause m spots job.graph.nets e →
+pub why_unrouted : {h : Host} {m : Description} {job : AppJob} {spots : List Spot} (e : NetErr) → h.mesh.setup.machine ≡ m → IsPlaced h job spots → IsNetCause m spots job.graph.nets e →
     IsWhyUnplanned h job (unrouted e)
-why_unrouted h m job spots (nets.CutOff net target) machine placed first = record {
+why_unrouted {job = job} {spots = spots} (nets.CutOff net target) machine placed first = record {
   spots = spots;
   memory = placed.memory;
   placed = placed.is;
   first = subst (λ (x : Description). IsFirstNetCutOff x spots job.graph.nets net target) (sym machine) first;
 }
-why_unrouted h m job spots nets.Memory machine placed first = tt
+why_unrouted nets.Memory machine placed first = tt
 
 pub why_net : (m : Description) (spots : List Spot) (all : List Net) (i : ℕ) (net : Net) (e : RepairErr) → slice_get all i ≡ Some net → AreReachedBelow m spots all i →
     IsCauseOne m spots net e → IsNetCause m spots all (unrouted_net i e)

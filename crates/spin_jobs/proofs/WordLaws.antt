@@ -8,7 +8,8 @@ use Rattle.par_compile.specs.declared.compiling.Plan.{Plan}
 use Rattle.spin_words.specs.declared.commands.JobWord.{JobWord}
 use Rattle.spin_words.specs.declared.commands.JobWord.TheVariants.{Run, Reinject, Trace, Gen}
 use Rattle.spin_jobs.specs.declared.outcomes.Parts.{Parts}
-use Rattle.spin_jobs.specs.Parts.{plan_parts, run_parts, WhereGiven, WhereRun}
+use Rattle.spin_jobs.specs.declared.outcomes.WordOutput.{WordOutput}
+use Rattle.spin_jobs.specs.Parts.{parts_with, plan_parts, run_parts, WhereGiven, WhereRun}
 use Rattle.spin_jobs.specs.Planned.{IsThePlan}
 use Rattle.spin_jobs.specs.Reinjecting.{HasReinjected}
 use Rattle.spin_jobs.specs.Runs.{HasRunOut}
@@ -18,6 +19,12 @@ use Rattle.spin_jobs.specs.Words.{IsTraced, IsRunKept, Makes, ran, reinjected, t
 pub ok_weaker : {A E : Type 0} (r : Result A E) (P Q : A → Type 0) → ((x : A) → P x → Q x) → IfOk r P → IfOk r Q
 ok_weaker (Ok x) P Q more has = more x has
 ok_weaker (Err e) P Q more has = has
+
+-- what holds of an output is what a word makes
+pub made_by : {E : Type 0} {w : JobWord} {job : Job} {plan : Plan} (r : Result WordOutput E) (P : Job → Plan → Parts → List ℕ → Type 0) → ((parts : Parts) (text : List ℕ) → P job plan parts text → Makes w job plan parts text) →
+    IfOk r (λ t. P job plan (parts_with job plan t.mesh t.report) t.text) → IfOk r (λ t. Makes w job plan (parts_with job plan t.mesh t.report) t.text)
+made_by {job = job} {plan = plan} (Ok t) P makes has = makes (parts_with job plan t.mesh t.report) t.text has
+made_by (Err e) P makes has = has
 
 -- ---- one word at a time
 

@@ -7,8 +7,8 @@ use Rattle.range_store.proofs.cuts.hole_with.Goals as goal
 
 pub overflow_add-hole : goal.overflow_add-hole
 overflow_add-hole c =
-    let below = end_below 0 4294967296 c.args.holes.now (c.begin_before-count.result - 1) (record { place = 0; len = 0 }) c.requires.runs (omega (arith, c.begin_before-count.ensures.within, c.if-count-eq0.false)) in
-    record { fits = omega (arith, below) }
+    let inside : c.begin_before-count.result - 1 < length c.args.holes.now = omega (arith, c.begin_before-count.ensures.within, c.if-count-eq0.false) in
+    record { fits = omega (arith, end_below 0 4294967296 c.args.holes.now (c.begin_before-count.result - 1) (record { place = 0; len = 0 }) c.requires.runs inside) }
 
 pub returns-then-count-eq0-clause-none : goal.returns-then-count-eq0-clause-none
 returns-then-count-eq0-clause-none c =

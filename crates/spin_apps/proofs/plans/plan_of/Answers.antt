@@ -17,13 +17,13 @@ app_nets-requires c = record {
 
 pub returns-in-Ok-clause-plan : goal.returns-in-Ok-clause-plan
 returns-in-Ok-clause-plan c =
-    plan_for c.args.hosted.now c.hosted.inside.machine c.args.job.now c.in_ok-spots.spots c.in_ok-sdram.sdram c.in-Ok.nets c.in_ok-packets.packets (subst (λ (h : Host). h.mesh.setup.machine ≡ c.hosted.inside.machine) c.hosted.view_is c.hosted.invariant.machine) c.in_ok-spots.ensures.placed c.in_ok-sdram.ensures
-    c.in-Ok.ensures.nets c.in_ok-packets.ensures
+    plan_for c.in-Ok.nets (subst (λ (h : Host). h.mesh.setup.machine ≡ c.hosted.inside.machine) c.hosted.view_is c.hosted.invariant.machine)
+    c.in_ok-spots.ensures.placed c.in_ok-sdram.ensures c.in-Ok.ensures.nets c.in_ok-packets.ensures
 
 pub returns-in-Ok-clause-valid : goal.returns-in-Ok-clause-valid
 returns-in-Ok-clause-valid c =
-    plan_valid c.args.hosted.now c.hosted.inside.machine c.args.job.now c.in_ok-spots.spots c.in_ok-sdram.sdram c.in-Ok.nets c.in_ok-packets.packets (subst (λ (h : Host). h.mesh.setup.machine ≡ c.hosted.inside.machine) c.hosted.view_is c.hosted.invariant.machine) c.in_ok-spots.ensures.placed c.in_ok-sdram.ensures
-    c.in-Ok.ensures.nets c.in_ok-packets.ensures c.requires c.in-Ok.ensures.valid
+    plan_valid c.in-Ok.nets (subst (λ (h : Host). h.mesh.setup.machine ≡ c.hosted.inside.machine) c.hosted.view_is c.hosted.invariant.machine)
+    c.in_ok-spots.ensures.placed c.in_ok-sdram.ensures c.in-Ok.ensures.nets c.in_ok-packets.ensures c.requires c.in-Ok.ensures.valid
 
 pub returns-in-Ok-clause-free : goal.returns-in-Ok-clause-free
 returns-in-Ok-clause-free c =
@@ -34,4 +34,4 @@ returns-in-Ok-clause-free c =
 pub returns-in-Err-clause-why : goal.returns-in-Err-clause-why
 returns-in-Err-clause-why c =
     subst (IsWhyUnplanned c.args.hosted.now c.args.job.now) (sym c.unrouted.ensures)
-    (why_unrouted c.args.hosted.now c.hosted.inside.machine c.args.job.now c.in_ok-spots.spots c.in-Err.e (subst (λ (h : Host). h.mesh.setup.machine ≡ c.hosted.inside.machine) c.hosted.view_is c.hosted.invariant.machine) c.in_ok-spots.ensures.placed (search rules))
+    (why_unrouted c.in-Err.e (subst (λ (h : Host). h.mesh.setup.machine ≡ c.hosted.inside.machine) c.hosted.view_is c.hosted.invariant.machine) c.in_ok-spots.ensures.placed (search rules))

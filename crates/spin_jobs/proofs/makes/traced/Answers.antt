@@ -13,4 +13,6 @@ returns c =
     let events = c.as_slice.ensures ∙ ap (λ (p : JobWithPlan). p.job.run.events) c.planned.view_is in
     let after = c.take_events.new.mesh in
     ok_weaker c.reported.result (IsReportedAs job plan after c.in_ok-did.did) (IsTracedTo job plan c.args.mesh.now after)
-    (λ made is. record { moved = c.in_ok-did.ensures.mesh ∙ ap (after_events c.args.mesh.now) events; reported = subst (λ (did : List Did). IsReportedAs job plan after did made) (c.in_ok-did.ensures.did ∙ ap (answers_of c.args.mesh.now) events) is }) c.reported.ensures
+    (λ made is.
+    let reported = subst (λ (did : List Did). IsReportedAs job plan after did made) (c.in_ok-did.ensures.did ∙ ap (answers_of c.args.mesh.now) events) is in
+    record { moved = c.in_ok-did.ensures.mesh ∙ ap (after_events c.args.mesh.now) events; reported = reported }) c.reported.ensures

@@ -20,4 +20,5 @@ pub returns-then-app-self-clause-none : goal.returns-then-app-self-clause-none
 returns-then-app-self-clause-none c none =
     subst (λ (g : Grouped). All (λ (d : Delivery). is_delivery_of c.args.app.now d ≡ false) g.deliveries) c.self.view_is
     (others_all c.args.app.now c.self.inside c.self.invariant
-    (ap (λ b. b || behind c.args.app.now c.self.inside) (le-ltb c.self.inside.greatest c.args.app.now.first c.if-self-app.false) ∙ and_from _ _ (le-leb c.args.app.now.first c.self.inside.least c.if-app-self.true) (ap not (sym c.is_packet_of.ensures) ∙ none)))
+    (ap (λ b. b || behind c.args.app.now c.self.inside) (le-ltb c.self.inside.greatest c.args.app.now.first c.if-self-app.false)
+    ∙ and_from _ _ (le-leb c.args.app.now.first c.self.inside.least c.if-app-self.true) (ap not (sym c.is_packet_of.ensures) ∙ none)))
