@@ -28,8 +28,12 @@ pub(crate) struct LastMet {
 
 /// What is remembered before any pair.
 pub(crate) fn none_met() -> LastMet {
+    let nowhere = AliasPlace {
+        row: usize::MAX,
+        alias: 0,
+    };
     LastMet {
-        places: [AliasPlace { row: 0, alias: 0 }; REMEMBERED],
+        places: [nowhere; REMEMBERED],
     }
 }
 
