@@ -128,6 +128,13 @@ general_before rows place a g ordered inside low k d from = elim (cases_lt k pla
   | inr last ↦ let same : place ≡ k = omega arith in subst (λ i. generality (get_or rows i d).block ≤ g) same (subst (λ (x : Row). generality x.block ≤ g) (get_or_default rows place a d inside) low)
 ]
 
+-- a row that is more general stands at the place or behind it
+pub behind_place : (rows : List Row) (r : ℕ) (a : Row) (g : ℕ) → IsOrdered rows → r < length rows → a ≡ get_or rows r a → g < generality a.block → place_for rows g ≤ r
+behind_place rows r a g ordered inside is above = elim (cases_lt r (place_for rows g)) [
+  | inl less ↦ absurd (omega (arith, above, place_for-below rows g ordered r a less, ap (λ (x : Row). generality x.block) is))
+  | inr le ↦ le
+]
+
 -- ---- the up-check by rivals
 
 module _ (rows : List Row) (rivals : Rivals) (rivaled : IsRivaled rows rivals) where

@@ -1,15 +1,16 @@
 // The down-check of pairs. A pair often meets an alias that one before it met. So the places of such aliases are remembered,
 // and looked at first.
-ghost use Rattle.std.specs.Prelude.{◌≡◌, ◌↔◌, ◌<◌, All, IsTrue, MatchOption, length};
-ghost use Rattle.tern_word.specs.SoundTable.{HoldsItsAliases, Misses};
-ghost use Rattle.tern_word.specs.Ternary.{Intersects};
-ghost use Rattle.cover_merge.specs.Merge.{PassesDown};
+ghost use Rattle.std.specs.Prelude.{◌≡◌, ◌↔◌, ◌<◌, ◌^◌, All, IsTrue, MatchOption, length};
+ghost use Rattle.tern_word.specs.SoundTable.{HoldsItsAliases, IsOrdered, Misses};
+ghost use Rattle.tern_word.specs.Ternary.{Intersects, generality};
+ghost use Rattle.cover_merge.specs.Merge.{PassesDown, place_for};
 
+use crate::rivals::place_in;
 use spin_base::Block;
-use tern_word::{Alias, Row, intersects};
+use tern_word::{Alias, Row, generality, intersects};
 
 // How many places are remembered.
-const REMEMBERED: usize = 32;
+const REMEMBERED: usize = 16;
 
 /// Where an alias may stand: the place of its row, and its own among the row's aliases.
 #[derive(Clone, Copy)]
@@ -18,29 +19,35 @@ struct AliasPlace {
     alias: usize,
 }
 
-/// Places of aliases that pairs met; one that is met again comes first. They may be any: each is looked at before it counts.
+/// Places of aliases that pairs met, that of the last first. They may be any: each is looked at before it counts.
 #[derive(Clone, Copy)]
 pub(crate) struct LastMet {
     places: [AliasPlace; REMEMBERED],
-    ghost long: { length places ≡ 32 },
+    ghost long: { length places ≡ 16 },
 }
 
 /// What is remembered before any pair.
 pub(crate) fn none_met() -> LastMet {
+    let nowhere = AliasPlace {
+        row: usize::MAX,
+        alias: 0,
+    };
     LastMet {
-        places: [AliasPlace { row: 0, alias: 0 }; REMEMBERED],
+        places: [nowhere; REMEMBERED],
     }
 }
 
-/// Whether the block meets no alias of a row at or after place `p`.
-pub(crate) fn passes_behind(rows: &[Row], block: Block, p: u32, last: &mut LastMet) -> bool
-    requires { All HoldsItsAliases rows.now }
-    ensures { IsTrue result ↔ PassesDown rows.now block p }
+/// Whether the block meets no alias of a row that is more general than `general`.
+pub(crate) fn passes_behind(rows: &[Row], block: Block, general: u32, last: &mut LastMet) -> bool
+    requires few { length rows.now < 2 ^ 32 }
+    requires ordered { IsOrdered rows.now }
+    requires holds { All HoldsItsAliases rows.now }
+    ensures { IsTrue result ↔ PassesDown rows.now block (place_for rows.now general) }
 {
-    if meets_again(rows, block, p, last) {
+    if meets_again(rows, block, general, last) {
         return false;
     }
-    match first_behind(rows, block, p) {
+    match first_behind(rows, block, place_in(rows, general)) {
         Some(met) => {
             remember(last, met);
             false
@@ -49,12 +56,13 @@ pub(crate) fn passes_behind(rows: &[Row], block: Block, p: u32, last: &mut LastM
     }
 }
 
-// Whether the block meets an alias at one of the places, of a row at or after place `p`. Then that place comes first.
-fn meets_again(rows: &[Row], block: Block, p: u32, last: &mut LastMet) -> bool
-    ensures { IsTrue result → PassesDown rows.now block p → ⊥ }
+// Whether the block meets an alias at one of the places, of a row that is more general. Then that place comes first.
+fn meets_again(rows: &[Row], block: Block, general: u32, last: &mut LastMet) -> bool
+    requires { IsOrdered rows.now }
+    ensures { IsTrue result → PassesDown rows.now block (place_for rows.now general) → ⊥ }
 {
     for k in 0..REMEMBERED {
-        if meets_at(rows, block, p, last.places[k]) {
+        if meets_at(rows, block, general, last.places[k]) {
             bring_first(last, k);
             return true;
         }
@@ -64,30 +72,42 @@ fn meets_again(rows: &[Row], block: Block, p: u32, last: &mut LastMet) -> bool
 
 // Exchanges the place with the first.
 fn bring_first(last: &mut LastMet, k: usize)
-    requires { k < 32 }
+    requires { k < 16 }
 {
     let place = last.places[k];
     last.places[k] = last.places[0];
     last.places[0] = place;
 }
 
-// Remembers the place, and forgets another.
+// Puts the place before the others, and forgets the last.
 fn remember(last: &mut LastMet, place: AliasPlace) {
-    last.places[place.alias % REMEMBERED] = place;
+    for k in 1..REMEMBERED {
+        bring_first(last, k);
+    }
+    last.places[0] = place;
 }
 
-// Whether an alias stands at the place that the block meets, of a row at or after place `p`.
-fn meets_at(rows: &[Row], block: Block, p: u32, place: AliasPlace) -> bool
-    ensures { IsTrue result → PassesDown rows.now block p → ⊥ }
+// Whether an alias stands at the place that the block meets, of a row that is more general.
+fn meets_at(rows: &[Row], block: Block, general: u32, place: AliasPlace) -> bool
+    requires { IsOrdered rows.now }
+    ensures { IsTrue result → PassesDown rows.now block (place_for rows.now general) → ⊥ }
 {
     let r = place.row;
-    if r < p as usize {
-        return false;
-    }
     if r >= rows.len() {
         return false;
     }
-    meets_alias(rows[r].aliases.as_slice(), block, place.alias)
+    let row = &rows[r];
+    if !meets_alias(row.aliases.as_slice(), block, place.alias) {
+        return false;
+    }
+    is_above(row, general)
+}
+
+// Whether the row is more general.
+fn is_above(row: &Row, general: u32) -> bool
+    ensures { IsTrue result → general < generality row.now.block }
+{
+    generality(row.block) > general
 }
 
 // Whether the block meets the alias of this number, where there is one.

@@ -215,5 +215,5 @@ pub(crate) fn is_legal_pair(
     if !passes(rows, rivals, &[i, j], j, general) {
         return false;
     }
-    passes_behind(rows, merged, place_in(rows, general), last)
+    passes_behind(rows, merged, general, last)
 }

@@ -1,10 +1,10 @@
 -- A pair is legal where both rows pass the up-check, and the merge the down-check.
-use Rattle.std.proofs.Common.{◌<◌, ◌∷◌, [], length, arith, sym, subst}
+use Rattle.std.proofs.Common.{◌<◌, ◌∷◌, [], length, arith, refl, sym, subst}
 use Rattle.std.specs.Prelude.{All}
 use Rattle.tern_word.specs.SoundTable.{HoldsItsAliases}
 use Rattle.cover_merge.proofs.Positions.{has-at}
 use Rattle.cover_merge.specs.Rivals.{IsRivaled}
-use Rattle.cover_merge.specs.Merge.{SameRoute}
+use Rattle.cover_merge.specs.Merge.{SameRoute, place_for}
 use Rattle.cover_merge.proofs.RivalLemmas.{one_route, pair_refused, pair_told}
 use Rattle.cover_merge.proofs.rivals.is_legal_pair.Goals as goal
 
@@ -35,7 +35,7 @@ returns-then-not-passes-2 c =
 pub returns : goal.returns
 returns c =
     pair_told c.as_slice-rows.result.now c.args.table.now.rows c.as_slice-rows.ensures c.args.i c.args.j c.requires.set c.requires.rivaled.sound c.merged_block-merged.result c.merged_block-merged.ensures c.generality-general.result c.generality-general.ensures.value
-    c.passes_behind.result c.place_in.result (c.passes.ensures.0 c.if-not-passes.false) (c.passes-2.ensures.0 c.if-not-passes-2.false) c.place_in.ensures.value c.passes_behind.ensures
+    c.passes_behind.result (place_for c.as_slice-rows.result.now c.generality-general.result) (c.passes.ensures.0 c.if-not-passes.false) (c.passes-2.ensures.0 c.if-not-passes-2.false) refl c.passes_behind.ensures
 
 pub merged_block-merged-requires-clause-in_range : goal.merged_block-merged-requires-clause-in_range
 merged_block-merged-requires-clause-in_range c =
@@ -44,8 +44,8 @@ merged_block-merged-requires-clause-in_range c =
 pub passes-requires-clause-inside : goal.passes-requires-clause-inside
 passes-requires-clause-inside c = subst (λ l. c.args.i < length l) (sym c.as_slice-rows.ensures) (c.requires.set.set.in_range 0 0 (omega arith))
 
-pub passes_behind-requires : goal.passes_behind-requires
-passes_behind-requires c = subst (All HoldsItsAliases) (sym c.as_slice-rows.ensures) c.requires.rivaled.sound.inside
+pub passes_behind-requires-clause-holds : goal.passes_behind-requires-clause-holds
+passes_behind-requires-clause-holds c = subst (All HoldsItsAliases) (sym c.as_slice-rows.ensures) c.requires.rivaled.sound.inside
 
 pub passes-requires-2-clause-inside : goal.passes-requires-2-clause-inside
 passes-requires-2-clause-inside c = subst (λ l. c.args.j < length l) (sym c.as_slice-rows.ensures) (c.requires.set.set.in_range 1 0 (omega arith))
