@@ -41,11 +41,13 @@ numbers_faults path k m r =
 abbrev pub four_faults : List ℕ → Data → Data → Data → Data → List JobFault
 four_faults path k m r l = numbers_faults path k m r ▹ number_faults path 0 5 None (Some l)
 
+unfoldable pub rest_faults : List ℕ → Data → Data → Data → List Data → List JobFault
+rest_faults path k m r [] = numbers_faults path k m r
+rest_faults path k m r (l ∷ ds) = if length ds == 0 then four_faults path k m r l else Shape path ∷ []
+
 unfoldable pub one_faults : List ℕ → Data → Data → List Data → List JobFault
 one_faults path k m [] = Shape path ∷ []
-one_faults path k m (r ∷ []) = numbers_faults path k m r
-one_faults path k m (r ∷ l ∷ []) = four_faults path k m r l
-one_faults path k m (r ∷ l ∷ d ∷ ds) = Shape path ∷ []
+one_faults path k m (r ∷ ds) = rest_faults path k m r ds
 
 unfoldable pub two_faults : List ℕ → Data → List Data → List JobFault
 two_faults path k [] = Shape path ∷ []
@@ -72,10 +74,13 @@ numbers_value k m r = row_of_numbers (whole_value k) (whole_value m) (whole_valu
 abbrev pub four_value : Data → Data → Data → Data → RoutedBlock
 four_value k m r l = record { block = block_at (whole_value k) (whole_value m); route = route_at (whole_value r); port = Link (link_of (whole_value l)) }
 
+unfoldable pub rest_value : Data → Data → Data → List Data → RoutedBlock
+rest_value k m r [] = numbers_value k m r
+rest_value k m r (l ∷ ds) = four_value k m r l
+
 unfoldable pub one_value : Data → Data → List Data → RoutedBlock
 one_value k m [] = row_of_numbers 0 0 0
-one_value k m (r ∷ []) = numbers_value k m r
-one_value k m (r ∷ l ∷ ds) = four_value k m r l
+one_value k m (r ∷ ds) = rest_value k m r ds
 
 unfoldable pub two_value : Data → List Data → RoutedBlock
 two_value k [] = row_of_numbers 0 0 0

@@ -6,7 +6,7 @@ ghost use Rattle.job_text.specs.Paths.{path_text};
 ghost use Rattle.job_readers.specs.Blocks.{block_at};
 ghost use Rattle.job_readers.specs.Entries.{link_of};
 ghost use Rattle.job_readers.specs.Members.{list_member, list_member_faults};
-ghost use Rattle.table_readers.specs.Asking.{HasFewRows, asked_faults, asked_value, chip_numbers, chip_numbers_faults, four_faults, four_value, numbers_faults, numbers_value, one_faults, one_value, route_at, row_faults, row_value, rows_faults, rows_value, table_faults, table_value, tables_exact_faults, tables_exact_value, tables_faults, tables_value, tables_target_faults, tables_target_value, three_faults, three_value, two_faults, two_value};
+ghost use Rattle.table_readers.specs.Asking.{HasFewRows, asked_faults, asked_value, chip_numbers, chip_numbers_faults, four_faults, four_value, numbers_faults, numbers_value, one_faults, one_value, rest_faults, rest_value, route_at, row_faults, row_value, rows_faults, rows_value, table_faults, table_value, tables_exact_faults, tables_exact_value, tables_faults, tables_value, tables_target_faults, tables_target_value, three_faults, three_value, two_faults, two_value};
 
 use job_readers::{ItemReader, each_item, items_in};
 use job_text::{Path, TextErr, count_to, flag, list, member, number_in, range, shape};
@@ -103,7 +103,7 @@ fn row_of_two(
     row_of_one(alloc, key, mask, rest, path)
 }
 
-// The row of a key and a mask, and of the route and the link that one item is, or two.
+// The row of a key and a mask, and of the route and the link that items are.
 #[tactic(auto, unfolding(crate::specs::Asking::one_faults, crate::specs::Asking::one_value))]
 fn row_of_one(
     alloc: Global,
@@ -116,11 +116,33 @@ fn row_of_one(
         (one_faults (path_text path.now) (view key.now) (view mask.now) (map view items.now))
         (one_value (view key.now) (view mask.now) (map view items.now)) }
 {
-    match items {
-        [route] => row_of_three(alloc, key, mask, route, path),
-        [route, link] => row_of_four(alloc, key, mask, route, link, path),
-        _ => Err(shape(alloc, path)),
+    let [route, rest @ ..] = items else {
+        return Err(shape(alloc, path));
+    };
+    row_of_rest(alloc, key, mask, route, rest, path)
+}
+
+// The row of a key, a mask and a route, and of the link that an item is, if there is one.
+#[tactic(auto, unfolding(crate::specs::Asking::rest_faults, crate::specs::Asking::rest_value))]
+fn row_of_rest(
+    alloc: Global,
+    key: &Value,
+    mask: &Value,
+    route: &Value,
+    items: &[Value],
+    path: &Path<'_>,
+) -> Result<RoutedBlock, TextErr>
+    ensures { GivesOrFaults (λ r. r) result
+        (rest_faults (path_text path.now) (view key.now) (view mask.now) (view route.now) (map view items.now))
+        (rest_value (view key.now) (view mask.now) (view route.now) (map view items.now)) }
+{
+    let [link, rest @ ..] = items else {
+        return row_of_three(alloc, key, mask, route, path);
+    };
+    if rest.is_empty() {
+        return row_of_four(alloc, key, mask, route, link, path);
     }
+    Err(shape(alloc, path))
 }
 
 // The row that a key, a mask, a route and a link are.

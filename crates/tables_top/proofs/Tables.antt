@@ -52,7 +52,7 @@ no_entry (r ∷ rows) k absent = by_test (no_entry rows k) (takes_key k r) absen
 -- packets go out by the entries as they are sent by the rows
 go_out : (rows : List RoutedBlock) (k : ℕ) (port : Port) (route : Route) → LeaveBy rows k port route → GoOut (map entry_at rows) k port route
 go_out rows k port route (by_row way) = by_entry (record { entry = entry_at way.row; first = first_entry rows k way.row way.first; by = way.by })
-go_out rows k port route (by_default arrival comes on none) = straight arrival comes on (no_entry rows k none)
+go_out rows k port route (by_default arrival comes on absent) = straight arrival comes on (no_entry rows k absent)
 
 -- the table of rows that keep the routes of those given
 keeps_table : (exact : Bool) (given : GivenTable) (rows : List RoutedBlock) (kept : Bool) → KeepsRoutes given.rows rows → (exact ≡ true → HasNoNewKeys given.rows rows) → length rows ≤ length given.rows
