@@ -25,11 +25,11 @@ ALONE = r"\((Tests alone|No command)"
 MOST = {
     "conditions a function, in hundredths": 63,
     "conditions of one function": 5,
-    "lines of proofs": 80684,
-    "lines of proofs longer than 200 characters": 1287,
-    "lines of proofs longer than 300 characters": 108,
-    "lines of definitions": 13216,
-    "lines of definitions that docs/definitions.md lists": 8368,
+    "lines of proofs": 81358,
+    "lines of proofs longer than 200 characters": 1124,
+    "lines of proofs longer than 300 characters": 45,
+    "lines of definitions": 13300,
+    "lines of definitions that docs/definitions.md lists": 8424,
 }
 PROMISES, LAWS = "| promise | carried by | broken by |", "| law or lemma | stands as |"
 
