@@ -237,11 +237,11 @@ class Arrivals(unittest.TestCase):
         class Entry(SimpleNamespace):
             pass
 
-        rows = [Entry(route={3}, key=0, mask=ONES, sources={0}), Entry(route={3}, key=1, mask=ONES, sources={None}), Entry(route={3}, key=4, mask=ONES)]
+        rows = [Entry(route={3}, key=0, mask=ONES, sources={0}), Entry(route={3}, key=1, mask=ONES, sources={None}), Entry(route={3}, key=7, mask=ONES)]
         tables = tables_of_rig({(0, 0): rows})
         self.assertEqual([getattr(row, "arrival", None) for row in tables[0, 0]], [0, None, None])
         self.assertEqual(minimise(tables, exact=True).rows, 2)
-        self.assertEqual(words(minimise(tables_of_rig({(0, 0): rows[:1] + rows[2:]}), arrivals=True, exact=True).tables[0, 0]), [(4, ONES, 8)])
+        self.assertEqual(words(minimise(tables_of_rig({(0, 0): rows[:1] + rows[2:]}), arrivals=True, exact=True).tables[0, 0]), [(7, ONES, 8)])
 
 
 class Refusals(unittest.TestCase):
