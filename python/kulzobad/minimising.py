@@ -69,8 +69,11 @@ def minimise(tables: AnyTables, target: int = 0, exact: bool = False, program: O
     cores. Where all packets of a row come by one link, and its route is the link opposite, it may go, since a packet that no row has goes
     straight on: it must never come another way. Rows whose key has a bit outside the mask match no packet, and are left out. Refused where the program
     takes the rows for none, as where a route has 25 bits."""
-    told = truth("minimise: arrivals", arrivals)
-    given: Mapping[Chip, Sequence[Row]] = sourced_by_chip(tables) if told else rows_by_chip(tables)
+    given: Mapping[Chip, Sequence[Row]]
+    if truth("minimise: arrivals", arrivals):
+        given = sourced_by_chip(tables)
+    else:
+        given = rows_by_chip(tables)
     path = tables_program_of(program)
     asked = {"target": whole("minimise: target", target), "exact": truth("minimise: exact", exact)}
     shares = list(shares_of(given))
