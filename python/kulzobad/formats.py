@@ -9,6 +9,7 @@
 from __future__ import annotations
 
 import csv
+import functools
 import io
 import json
 import re
@@ -434,14 +435,16 @@ def to_rig(
 # ---- rows as text
 
 
+DIGITS, NUMBER = re.compile(r"[0-9a-fA-F]+"), re.compile(r"[0-9]+|0[xX][0-9a-fA-F]+")
+
+
+@functools.lru_cache(maxsize=1 << 16)
 def number_in(text: str, least_base: int = 10) -> int:
     """A number of digits, or of 0x and hexadecimal digits. ValueError where it is none."""
-    if least_base == 16 and re.fullmatch(r"[0-9a-fA-F]+", text):
+    if least_base == 16 and DIGITS.fullmatch(text):
         return int(text, 16)
-    if re.fullmatch(r"[0-9]+", text):
-        return int(text)
-    if re.fullmatch(r"0[xX][0-9a-fA-F]+", text):
-        return int(text, 16)
+    if NUMBER.fullmatch(text):
+        return int(text, 16 if text[1:2] in ("x", "X") else 10)
     raise ValueError(f"no number: {text!r}")
 
 
@@ -474,7 +477,7 @@ def read_csv(text: str) -> RowsByChip:
     names = [it.strip() for it in lines[0]] if lines else []
     if sorted(names) not in (sorted(COLUMNS), sorted((*COLUMNS, SOURCE))):
         raise ValueError(f"the first line names {', '.join(names) or 'nothing'}, and not {', '.join(COLUMNS)}")
-    return rows_of(((i, dict(zip(names, map(str.strip, line))), len(line)) for i, line in enumerate(lines) if i and line), 10)
+    return rows_of(((i, list(map(str.strip, line))) for i, line in enumerate(lines) if i and line), names, 10)
 
 
 def lines_of_csv(text: str) -> List[List[str]]:
@@ -490,24 +493,26 @@ def read_dump(text: str) -> RowsByChip:
     """Rows of a dump: a line for each, with the chip in decimal numbers and then key, mask and route in hexadecimal digits. ValueError
     where a line has no such numbers."""
     lines = ((i, line.split()) for i, line in enumerate(text_of("read_dump: text", text).splitlines()))
-    return rows_of(((i, dict(zip(COLUMNS, line)), len(line)) for i, line in lines if line), 16)
+    return rows_of(((i, line) for i, line in lines if line), COLUMNS, 16)
 
 
-def rows_of(lines: Iterable[Tuple[int, Mapping[str, str], int]], base: int) -> RowsByChip:
-    """The rows of lines: each with its place, the items by their names, and how many there are."""
+def rows_of(lines: Iterable[Tuple[int, Sequence[str]]], names: Sequence[str], base: int) -> RowsByChip:
+    """The rows of lines: each with its place, and its items in the order of the names."""
     found: Dict[Chip, List[Row]] = {}
-    for i, items, count in lines:
+    places = [names.index(name) for name in COLUMNS]
+    source = names.index(SOURCE) if SOURCE in names else None
+    for i, line in lines:
         try:
-            wanted = len(COLUMNS) + (SOURCE in items)
-            if count != wanted:
-                raise ValueError(f"{count} items, and not {wanted}")
-            x, y = (number_in(items[name]) for name in COLUMNS[:2])
-            row = Row(*(number_in(items[name], base) for name in COLUMNS[2:]))
-            if items.get(SOURCE):
-                row = SourcedRow(row.key, row.mask, row.route, frozenset({link_in(items[SOURCE])}))
+            if len(line) != len(names):
+                raise ValueError(f"{len(line)} items, and not {len(names)}")
+            x, y, key, mask, route = [line[place] for place in places]
+            chip = number_in(x), number_in(y)
+            row = Row(number_in(key, base), number_in(mask, base), number_in(route, base))
+            if source is not None and line[source]:
+                row = SourcedRow(row.key, row.mask, row.route, frozenset({link_in(line[source])}))
         except ValueError as error:
             raise ValueError(f"line {i + 1}: {error}") from None
-        found.setdefault((x, y), []).append(row)
+        found.setdefault(chip, []).append(row)
     return {chip: tuple(rows) for chip, rows in found.items()}
 
 
