@@ -25,7 +25,7 @@ use Rattle.table_rules.proofs.FirstRows.{first_none, first_of_more, none_before,
 use Rattle.table_rules.proofs.Sounds.{GoesWhere, all_go, all_insert, all_with_rows, served_keeps, served_keeps_all, served_new, served_news, sound_with, sound_with_pieces}
 
 -- an original block of the table has the key, and the route
-record IsServed (rows : List Row) (k : ℕ) (route : Route) : Type 0 where
+pub record IsServed (rows : List Row) (k : ℕ) (route : Route) : Type 0 where
   pub original : Original
   pub among : Contains (served rows) original
   pub has : Matches original.block k
@@ -133,9 +133,13 @@ none_yet = record {
 pub made_is_sound : (room : ℕ) (given : List RoutedBlock) (table : List Row) → IsTableMadeOf room given table → IsSound table
 made_is_sound room given table made = (faithful_from room [] [] given table made none_yet).sound
 
+-- a key that some of the rows has is one of an original block of the table
+pub served_of : (room : ℕ) (given : List RoutedBlock) (table : List Row) → IsTableMadeOf room given table → (k : ℕ) (row : RoutedBlock) → k < 2 ^ 32 → first_with given k ≡ Some row → IsServed table k row.route
+served_of room given table made = (faithful_from room [] [] given table made none_yet).complete
+
 pub keeps : (room : ℕ) (given : List RoutedBlock) (table rows : List Row) → IsTableMadeOf room given table → IsSound rows → IsPermutation (served table) (served rows) → KeepsRoutes given (map routed rows)
 keeps room given table rows made sound same k row small first =
-    let it = (faithful_from room [] [] given table made none_yet).complete k row small first in
+    let it = served_of room given table made k row small first in
     let there = subst (GoesWhere rows) it.among.2 (all_go table rows sound same it.among.0 it.original it.among.1) in
     let way = there k small it.has in
     record { row = way.row; first = way.first; by = way.by ∙ it.by }

@@ -14,7 +14,8 @@ use Rattle.cover_merge.proofs.Positions.{place_for-le}
 use Rattle.block_cuts.specs.Cuts.{cut}
 use Rattle.table_rules.specs.declared.rows.RoutedBlock.{RoutedBlock}
 use Rattle.table_rules.specs.Rows.{routed}
-use Rattle.table_rules.specs.Shortened.{IsCoveredFrom, IsShortenedTo, no_shorter, shorter}
+use Rattle.table_rules.specs.Pairs.{pieces_of}
+use Rattle.table_rules.specs.Shortened.{IsCoveredFrom, IsShortFrom, IsShorterOf}
 use Rattle.table_rules.specs.Made.{HasTooManyPieces, IsTableFrom, IsTableMadeOf, IsRowAdded, StandsBefore, row_blocks, done, here, later, more, piece_row, with_row, with_rows}
 
 -- ---- pieces as rows
@@ -100,8 +101,10 @@ module _ (target room : ℕ) (given : List RoutedBlock) (table rows : List Row) 
   covered_from : IsCoveredFrom target room given rows
   covered_from = record { long = long; table = table; made = made; sets = sets; covered = covers }
 
-  pub is_shorter : (list : List Row) (new : List RoutedBlock) → list ≡ rows → length rows < length given → new ≡ map routed list → IsShortenedTo target room given new
-  is_shorter list new same less is = subst (IsShortenedTo target room given) (sym (is ∙ ap (map routed) same)) (shorter rows covered_from less)
-
-  pub is_no_shorter : (new : List RoutedBlock) → length given ≤ length rows → new ≡ given → IsShortenedTo target room given new
-  is_no_shorter new most is = subst (IsShortenedTo target room given) (sym is) (no_shorter rows covered_from most)
+  pub is_short_from : (list : List Row) (pieces covered new : List RoutedBlock) → list ≡ rows → covered ≡ map routed list → pieces ≡ pieces_of table → IsShorterOf target pieces pieces covered new → IsShortFrom target room given new
+  unfolding covered_from
+  is_short_from list pieces covered new same are pieces_are of = record {
+    rows = rows;
+    from = covered_from;
+    shorter = subst (λ l. IsShorterOf target (pieces_of table) (pieces_of table) l new) (are ∙ ap (map routed) same) (subst (λ l. IsShorterOf target l l covered new) pieces_are of);
+  }

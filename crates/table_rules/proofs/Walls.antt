@@ -25,7 +25,9 @@ use Rattle.cover_merge.specs.Merge.{after, has_row, insert_place, kept, merge_ro
 use Rattle.cover_merge.specs.Covering.{Covers, merged, short, stuck}
 use Rattle.cover_merge.proofs.Lists.{All-picked}
 use Rattle.table_rules.specs.declared.rows.RoutedBlock.{RoutedBlock}
-use Rattle.table_rules.specs.Exact.{IsCoveredWithin, IsFree, IsShortenedWithin, no_shorter, rows_before, shorter, wall_of, walled}
+use Rattle.table_rules.specs.Exact.{IsCoveredWithin, IsFree, IsShortWithin, rows_before, wall_of, walled}
+use Rattle.table_rules.specs.Pairs.{others, pieces_of}
+use Rattle.table_rules.specs.Shortened.{IsShorterOf}
 use Rattle.table_rules.specs.Made.{IsTableFrom, IsTableMadeOf, IsRowAdded, StandsBefore, done, in_pieces, left_out, more, piece_row, whole, whole_row}
 use Rattle.table_rules.specs.Rows.{HasNoNewKeys, KeepsRoutes, first_with, routed, takes_key}
 use Rattle.table_rules.proofs.Faithful.{keeps}
@@ -35,7 +37,7 @@ use Rattle.table_rules.proofs.Sounds.{all_insert, all_with_rows}
 -- ---- blocks of all keys
 
 -- a block whose mask has no bit has all keys
-all_match : (b : Block) (k : ℕ) → b.mask ≡ 0 → Matches b k
+pub all_match : (b : Block) (k : ℕ) → b.mask ≡ 0 → Matches b k
 all_match b k none = omega (arith, ap (bit_and k) none, and_le_r k 0, b.within, ap (bit_and b.key) none, and_le_r b.key 0)
 
 -- what is merged with one has all keys
@@ -142,7 +144,7 @@ module _ (bits : ℕ) where
   ]
 
   -- a row that is found is one of the rows
-  found_holds : (P : RoutedBlock → Type 0) (rows : List RoutedBlock) (k : ℕ) (row : RoutedBlock) → All P rows → first_with rows k ≡ Some row → P row
+  pub found_holds : (P : RoutedBlock → Type 0) (rows : List RoutedBlock) (k : ℕ) (row : RoutedBlock) → All P rows → first_with rows k ≡ Some row → P row
   found_holds P [] k row all first = absurd (none-some row first)
   found_holds P (r ∷ rows) k row all first = elim (has_tells k r) [
     | inl hit ↦ subst P (same_Some r row (sym (first_hit r rows k hit.1) ∙ first)) (All-head P r rows all)
@@ -175,15 +177,6 @@ none_new given k small none = none
 
 -- ---- what the code tests
 
-module _ (P : RoutedBlock → Type 0) (given : List RoutedBlock) (i : ℕ) (row : RoutedBlock) (within : i < length given) (read : row ≡ get_or given i row) where
-  pub all_more : All P (take i given) → P row → All P (take (i + 1) given)
-  all_more all this =
-      subst (All P) (sym (take_more given i row within ∙ ap (λ x. take i given ++ x ∷ []) (sym read)))
-      (All-append P (take i given) (row ∷ []) all (All-cons P row [] this (All-nil P)))
-
-  pub all_has : All P given → P row
-  all_has all = subst P (sym read) (all i row within)
-
 module _ (bits : ℕ) (rows : List Row) (i : ℕ) (row : Row) (new all : List RoutedBlock) (within : i < length rows) (read : row ≡ get_or rows i row) (so_far : new ++ rows_before bits (map routed (drop i rows)) ≡ all) where
   behind : drop i rows ≡ row ∷ drop (i + 1) rows
   behind = drop_more rows i row within ∙ ap (λ x. x ∷ drop (i + 1) rows) (sym read)
@@ -207,13 +200,6 @@ module _ (bits : ℕ) (rows : List Row) (i : ℕ) (row : Row) (new all : List Ro
 pub before_all : (bits : ℕ) (rows : List Row) (i : ℕ) (new all : List RoutedBlock) → length rows ≤ i → new ++ rows_before bits (map routed (drop i rows)) ≡ all → new ≡ all
 before_all bits rows i new all past so_far = sym (append-nil new) ∙ (ap (λ l. new ++ rows_before bits (map routed l)) (sym (drop_all i rows past)) ∙ so_far)
 
--- one number more that is no free route
-pub none_free : (given : List RoutedBlock) (routes bits : ℕ) → ((b : ℕ) → bits + 1 ≤ b → b < routes → IsFree given b → ⊥) → (IsFree given bits → ⊥) → (b : ℕ) → bits ≤ b → b < routes → IsFree given b → ⊥
-none_free given routes bits above this b from within free = elim (eqb_tells b bits) [
-  | inl same ↦ this (subst (IsFree given) same.1 free)
-  | inr other ↦ above b (grind (arith, other.1, from)) within free
-]
-
 module _ (target room : ℕ) (given : List RoutedBlock) (route : Route) (table rows : List Row) (sets : List (List ℕ)) (long : target < length given) (free : IsFree given route.bits) (made : IsTableMadeOf room (walled given route) table) (covers : Covers target table sets rows) where
   within : IsCoveredWithin target room given route rows
   within = record {
@@ -226,11 +212,15 @@ module _ (target room : ℕ) (given : List RoutedBlock) (route : Route) (table r
     new_is : new ≡ rows_before route.bits (map routed rows)
     new_is = is ∙ ap (λ l. rows_before route.bits (map routed l)) same
 
-    pub is_within : length new < length given → IsShortenedWithin target room given new
-    is_within less = subst (IsShortenedWithin target room given) (sym new_is) (shorter route rows within (omega (arith, less, ap length new_is)))
-
-    pub is_own : length given ≤ length new → (own : List RoutedBlock) → own ≡ given → IsShortenedWithin target room given own
-    is_own most own same_rows = subst (IsShortenedWithin target room given) (sym same_rows) (no_shorter route rows within (omega (arith, most, ap length new_is)))
+    pub is_short_within : (own pieces new' : List RoutedBlock) → own ≡ others route (pieces_of table) → pieces ≡ pieces_of table → IsShorterOf target own pieces new new' → IsShortWithin target room given new'
+    unfolding within
+    is_short_within own pieces new' own_is pieces_are of = record {
+      route = route;
+      rows = rows;
+      within = within;
+      shorter = subst (λ l. IsShorterOf target (others route (pieces_of table)) (pieces_of table) l new') new_is
+          (subst (λ l. IsShorterOf target (others route (pieces_of table)) l new new') pieces_are (subst (λ l. IsShorterOf target l pieces new new') own_is of));
+    }
 
     module _ (sound : IsSound rows) (serves : IsPermutation (served table) (served rows)) where
       all_kept : KeepsRoutes (walled given route) (map routed rows)

@@ -4,7 +4,9 @@ ghost use Rattle.table_rules.specs.Made.{HasTooManyPieces, IsTableMadeOf};
 ghost use Rattle.table_rules.specs.Rows.{KeepsRoutes, routed};
 ghost use Rattle.table_rules.specs.Shortened.{IsShortenedTo};
 
+use crate::choosing::shorter_of;
 use crate::making::made_table;
+use crate::pieces::pieces_of;
 use crate::rows::RoutedBlock;
 use cover_merge::cover;
 use spin_base::{Memory, Seq};
@@ -14,9 +16,11 @@ use tern_word::{Row, Table};
 /// The rows of a table with fewer rows, if there is one, that gives each key the route that the given one gives it.
 ///
 /// Of a table of more than `target` rows a sound table is made, which is covered until it has at most `target` rows, or no two
-/// can be joined; where that is no shorter, and where the table has at most `target` rows, it is given back as it is. There is
-/// nothing exactly where a longer table's rows are cut into more than `room` pieces. For each key that a row of the given table
-/// has, where the first that has it decides, the first row of the new one that has it has the same route.
+/// can be joined. Where more are left, and the rows are cut into at most 2,048 pieces, these are joined by pairs too, one route
+/// after another, and the shorter of the two tables is taken. Where that is no shorter than the given one, and where this has at
+/// most `target` rows, it is given back as it is. There is nothing exactly where a longer table's rows are cut into more than
+/// `room` pieces. For each key that a row of the given table has, where the first that has it decides, the first row of the new
+/// one that has it has the same route.
 pub fn shorten_rows(
     alloc: Global,
     given: &[RoutedBlock],
@@ -42,7 +46,7 @@ pub fn shorten_rows(
     }
 }
 
-// The rows of the covered table, where they are fewer, and else those given.
+// The rows of the covered table, or of its joined pieces, where they are fewer, and else those given.
 fn covered_rows(
     alloc: Global,
     given: &[RoutedBlock],
@@ -57,12 +61,16 @@ fn covered_rows(
     ensures routes { IfOk result (KeepsRoutes given.now) }
     ensures few { IfOk result (λ rows. length rows ≤ length given.now) }
 {
+    let pieces = pieces_of(alloc, table.rows.as_slice())?;
+    let all = pieces.as_slice();
     let covered = cover(alloc, table, target)?;
-    if covered.table.rows.len() < given.len() {
-        rows_of(alloc, covered.table.rows.as_slice())
-    } else {
-        copy(alloc, given)
+    let covering = covered.table.rows.as_slice();
+    let rows = rows_of(alloc, covering)?;
+    let shorter = shorter_of(alloc, target, rows, all, all)?;
+    if shorter.len() < given.len() {
+        return Ok(shorter);
     }
+    copy(alloc, given)
 }
 
 // The rows without their aliases.

@@ -4,7 +4,11 @@ ghost use Rattle.table_rules.specs.Exact.{AreTooManyWithin, HasAllRoutes, IsFree
 ghost use Rattle.table_rules.specs.Made.{HasTooManyPieces, IsTableMadeOf};
 ghost use Rattle.table_rules.specs.Rows.{HasNoNewKeys, KeepsRoutes, routed};
 
+use crate::choosing::shorter_of;
+use crate::freeing::free_route;
 use crate::making::made_table;
+use crate::pieces::{others, pieces_of};
+use crate::routes::ROUTES;
 use crate::rows::RoutedBlock;
 use crate::shortening::{copy, routed};
 use cover_merge::cover;
@@ -12,14 +16,11 @@ use spin_base::{Block, Memory, Route, Seq};
 use std::alloc::Global;
 use tern_word::{Row, Table};
 
-/// How many routes there are.
-const ROUTES: u32 = 16777216;
-
 /// As `shorten_rows`; and a key that no row of the given table has is one that no row of the new one has.
 ///
 /// The table is covered with a wall behind its rows: a row of all keys, of a route that none of them has. It decides for the keys
-/// that none of them has, so no merge has one of these. Its pieces count among the `room`, and it counts among the rows that are
-/// compared with `target`. The new rows are those before it.
+/// that none of them has, so no merge has one of these, and no join of pieces. Its pieces count among the `room`, and it counts
+/// among the rows that are compared with `target` while the table is covered. The new rows are those before it.
 pub fn shorten_within(
     alloc: Global,
     given: &[RoutedBlock],
@@ -36,41 +37,13 @@ pub fn shorten_within(
         let same = copy(alloc, given)?;
         return Ok(Some(same));
     }
-    match free_route(given, ROUTES) {
+    match free_route(alloc, given, ROUTES)? {
         Some(route) => within_wall(alloc, given, route, target, room),
         None => {
             let same = copy(alloc, given)?;
             Ok(Some(same))
         }
     }
-}
-
-// The greatest route of bits below the number that no row has, if there is one.
-fn free_route(given: &[RoutedBlock], routes: u32) -> Option<Route>
-    requires { routes ≤ 2 ^ 24 }
-    ensures { MatchOption result (HasAllRoutes routes given.now)
-        (λ route. IsFree given.now route.bits) }
-{
-    let mut bits = routes;
-    while bits > 0 {
-        bits -= 1;
-        if is_free(given, bits) {
-            return Some(Route { bits });
-        }
-    }
-    None
-}
-
-// Whether no row has a route of these bits.
-fn is_free(given: &[RoutedBlock], bits: u32) -> bool
-    ensures { MatchBool result (IsFree given.now bits) (IsFree given.now bits → ⊥) }
-{
-    for row in given {
-        if row.route.bits == bits {
-            return false;
-        }
-    }
-    true
 }
 
 // The rows of the table that is covered with a wall of this route.
@@ -119,7 +92,7 @@ fn wall(route: Route) -> RoutedBlock
     }
 }
 
-// The rows of the covered table before its wall, where they are fewer, and else those given.
+// The rows of the covered table before its wall, or of its joined pieces, where they are fewer, and else those given.
 fn covered_within(
     alloc: Global,
     given: &[RoutedBlock],
@@ -137,10 +110,16 @@ fn covered_within(
     ensures keys { IfOk result (HasNoNewKeys given.now) }
     ensures few { IfOk result (λ rows. length rows ≤ length given.now) }
 {
+    let pieces = pieces_of(alloc, table.rows.as_slice())?;
+    let all = pieces.as_slice();
+    let rest = others(alloc, route, all)?;
+    let own = rest.as_slice();
     let covered = cover(alloc, table, target)?;
-    let rows = rows_before(alloc, covered.table.rows.as_slice(), route.bits)?;
-    if rows.len() < given.len() {
-        return Ok(rows);
+    let covering = covered.table.rows.as_slice();
+    let rows = rows_before(alloc, covering, route.bits)?;
+    let shorter = shorter_of(alloc, target, rows, own, all)?;
+    if shorter.len() < given.len() {
+        return Ok(shorter);
     }
     copy(alloc, given)
 }
