@@ -243,6 +243,12 @@ class Arrivals(unittest.TestCase):
         # a table that is short enough is as it was given
         self.assertEqual(left((0, ONES, 8, {0}), (1, ONES, 1, None), target=2), [(0, ONES, 8), (1, ONES, 1)])
         self.assertEqual(left((0, ONES, 8, {0}), (1, ONES, 1, None), target=1), [(1, ONES, 1)])
+        # pieces joined by pairs keep their rows, of which a later one may have the keys
+        pairs = [(1, ONES, 2, None), (2, ONES, 2, None), (4, ONES, 2, None), (6, ONES, 1, None), (7, ONES, 1, None)]
+        self.assertEqual(left((0, ONES, 1, {3}), *pairs), [(0, ONES, 1), (6, 0xFFFFFFFE, 1), (0, 0xFFFFFFF8, 2)])
+        # of as many rows those of covering stay, without one that goes
+        covered = [(1, ONES, 2), (2, ONES, 2), (4, ONES, 2), (0, 0xFFFFFFF8, 1)]
+        self.assertEqual(left((0, ONES, 1, None), *pairs, (16, ONES, 8, {0})), covered)
         # keys behind a wall
         self.assertEqual(left((0, ONES, 1, None), (1, ONES, 1, None), (3, ONES, 8, {0}), exact=True), [(0, 0xFFFFFFFE, 1)])
 
