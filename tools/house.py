@@ -25,11 +25,11 @@ ALONE = r"\((Tests alone|No command)"
 MOST = {
     "conditions a function, in hundredths": 63,
     "conditions of one function": 5,
-    "lines of proofs": 81358,
-    "lines of proofs longer than 200 characters": 1124,
-    "lines of proofs longer than 300 characters": 45,
-    "lines of definitions": 13300,
-    "lines of definitions that docs/definitions.md lists": 8424,
+    "lines of proofs": 82275,
+    "lines of proofs longer than 200 characters": 1145,
+    "lines of proofs longer than 300 characters": 47,
+    "lines of definitions": 13394,
+    "lines of definitions that docs/definitions.md lists": 8517,
 }
 PROMISES, LAWS = "| promise | carried by | broken by |", "| law or lemma | stands as |"
 

@@ -129,6 +129,19 @@ class Lookups(unittest.TestCase):
         self.assertEqual(words(minimise({(0, 0): walls}, exact=True).tables[0, 0]), walls[:4] + [(8, 0xFFFFFFFE, 0xFFFFFF)])
         self.assertEqual(words(minimise({(0, 0): []}, exact=True).tables[0, 0]), [])
 
+    def test_pairs_by_hand(self):
+        # covering joins route 1 first, and leaves the three others; by pairs, 6 takes in 7, and then 1 takes in 2 and 4
+        rows = [(0, ONES, 1), (1, ONES, 2), (2, ONES, 2), (4, ONES, 2), (6, ONES, 1), (7, ONES, 1)]
+        pairs = [(0, ONES, 1), (6, 0xFFFFFFFE, 1), (0, 0xFFFFFFF8, 2)]
+        self.assertEqual(words(minimise({(0, 0): rows}).tables[0, 0]), pairs)
+        self.assertEqual(words(minimise({(0, 0): rows}, 3).tables[0, 0]), pairs)
+        # four rows will do: covering makes them, and no pair is tried
+        covered = [(1, ONES, 2), (2, ONES, 2), (4, ONES, 2), (0, 0xFFFFFFF8, 1)]
+        self.assertEqual(words(minimise({(0, 0): rows}, 4).tables[0, 0]), covered)
+        # 3 has no row: so 1 takes in 5 and not 7
+        rows = [(key, ONES, 2) for key in (1, 5, 6, 7)]
+        self.assertEqual(words(minimise({(0, 0): rows}, exact=True).tables[0, 0]), [(1, 0xFFFFFFFB, 2), (6, 0xFFFFFFFE, 2)])
+
     def test_borders_of_overlaps(self):
         rows = [(0x10000000, 0xFFFFFFFF, 1), (0x1FFFFFFF, 0xFFFFFFFF, 2), (0x10000000, 0xF0000000, 4), (0, 0x80000000, 8), (0, 0, 16)]
         new = words(minimise({(0, 0): rows}).tables[0, 0])
@@ -230,6 +243,12 @@ class Arrivals(unittest.TestCase):
         # a table that is short enough is as it was given
         self.assertEqual(left((0, ONES, 8, {0}), (1, ONES, 1, None), target=2), [(0, ONES, 8), (1, ONES, 1)])
         self.assertEqual(left((0, ONES, 8, {0}), (1, ONES, 1, None), target=1), [(1, ONES, 1)])
+        # pieces joined by pairs keep their rows, of which a later one may have the keys
+        pairs = [(1, ONES, 2, None), (2, ONES, 2, None), (4, ONES, 2, None), (6, ONES, 1, None), (7, ONES, 1, None)]
+        self.assertEqual(left((0, ONES, 1, {3}), *pairs), [(0, ONES, 1), (6, 0xFFFFFFFE, 1), (0, 0xFFFFFFF8, 2)])
+        # of as many rows those of covering stay, without one that goes
+        covered = [(1, ONES, 2), (2, ONES, 2), (4, ONES, 2), (0, 0xFFFFFFF8, 1)]
+        self.assertEqual(left((0, ONES, 1, None), *pairs, (16, ONES, 8, {0})), covered)
         # keys behind a wall
         self.assertEqual(left((0, ONES, 1, None), (1, ONES, 1, None), (3, ONES, 8, {0}), exact=True), [(0, 0xFFFFFFFE, 1)])
 

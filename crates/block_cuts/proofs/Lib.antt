@@ -1,3 +1,3 @@
-mod HalfLaws
+pub mod HalfLaws
 pub mod PieceLaws
 mod Turns

@@ -4,8 +4,8 @@ ghost use Rattle.block_cuts.specs.Cuts.{apart_of, halves, is_cut_at, less_of, me
 
 use spin_base::{Block, Memory};
 
-// Whether some key lies in both blocks.
-pub(crate) fn meets(a: Block, b: Block) -> bool
+/// Whether some key lies in both blocks.
+pub fn meets(a: Block, b: Block) -> bool
     ensures { result ≡ meets a b }
 {
     (a.key ^ b.key) & a.mask & b.mask == 0

@@ -10,3 +10,4 @@ mod cutting;
 mod halves;
 
 pub use cutting::cut;
+pub use halves::meets;

@@ -4,3 +4,8 @@ mod Sounds
 mod Faithful
 mod Turns
 mod Walls
+mod FreeRoutes
+mod Joins
+mod JoinTurns
+mod Keeping
+mod Weights

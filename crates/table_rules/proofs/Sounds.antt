@@ -1,13 +1,11 @@
--- A sound table with one row more, and with the pieces of a row, is sound.
+-- A sound table with one row more, and with the pieces of a row, is sound; and a sound table routes its aliases.
 use Rattle.std.proofs.Common.{◌≡◌, ℕ, zero, suc, ◌+◌, ◌^◌, ◌<◌, ◌≤◌, inl, inr, List, [], ◌∷◌, ◌++◌, length, get_or, take, drop, map, refl, sym, ap, ◌∙◌, subst, take-append-drop, get_or-take, get_or-drop, length-take, length-drop, arith}
 use Rattle.std.specs.Prelude.{All, AllPairs, insert}
 use Rattle.std.specs.List.{Contains}
-use Rattle.std.specs.List.Sorted.{IsPermutation}
 use Rattle.std.proofs.lemmas.Bool.{cases_lt}
 use Rattle.std.proofs.lemmas.List.Concat.{flat_map-append}
 use Rattle.std.proofs.lemmas.List.Elements.{All-nil, All-append, All-cons, All-drop, All-head, All-map, All-tail, All-take, Contains-append_left, Contains-append_right, Contains-append_cases}
 use Rattle.std.proofs.lemmas.List.Kept.{AllPairs-cons}
-use Rattle.std.proofs.lemmas.List.Sorted.{All-permutation, IsPermutation-sym}
 use Rattle.spin_base.proofs.Pairs.{All-flat_map, AllAcross, AllPairs-head, AllPairs-tail, AllPairs-append, AllPairs-left, AllPairs-right, AllPairs-across}
 use Rattle.spin_base.specs.declared.blocks.Block.{Block}
 use Rattle.tern_word.specs.declared.tables.Alias.{Alias}
@@ -127,7 +125,7 @@ served_news [] rows i d o within among = absurd (omega arith)
 served_news (r ∷ news) rows zero d o within among = served_keeps_all news (with_row rows r) o (served_new rows r o among)
 served_news (r ∷ news) rows (suc i) d o within among = served_news news (with_row rows r) i d o (omega arith) among
 
--- ---- a sound table without its first row
+-- ---- a sound table routes its aliases
 
 pub tail_sound : (r : Row) (rows : List Row) → IsSound (r ∷ rows) → IsSound rows
 tail_sound r rows sound = record {
@@ -135,3 +133,28 @@ tail_sound r rows sound = record {
   inside = All-tail HoldsItsAliases r rows sound.inside;
   unmet = AllPairs-tail (λ (x y : Row). Misses x.block y) r rows sound.unmet;
 }
+
+goes : (rows : List Row) → IsSound rows → (j : ℕ) (d : Row) → j < length rows → (i : ℕ) (e : Alias) → i < length (get_or rows j d).aliases
+    → (k : ℕ) → k < 2 ^ 32 → Matches (get_or (get_or rows j d).aliases i e).block k → GoesBy (map routed rows) k (get_or rows j d).route
+goes [] sound j d within i e inside k small hit = absurd (omega arith)
+goes (r ∷ rows) sound zero d within i e inside k small hit = record {
+  row = routed r;
+  first = first_hit (routed r) (map routed rows) k (sound.inside 0 d within i e inside k small hit);
+  by = refl;
+}
+goes (r ∷ rows) sound (suc j) d within i e inside k small hit =
+    let rest = goes rows (tail_sound r rows sound) j d (omega arith) i e inside k small hit in record {
+      row = rest.row;
+      first = first_miss (routed r) (map routed rows) k (λ met. sound.unmet 0 (suc j) d (omega arith) within i e inside (record { key = k; small = small; first = met; second = hit })) ∙ rest.first;
+      by = rest.by;
+    }
+
+-- the keys of an original block go by its route
+abbrev pub GoesWhere : List Row → Original → Type 0
+GoesWhere rows o = (k : ℕ) → k < 2 ^ 32 → Matches o.block k → GoesBy (map routed rows) k o.route
+
+pub all_go : (rows : List Row) → IsSound rows → All (GoesWhere rows) (served rows)
+all_go rows sound =
+    All-flat_map (GoesWhere rows) served_by rows (λ j d within.
+    let r = get_or rows j d in
+    All-map (GoesWhere rows) (λ (a : Alias). let o : Original = record { block = a.block; port = a.port; route = r.route } in o) r.aliases (λ i e inside k small hit. goes rows sound j d within i e inside k small hit))

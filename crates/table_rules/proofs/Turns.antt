@@ -15,7 +15,8 @@ use Rattle.cover_merge.proofs.Positions.{place_for-le, rows_at-push}
 use Rattle.block_cuts.specs.Cuts.{cut}
 use Rattle.table_rules.specs.declared.rows.RoutedBlock.{RoutedBlock}
 use Rattle.table_rules.specs.Rows.{routed}
-use Rattle.table_rules.specs.Shortened.{AreLeft, IsCoveredFrom, IsShortenedTo, no_shorter, shorter}
+use Rattle.table_rules.specs.Pairs.{pieces_of}
+use Rattle.table_rules.specs.Shortened.{AreLeft, IsCoveredFrom, IsShortFrom, IsShorterOf}
 use Rattle.table_rules.specs.Made.{HasTooManyPieces, IsTableFrom, IsTableMadeOf, IsRowAdded, StandsBefore, row_blocks, done, here, later, more, piece_row, with_row, with_rows}
 
 -- ---- pieces as rows
@@ -101,15 +102,15 @@ module _ (target room : ℕ) (given : List RoutedBlock) (table rows : List Row) 
   covered_from : IsCoveredFrom target room given rows
   covered_from = record { long = long; table = table; made = made; sets = sets; covered = covers }
 
-  module _ (list : List Row) (left : List RoutedBlock) (same : list ≡ rows) (are : AreLeft list left) where
-    left_of : AreLeft rows left
-    left_of = subst (λ l. AreLeft l left) same are
-
-    pub is_shorter : length left < length given → IsShortenedTo target room given left
-    is_shorter less = shorter rows left covered_from left_of less
-
-    pub is_no_shorter : (new : List RoutedBlock) → length given ≤ length left → new ≡ given → IsShortenedTo target room given new
-    is_no_shorter new most is = subst (IsShortenedTo target room given) (sym is) (no_shorter rows left covered_from left_of most)
+  pub is_short_from : (list : List Row) (pieces left new : List RoutedBlock) → list ≡ rows → AreLeft list left → pieces ≡ pieces_of table → IsShorterOf target pieces pieces left new → IsShortFrom target room given new
+  unfolding covered_from
+  is_short_from list pieces left new same are pieces_are of = record {
+    rows = rows;
+    from = covered_from;
+    left = left;
+    are_left = subst (λ l. AreLeft l left) same are;
+    shorter = subst (λ l. IsShorterOf target l l left new) pieces_are of;
+  }
 
 -- the row at one more place
 pub places_more : (rows : List Row) (places : List ℕ) (i : ℕ) (row : Row) (new : RoutedBlock) (old all : List RoutedBlock) → All (λ s. s < length rows) places → i < length places →

@@ -1,12 +1,12 @@
 -- Behind a wall no key is new: the rows of its route have all keys, and those before them have none of the wall's.
-use Rattle.std.proofs.Common.{◌≡◌, ℕ, suc, take-append-drop, length-take, ◌+◌, ◌-◌, ◌<◌, ◌≤◌, ◌^◌, ◌==◌, Bool, true, false, cond, inl, inr, List, [], ◌∷◌, ◌++◌, length, get_or, take, drop, map, Option, Some, None, refl, sym, ap, ◌∙◌, subst, append_assoc, length-append, arith}
+use Rattle.std.proofs.Common.{◌≡◌, ℕ, take-append-drop, length-take, ◌-◌, ◌<◌, ◌≤◌, ◌^◌, ◌==◌, Bool, true, false, cond, inl, inr, List, [], ◌∷◌, ◌++◌, length, get_or, take, drop, map, Option, Some, None, refl, sym, ap, ◌∙◌, subst, length-append, arith}
 use Rattle.std.specs.Prelude.{All, AllPairs, nat_lt, bit_and, bit_xor, fold, nat_le, not, slice_get}
 use Rattle.std.specs.Int.{bit_at, bit_not, w32}
 use Rattle.std.specs.List.{Contains, cons_option, position, position_or_len}
 use Rattle.std.specs.Option.{option_or}
 use Rattle.std.proofs.lemmas.Bool.{ltb-false}
 use Rattle.std.proofs.lemmas.Bool.Decides.{eqb_tells, nat_tests}
-use Rattle.std.proofs.lemmas.List.{take_all, take_more}
+use Rattle.std.proofs.lemmas.List.{take_all}
 use Rattle.std.proofs.lemmas.List.Elements.{All-nil, All-append, All-cons, All-drop, All-head, All-map, All-tail, All-take, Contains-append_cases, Contains-append_left, Contains-append_right}
 use Rattle.std.proofs.lemmas.List.Folds.{find-append}
 use Rattle.std.proofs.lemmas.List.Sums.{sum_by-append, take_while-cons}
@@ -29,7 +29,9 @@ use Rattle.cover_merge.specs.Covering.{Covers, merged, short, stuck}
 use Rattle.cover_merge.proofs.Lists.{All-picked}
 use Rattle.cover_merge.proofs.Positions.{All-has, rows_at-from}
 use Rattle.table_rules.specs.declared.rows.RoutedBlock.{RoutedBlock}
-use Rattle.table_rules.specs.Exact.{IsCoveredWithin, IsFree, IsShortenedWithin, no_shorter, rows_before, shorter, wall_of, walled}
+use Rattle.table_rules.specs.Exact.{IsCoveredWithin, IsFree, IsShortWithin, rows_before, wall_of, walled}
+use Rattle.table_rules.specs.Pairs.{others, pieces_of}
+use Rattle.table_rules.specs.Shortened.{IsShorterOf}
 use Rattle.table_rules.specs.Made.{IsTableFrom, IsTableMadeOf, IsRowAdded, StandsBefore, done, in_pieces, left_out, more, piece_row, whole, whole_row}
 use Rattle.table_rules.specs.Rows.{HasNoNewKeys, KeepsRoutes, first_with, takes_key}
 use Rattle.table_rules.specs.Shortened.{AreLeft}
@@ -41,7 +43,7 @@ use Rattle.table_rules.proofs.Sounds.{all_insert, all_with_rows, tail_sound}
 -- ---- blocks of all keys
 
 -- a block whose mask has no bit has all keys
-all_match : (b : Block) (k : ℕ) → b.mask ≡ 0 → Matches b k
+pub all_match : (b : Block) (k : ℕ) → b.mask ≡ 0 → Matches b k
 all_match b k none = omega (arith, ap (bit_and k) none, and_le_r k 0, b.within, ap (bit_and b.key) none, and_le_r b.key 0)
 
 -- what is merged with one has all keys
@@ -190,7 +192,7 @@ module _ (bits : ℕ) where
   ]
 
   -- a row that is found is one of the rows
-  found_holds : (P : RoutedBlock → Type 0) (rows : List RoutedBlock) (k : ℕ) (row : RoutedBlock) → All P rows → first_with rows k ≡ Some row → P row
+  pub found_holds : (P : RoutedBlock → Type 0) (rows : List RoutedBlock) (k : ℕ) (row : RoutedBlock) → All P rows → first_with rows k ≡ Some row → P row
   found_holds P [] k row all first = absurd (none-some row first)
   found_holds P (r ∷ rows) k row all first = elim (has_tells k r) [
     | inl hit ↦ subst P (same_Some r row (sym (first_hit r rows k hit.1) ∙ first)) (All-head P r rows all)
@@ -230,15 +232,6 @@ none_new given k small none = none
 
 -- ---- what the code tests
 
-module _ (P : RoutedBlock → Type 0) (given : List RoutedBlock) (i : ℕ) (row : RoutedBlock) (within : i < length given) (read : row ≡ get_or given i row) where
-  pub all_more : All P (take i given) → P row → All P (take (i + 1) given)
-  all_more all this =
-      subst (All P) (sym (take_more given i row within ∙ ap (λ x. take i given ++ x ∷ []) (sym read)))
-      (All-append P (take i given) (row ∷ []) all (All-cons P row [] this (All-nil P)))
-
-  pub all_has : All P given → P row
-  all_has all = subst P (sym read) (all i row within)
-
 -- the rows before it, from the slice that was read
 module _ (bits : ℕ) (rows list before : List Row) (same : list ≡ rows) (is : before ≡ rows_before bits list) where
   pub sound_wall : IsSound rows → IsSound before
@@ -260,13 +253,6 @@ module _ (bits : ℕ) (rows : List Row) (o : Option ℕ) (is : o ≡ position (�
       by_test true less found = absurd (none-some n (sym found))
       by_test false most found = ltb-false n (length rows) most
 
--- one number more that is no free route
-pub none_free : (given : List RoutedBlock) (routes bits : ℕ) → ((b : ℕ) → bits + 1 ≤ b → b < routes → IsFree given b → ⊥) → (IsFree given bits → ⊥) → (b : ℕ) → bits ≤ b → b < routes → IsFree given b → ⊥
-none_free given routes bits above this b from within free = elim (eqb_tells b bits) [
-  | inl same ↦ this (subst (IsFree given) same.1 free)
-  | inr other ↦ above b (grind (arith, other.1, from)) within free
-]
-
 module _ (target room : ℕ) (given : List RoutedBlock) (route : Route) (table rows : List Row) (sets : List (List ℕ)) (long : target < length given) (free : IsFree given route.bits) (made : IsTableMadeOf room (walled given route) table) (covers : Covers target table sets rows) where
   within : IsCoveredWithin target room given route rows
   within = record {
@@ -279,11 +265,16 @@ module _ (target room : ℕ) (given : List RoutedBlock) (route : Route) (table r
     before_wall : AreLeft (rows_before route.bits rows) left
     before_wall = subst (λ l. AreLeft l left) (is ∙ ap (rows_before route.bits) same) are
 
-    pub is_within : length left < length given → IsShortenedWithin target room given left
-    is_within less = shorter route rows left within before_wall less
-
-    pub is_own : length given ≤ length left → (own : List RoutedBlock) → own ≡ given → IsShortenedWithin target room given own
-    is_own most own same_rows = subst (IsShortenedWithin target room given) (sym same_rows) (no_shorter route rows left within before_wall most)
+    pub is_short_within : (own pieces new : List RoutedBlock) → own ≡ others route (pieces_of table) → pieces ≡ pieces_of table → IsShorterOf target own pieces left new → IsShortWithin target room given new
+    unfolding within
+    is_short_within own pieces new own_is pieces_are of = record {
+      route = route;
+      rows = rows;
+      within = within;
+      left = left;
+      are_left = before_wall;
+      shorter = subst (λ l. IsShorterOf target (others route (pieces_of table)) l left new) pieces_are (subst (λ l. IsShorterOf target l pieces left new) own_is of);
+    }
 
     module _ (sound : IsSound rows) (serves : IsPermutation (served table) (served rows)) where
       pub keeps_within : KeepsRoutes given left

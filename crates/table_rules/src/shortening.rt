@@ -6,7 +6,9 @@ ghost use Rattle.table_rules.specs.Made.{HasTooManyPieces, IsTableMadeOf};
 ghost use Rattle.table_rules.specs.Rows.{KeepsRoutes, routed};
 ghost use Rattle.table_rules.specs.Shortened.{AreLeft, IsShortenedTo};
 
+use crate::choosing::shorter_of;
 use crate::making::made_table;
+use crate::pieces::pieces_of;
 use crate::rows::RoutedBlock;
 use cover_merge::cover;
 use default_routes::strip;
@@ -17,10 +19,12 @@ use tern_word::{Row, Table};
 /// The rows of a table with fewer rows, if there is one, that gives each key the route that the given one gives it.
 ///
 /// Of a table of more than `target` rows a sound table is made, which is covered until it has at most `target` rows, or no two
-/// can be joined; then the rows are left out that default routing replaces. Where that is no shorter, and where the table has at
-/// most `target` rows, it is given back as it is. There is nothing exactly where a longer table's rows are cut into more than
-/// `room` pieces. For each key that a row of the given table has, where the first that has it decides, the first row of the new one
-/// that has it has the same route; or none has it, and packets of the row's port go straight on by that route.
+/// can be joined; then the rows are left out that default routing replaces. Where more are left, and the rows are cut into at most
+/// 2,048 pieces, these are joined by pairs too, one route after another, and the shorter of the two tables is taken. Where that is no
+/// shorter than the given one, and where this has at most `target` rows, it is given back as it is. There is nothing exactly where a
+/// longer table's rows are cut into more than `room` pieces. For each key that a row of the given table has, where the first that has
+/// it decides, the first row of the new one that has it has the same route; or none has it, and packets of the row's port go straight
+/// on by that route.
 pub fn shorten_rows(
     alloc: Global,
     given: &[RoutedBlock],
@@ -46,7 +50,8 @@ pub fn shorten_rows(
     }
 }
 
-// The rows of the covered table that default routing does not replace, where they are fewer, and else those given.
+// The rows of the covered table that default routing does not replace, or those of its joined pieces, where they are fewer, and else
+// those given.
 fn covered_rows(
     alloc: Global,
     given: &[RoutedBlock],
@@ -61,10 +66,14 @@ fn covered_rows(
     ensures routes { IfOk result (KeepsRoutes given.now) }
     ensures few { IfOk result (λ rows. length rows ≤ length given.now) }
 {
+    let pieces = pieces_of(alloc, table.rows.as_slice())?;
+    let all = pieces.as_slice();
     let covered = cover(alloc, table, target)?;
-    let left = rows_left(alloc, covered.table.rows.as_slice())?;
-    if left.len() < given.len() {
-        return Ok(left);
+    let covering = covered.table.rows.as_slice();
+    let left = rows_left(alloc, covering)?;
+    let shorter = shorter_of(alloc, target, left, all, all)?;
+    if shorter.len() < given.len() {
+        return Ok(shorter);
     }
     copy(alloc, given)
 }

@@ -1,10 +1,14 @@
 // Shorter rows that have no new keys.
-ghost use Rattle.std.specs.Prelude.{◌≡◌, ◌==◌, ◌<◌, ◌≤◌, ◌^◌, [], IfOk, IfSome, MatchBool, MatchOption, length, position};
+ghost use Rattle.std.specs.Prelude.{◌≡◌, ◌==◌, ◌<◌, ◌≤◌, ◌^◌, [], IfOk, IfSome, MatchOption, length, position};
 ghost use Rattle.table_rules.specs.Exact.{AreTooManyWithin, HasAllRoutes, IsFree, IsShortenedWithin, rows_before, wall_of, walled};
 ghost use Rattle.table_rules.specs.Made.{HasTooManyPieces, IsTableMadeOf};
 ghost use Rattle.table_rules.specs.Rows.{HasNoNewKeys, KeepsRoutes};
 
+use crate::choosing::shorter_of;
+use crate::freeing::free_route;
 use crate::making::made_table;
+use crate::pieces::{others, pieces_of};
+use crate::routes::ROUTES;
 use crate::rows::RoutedBlock;
 use crate::shortening::{copy, rows_left};
 use cover_merge::cover;
@@ -12,14 +16,12 @@ use spin_base::{Block, Memory, Port, Route, Seq};
 use std::alloc::Global;
 use tern_word::{Row, Table};
 
-/// How many routes there are.
-const ROUTES: u32 = 16777216;
-
 /// As `shorten_rows`; and a key that no row of the given table has is one that no row of the new one has.
 ///
 /// The table is covered with a wall behind its rows: a row of all keys, of a route that none of them has. It decides for the keys
-/// that none of them has, so no merge has one of these. Its pieces count among the `room`, and it counts among the rows that are
-/// compared with `target`. The new rows are those before it that default routing does not replace.
+/// that none of them has, so no merge has one of these, and no join of pieces. Its pieces count among the `room`, and it counts
+/// among the rows that are compared with `target` while the table is covered. The new rows are those before it that default routing
+/// does not replace, or those of the joined pieces.
 pub fn shorten_within(
     alloc: Global,
     given: &[RoutedBlock],
@@ -36,41 +38,13 @@ pub fn shorten_within(
         let same = copy(alloc, given)?;
         return Ok(Some(same));
     }
-    match free_route(given, ROUTES) {
+    match free_route(alloc, given, ROUTES)? {
         Some(route) => within_wall(alloc, given, route, target, room),
         None => {
             let same = copy(alloc, given)?;
             Ok(Some(same))
         }
     }
-}
-
-// The greatest route of bits below the number that no row has, if there is one.
-fn free_route(given: &[RoutedBlock], routes: u32) -> Option<Route>
-    requires { routes ≤ 2 ^ 24 }
-    ensures { MatchOption result (HasAllRoutes routes given.now)
-        (λ route. IsFree given.now route.bits) }
-{
-    let mut bits = routes;
-    while bits > 0 {
-        bits -= 1;
-        if is_free(given, bits) {
-            return Some(Route { bits });
-        }
-    }
-    None
-}
-
-// Whether no row has a route of these bits.
-fn is_free(given: &[RoutedBlock], bits: u32) -> bool
-    ensures { MatchBool result (IsFree given.now bits) (IsFree given.now bits → ⊥) }
-{
-    for row in given {
-        if row.route.bits == bits {
-            return false;
-        }
-    }
-    true
 }
 
 // The rows of the table that is covered with a wall of this route.
@@ -120,7 +94,8 @@ fn wall(route: Route) -> RoutedBlock
     }
 }
 
-// The rows of the covered table before its wall that default routing does not replace, where they are fewer, and else those given.
+// The rows of the covered table before its wall that default routing does not replace, or those of its joined pieces, where they are
+// fewer, and else those given.
 fn covered_within(
     alloc: Global,
     given: &[RoutedBlock],
@@ -138,11 +113,17 @@ fn covered_within(
     ensures keys { IfOk result (HasNoNewKeys given.now) }
     ensures few { IfOk result (λ rows. length rows ≤ length given.now) }
 {
+    let pieces = pieces_of(alloc, table.rows.as_slice())?;
+    let all = pieces.as_slice();
+    let rest = others(alloc, route, all)?;
+    let own = rest.as_slice();
     let covered = cover(alloc, table, target)?;
-    let before = rows_before(covered.table.rows.as_slice(), route.bits);
+    let covering = covered.table.rows.as_slice();
+    let before = rows_before(covering, route.bits);
     let left = rows_left(alloc, before)?;
-    if left.len() < given.len() {
-        return Ok(left);
+    let shorter = shorter_of(alloc, target, left, own, all)?;
+    if shorter.len() < given.len() {
+        return Ok(shorter);
     }
     copy(alloc, given)
 }

@@ -1,6 +1,8 @@
 -- A table that is its own.
 use Rattle.std.proofs.Common.{sym, subst}
-use Rattle.table_rules.specs.Exact.{IsShortenedWithin, no_route, short}
+use Rattle.std.specs.Prelude.{MatchOption}
+use Rattle.spin_base.specs.declared.routes.Route.{Route}
+use Rattle.table_rules.specs.Exact.{HasAllRoutes, IsFree, IsShortenedWithin, no_route, short}
 use Rattle.table_rules.specs.Rows.{KeepsRoutes}
 use Rattle.table_rules.proofs.Faithful.{keeps_itself}
 use Rattle.table_rules.proofs.walling.shorten_within.Goals as goal
@@ -13,7 +15,8 @@ returns-then-given-target-clause-routes c = subst (KeepsRoutes c.args.given.now)
 
 pub returns-in_ok-same-in-None-clause-rows : goal.returns-in_ok-same-in-None-clause-rows
 returns-in_ok-same-in-None-clause-rows c =
-    subst (IsShortenedWithin c.args.target c.args.room c.args.given.now) (sym c.in_ok-same-in-None.ensures) (no_route c.if-given-target.false c.in-None.ensures)
+    subst (IsShortenedWithin c.args.target c.args.room c.args.given.now) (sym c.in_ok-same-in-None.ensures) (no_route c.if-given-target.false
+    (subst (λ o. MatchOption o (HasAllRoutes 16777216 c.args.given.now) (λ (r : Route). IsFree c.args.given.now r.bits)) c.in-None.is c.in_ok-route.ensures))
 
 pub returns-in_ok-same-in-None-clause-routes : goal.returns-in_ok-same-in-None-clause-routes
 returns-in_ok-same-in-None-clause-routes c = subst (KeepsRoutes c.args.given.now) (sym c.in_ok-same-in-None.ensures) (keeps_itself c.args.given.now)

@@ -1,0 +1,119 @@
+-- One block more, one route more.
+use Rattle.std.proofs.Common.{◌≡◌, ℕ, ◌+◌, ◌<◌, ◌≤◌, Bool, true, false, List, [], ◌∷◌, ◌++◌, length, get_or, map, set, take, drop, refl, sym, ap, ◌∙◌, append_assoc, arith}
+use Rattle.std.specs.Prelude.{filter, if◌then◌else◌, not}
+use Rattle.std.proofs.lemmas.List.{append-nil, drop_all, drop_more, map-append, map_push, take_more, take_all}
+use Rattle.std.proofs.lemmas.List.Concat.{flat_map-append}
+use Rattle.std.proofs.lemmas.List.Edits.{sets-eq}
+use Rattle.std.proofs.lemmas.List.Elements.{filter-append}
+use Rattle.std.proofs.lemmas.List.Sums.{fold-append}
+use Rattle.spin_base.specs.declared.blocks.Block.{Block}
+use Rattle.spin_base.specs.declared.routes.Route.{Route}
+use Rattle.tern_word.specs.declared.tables.Alias.{Alias}
+use Rattle.tern_word.specs.declared.tables.Row.{Row}
+use Rattle.tern_word.specs.SoundTable.{Original, served, served_by}
+use Rattle.tern_word.specs.Ternary.{merge_two}
+use Rattle.table_rules.specs.declared.rows.RoutedBlock.{RoutedBlock}
+use Rattle.table_rules.specs.Made.{row_blocks}
+use Rattle.table_rules.specs.Pairs.{goes_by, joined_blocks, meets_one, others, own_blocks, pieces_of, row_by, rows_by_routes, with_block}
+
+-- ---- a block is put
+
+module _ (behind : List RoutedBlock) (block : Block) (blocks all : List Block) (i : ℕ) (so_far : take i blocks ++ with_block behind (drop i blocks) block ≡ all) where
+  pub put_at_end : length blocks ≤ i → blocks ++ block ∷ [] ≡ all
+  put_at_end past =
+      ap (λ l. l ++ block ∷ []) (sym (take_all i blocks past))
+      ∙ (ap (λ l. take i blocks ++ with_block behind l block) (sym (drop_all i blocks past)) ∙ so_far)
+
+  module _ (b join : Block) (within : i < length blocks) (read : b ≡ get_or blocks i b) (is : join ≡ merge_two b block) where
+    at_place : (t : Bool) → meets_one behind join ≡ t → take i blocks ++ (if t then b ∷ with_block behind (drop (i + 1) blocks) block else join ∷ drop (i + 1) blocks) ≡ all
+    at_place t met =
+        ap (λ x. take i blocks ++ (if x then b ∷ with_block behind (drop (i + 1) blocks) block else join ∷ drop (i + 1) blocks)) (sym met)
+        ∙ (ap (λ j. take i blocks ++ (if meets_one behind j then b ∷ with_block behind (drop (i + 1) blocks) block else j ∷ drop (i + 1) blocks)) is
+        ∙ (ap (λ l. take i blocks ++ with_block behind l block) (ap (λ x. x ∷ drop (i + 1) blocks) read ∙ sym (drop_more blocks i b within))
+        ∙ so_far))
+
+    pub taken_in : meets_one behind join ≡ false → set blocks i join ≡ all
+    taken_in clear =
+        let one : i + length (join ∷ []) ≡ i + 1 = omega arith in
+        sets-eq (join ∷ []) blocks i (omega (arith, within))
+        ∙ (append_assoc (take i blocks) (join ∷ []) (drop (i + length (join ∷ [])) blocks)
+        ∙ (ap (λ n. take i blocks ++ join ∷ drop n blocks) one ∙ at_place false clear))
+
+    pub passed_on : meets_one behind join ≡ true → take (i + 1) blocks ++ with_block behind (drop (i + 1) blocks) block ≡ all
+    passed_on met =
+        ap (λ l. l ++ with_block behind (drop (i + 1) blocks) block) (take_more blocks i b within ∙ ap (λ x. take i blocks ++ x ∷ []) (sym read))
+        ∙ (append_assoc (take i blocks) (b ∷ []) (with_block behind (drop (i + 1) blocks) block) ∙ at_place true met)
+
+-- ---- blocks are joined
+
+pub joined_more : (behind : List RoutedBlock) (blocks : List Block) (i : ℕ) (block : Block) (old new : List Block) → i < length blocks → block ≡ get_or blocks i block → old ≡ joined_blocks behind (take i blocks)
+    → new ≡ with_block behind old block → new ≡ joined_blocks behind (take (i + 1) blocks)
+joined_more behind blocks i block old new within read so_far put =
+    put
+    ∙ (ap (λ l. with_block behind l block) so_far
+    ∙ (sym (fold-append (with_block behind) [] (take i blocks) (block ∷ []))
+    ∙ ap (joined_blocks behind) (sym (take_more blocks i block within ∙ ap (λ x. take i blocks ++ x ∷ []) (sym read)))))
+
+-- ---- pieces of a route, and of others
+
+module _ (route : Route) (pieces : List RoutedBlock) (i : ℕ) (piece : RoutedBlock) (within : i < length pieces) (read : piece ≡ get_or pieces i piece) where
+  one_more : take (i + 1) pieces ≡ take i pieces ++ piece ∷ []
+  one_more = take_more pieces i piece within ∙ ap (λ x. take i pieces ++ x ∷ []) (sym read)
+
+  pub own_more : (old new : List Block) → old ≡ own_blocks route (take i pieces) → new ≡ old ++ own_blocks route (piece ∷ []) → new ≡ own_blocks route (take (i + 1) pieces)
+  own_more old new so_far put =
+      put
+      ∙ (ap (λ l. l ++ own_blocks route (piece ∷ [])) so_far
+      ∙ sym (ap (own_blocks route) one_more
+      ∙ (ap row_blocks (filter-append (goes_by route) (take i pieces) (piece ∷ []))
+      ∙ map-append (λ (r : RoutedBlock). r.block) (filter (goes_by route) (take i pieces)) (filter (goes_by route) (piece ∷ [])))))
+
+  pub others_more : (old new : List RoutedBlock) → old ≡ others route (take i pieces) → new ≡ old ++ others route (piece ∷ []) → new ≡ others route (take (i + 1) pieces)
+  others_more old new so_far put =
+      put
+      ∙ (ap (λ l. l ++ others route (piece ∷ [])) so_far
+      ∙ sym (ap (others route) one_more ∙ filter-append (λ (p : RoutedBlock). not (goes_by route p)) (take i pieces) (piece ∷ [])))
+
+-- ---- the pieces of rows
+
+pub pieces_more : (rows : List Row) (i : ℕ) (row : Row) (old new : List RoutedBlock) → i < length rows → row ≡ get_or rows i row → old ≡ pieces_of (take i rows)
+    → new ≡ old ++ map (λ (o : Original). row_by o.route o.block) (served_by row) → new ≡ pieces_of (take (i + 1) rows)
+pieces_more rows i row old new within read so_far put =
+    put
+    ∙ (ap (λ l. l ++ map (λ (o : Original). row_by o.route o.block) (served_by row)) so_far
+    ∙ sym (ap pieces_of (take_more rows i row within ∙ ap (λ x. take i rows ++ x ∷ []) (sym read))
+    ∙ (ap (map (λ (o : Original). row_by o.route o.block)) (flat_map-append served_by (take i rows) (row ∷ []) ∙ ap (λ l. served (take i rows) ++ l) (append-nil (served_by row)))
+    ∙ map-append (λ (o : Original). row_by o.route o.block) (served (take i rows)) (served_by row))))
+
+module _ (row : Row) (items : List Alias) (i : ℕ) (before old : List RoutedBlock) (so_far : old ≡ before ++ map (λ (a : Alias). row_by row.route a.block) (take i items)) where
+  pub aliases_more : (a : Alias) (new : List RoutedBlock) → i < length items → a ≡ get_or items i a → new ≡ old ++ row_by row.route a.block ∷ [] → new ≡ before ++ map (λ (x : Alias). row_by row.route x.block) (take (i + 1) items)
+  aliases_more a new within read put =
+      put
+      ∙ (ap (λ l. l ++ row_by row.route a.block ∷ []) so_far
+      ∙ (append_assoc before (map (λ (x : Alias). row_by row.route x.block) (take i items)) (row_by row.route a.block ∷ [])
+      ∙ ap (λ l. before ++ l) (sym (map_push (λ (x : Alias). row_by row.route x.block) (take i items) a)
+      ∙ ap (map (λ (x : Alias). row_by row.route x.block)) (sym (take_more items i a within ∙ ap (λ x. take i items ++ x ∷ []) (sym read))))))
+
+  pub aliases_all : items ≡ row.aliases → length items ≤ i → old ≡ before ++ map (λ (o : Original). row_by o.route o.block) (served_by row)
+  aliases_all same past =
+      so_far ∙ ap (λ l. before ++ l) (ap (map (λ (x : Alias). row_by row.route x.block)) (take_all i items past ∙ same) ∙ in_two row.aliases)
+    where
+      in_two : (list : List Alias) → map (λ (x : Alias). row_by row.route x.block) list
+          ≡ map (λ (o : Original). row_by o.route o.block) (map (λ (a : Alias). let o : Original = record { block = a.block; port = a.port; route = row.route } in o) list)
+      in_two [] = refl
+      in_two (a ∷ list) = ap (λ l. row_by row.route a.block ∷ l) (in_two list)
+
+-- ---- rows of routes
+
+module _ (routes : List Route) (i : ℕ) (rows left all : List RoutedBlock) (so_far : rows ++ rows_by_routes (drop i routes) left ≡ all) where
+  pub routes_all : length routes ≤ i → rows ≡ all
+  routes_all past = sym (append-nil rows) ∙ (ap (λ l. rows ++ rows_by_routes l left) (sym (drop_all i routes past)) ∙ so_far)
+
+  pub routes_more : (route : Route) (behind : List RoutedBlock) (own joined : List Block) (new : List RoutedBlock) → i < length routes → route ≡ get_or routes i route → behind ≡ others route left
+      → own ≡ own_blocks route left → joined ≡ joined_blocks behind own → new ≡ rows ++ map (row_by route) joined → new ++ rows_by_routes (drop (i + 1) routes) behind ≡ all
+  routes_more route behind own joined new within read behind_is own_is joined_is put =
+      ap (λ l. l ++ rows_by_routes (drop (i + 1) routes) behind) (put ∙ ap (λ l. rows ++ map (row_by route) l) (joined_is ∙ ap (joined_blocks behind) own_is))
+      ∙ (append_assoc rows (map (row_by route) (joined_blocks behind (own_blocks route left))) (rows_by_routes (drop (i + 1) routes) behind)
+      ∙ (ap (λ b. rows ++ (map (row_by route) (joined_blocks b (own_blocks route left)) ++ rows_by_routes (drop (i + 1) routes) b)) behind_is
+      ∙ (ap (λ l. rows ++ rows_by_routes l left) (ap (λ r. r ∷ drop (i + 1) routes) read ∙ sym (drop_more routes i route within))
+      ∙ so_far)))

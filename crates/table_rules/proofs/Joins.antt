@@ -1,0 +1,225 @@
+-- Blocks that are joined have all keys of the blocks taken in, and none of the pieces behind.
+use Rattle.std.proofs.Common.{◌≡◌, ℕ, ◌<◌, ◌^◌, ◌⊎◌, Bool, true, false, inl, inr, List, [], ◌∷◌, ◌++◌, map, None, refl, sym, ap, ◌∙◌, subst}
+use Rattle.std.specs.Prelude.{All, filter, fold, if◌then◌else◌, not}
+use Rattle.std.proofs.lemmas.Bool.{cases_Bool, eq-eqb, eqb-true, false≢true}
+use Rattle.std.proofs.lemmas.Bool.Decides.{eqb_tells}
+use Rattle.std.proofs.lemmas.List.Elements.{All-head, All-tail}
+use Rattle.spin_base.proofs.Members.{Among, Contains-filter, Contains-map, among_any, among_contains, among_filter, any_among, contains_among}
+use Rattle.spin_base.proofs.RouteBits.{same_route}
+use Rattle.spin_base.specs.declared.blocks.Block.{Block}
+use Rattle.spin_base.specs.declared.routes.Route.{Route}
+use Rattle.tern_word.specs.Ternary.{Intersects, LiesIn, Matches, merge_two}
+use Rattle.tern_word.proofs.BlockLaws.{LiesIn-merge}
+use Rattle.block_cuts.specs.Cuts.{meets}
+use Rattle.block_cuts.proofs.HalfLaws.{meets_tells}
+use Rattle.table_rules.specs.declared.rows.RoutedBlock.{RoutedBlock}
+use Rattle.table_rules.specs.Made.{row_blocks}
+use Rattle.table_rules.specs.Pairs.{goes_by, joined_blocks, meets_one, others, own_blocks, row_by, rows_by_routes, with_block}
+use Rattle.table_rules.specs.Rows.{GoesBy, first_with}
+use Rattle.table_rules.proofs.FirstRows.{first_hit, first_miss, has_tells}
+
+-- one of the blocks has the key
+abbrev SomeHas : List Block → ℕ → Type 0
+SomeHas [] k = ⊥
+SomeHas (b ∷ bs) k = Matches b k ⊎ SomeHas bs k
+
+some_has : (bs : List Block) (b : Block) (k : ℕ) → Among b bs → Matches b k → SomeHas bs k
+some_has [] b k among hit = absurd among
+some_has (c ∷ bs) b k (inl here) hit = inl (subst (λ x. Matches x k) here hit)
+some_has (c ∷ bs) b k (inr later) hit = inr (some_has bs b k later hit)
+
+-- ---- a join has the keys of both
+
+module _ (a b : Block) (k : ℕ) (small : k < 2 ^ 32) where
+  both_in : All (λ c. LiesIn c (merge_two a b)) (a ∷ b ∷ [])
+  both_in = LiesIn-merge (a ∷ b ∷ [])
+
+  first_in : Matches a k → Matches (merge_two a b) k
+  first_in = All-head (λ c. LiesIn c (merge_two a b)) a (b ∷ []) both_in k small
+
+  second_in : Matches b k → Matches (merge_two a b) k
+  second_in = All-head (λ c. LiesIn c (merge_two a b)) b [] (All-tail (λ c. LiesIn c (merge_two a b)) a (b ∷ []) both_in) k small
+
+-- ---- what joined blocks have
+
+module _ (behind : List RoutedBlock) where
+  module _ (block : Block) (k : ℕ) (small : k < 2 ^ 32) where
+    had : (b : Block) (bs : List Block) → (SomeHas bs k → SomeHas (with_block behind bs block) k) → (t : Bool) → SomeHas (b ∷ bs) k
+        → SomeHas (if t then b ∷ with_block behind bs block else merge_two b block ∷ bs) k
+    had b bs rest true (inl here) = inl here
+    had b bs rest true (inr later) = inr (rest later)
+    had b bs rest false (inl here) = inl (first_in b block k small here)
+    had b bs rest false (inr later) = inr later
+
+    still_had : (bs : List Block) → SomeHas bs k → SomeHas (with_block behind bs block) k
+    still_had [] has = absurd has
+    still_had (b ∷ bs) has = had b bs (still_had bs) (meets_one behind (merge_two b block)) has
+
+    taken : (b : Block) (bs : List Block) → SomeHas (with_block behind bs block) k → (t : Bool) → Matches block k
+        → SomeHas (if t then b ∷ with_block behind bs block else merge_two b block ∷ bs) k
+    taken b bs rest true hit = inr rest
+    taken b bs rest false hit = inl (second_in b block k small hit)
+
+    newly_had : (bs : List Block) → Matches block k → SomeHas (with_block behind bs block) k
+    newly_had [] hit = inl hit
+    newly_had (b ∷ bs) hit = taken b bs (newly_had bs hit) (meets_one behind (merge_two b block)) hit
+
+  module _ (k : ℕ) (small : k < 2 ^ 32) where
+    had_from : (blocks bs : List Block) → SomeHas bs k → SomeHas (fold (with_block behind) bs blocks) k
+    had_from [] bs has = has
+    had_from (c ∷ blocks) bs has = had_from blocks (with_block behind bs c) (still_had c k small bs has)
+
+    all_had : (blocks bs : List Block) → SomeHas blocks k → SomeHas (fold (with_block behind) bs blocks) k
+    all_had [] bs has = absurd has
+    all_had (c ∷ blocks) bs (inl here) = had_from blocks (with_block behind bs c) (newly_had c k small bs here)
+    all_had (c ∷ blocks) bs (inr later) = all_had blocks (with_block behind bs c) later
+
+  -- ---- and what they meet
+
+  abbrev AllClear : List Block → Type 0
+  AllClear [] = Unit {0}
+  AllClear (b ∷ bs) = (meets_one behind b ≡ false) × AllClear bs
+
+  module _ (block : Block) (clear : meets_one behind block ≡ false) where
+    clear_by : (b : Block) (bs : List Block) → AllClear (with_block behind bs block) → AllClear (b ∷ bs) → (t : Bool) → meets_one behind (merge_two b block) ≡ t
+        → AllClear (if t then b ∷ with_block behind bs block else merge_two b block ∷ bs)
+    clear_by b bs rest all true is = (all.0, rest)
+    clear_by b bs rest all false is = (is, all.1)
+
+    clear_with : (bs : List Block) → AllClear bs → AllClear (with_block behind bs block)
+    clear_with [] all = (clear, tt)
+    clear_with (b ∷ bs) all = clear_by b bs (clear_with bs all.1) all (meets_one behind (merge_two b block)) refl
+
+  clear_from : (blocks bs : List Block) → AllClear bs → AllClear blocks → AllClear (fold (with_block behind) bs blocks)
+  clear_from [] bs all these = all
+  clear_from (c ∷ blocks) bs all these = clear_from blocks (with_block behind bs c) (clear_with c these.0 bs all) these.1
+
+  module _ (p : RoutedBlock) (among : Among p behind) (k : ℕ) (small : k < 2 ^ 32) (hit : Matches p.block k) where
+    unclear : (b : Block) → Matches b k → meets_one behind b ≡ false → ⊥
+    unclear b has clear = elim (meets_tells b p.block) [
+      | inl met ↦ false≢true (sym clear ∙ among_any (λ (q : RoutedBlock). meets b q.block) p behind among met.0)
+      | inr apart ↦ apart.1 (record { key = k; small = small; first = has; second = hit })
+    ]
+
+    none_has : (bs : List Block) → AllClear bs → SomeHas bs k → ⊥
+    none_has [] all has = has
+    none_has (b ∷ bs) all (inl here) = unclear b here all.0
+    none_has (b ∷ bs) all (inr later) = none_has bs all.1 later
+
+-- ---- rows of blocks
+
+module _ (route : Route) (k : ℕ) (rest : List RoutedBlock) where
+  first_of_route : (bs : List Block) → SomeHas bs k → GoesBy (map (row_by route) bs ++ rest) k route
+  first_of_route [] has = absurd has
+  first_of_route (b ∷ bs) has = elim (has_tells k (row_by route b)) [
+    | inl hit ↦ record { row = row_by route b; first = first_hit (row_by route b) (map (row_by route) bs ++ rest) k hit.1; by = refl }
+    | inr miss ↦ elim has [
+      | inl here ↦ absurd (miss.1 here)
+      | inr later ↦
+          let way = first_of_route bs later in
+          record { row = way.row; first = first_miss (row_by route b) (map (row_by route) bs ++ rest) k miss.1 ∙ way.first; by = way.by }
+    ]
+  ]
+
+  first_behind : (bs : List Block) → (SomeHas bs k → ⊥) → first_with (map (row_by route) bs ++ rest) k ≡ first_with rest k
+  first_behind [] none = refl
+  first_behind (b ∷ bs) none = first_miss (row_by route b) (map (row_by route) bs ++ rest) k (λ hit. none (inl hit)) ∙ first_behind bs (λ has. none (inr has))
+
+-- ---- rows of routes
+
+-- pieces of two routes do not meet
+abbrev pub AreApart : List RoutedBlock → Type 0
+AreApart pieces = (p q : RoutedBlock) → Among p pieces → Among q pieces → (p.route.bits ≡ q.route.bits → ⊥) → Intersects p.block q.block → ⊥
+
+module _ (route : Route) (pieces : List RoutedBlock) where
+  of_own : (p : RoutedBlock) → goes_by route p ≡ true → p.route.bits ≡ route.bits
+  of_own p is = eqb-true p.route.bits route.bits is
+
+  own_of : (p : RoutedBlock) → p.route.bits ≡ route.bits → goes_by route p ≡ true
+  own_of p same = eq-eqb p.route.bits route.bits same
+
+  pub of_others : (p : RoutedBlock) → Among p (others route pieces) → Among p pieces × (p.route.bits ≡ route.bits → ⊥)
+  of_others p among =
+      let parts = among_filter (λ (q : RoutedBlock). not (goes_by route q)) p pieces among in
+      (parts.0, λ same. false≢true (ap not (sym (own_of p same)) ∙ parts.1))
+
+  pub to_others : (p : RoutedBlock) → Among p pieces → (p.route.bits ≡ route.bits → ⊥) → Among p (others route pieces)
+  to_others p among other = elim (eqb_tells p.route.bits route.bits) [
+    | inl same ↦ absurd (other same.1)
+    | inr apart ↦
+        contains_among p (others route pieces)
+        (Contains-filter (λ (q : RoutedBlock). not (goes_by route q)) pieces p (among_contains p pieces among) (ap not apart.0))
+  ]
+
+  own_block : (p : RoutedBlock) → Among p pieces → p.route.bits ≡ route.bits → Among p.block (own_blocks route pieces)
+  own_block p among same =
+      contains_among p.block (own_blocks route pieces)
+      (Contains-map (λ (r : RoutedBlock). r.block) (filter (goes_by route) pieces) p
+      (Contains-filter (goes_by route) pieces p (among_contains p pieces among) (own_of p same)))
+
+  others_apart : AreApart pieces → AreApart (others route pieces)
+  others_apart apart p q of_p of_q = apart p q (of_others p of_p).0 (of_others q of_q).0
+
+  module _ (apart : AreApart pieces) where
+    clear_own : (p : RoutedBlock) → Among p pieces → p.route.bits ≡ route.bits → meets_one (others route pieces) p.block ≡ false
+    clear_own p among same = elim (cases_Bool (meets_one (others route pieces) p.block)) [
+      | inl met ↦
+          let found = any_among (λ (q : RoutedBlock). meets p.block q.block) (others route pieces) met in
+          let other = of_others found.0 found.1 in
+          elim (meets_tells p.block found.0.block) [
+            | inl meet ↦ absurd (apart p found.0 among other.0 (λ alike. other.1 (sym alike ∙ same)) meet.1)
+            | inr unmet ↦ absurd (false≢true (sym unmet.0 ∙ found.2))
+          ]
+      | inr clear ↦ clear
+    ]
+
+    all_clear : (ps : List RoutedBlock) → ((p : RoutedBlock) → Among p ps → meets_one (others route pieces) p.block ≡ false) → AllClear (others route pieces) (row_blocks ps)
+    all_clear [] each = tt
+    all_clear (p ∷ ps) each = (each p (inl refl), all_clear ps (λ q among. each q (inr among)))
+
+    own_clear : AllClear (others route pieces) (joined_blocks (others route pieces) (own_blocks route pieces))
+    own_clear =
+        clear_from (others route pieces) (own_blocks route pieces) [] tt
+        (all_clear (filter (goes_by route) pieces) (λ p among.
+        let parts = among_filter (goes_by route) p pieces among in
+        clear_own p parts.0 (of_own p parts.1)))
+
+    own_has : (p : RoutedBlock) (k : ℕ) → k < 2 ^ 32 → Among p pieces → p.route.bits ≡ route.bits → Matches p.block k → SomeHas (joined_blocks (others route pieces) (own_blocks route pieces)) k
+    own_has p k small among same hit =
+        all_had (others route pieces) k small (own_blocks route pieces) [] (some_has (own_blocks route pieces) p.block k (own_block p among same) hit)
+
+    others_miss : (p : RoutedBlock) (k : ℕ) → k < 2 ^ 32 → Among p pieces → (p.route.bits ≡ route.bits → ⊥) → Matches p.block k
+        → SomeHas (joined_blocks (others route pieces) (own_blocks route pieces)) k → ⊥
+    others_miss p k small among other hit =
+        none_has (others route pieces) p (to_others p among other) k small hit (joined_blocks (others route pieces) (own_blocks route pieces)) own_clear
+
+module _ (p : RoutedBlock) (k : ℕ) (small : k < 2 ^ 32) (hit : Matches p.block k) where
+  -- a key of a piece goes by its route, if that is one of the routes
+  pub piece_goes : (routes : List Route) (pieces : List RoutedBlock) → AreApart pieces → Among p pieces → Among p.route routes → GoesBy (rows_by_routes routes pieces) k p.route
+  piece_goes [] pieces apart among routed = absurd routed
+  piece_goes (route ∷ routes) pieces apart among routed = elim (eqb_tells p.route.bits route.bits) [
+    | inl same ↦
+        let way =
+        first_of_route route k (rows_by_routes routes (others route pieces)) (joined_blocks (others route pieces) (own_blocks route pieces)) (own_has route pieces apart p k small among same.1 hit) in
+        record { row = way.row; first = way.first; by = way.by ∙ sym (same_route p.route route same.1) }
+    | inr other ↦ elim routed [
+      | inl here ↦ absurd (other.1 (ap (λ (r : Route). r.bits) here))
+      | inr later ↦
+          let way = piece_goes routes (others route pieces) (others_apart route pieces apart) (to_others route pieces p among other.1) later in record {
+            row = way.row;
+            first = first_behind route k (rows_by_routes routes (others route pieces)) (joined_blocks (others route pieces) (own_blocks route pieces))
+                (others_miss route pieces apart p k small among other.1 hit)
+                ∙ way.first;
+            by = way.by;
+          }
+    ]
+  ]
+
+  -- and if it is none of them, no row has the key
+  pub piece_is_missed : (routes : List Route) (pieces : List RoutedBlock) → AreApart pieces → Among p pieces → ((r : Route) → Among r routes → p.route.bits ≡ r.bits → ⊥)
+      → first_with (rows_by_routes routes pieces) k ≡ None
+  piece_is_missed [] pieces apart among none = refl
+  piece_is_missed (route ∷ routes) pieces apart among none =
+      first_behind route k (rows_by_routes routes (others route pieces)) (joined_blocks (others route pieces) (own_blocks route pieces))
+      (others_miss route pieces apart p k small among (none route (inl refl)) hit)
+      ∙ piece_is_missed routes (others route pieces) (others_apart route pieces apart) (to_others route pieces p among (none route (inl refl))) (λ r later. none r (inr later))

@@ -1,0 +1,67 @@
+-- Routes by their weights are the routes of the pieces, by weight.
+use Rattle.std.proofs.Common.{◌≡◌, ℕ, ◌+◌, ◌<◌, ◌%◌, ◌^◌, ◌↔◌, inl, inr, List, [], ◌∷◌, ◌++◌, length, get_or, map, take, drop, refl, sym, ap, ◌∙◌, subst, arith}
+use Rattle.std.specs.Prelude.{AllPairs, count_by}
+use Rattle.std.specs.List.{Contains}
+use Rattle.std.proofs.lemmas.List.{map_push, take_more}
+use Rattle.std.proofs.lemmas.Nat.{mod_low}
+use Rattle.spin_base.proofs.Members.{Among, Contains-map, Contains-unmap, among_contains, among_map, contains_among}
+use Rattle.spin_base.proofs.Pairs.{AllPairs-from_map}
+use Rattle.spin_base.proofs.Places.{All-each}
+use Rattle.spin_base.proofs.RouteBits.{same_route}
+use Rattle.spin_base.specs.declared.routes.Route.{Route}
+use Rattle.table_rules.specs.declared.rows.RoutedBlock.{RoutedBlock}
+use Rattle.table_rules.specs.Pairs.{AreRoutesOf, goes_by, weight_of}
+
+module _ (pieces : List RoutedBlock) where
+  abbrev weigh : RoutedBlock → ℕ
+  weigh p = weight_of pieces p.route
+
+  -- a weight tells the route's bits
+  bits_told : (r : Route) → weight_of pieces r % 2 ^ 24 ≡ r.bits
+  bits_told r = mod_low (count_by (goes_by r) pieces) 24 r.bits r.within
+
+  -- each route that has the bits of a weight has that weight
+  same_weights : (routes : List Route) (weights : List ℕ) → map (λ (r : Route). r.bits) routes ≡ map (λ w. w % 2 ^ 24) weights → ((w : ℕ) → Among w weights → (p : RoutedBlock) × Among p pieces × (w ≡ weigh p))
+      → map (weight_of pieces) routes ≡ weights
+  same_weights [] [] same from = refl
+  same_weights [] (w ∷ weights) same from = absurd (omega (arith, ap length same))
+  same_weights (r ∷ routes) [] same from = absurd (omega (arith, ap length same))
+  same_weights (r ∷ routes) (w ∷ weights) same from =
+      let it = from w (inl refl) in
+      let bits : r.bits ≡ it.0.route.bits = ap (λ l. get_or l 0 0) same ∙ (ap (λ n. n % 2 ^ 24) it.2 ∙ bits_told it.0.route) in
+      let here : weight_of pieces r ≡ w = ap (weight_of pieces) (same_route r it.0.route bits) ∙ sym it.2 in
+      let rest : map (weight_of pieces) routes ≡ weights = same_weights routes weights (ap (drop 1) same) (λ v among. from v (inr among)) in
+      ap (λ v. v ∷ map (weight_of pieces) routes) here ∙ ap (λ l. w ∷ l) rest
+
+  module _ (routes : List Route) (old weights : List ℕ) (weighed : old ≡ map weigh pieces) (rising : AllPairs (λ a b. a < b) weights) (same : (w : ℕ) → Contains weights w ↔ Contains old w)
+      (read : map (λ (r : Route). r.bits) routes ≡ map (λ w. w % 2 ^ 24) weights) where
+    from_piece : (w : ℕ) → Among w weights → (p : RoutedBlock) × Among p pieces × (w ≡ weigh p)
+    from_piece w among = among_map weigh w pieces (subst (Among w) weighed (contains_among w old ((same w).0 (among_contains w weights among))))
+
+    all_weights : map (weight_of pieces) routes ≡ weights
+    all_weights = same_weights routes weights read from_piece
+
+    -- a route of a weight is the route of a piece that has it
+    route_is : (r : Route) (p : RoutedBlock) → weight_of pieces r ≡ weigh p → r ≡ p.route
+    route_is r p is = same_route r p.route (sym (bits_told r) ∙ (ap (λ n. n % 2 ^ 24) is ∙ bits_told p.route))
+
+    pub are_routes : AreRoutesOf pieces routes
+    are_routes = record {
+      each = All-each (λ (p : RoutedBlock). Contains routes p.route) pieces (λ p among.
+          let there : Contains weights (weigh p) = (same (weigh p)).1 (subst (λ l. Contains l (weigh p)) (sym weighed) (Contains-map weigh pieces p among)) in
+          let r = Contains-unmap (weight_of pieces) routes (weigh p) (subst (λ l. Contains l (weigh p)) (sym all_weights) there) in
+          subst (Contains routes) (route_is r.0 p r.2) r.1);
+      only = All-each (λ (r : Route). Contains (map (λ (p : RoutedBlock). p.route) pieces) r) routes (λ r among.
+          let there : Contains weights (weight_of pieces r) = subst (λ l. Contains l (weight_of pieces r)) all_weights (Contains-map (weight_of pieces) routes r among) in
+          let it = from_piece (weight_of pieces r) (contains_among (weight_of pieces r) weights there) in
+          subst (Contains (map (λ (p : RoutedBlock). p.route) pieces)) (sym (route_is r it.0 it.2)) (Contains-map (λ (p : RoutedBlock). p.route) pieces it.0 (among_contains it.0 pieces it.1)));
+      rising = AllPairs-from_map (weight_of pieces) (λ a b. a < b) routes (subst (AllPairs (λ a b. a < b)) (sym all_weights) rising);
+    }
+
+pub weights_more : (pieces : List RoutedBlock) (i : ℕ) (p : RoutedBlock) (old new : List ℕ) → i < length pieces → p ≡ get_or pieces i p → old ≡ map (λ (q : RoutedBlock). weight_of pieces q.route) (take i pieces)
+    → new ≡ old ++ weight_of pieces p.route ∷ [] → new ≡ map (λ (q : RoutedBlock). weight_of pieces q.route) (take (i + 1) pieces)
+weights_more pieces i p old new within read so_far put =
+    put
+    ∙ (ap (λ l. l ++ weight_of pieces p.route ∷ []) so_far
+    ∙ (sym (map_push (λ (q : RoutedBlock). weight_of pieces q.route) (take i pieces) p)
+    ∙ ap (map (λ (q : RoutedBlock). weight_of pieces q.route)) (sym (take_more pieces i p within ∙ ap (λ x. take i pieces ++ x ∷ []) (sym read)))))

@@ -1,0 +1,7 @@
+-- The blocks that were read, joined.
+use Rattle.std.proofs.Common.{◌≡◌, take}
+use Rattle.table_rules.specs.Pairs.{joined_blocks}
+use Rattle.table_rules.proofs.joining.joined_blocks.Given as goal
+
+abbrev pub invariant-loop-block : goal.invariant-loop-block
+invariant-loop-block l = l.joined.items ≡ joined_blocks l.behind (take l.block-index l.blocks)

@@ -1,0 +1,8 @@
+-- The aliases that were read, behind the pieces before.
+use Rattle.std.proofs.Common.{◌≡◌, ◌++◌, map, take}
+use Rattle.tern_word.specs.declared.tables.Alias.{Alias}
+use Rattle.table_rules.specs.Pairs.{row_by}
+use Rattle.table_rules.proofs.pieces.put_aliases.Given as goal
+
+abbrev pub invariant-loop-alias : goal.invariant-loop-alias
+invariant-loop-alias l = l.pieces.items ≡ l.fn.pieces.items ++ map (λ (a : Alias). row_by l.row.route a.block) (take l.alias-index l.alias-items)

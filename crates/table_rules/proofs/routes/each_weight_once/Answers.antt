@@ -1,0 +1,20 @@
+-- Numbers in order, each once.
+use Rattle.std.proofs.Common.{◌≡◌, eqb}
+use Rattle.std.specs.List.{dedup}
+use Rattle.std.proofs.lemmas.List.Filters.{dedup_is}
+use Rattle.std.proofs.lemmas.List.Kept.{AllPairs-from_increasing, Contains-dedup_nat, Contains-from_dedup}
+use Rattle.std.proofs.lemmas.List.Sorted.{Contains-permutation, IsPermutation-sym}
+use Rattle.std.proofs.lemmas.Map.Keys.{IsStrictlyIncreasing-dedup}
+use Rattle.table_rules.proofs.routes.each_weight_once.Goals as goal
+
+pub returns : goal.returns
+returns c =
+    let is : c.dedup.new.self.items ≡ dedup eqb c.sort_unstable.new.self.items = dedup_is eqb _ _ c.dedup.ensures.filtered in
+    let moved = c.sort_unstable.ensures.permutation in
+    record {
+      rising = rw is (AllPairs-from_increasing _ (IsStrictlyIncreasing-dedup _ c.sort_unstable.ensures.sorted));
+      same = λ w. (
+        λ h. Contains-permutation _ _ w (IsPermutation-sym _ _ moved) (Contains-from_dedup eqb _ w (rw is at h)),
+        λ h. rw is (Contains-dedup_nat _ w (Contains-permutation _ _ w moved h)),
+      );
+    }

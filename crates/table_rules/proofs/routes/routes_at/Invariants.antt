@@ -1,0 +1,7 @@
+-- The routes of the weights that were read.
+use Rattle.std.proofs.Common.{◌≡◌, ◌%◌, ◌^◌, map, take}
+use Rattle.spin_base.specs.declared.routes.Route.{Route}
+use Rattle.table_rules.proofs.routes.routes_at.Given as goal
+
+abbrev pub invariant-loop-weight : goal.invariant-loop-weight
+invariant-loop-weight l = map (λ (r : Route). r.bits) l.routes.items ≡ map (λ w. w % 2 ^ 24) (take l.weight-index l.weights)

@@ -1,0 +1,8 @@
+-- The weights of the routes of the pieces that were read.
+use Rattle.std.proofs.Common.{◌≡◌, map, take}
+use Rattle.table_rules.specs.declared.rows.RoutedBlock.{RoutedBlock}
+use Rattle.table_rules.specs.Pairs.{weight_of}
+use Rattle.table_rules.proofs.routes.weights_of.Given as goal
+
+abbrev pub invariant-loop-piece : goal.invariant-loop-piece
+invariant-loop-piece l = l.weights.items ≡ map (λ (p : RoutedBlock). weight_of l.pieces p.route) (take l.piece-index l.pieces)
