@@ -131,7 +131,13 @@ class SourcedRow(Row):
 
 def rows_by_chip(tables: AnyTables) -> RowsByChip:
     """Rows as objects, by chip."""
-    return {chip: tuple(Row(*words) for words in listed) for chip, listed in words_by_chip(tables).items()}
+    return {chip: tuple(row_of(chip, i, row) for i, row in enumerate(rows)) for chip, rows in listed_by_chip(tables).items()}
+
+
+def row_of(chip: Chip, place: int, row: Any) -> Row:
+    """A row as an object: itself, where it is one."""
+    words = words_of(chip, place, row)
+    return row if type(row) is Row else Row(*words)
 
 
 def sourced_by_chip(tables: AnyTables) -> Dict[Chip, Tuple[SourcedRow, ...]]:
