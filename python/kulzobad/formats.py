@@ -480,17 +480,19 @@ def read_csv(text: str) -> RowsByChip:
     which all packets of a row come in, 0 to 5, or nothing. Numbers are decimal, or hexadecimal behind 0x. ValueError where the names are
     others or a line has no such numbers."""
     lines = lines_of_csv(text)
-    names = [it.strip() for it in lines[0]] if lines else []
+    names: Sequence[str] = next(lines, ())
     if sorted(names) not in (sorted(COLUMNS), sorted((*COLUMNS, SOURCE))):
         raise ValueError(f"the first line names {', '.join(names) or 'nothing'}, and not {', '.join(COLUMNS)}")
-    return rows_of(((i, list(map(str.strip, line))) for i, line in enumerate(lines) if i and line), names, 10)
+    return rows_of(((i, line) for i, line in enumerate(lines, 1) if line), names, 10)
 
 
-def lines_of_csv(text: str) -> List[List[str]]:
-    """The items of each line, which may end with a carriage return, a line feed, or both."""
+def lines_of_csv(text: str) -> Iterator[List[str]]:
+    """The items of each line, which may end with a carriage return, a line feed, or both. They are given one by one, so that not all of
+    them stand in memory at once."""
     reader = csv.reader(io.StringIO(text_of("read_csv: text", text), newline=None), skipinitialspace=True, strict=True)
     try:
-        return list(reader)
+        for line in reader:
+            yield [it.strip() for it in line]
     except csv.Error as error:
         raise ValueError(f"line {reader.line_num}: {error}") from None
 
