@@ -235,8 +235,22 @@ def run_cases():
     )
 
 
+def limit_cases():
+    """Jobs at the limits: 4,096 chips, 16,384 vertices, 4,096 nets, 65,536 packets."""
+
+    def crowd(packets):
+        nets = [(f"n{i}", f"v{4 * i}", [f"v{4 * i + k}" for k in (1, 2, 3)], {}) for i in range(4096)]
+        return job([f"v{i}" for i in range(16384)], nets, packets, {"width": 64, "height": 64})
+
+    yield (
+        "four times 16,384 vertices leave 4,096 of 69,632 cores, which v0 to v4095 of a fifth job take; each packet has three targets",
+        [load(1, crowd(65536)), *[load(i, crowd(1)) for i in (2, 3, 4, 5)], RUN, unload(5), unload(1), load(5, crowd(1)), RUN, unload(5), unload(3)],
+        [*[f"load {i} ok" for i in (1, 2, 3, 4)], "load 5 no room v4096", "run", "unload 5 not loaded", "unload 1 got 196608 dumped 0", "load 5 ok", "run", "unload 5 got 3 dumped 0", "unload 3 got 3 dumped 0"],
+    )
+
+
 def cases():
-    for kind in (numbered_cases, room_cases, road_cases, memory_cases, key_cases, entry_cases, order_cases, run_cases):
+    for kind in (numbered_cases, room_cases, road_cases, memory_cases, key_cases, entry_cases, order_cases, run_cases, limit_cases):
         yield from kind()
 
 

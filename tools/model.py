@@ -1,6 +1,6 @@
 """A slow model of the compiler, and random jobs on which the program is to answer as the model does.
 
-    python3 tools/model.py [PROGRAM]                               the 60 jobs of the gate, in some seconds
+    python3 tools/model.py [PROGRAM]                               jobs at the limits, and 60 random ones, in some seconds
     python3 tools/model.py --first 1000 --jobs 5000 [PROGRAM]      the jobs of other seeds, for a longer run by hand
     python3 tools/model.py --generated 7 [PROGRAM]                 `gen 7`, and the job of tools/gen_reference.py for that number
 
@@ -22,6 +22,7 @@ writing, memory) are no part of it. A job on which the program differs is writte
 'N passed, M failed', and the status 1 where one failed. Python's standard library alone.
 """
 import argparse
+import itertools
 import json
 import os
 import random
@@ -612,6 +613,47 @@ class Dice(random.Random):
         return {"version": 3, "machine": machine, "graph": {"vertices": vertices, "nets": nets}, "run": run}
 
 
+# ---- jobs at the limits
+
+
+def job_with(machine, vertices, nets, packets=0, **run):
+    """A job whose packets are of its nets in turn, with queues for all of them."""
+    run["packets"] = [{"net": nets[i % len(nets)]["name"], "index": 0} for i in range(packets)]
+    return {"version": 3, "machine": machine, "graph": {"vertices": vertices, "nets": nets}, "run": {"queue": max(1, packets), **run}}
+
+
+def widest_job():
+    """4,096 chips and 16,384 vertices, and as many packets as can have room in each of the queues."""
+    vertices = [{"name": f"v{i}", "at": [i % 64, i // 64 % 64]} for i in range(16384)]
+    nets = [{"name": f"n{i}", "source": f"v{4 * i}", "targets": [f"v{4 * i + 1}", f"v{16383 - i}"]} for i in range(1024)]
+    return job_with({"width": 64, "height": 64, "wrap": True}, vertices, nets, 372)
+
+
+def busiest_job():
+    """65,536 packets, and as many chips and vertices as can have queues for all of them."""
+    vertices = [{"name": f"v{i}", "at": [i % 5, i % 7]} for i in range(11)]
+    nets = [{"name": f"n{i}", "source": f"v{i}", "targets": [f"v{(i + 1) % 11}", f"v{(i + 5) % 11}"]} for i in range(11)]
+    return job_with({"width": 5, "height": 7}, vertices, nets, 65536)
+
+
+def full_job(routes, target=MOST_ROWS):
+    """A chip at which the nets have these routes, to eleven vertices."""
+    names = [f"v{i}" for i in range(11)]
+    nets = [{"name": f"n{i}", "source": "v0", "targets": [it for j, it in enumerate(names) if route >> j & 1]} for i, route in enumerate(routes)]
+    return job_with({"width": 1, "height": 1}, [{"name": name} for name in names], nets, target=target)
+
+
+def limit_jobs():
+    """Jobs at the limits. For none of them does a computer lack memory, so that a refusal of memory is wrong."""
+    yield "widest", widest_job()
+    yield "busiest", busiest_job()
+    yield "full", full_job(range(1, 1025))
+    yield "one row too many", full_job(range(1, 1026))
+    yield "one row too many, and two are joined", full_job([1, *range(1, 1025)])
+    yield "as many rows as the target", full_job([1, 1, 2, 2, 3, 3], 6)
+    yield "one row more than the target", full_job([1, 1, 2, 2, 3, 3], 5)
+
+
 # ---- beside the program
 
 
@@ -645,14 +687,13 @@ def is_answered(program, what, wanted, text):
     return True
 
 
-def seeded_cases(seeds):
-    """A random job for each seed, with the answers to it, and the same with the shortest queues, where dropped copies are put back."""
-    for seed in seeds:
-        job = Dice(seed).job(seed)
+def cases_of(jobs):
+    """Each job with the answers to it, and the same with the shortest queues, where dropped copies are put back."""
+    for name, job in jobs:
         answers = answers_to(job)[0]
-        yield f"{seed}", answers, json.dumps(job).encode()
+        yield f"{name}", answers, json.dumps(job).encode()
         short = {**job, "run": {**job["run"], "queue": 1, "patience": 1}}
-        yield f"{seed}-short", {"reinject": answers["run"]}, json.dumps(short).encode()
+        yield f"{name}-short", {"reinject": answers["run"]}, json.dumps(short).encode()
 
 
 def generated_cases(numbers):
@@ -673,7 +714,9 @@ def main():
     parser.add_argument("--generated", type=int, action="append", metavar="N", help="the generated job of N, in place of random ones")
     parser.add_argument("program", nargs="?", default=f"{ROOT}/spin")
     asked = parser.parse_args()
-    cases = generated_cases(asked.generated) if asked.generated else seeded_cases(range(asked.first, asked.first + asked.jobs))
+    seeds = range(asked.first, asked.first + asked.jobs)
+    jobs = itertools.chain(limit_jobs(), ((seed, Dice(seed).job(seed)) for seed in seeds))
+    cases = generated_cases(asked.generated) if asked.generated else cases_of(jobs)
     statuses, failed = Counter(), 0
     for name, wanted, text in cases:
         statuses[next(iter(wanted.values()))[0]] += 1

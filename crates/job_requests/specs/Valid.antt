@@ -3,13 +3,15 @@ use Rattle.std.specs.Prelude.{◌≡◌, List, [], ◌∷◌, None, All, is_some
 use Rattle.app_graph.specs.declared.graphs.Vertex.{Vertex}
 use Rattle.app_graph.specs.ValidGraph.{IsValidGraph}
 use Rattle.app_graph.specs.RunPart.{IsRunOf}
+use Rattle.job_readers.specs.Named.{HasNamesApart}
 use Rattle.job_requests.specs.declared.steps.AppJob.{AppJob}
 use Rattle.job_requests.specs.declared.steps.Step.{Step}
 use Rattle.job_requests.specs.declared.steps.Step.TheVariants.{Load, Unload, Run}
 
--- a job whose graph is valid and has no device, and whose run part is one of the graph
+-- a job whose graph is valid and has no name twice and no device, and whose run part is one of the graph
 pub record IsValidJob (job : AppJob) : Type 0 where
   pub graph : IsValidGraph job.graph
+  pub names : HasNamesApart job.graph
   pub cores : All (λ (v : Vertex). v.device ≡ None) job.graph.vertices
   pub run : IsRunOf job.graph job.run
 

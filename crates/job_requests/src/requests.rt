@@ -3,6 +3,7 @@ ghost use Rattle.std.specs.Prelude.{◌≡◌, IfOk, length, map};
 ghost use Rattle.serde_json.specs.View.{view};
 ghost use Rattle.app_graph.specs.ValidGraph.{IsValidGraph};
 ghost use Rattle.job_text.specs.Reading.{GivesOrFaults};
+ghost use Rattle.job_readers.specs.Named.{HasNamesApart};
 ghost use Rattle.job_requests.specs.Requests.{request_own_faults, job_member, one_each_faults, trees_faults, trees_value, image_faults, image_value, request_faults, request_value};
 ghost use Rattle.job_text.specs.Paths.{path_text};
 
@@ -33,6 +34,7 @@ pub fn request_of(alloc: Global, value: &Value) -> Result<Request, TextErr>
     ensures request { GivesOrFaults (λ r. r) result (request_faults (view value.now)) (request_value
         (view value.now)) }
     ensures graph { IfOk result (λ r. IsValidGraph r.job.graph) }
+    ensures names { IfOk result (λ r. HasNamesApart r.job.graph) }
     ensures one_each { IfOk result (λ r. length r.trees ≡ length r.job.graph.nets) }
 {
     let path = Path::Whole("in");

@@ -1,7 +1,8 @@
 // The verdict on the tables of an image.
-ghost use Rattle.std.specs.Prelude.{◌≡◌, ◌*◌, ◌<◌, ◌^◌, ℕ, List, All, Some, length, slice_get, slice_index};
+ghost use Rattle.std.specs.Prelude.{◌≡◌, ◌*◌, ◌<◌, ◌^◌, ℕ, List, All, None, Some, length, slice_get, slice_index};
 ghost use Rattle.spin_base.specs.declared.blocks.Entry.{Entry};
 ghost use Rattle.spin_base.specs.declared.chips.Chip.{Chip};
+ghost use Rattle.spin_base.specs.Outputs.{nothing};
 ghost use Rattle.machine_desc.specs.Live.{chip_of};
 ghost use Rattle.machine_desc.specs.declared.nets.NetPlan.{NetPlan};
 ghost use Rattle.machine_desc.specs.RightTables.{AreRight};
@@ -69,17 +70,23 @@ pub fn check(machine: &Machine, nets: &Seq<NetPlan>, image: &Image) -> Verdict
 }
 
 // A board without a port, for as many chips as a machine may have.
-fn port_board() -> [Option<Port>; MOST_CHIPS] {
+fn port_board() -> [Option<Port>; MOST_CHIPS]
+    ensures { All (λ port. port ≡ None) result }
+{
     [None; MOST_CHIPS]
 }
 
-// A board without a route.
-fn route_board() -> [Route; MOST_CHIPS] {
+// A board whose routes have no output.
+fn route_board() -> [Route; MOST_CHIPS]
+    ensures { All (λ route. route ≡ nothing) result }
+{
     [Route::nothing(); MOST_CHIPS]
 }
 
-// A board of places.
-fn place_board() -> [u16; MOST_CHIPS] {
+// A board of places, each the first.
+fn place_board() -> [u16; MOST_CHIPS]
+    ensures { All (λ place. place ≡ 0) result }
+{
     [0; MOST_CHIPS]
 }
 

@@ -1,5 +1,5 @@
 // The answers of steps, one after the other.
-ghost use Rattle.std.specs.Prelude.{◌≡◌, ◌≤◌, ℕ, List, All, IfOk, IfSome, OnOk, Option, Some, is_some, length, string_bytes};
+ghost use Rattle.std.specs.Prelude.{◌≡◌, ◌≤◌, ℕ, List, All, Err, IfOk, IfSome, OnOk, Option, Some, is_some, length, string_bytes};
 ghost use Rattle.std.specs.List.{list_any};
 ghost use Rattle.job_requests.specs.declared.steps.Step.TheVariants.{Load, Unload, Run};
 ghost use Rattle.job_requests.specs.Steps.{is_load};
@@ -73,18 +73,18 @@ fn finished(taken: Result<(), Memory>, text: String, apps: Option<Apps>) -> Resu
             text: Seq::from_vec(text.into_bytes()),
             apps,
         }),
-        Err(memory) => {
-            end(apps);
-            Err(memory)
-        }
+        Err(memory) => without(apps, memory),
     }
 }
 
-// Lets the applications go. Each case by itself: so no drop of an `Option` of them is proved.
-fn end(apps: Option<Apps>) {
-    let Some(_apps) = apps else {
-        return;
-    };
+// Lets the applications go, where memory ran out. Each case by itself: so no drop of an `Option` of them is proved.
+fn without(apps: Option<Apps>, memory: Memory) -> Result<Answered, Memory>
+    ensures { result ≡ Err memory }
+{
+    match apps {
+        Some(_apps) => Err(memory),
+        None => Err(memory),
+    }
 }
 
 // Does each step, and puts their lines at the end.

@@ -31,13 +31,15 @@ impl Input for Job {
     ghost use Rattle.std.specs.Prelude.{codes};
     ghost use Rattle.app_graph.specs.ValidGraph.{IsValidGraph};
     ghost use Rattle.app_graph.specs.RunPart.{IsRunOf};
+    ghost use Rattle.job_readers.specs.Named.{HasNamesApart};
     ghost use Rattle.job_readers.specs.WholeJob.{job_faults, job_value};
 
     ghost faults = { job_faults (codes "job") 3 };
 
     ghost value_of = { job_value };
 
-    ghost IsSound = { λ job. (IsValidGraph job.graph) × (IsRunOf job.graph job.run) };
+    ghost IsSound = { λ job. (IsValidGraph job.graph) × (HasNamesApart job.graph)
+        × (IsRunOf job.graph job.run) };
 
     fn of_value(alloc: Global, value: &Value) -> Result<Job, TextErr> {
         job_of(alloc, value, &Path::Whole("job"), GREATEST_VERSION)
@@ -47,13 +49,14 @@ impl Input for Job {
 impl Input for Request {
     ghost use Rattle.std.specs.Prelude.{◌≡◌, length};
     ghost use Rattle.app_graph.specs.ValidGraph.{IsValidGraph};
+    ghost use Rattle.job_readers.specs.Named.{HasNamesApart};
     ghost use Rattle.job_requests.specs.Requests.{request_faults, request_value};
 
     ghost faults = { request_faults };
 
     ghost value_of = { request_value };
 
-    ghost IsSound = { λ r. (IsValidGraph r.job.graph)
+    ghost IsSound = { λ r. (IsValidGraph r.job.graph) × (HasNamesApart r.job.graph)
         × (length r.trees ≡ length r.job.graph.nets) };
 
     fn of_value(alloc: Global, value: &Value) -> Result<Request, TextErr> {

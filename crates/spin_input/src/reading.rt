@@ -5,6 +5,7 @@ ghost use Rattle.app_graph.specs.ValidGraph.{IsValidGraph};
 ghost use Rattle.app_graph.specs.RunPart.{IsRunOf};
 ghost use Rattle.run_report.specs.declared.causes.Refusal.TheVariants.{Memory};
 ghost use Rattle.job_text.specs.Json.{json_of};
+ghost use Rattle.job_readers.specs.Named.{HasNamesApart};
 ghost use Rattle.spin_input.specs.Inputs.{IsReadAs, HasNoInput, reading_of};
 ghost use Rattle.spin_input.specs.Kinds.{input_of, input_from, input_in};
 ghost use Rattle.spin_input.specs.Refusals.{IsOrWantsMemory, unread, unparsed, unfit};
@@ -35,6 +36,7 @@ const MOST_BYTES: u64 = 16_777_216;
 pub fn read_job<S: Source>(alloc: Global, source: &mut S) -> Result<Job, Refusal>
     ensures job { IfOk result (IsReadAs job_in (reading_of S.left S.faults source.old source.new)) }
     ensures graph { IfOk result (λ job. IsValidGraph job.graph) }
+    ensures names { IfOk result (λ job. HasNamesApart job.graph) }
     ensures run { IfOk result (λ job. IsRunOf job.graph job.run) }
     ensures err { IfErr result
         (HasNoInput job_in (reading_of S.left S.faults source.old source.new)) }
@@ -53,6 +55,7 @@ pub fn read_request<S: Source>(alloc: Global, source: &mut S) -> Result<Request,
     ensures request { IfOk result
         (IsReadAs request_in (reading_of S.left S.faults source.old source.new)) }
     ensures graph { IfOk result (λ request. IsValidGraph request.job.graph) }
+    ensures names { IfOk result (λ request. HasNamesApart request.job.graph) }
     ensures one_each { IfOk result
         (λ request. length request.trees ≡ length request.job.graph.nets) }
     ensures err { IfErr result
@@ -119,6 +122,7 @@ fn unread(error: ReadErr) -> Refusal
 pub fn job_of_text(alloc: Global, bytes: &[u8]) -> Result<Job, Refusal>
     ensures job { IfOk result (λ job. job_from (json_of bytes.now) ≡ Ok job) }
     ensures graph { IfOk result (λ job. IsValidGraph job.graph) }
+    ensures names { IfOk result (λ job. HasNamesApart job.graph) }
     ensures run { IfOk result (λ job. IsRunOf job.graph job.run) }
     ensures err { IfErr result (λ r. (job_from (json_of bytes.now) ≡ Err r) ⊎ (r ≡ Memory)) }
 {

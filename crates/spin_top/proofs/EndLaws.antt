@@ -1,5 +1,7 @@
 -- What follows from how a call ends.
-use Rattle.std.proofs.Common.{◌≡◌, ◌⊎◌, ℕ, List, Option, Some, None, Ok, IfSome, refl, sym, ap, ◌∙◌, subst, inl, inr}
+use Rattle.std.proofs.Common.{◌≡◌, ◌⊎◌, ℕ, List, Option, Some, None, Result, Ok, Err, IfSome, refl, sym, ap, ◌∙◌, subst, inl, inr}
+use Rattle.std.specs.Prelude.{MatchResult}
+use Rattle.spin_base.specs.declared.wants.Memory.{Memory}
 use Rattle.spin_base.specs.Outside.{FaultsRose}
 use Rattle.app_loads.specs.Applications.{AreApps}
 use Rattle.app_loads.specs.Host.{Host}
@@ -39,7 +41,7 @@ use Rattle.spin_top.specs.Causes.{HasCause, usage, of_job, of_request, of_steps,
 use Rattle.spin_top.specs.Ends.{Ends, made, refused, Says, SaysSurely, IsExact, IsGenerated, IsOfApps, IsOfCheck, HasAnswer, has_plan, has_nets, has_steps}
 use Rattle.spin_top.specs.Inputs.{AreRefused, no_value, no_answer}
 use Rattle.spin_top.specs.Made.{HasNoJob, IsJobOf, from_job, checked, done, IsMadeOfJob}
-use Rattle.spin_top.specs.Writing.{IsWritten, TakesMemory, Writing}
+use Rattle.spin_top.specs.Writing.{IsWritten, Writing, told_unmade}
 use Rattle.spin_top.proofs.AppLaws.{IsSpared, bytes_refused_spared, fault_spared, memory_spared, none_refused, zero_spared}
 use Rattle.spin_top.proofs.CheckLaws.{checked_has_nets, fault_other, IsOther, memory_other, one_due, refused_other, with_nets, zero_other}
 use Rattle.spin_top.proofs.InputLaws.{answered_not_refused, read_told, refusal_due, refused_in_part, refused_quiet, served_memory}
@@ -354,24 +356,27 @@ module _ {words : List (List ℕ)} {reading : Reading} {writing : Writing} {o : 
 
 -- ---- what was read
 
--- a refusal for which memory is taken is not that of a failed read
-no_failed_read : (r : Refusal) → TakesMemory r → r ≡ refusals.ReadFault → ⊥
-no_failed_read r takes is = subst TakesMemory is takes
+-- a refusal in place of which want of memory is told is not that of a failed read, nor that of words that are no command
+no_failed_read : (r : Refusal) → told_unmade r ≡ refusals.Memory → r ≡ refusals.ReadFault → ⊥
+no_failed_read r memory is = let other : refusals.ReadFault ≡ refusals.Memory = sym (ap told_unmade is) ∙ memory in cc
 
--- where there is a refusal for which memory is taken, what was read is what the words ask for
-pub read_as_asked : (words : List (List ℕ)) (reading : Reading) (r : Refusal) → HasCause words reading r → TakesMemory r → IsReadAsAsked words reading
-read_as_asked words reading r cause takes = elim cause [
+no_usage : (r : Refusal) → told_unmade r ≡ refusals.Memory → r ≡ refusals.Usage → ⊥
+no_usage r memory is = let other : refusals.Usage ≡ refusals.Memory = sym (ap told_unmade is) ∙ memory in cc
+
+-- where there is such a refusal, what was read is what the words ask for
+pub read_as_asked : (words : List (List ℕ)) (reading : Reading) (r : Refusal) → HasCause words reading r → told_unmade r ≡ refusals.Memory → IsReadAsAsked words reading
+read_as_asked words reading r cause memory = elim cause [
   | usage none untouched is ↦ inr untouched
-  | of_job asks none ↦ inl (inl asks, refused_in_part job_in HasNoPlan reading r none, refused_quiet job_in HasNoPlan reading r (no_failed_read r takes) none)
-  | of_request asks none ↦ inl (inr (inl asks), refused_in_part request_in HasNoNets reading r none, refused_quiet request_in HasNoNets reading r (no_failed_read r takes) none)
-  | of_steps asks none ↦ inl (inr (inr asks), refused_in_part steps_in HaveNoLines reading r none, refused_quiet steps_in HaveNoLines reading r (no_failed_read r takes) none)
+  | of_job asks none ↦ inl (inl asks, refused_in_part job_in HasNoPlan reading r none, refused_quiet job_in HasNoPlan reading r (no_failed_read r memory) none)
+  | of_request asks none ↦ inl (inr (inl asks), refused_in_part request_in HasNoNets reading r none, refused_quiet request_in HasNoNets reading r (no_failed_read r memory) none)
+  | of_steps asks none ↦ inl (inr (inr asks), refused_in_part steps_in HaveNoLines reading r none, refused_quiet steps_in HaveNoLines reading r (no_failed_read r memory) none)
   | no_memory command part is ↦ part
 ]
 
--- where there is a refusal for which memory is taken, the words are a command
-pub told_command : (words : List (List ℕ)) (reading : Reading) (r : Refusal) → HasCause words reading r → TakesMemory r → AreCommand words
-told_command words reading r cause takes none = elim cause [
-  | usage asked untouched is ↦ subst TakesMemory is takes
+-- where there is such a refusal, the words are a command
+pub told_command : (words : List (List ℕ)) (reading : Reading) (r : Refusal) → HasCause words reading r → told_unmade r ≡ refusals.Memory → AreCommand words
+told_command words reading r cause memory none = elim cause [
+  | usage asked untouched is ↦ no_usage r memory is
   | of_job asks without ↦ none_some (spelled words) (OfJob asks.0) none asks.1
   | of_request asks without ↦ none_some (spelled words) Check none asks
   | of_steps asks without ↦ none_some (spelled words) Apps none asks
@@ -424,3 +429,24 @@ module _ (words : List (List ℕ)) (reading : Reading) where
   -- why steps have no answer
   pub cause_with_steps : AskForApps words → (steps : List Step) → IsReadAs steps_in reading steps → (r : Refusal) → r ≡ refusals.Memory → HasCause words reading r
   cause_with_steps asks steps read r memory = no_memory (spells Apps asks) (inl (inr (inr asks), (read.bytes, read.all.gives), read.no_fault)) memory
+
+-- ---- what is written of a refusal
+
+-- what holds of the refusal where its line was made, and of the one that is told where it was not, holds of it, or of want of memory
+pub made_or_unmade : {T : Type 0} (line : Result T Memory) (r : Refusal) (P : Refusal → Type 0) → MatchResult line (λ _. P r) (λ _. P (told_unmade r)) →
+    P r ⊎ ((told_unmade r ≡ refusals.Memory) × P refusals.Memory)
+made_or_unmade (Ok text) r P holds = inl holds
+made_or_unmade (Err want) r P holds = unmade r holds
+  where
+    unmade : (q : Refusal) → P (told_unmade q) → P q ⊎ ((told_unmade q ≡ refusals.Memory) × P refusals.Memory)
+    unmade refusals.Usage same = inl same
+    unmade refusals.ReadFault same = inl same
+    unmade refusals.WriteFault memory = inr (refl, memory)
+    unmade refusals.TooLong memory = inr (refl, memory)
+    unmade refusals.NotJson memory = inr (refl, memory)
+    unmade (refusals.Job fault) memory = inr (refl, memory)
+    unmade (refusals.NoRoom vertex) memory = inr (refl, memory)
+    unmade (refusals.KeysOut net) memory = inr (refl, memory)
+    unmade (refusals.CutOff net target) memory = inr (refl, memory)
+    unmade (refusals.TableLong chip table) memory = inr (refl, memory)
+    unmade refusals.Memory memory = inr (refl, memory)

@@ -28,17 +28,17 @@ IsWritten w text then_said said =
     ((said ≡ then_said) × Takes w.written text w.written')
     ⊎ ((said ≡ Some WriteFault) × TakesProperPrefix w.written text w.written' × FaultsRose w.faults w.faults')
 
--- The line of a refusal is made in memory. But those of words that are no command, and of a fault of reading, always are the same,
--- and stand there.
-abbrev pub TakesMemory : Refusal → Type 0
-TakesMemory refusals.Usage = ⊥
-TakesMemory refusals.ReadFault = ⊥
-TakesMemory refusals.WriteFault = Unit {0}
-TakesMemory refusals.TooLong = Unit {0}
-TakesMemory refusals.NotJson = Unit {0}
-TakesMemory (refusals.Job fault) = Unit {0}
-TakesMemory (refusals.NoRoom vertex) = Unit {0}
-TakesMemory (refusals.KeysOut net) = Unit {0}
-TakesMemory (refusals.CutOff net target) = Unit {0}
-TakesMemory (refusals.TableLong chip table) = Unit {0}
-TakesMemory refusals.Memory = Unit {0}
+-- The refusal that is told where there is no memory for the line of this one. The lines of words that are no command, and of a fault
+-- of reading, always are the same, and stand there. In place of all others want of memory is told.
+abbrev pub told_unmade : Refusal → Refusal
+told_unmade refusals.Usage = refusals.Usage
+told_unmade refusals.ReadFault = refusals.ReadFault
+told_unmade refusals.WriteFault = refusals.Memory
+told_unmade refusals.TooLong = refusals.Memory
+told_unmade refusals.NotJson = refusals.Memory
+told_unmade (refusals.Job fault) = refusals.Memory
+told_unmade (refusals.NoRoom vertex) = refusals.Memory
+told_unmade (refusals.KeysOut net) = refusals.Memory
+told_unmade (refusals.CutOff net target) = refusals.Memory
+told_unmade (refusals.TableLong chip table) = refusals.Memory
+told_unmade refusals.Memory = refusals.Memory

@@ -16,7 +16,7 @@ ghost use Rattle.spin_input.specs.Inputs.{reading_of};
 ghost use Rattle.spin_top.specs.Causes.{AskForApps, AskForCheck, HasCause};
 ghost use Rattle.spin_top.specs.Ends.{Ends, EndsGenerated, HasAnswer, IsExact, IsOfApps, IsOfCheck};
 ghost use Rattle.spin_top.specs.Made.{IsMade};
-ghost use Rattle.spin_top.specs.Writing.{IsWritten, TakesMemory, writing_of};
+ghost use Rattle.spin_top.specs.Writing.{IsWritten, told_unmade, writing_of};
 
 use crate::answers::{checked, done, from_job};
 use crate::outcomes::{Outcome, Output, no_parts};
@@ -104,7 +104,10 @@ fn answered<R: Threads + Wait + Sync, S: Source, K: Sink, G: Gate>(
 {
     match made_of(rt, alloc, words, source, gate) {
         Ok(made) => write_text(made, sink),
-        Err(refusal) => write_refusal(alloc, refusal, sink),
+        Err(refusal) => {
+            let line = line_of(alloc, &refusal);
+            write_refusal(refusal, line, sink)
+        }
     }
 }
 
@@ -157,15 +160,35 @@ fn write_text<K: Sink>(made: Output, sink: &mut K) -> Outcome
     }
 }
 
-// Writes the line of a refusal. Where a line is made in memory, and there is none, that of want of memory is written.
-fn write_refusal<K: Sink>(alloc: Global, refusal: Refusal, sink: &mut K) -> Outcome
+// Writes the line of a refusal where it was made, and else that of the refusal for which no memory is needed.
+fn write_refusal<K: Sink>(
+    refusal: Refusal,
+    line: Result<Seq<u8>, Memory>,
+    sink: &mut K,
+) -> Outcome
+    requires { IfOk line (λ text. text ≡ line_of_refusal refusal) }
+    ensures status { result.status ≡ status_at result.refusal }
+    ensures parts { result.parts ≡ no_parts }
+    ensures apps { result.apps ≡ None }
+    ensures written { MatchResult line
+        (λ _. IsWritten (writing_of K.written K.faults sink.old sink.new)
+        (line_of_refusal refusal) (Some refusal) result.refusal)
+        (λ _. IsWritten (writing_of K.written K.faults sink.old sink.new)
+        (line_of_refusal (told_unmade refusal)) (Some (told_unmade refusal)) result.refusal) }
+{
+    match line {
+        Ok(line) => write_line(refusal, line.as_slice(), sink),
+        Err(Memory) => write_unmade(refusal, sink),
+    }
+}
+
+// Writes the line of a refusal for which there was no memory: its own where that stands in the program, else that of want of memory.
+fn write_unmade<K: Sink>(refusal: Refusal, sink: &mut K) -> Outcome
     ensures status { result.status ≡ status_at result.refusal }
     ensures parts { result.parts ≡ no_parts }
     ensures apps { result.apps ≡ None }
     ensures written { IsWritten (writing_of K.written K.faults sink.old sink.new)
-        (line_of_refusal refusal) (Some refusal) result.refusal
-        ⊎ (TakesMemory refusal × IsWritten (writing_of K.written K.faults sink.old sink.new)
-        (line_of_refusal NoMemory) (Some NoMemory) result.refusal) }
+        (line_of_refusal (told_unmade refusal)) (Some (told_unmade refusal)) result.refusal }
 {
     match refusal {
         Refusal::Usage => write_line(Refusal::Usage, USAGE.as_bytes(), sink),
@@ -178,43 +201,7 @@ fn write_refusal<K: Sink>(alloc: Global, refusal: Refusal, sink: &mut K) -> Outc
         | Refusal::KeysOut(_)
         | Refusal::CutOff(..)
         | Refusal::TableLong(..)
-        | Refusal::Memory => write_made_line(alloc, refusal, sink),
-    }
-}
-
-// Writes the line of a refusal, made in memory, or that of want of memory.
-fn write_made_line<K: Sink>(alloc: Global, refusal: Refusal, sink: &mut K) -> Outcome
-    ensures status { result.status ≡ status_at result.refusal }
-    ensures parts { result.parts ≡ no_parts }
-    ensures apps { result.apps ≡ None }
-    ensures written { IsWritten (writing_of K.written K.faults sink.old sink.new)
-        (line_of_refusal refusal) (Some refusal) result.refusal
-        ⊎ IsWritten (writing_of K.written K.faults sink.old sink.new)
-        (line_of_refusal NoMemory) (Some NoMemory) result.refusal }
-{
-    let line = line_of(alloc, &refusal);
-    write_where_made(refusal, line, sink)
-}
-
-// Writes the line of a refusal where it was made, and that of want of memory exactly where there was none for it.
-fn write_where_made<K: Sink>(
-    refusal: Refusal,
-    line: Result<Seq<u8>, Memory>,
-    sink: &mut K,
-) -> Outcome
-    requires { IfOk line (λ text. text ≡ line_of_refusal refusal) }
-    ensures status { result.status ≡ status_at result.refusal }
-    ensures parts { result.parts ≡ no_parts }
-    ensures apps { result.apps ≡ None }
-    ensures written { MatchResult line
-        (λ text. IsWritten (writing_of K.written K.faults sink.old sink.new)
-        text (Some refusal) result.refusal)
-        (λ _. IsWritten (writing_of K.written K.faults sink.old sink.new)
-        (line_of_refusal NoMemory) (Some NoMemory) result.refusal) }
-{
-    match line {
-        Ok(line) => write_line(refusal, line.as_slice(), sink),
-        Err(Memory) => write_line(Refusal::Memory, OUT_OF_MEMORY.as_bytes(), sink),
+        | Refusal::Memory => write_line(Refusal::Memory, OUT_OF_MEMORY.as_bytes(), sink),
     }
 }
 

@@ -1,13 +1,15 @@
-use Rattle.std.proofs.Common.{Option, refl, sym, subst, inl, inr}
+use Rattle.std.proofs.Common.{Option, Some, refl, sym, subst, inl, inr}
 use Rattle.app_loads.specs.Host.{Host}
 use Rattle.spin_words.specs.Commands.{texts_of}
+use Rattle.run_report.specs.Refusals.{line_of}
 use Rattle.run_report.specs.declared.causes.Refusal.TheVariants as refusals
 use Rattle.spin_input.specs.Inputs.{Reading}
 use Rattle.spin_jobs.specs.declared.outcomes.Parts.{Parts}
 use Rattle.spin_top.specs.Causes.{no_memory}
 use Rattle.spin_top.specs.Ends.{made, refused}
 use Rattle.spin_top.specs.Made.{IsMade}
-use Rattle.spin_top.proofs.EndLaws.{read_as_asked, told_command}
+use Rattle.spin_top.specs.Writing.{IsWritten, Writing}
+use Rattle.spin_top.proofs.EndLaws.{made_or_unmade, read_as_asked, told_command}
 use Rattle.spin_top.proofs.tops.answered.Goals as goal
 
 pub returns-in-Ok-clause-ends : goal.returns-in-Ok-clause-ends
@@ -34,7 +36,15 @@ returns-in-Err-clause-ends g c =
     }
     in
     let cause = c.in-Err.ensures.err in
-    elim c.write_refusal.ensures.written [
+    let writing : Writing = record {
+      written = g.K.Sink.written c.args.sink.now;
+      written' = g.K.Sink.written c.write_refusal.new.sink;
+      faults = g.K.Sink.faults c.args.sink.now;
+      faults' = g.K.Sink.faults c.write_refusal.new.sink;
+    }
+    in
+    let written = made_or_unmade c.line_of.result c.in-Err.refusal (λ r. IsWritten writing (line_of r) (Some r) c.write_refusal.result.refusal) c.write_refusal.ensures.written in
+    elim written [
       | inl line ↦ refused c.in-Err.refusal cause c.write_refusal.ensures.parts c.write_refusal.ensures.apps line
       | inr line ↦ refused refusals.Memory
           (no_memory (told_command (texts_of c.args.words.now) reading c.in-Err.refusal cause line.0) (read_as_asked (texts_of c.args.words.now) reading c.in-Err.refusal cause line.0) refl)
