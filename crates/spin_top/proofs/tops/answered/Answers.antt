@@ -43,7 +43,7 @@ returns-in-Err-clause-ends g c =
       faults' = g.K.Sink.faults c.write_refusal.new.sink;
     }
     in
-    let written = made_or_unmade c.line_of.result c.in-Err.refusal (λ r. IsWritten writing (line_of r) (Some r) c.write_refusal.result.refusal) c.write_refusal.ensures.written in
+    let written = made_or_unmade c.line_of-line.result c.in-Err.refusal (λ r. IsWritten writing (line_of r) (Some r) c.write_refusal.result.refusal) c.write_refusal.ensures.written in
     elim written [
       | inl line ↦ refused c.in-Err.refusal cause c.write_refusal.ensures.parts c.write_refusal.ensures.apps line
       | inr line ↦ refused refusals.Memory

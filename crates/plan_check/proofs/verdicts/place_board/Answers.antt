@@ -1,0 +1,5 @@
+use Rattle.std.proofs.lemmas.List.{get_or-replicate}
+use Rattle.plan_check.proofs.verdicts.place_board.Goals as goal
+
+pub returns : goal.returns
+returns c = λ k d below. get_or-replicate 4096 k 0 d below
