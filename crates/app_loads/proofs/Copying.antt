@@ -1,6 +1,7 @@
 -- Rows put into ranges of entries.
 use Rattle.std.proofs.Common.{◌≡◌, ◌≢◌, ℕ, zero, suc, ◌+◌, ◌<◌, ◌≤◌, true, false, ◌||◌, ◌&&◌, ◌==◌, List, [], ◌∷◌, ◌++◌, take, drop, get_or, length, map, set, refl, sym, ap, ◌∙◌, subst, inl, inr, ◌⊎◌, arith, Some, append_assoc}
-use Rattle.std.specs.List.{slice_get, slice_set, Contains}
+use Rattle.std.specs.List.{AllZip, slice_get, slice_set, Contains}
+use Rattle.std.proofs.lemmas.List.Sorted.{IsPermutation-refl}
 use Rattle.std.proofs.Math.Seq.{drop-cons}
 use Rattle.std.proofs.lemmas.Bool.{cases_Bool, cases_eq, cases_lt, eq-eqb, and_from, or_parts}
 use Rattle.std.proofs.Math.ListN.{get_or-map}
@@ -9,7 +10,7 @@ use Rattle.std.proofs.lemmas.List.Folds.{list_any-append}
 use Rattle.std.proofs.lemmas.Option.{slice_get_within, slice_get-get_or, get_or_from_slice_get, same_Some}
 use Rattle.key_alloc.proofs.Ranges.{in_from}
 use Rattle.spin_base.proofs.Members.{Contains-at, among_contains, contains_among, among_either}
-use Rattle.spin_base.proofs.Places.{slice_get-set_same, slice_get-set_other, take_more_at, map_more_at}
+use Rattle.spin_base.proofs.Places.{AllZip-more, slice_get-set_same, slice_get-set_other, take_more_at, map_more_at}
 use Rattle.spin_base.specs.declared.blocks.Entry.{Entry}
 use Rattle.spin_base.specs.declared.chips.Chip.{Chip}
 use Rattle.machine_desc.specs.Description.{Description}
@@ -21,7 +22,7 @@ use Rattle.tern_word.specs.declared.tables.Row.{Row}
 use Rattle.tern_word.specs.declared.tables.Table.{Table}
 use Rattle.tern_word.specs.Entries.{entry_of}
 use Rattle.net_tables.specs.declared.marks.Mark.{Mark}
-use Rattle.net_tables.specs.Marks.{row_of_mark, table_of_sorted}
+use Rattle.net_tables.specs.Marks.{IsTableOf, row_of_mark, table_of_sorted}
 use Rattle.app_loads.specs.declared.loaded.Range.{Range}
 use Rattle.app_loads.specs.declared.places.Region.{Region}
 use Rattle.app_loads.specs.declared.places.Region.TheVariants.{Keys, Memory, Rows}
@@ -149,6 +150,39 @@ module _ (m : Description) (cur : List (List Entry)) (long : length cur ≡ chip
 
   pub was_here : (c : Chip) → index_of m c ≡ j → table_at m cur c ≡ get_or cur j d
   was_here c same = ap (λ k. get_or cur k []) same ∙ get_or_from_slice_get cur j (get_or cur j d) [] (slice_get-get_or cur j d (omega (arith, below, long)))
+
+-- ---- lists of original blocks in order
+
+-- a list without two items is in order
+pub few_in_order : (marks : List Mark) → length marks < 2 → IsTableOf marks (table_of_sorted marks)
+few_in_order marks few = record {
+  sorted = marks;
+  same = IsPermutation-refl marks;
+  rows_are = refl;
+  in_order = λ i j d less below. absurd (let long = length-map marks row_of_mark in omega (arith, few, less, below, long));
+}
+
+-- one list more
+pub one_more_in_order : (lists sorted more : List (List Mark)) (marks x : List Mark) (rest : List (List Mark)) → drop (length sorted) lists ≡ marks ∷ rest → AllZip IsTableOf (take (length sorted) lists) (tables_in sorted) → more ≡ sorted ++ x ∷ [] →
+    IsTableOf marks (table_of_sorted x) → AllZip IsTableOf (take (length more) lists) (tables_in more) × (rest ≡ drop (length more) lists)
+one_more_in_order lists sorted more marks x rest left so_far is here =
+    let k : ℕ = length sorted in
+    let below : k < length lists = (let d = length-drop k lists in let l = ap length left in omega (arith, d, l)) in
+    let both : marks ∷ rest ≡ get_or lists k marks ∷ drop (suc k) lists = sym left ∙ drop-cons lists k marks below in
+    let long : length more ≡ k + 1 = ap length is ∙ length-append sorted (x ∷ []) in
+    let next : suc k ≡ length more = omega (arith, long) in (
+      subst (λ n. AllZip IsTableOf (take n lists) (tables_in more)) (sym long)
+          (subst (AllZip IsTableOf (take (k + 1) lists)) (sym (ap tables_in is ∙ map-append table_of_sorted sorted (x ∷ [])))
+          (AllZip-more IsTableOf lists (tables_in sorted) k marks (table_of_sorted x) below (ap (λ l. get_or l 0 marks) both) so_far here)),
+      ap (λ l. drop 1 l) both ∙ ap (λ n. drop n lists) next,
+    )
+
+-- where no list is left, all are in order
+pub all_in_order : (lists sorted left : List (List Mark)) → left ≡ drop (length sorted) lists → length left ≡ 0 → AllZip IsTableOf (take (length sorted) lists) (tables_in sorted) → AllZip IsTableOf lists (tables_in sorted)
+all_in_order lists sorted left is none so_far =
+    let d = length-drop (length sorted) lists in
+    let l = ap length is in
+    subst (λ (xs : List (List Mark)). AllZip IsTableOf xs (tables_in sorted)) (take_all (length sorted) lists (omega (arith, d, l, none))) so_far
 
 -- the rows of a list of original blocks
 pub rows_listed : (marks : List Mark) (lists : List (List Mark)) (j : ℕ) (d : List Mark) → marks ≡ get_or lists j d → (get_or (tables_in lists) j (table_of_sorted d)).rows ≡ map row_of_mark marks

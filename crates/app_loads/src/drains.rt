@@ -112,8 +112,16 @@ fn send_all(alloc: Global, mesh: &mut Mesh, earlier: &mut Groups, vertex: u32) -
     ensures clean { OnOk result (IsClean (all_grouped earlier.new) mesh.new) }
     ensures unsent { OnOk result (mesh.new.unsent ≡ slice_set mesh.old.unsent vertex []) }
 {
+    let mut known = None;
     'packets: while !mesh.unsent(vertex).is_empty() {
-        send_one(alloc, mesh, earlier, vertex)?;
+        let copy = mesh.unsent(vertex)[0];
+        if known == Some(copy.key) {
+            mesh.pass(vertex);
+            earlier.repeat(copy.packet, copy.key, copy.payload)?;
+        } else {
+            send_one(alloc, mesh, earlier, vertex)?;
+            known = if earlier.ends_with(copy.packet) { Some(copy.key) } else { None };
+        }
     }
     Ok(())
 }

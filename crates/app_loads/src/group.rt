@@ -112,6 +112,18 @@ impl Group {
         true
     }
 
+    pub fn is_of_packet(&self, packet: u32) -> bool {
+        self.sent.len() == 1 && self.sent.get(0).packet == packet
+    }
+
+    pub fn repeat(&mut self, packet: u32, key: u32, payload: Option<u32>) -> Result<(), Memory> {
+        self.sent.push(Sent { packet, key, payload })?;
+        self.count += self.arrivals.len();
+        self.least = lesser(self.least, packet);
+        self.greatest = greater(self.greatest, packet);
+        Ok(())
+    }
+
     // Whether the least and the greatest packet are the application's: so all are.
     pub fn is_own(&self, app: &LoadedApp) -> bool
         ensures own { result ≡ is_own_group app.now self.now }

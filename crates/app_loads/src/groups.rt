@@ -68,6 +68,19 @@ impl Groups {
         Ok(())
     }
 
+    pub fn ends_with(&self, packet: u32) -> bool {
+        let count = self.groups.len();
+        count > 0 && self.groups[count - 1].is_of_packet(packet)
+    }
+
+    pub fn repeat(&mut self, packet: u32, key: u32, payload: Option<u32>) -> Result<(), Memory> {
+        let at = self.groups.len() - 1;
+        let before = self.groups[at].len();
+        self.groups[at].repeat(packet, key, payload)?;
+        self.count += self.groups[at].len() - before;
+        Ok(())
+    }
+
     // Puts all deliveries at the back of a list.
     pub fn push_to(&self, list: &mut Seq<Delivery>) -> Result<(), Memory>
         ensures { OnOk result (list.new ≡ list.old ++ all_grouped self.now) }

@@ -35,31 +35,29 @@ pub fn originals_of(
 {
     let nets = nets_of(alloc, app)?;
     let blocks = original_blocks(alloc, machine, &nets)?;
-    let originals = in_order(alloc, blocks.as_slice())?;
+    let originals = in_order(alloc, blocks.into_vec())?;
     Ok(originals)
 }
 
 // Each list in the order of the rows of its plain table.
-fn in_order(alloc: Global, lists: &[Seq<Mark>]) -> Result<Seq<Seq<Mark>>, Memory>
-    ensures { IfOk result (λ sorted. AllZip IsTableOf lists.now (tables_in sorted)) }
+fn in_order(alloc: Global, lists: Vec<Seq<Mark>>) -> Result<Seq<Seq<Mark>>, Memory>
+    ensures { IfOk result (λ sorted. AllZip IsTableOf lists.items (tables_in sorted)) }
 {
     let mut sorted = Seq::new(alloc);
-    for list in lists {
-        sorted.push(sorted_marks(alloc, list.as_slice())?)?;
+    for marks in lists {
+        sorted.push(sorted_marks(marks)?)?;
     }
     Ok(sorted)
 }
 
-// Original blocks in the order of the rows of their plain table. Most chips have none.
-fn sorted_marks(alloc: Global, marks: &[Mark]) -> Result<Seq<Mark>, Memory>
-    ensures { IfOk result (λ sorted. IsTableOf marks.now (table_of_sorted sorted)) }
+// Original blocks in the order of the rows of their plain table. Most chips have none, or one.
+fn sorted_marks(marks: Seq<Mark>) -> Result<Seq<Mark>, Memory>
+    ensures { IfOk result (λ sorted. IsTableOf marks (table_of_sorted sorted)) }
 {
-    if marks.is_empty() {
-        return Ok(Seq::new(alloc));
+    if marks.len() < 2 {
+        return Ok(marks);
     }
-    let marks = Vec::from_slice(alloc, marks)?;
-    let sorted = in_row_order(Seq::from_vec(marks))?;
-    Ok(sorted)
+    in_row_order(marks)
 }
 
 // The application's nets with their blocks.

@@ -63,6 +63,10 @@ impl Mesh {
         }
     }
 
+    pub fn pass(&mut self, v: u32) {
+        drop_front(&mut self.unsent, v as usize);
+    }
+
     // The vertex sends its first unsent copy to its chip's injection queue.
     fn inject(&mut self, v: u32) -> Result<Did, Memory>
         ensures answer { IfOk result (λ did. did ≡ answer self.old (Inject v)) }

@@ -1,14 +1,17 @@
-use Rattle.std.proofs.Common.{◌∙◌, ◌∷◌, [], ap, sym, subst, take, ◌+◌}
-use Rattle.std.specs.List.{AllZip}
-use Rattle.std.proofs.lemmas.List.{map-append}
-use Rattle.spin_base.proofs.Places.{AllZip-more}
-use Rattle.net_tables.specs.Marks.{IsTableOf, table_of_sorted}
-use Rattle.app_loads.specs.Writing.{tables_in}
+use Rattle.std.proofs.Common.{◌≡◌, ◌∙◌, arith, length, sym}
+use Rattle.std.specs.Vec.Iter.{into_iter_items}
+use Rattle.std.proofs.lemmas.Grind.{common_steps}
+use Rattle.app_loads.proofs.Copying.{all_in_order, one_more_in_order}
 use Rattle.app_loads.proofs.rows.in_order.Goals as goal
 
-pub loop-list-preserved : goal.loop-list-preserved
-loop-list-preserved c =
-    subst (AllZip IsTableOf (take (c.loop-list.list-index + 1) c.args.lists.now))
-    (sym (ap tables_in c.in_ok-push.ensures.ok ∙ map-append table_of_sorted c.loop-list.sorted (c.in_ok-sorted_marks.field-0 ∷ [])))
-    (AllZip-more IsTableOf c.args.lists.now (tables_in c.loop-list.sorted) c.loop-list.list-index c.list-item.result (table_of_sorted c.in_ok-sorted_marks.field-0) c.loop-list-test.true c.list-item.is c.loop-list.invariant
-    (rw c.as_slice.ensures at c.in_ok-sorted_marks.ensures))
+pub loop-marks-preserved : goal.loop-marks-preserved
+loop-marks-preserved c =
+    let more =
+    one_more_in_order c.args.lists.items c.loop-marks.sorted c.push.new.self c.in-Some.marks c.in_ok-sorted_marks.field-0 (into_iter_items c.next.new.self) (sym c.loop-marks.invariant.3 ∙ c.in-Some.ensures.steps.0) c.loop-marks.invariant.2
+    c.in_ok-push.ensures.ok c.in_ok-sorted_marks.ensures
+    in (tt, tt, more.0, more.1)
+
+pub returns : goal.returns
+returns c =
+    let none : length (into_iter_items c.loop-marks.marks-iterator) ≡ 0 = grind (arith, common_steps, c.in-None.ensures.steps.0) in
+    all_in_order c.args.lists.items c.loop-marks.sorted (into_iter_items c.loop-marks.marks-iterator) c.loop-marks.invariant.3 none c.loop-marks.invariant.2

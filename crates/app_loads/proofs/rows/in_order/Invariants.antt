@@ -1,9 +1,14 @@
-use Rattle.std.proofs.Common.{take}
+use Rattle.std.proofs.Common.{◌≡◌, drop, length, take}
 use Rattle.std.specs.List.{AllZip}
+use Rattle.std.specs.Vec.Iter.{into_iter_items}
 use Rattle.net_tables.specs.Marks.{IsTableOf}
 use Rattle.app_loads.specs.Writing.{tables_in}
 use Rattle.app_loads.proofs.rows.in_order.Given as goal
 
--- the lists so far are in order
-abbrev pub invariant-loop-list : goal.invariant-loop-list
-invariant-loop-list l = AllZip IsTableOf (take l.list-index l.lists) (tables_in l.sorted)
+-- the lists so far are in order, and the others are left
+abbrev pub invariant-loop-marks : goal.invariant-loop-marks
+invariant-loop-marks l =
+    goal.iterator-loop-marks.can_next l.marks-iterator
+    × goal.iterator-loop-marks.is_finite l.marks-iterator
+    × AllZip IsTableOf (take (length l.sorted) l.fn.lists.items) (tables_in l.sorted)
+    × (into_iter_items l.marks-iterator ≡ drop (length l.sorted) l.fn.lists.items)

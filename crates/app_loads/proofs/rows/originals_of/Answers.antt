@@ -11,5 +11,5 @@ returns c =
     let made =
     all_plain_tables c.args.machine.now (nets_of c.args.app.now) c.in_ok-blocks.blocks (tables_in c.in_ok-originals.originals) c.requires.routed
     (subst (λ (l : List NetPlan). AreBlocksOf c.args.machine.now l c.in_ok-blocks.blocks) c.in_ok-nets.ensures c.in_ok-blocks.ensures.blocks)
-    (rw c.as_slice.ensures at c.in_ok-originals.ensures) in
+    (rw c.into_vec.ensures at c.in_ok-originals.ensures) in
     record { long = made.long; plain = made.plain }

@@ -1,5 +1,5 @@
 use Rattle.std.proofs.lemmas.List.{length-map}
-use Rattle.std.proofs.Common.{◌+◌, ◌∙◌, [], refl, sym, ap, subst, arith, take, length}
+use Rattle.std.proofs.Common.{◌+◌, ◌∙◌, [], refl, sym, ap, subst, arith, take, length, List}
 use Rattle.net_tables.specs.Marks.{row_of_mark, table_of_sorted}
 use Rattle.app_loads.proofs.Copying.{inside_of, rows_at, there, place_of_no_rows, j_below, j_in_tables, j_in_rows, T_long, R_fits, place_small, all_copied, copied_skip, copied_more, put_listed, rows_listed}
 use Rattle.app_loads.specs.Writing.{AreCopied, tables_in}
