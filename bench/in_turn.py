@@ -94,7 +94,7 @@ def measured(programs, words, job, runs, limit=None):
 
 
 def show(title, programs, words, job, runs, limit=None):
-    """Prints a line for the programs on a job, and gives the least processor time of each."""
+    """Prints a line for the programs on a job, and gives the runs of each."""
     found = measured(programs, words, job, runs, limit)
     spent = [min(it.spent for it in listed) for listed in found]
     taken = [min(it.taken for it in listed) for listed in found]
@@ -106,4 +106,4 @@ def show(title, programs, words, job, runs, limit=None):
     last = found[-1][-1]
     status = {0: "", 9: "status 9: "}.get(last.status, f"status {last.status}: " if last.status > 0 else f"SIGNAL {-last.status} ")
     print(f"{title:66} {' '.join(parts)}  {status}{last.told}", flush=True)
-    return spent
+    return found

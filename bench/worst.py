@@ -1,11 +1,12 @@
 """Times the worst that a user can do: small texts of legal jobs that take the program long, or much memory.
 
-    python3 bench/worst.py [--program PROGRAM] [--beside OTHER] [--runs RUNS] [--limit MIB] [--doubled TIMES] [KIND[=SIZE] ..]
+    python3 bench/worst.py [--program PROGRAM] [--beside OTHER] [--runs RUNS] [--limit MIB] [--doubled TIMES] [--limits] [KIND[=SIZE] ..]
 
 PROGRAM is out/spin where none is named; OTHER is run in turn with it, and is what it is compared with. A SIZE is a number, or `most` for
 what a job may have at most. Without one a kind has a size that takes seconds, and without KINDs all are run. A program that wants more
 than MIB of memory, 4,096 where no number is given, ends with status 9. Told are processor time, wall-clock time and peak memory. With
-TIMES each kind is run at its size and so many times at twice the size before, so that growth can be read off.
+TIMES each kind is run at its size and so many times at twice the size before, so that growth can be read off. With --limits each kind, and
+each of bench/worst_apps.py, is run at its most, and those are named at the end that took above 60 s or 1 GiB.
 
     loads          `apps`: so many loads of an empty graph on 64 by 64 chips
     small_loads    `apps`: the same with four vertices, two nets and two packets each, while there is room
@@ -18,6 +19,9 @@ TIMES each kind is run at its size and so many times at twice the size before, s
     far_and_wide   `compile`: so many nets of 740 targets on a torus of 64 by 64 chips with 1,200 dead links, target 0
     serpentine     `tables`: so many nets of two targets along a serpentine of live links through 64 by 64 chips, target 0
     uncovered      `tables`: the same where rows have no target to get below: 1,024
+    by_parity      `tables`: 2,046 nets along a path of so many chips, target 0: those of whose number the bits add up to an even sum also
+                   go to each chip, so that two routes lie in one another as on a checkerboard
+    in_groups      `tables`: 4,096 nets along such a path, of which four each go to the same chips, drawn at random: target 0
     alike          `tables`: so many vertices, and 200,000 targets that name the last; all names have one word modulo four times their
                    number and one: so they have one slot
     in_a_bucket    `tables`: the same; the words of all names agree on the bits by which std's hash map tells names apart at first
@@ -104,6 +108,29 @@ def serpentine(size, target, path=ROWS, sides=(SIDE, SIDE)):
     nets = [net(i, i % 8, [8, 9]) for i in range(size)]
     machine = {"width": sides[0], "height": sides[1], "dead_links": dead}
     return {"version": 1, "machine": machine, "graph": {"vertices": vertices, "nets": nets}, "run": {"target": target}}
+
+
+def along(size, numbers):
+    """Nets of the first chip to the last of a path, each of which also goes to the chips of these numbers on the way."""
+    path, rows = ROWS[:size], (size + SIDE - 1) // SIDE
+    job = serpentine(1, 0, path, (min(size, SIDE), rows))
+    job["machine"]["dead_chips"] = [list(chip) for chip in ROWS[size : rows * SIDE]] if rows > 1 else []
+    vertices = [{"name": f"v{i}", "at": list(chip)} for i, chip in enumerate(path)]
+    nets = [net(i, 0, [*of_net, size - 1]) for i, of_net in enumerate(numbers)]
+    return {**job, "graph": {"vertices": vertices, "nets": nets}}
+
+
+def by_parity(size):
+    between = list(range(1, size - 1))
+    return along(size, [[] if i.bit_count() % 2 else between for i in range(2046)])
+
+
+def in_groups(size):
+    """As many targets as a text has room for, at most every second chip."""
+    draw = random.Random(8)
+    each = min(size // 2, 500)
+    groups = [sorted(draw.sample(range(1, size - 1), each)) for _ in range(1024)]
+    return along(size, [group for group in groups for _ in range(4)])
 
 
 # ---- names
@@ -221,6 +248,8 @@ KINDS = {
     "far_and_wide": ("compile", lambda size: long_tables(size, SIDE, 740, 1200), 128, 4096),
     "serpentine": ("tables", lambda size: serpentine(size, 0), 64, 4096),
     "uncovered": ("tables", lambda size: serpentine(size, 1024), 64, 4096),
+    "by_parity": ("tables", by_parity, 64, 2100),
+    "in_groups": ("tables", in_groups, 64, 4096),
     "alike": ("tables", alike, 512, 16384),
     "in_a_bucket": ("tables", in_a_bucket, 256, 16384),
     "holes": ("apps", holes, 8192, 240000),
@@ -237,19 +266,31 @@ def main():
     parser.add_argument("--limit", type=int, default=4096, help="MiB of memory that a program may take")
     parser.add_argument("--doubled", type=int, default=0, metavar="TIMES", help="how often the size is doubled")
     add_programs(parser, 1)
+    parser.add_argument("--limits", action="store_true", help="each kind at its most; at the end those above a minute or a gibibyte")
     asked = parser.parse_args()
     programs = programs_of(asked)
+    kinds = KINDS
+    if asked.limits:
+        import worst_apps
+
+        kinds = {**KINDS, **{name: ("apps", *kind) for name, kind in worst_apps.KINDS.items()}}
     print(f"load {os.getloadavg()[0]:.1f}; least of {asked.runs} runs of {' and of '.join(programs)}")
-    for kind in asked.kinds or KINDS:
+    above = []
+    for kind in asked.kinds or kinds:
         name, _, size = kind.partition("=")
-        if name not in KINDS or not (size in ("", "most") or size.isdigit()):
+        if name not in kinds or not (size in ("", "most") or size.isdigit()):
             parser.error(f"{kind} is no kind, or its size no number")
-        word, make, small, most = KINDS[name]
-        size = most if size == "most" else int(size or small)
+        word, make, small, most = kinds[name]
+        size = most if size == "most" or asked.limits else int(size or small)
         for size in [size << times for times in range(asked.doubled + 1)]:
             job = make(size)
             text = job if isinstance(job, bytes) else json.dumps(job, separators=(",", ":")).encode()
-            show(f"{name}={size}: {word}, {len(text) / 1e6:.2f} MB", programs, [word], text, asked.runs, asked.limit * MEBI)
+            title = f"{name}={size}: {word}, {len(text) / 1e6:.2f} MB"
+            runs = show(title, programs, [word], text, asked.runs, asked.limit * MEBI)
+            if min(it.spent for it in runs[-1]) > 60 or max(it.memory for it in runs[-1]) > 1024:
+                above.append(title)
+    if asked.limits:
+        print("above 60 s or 1 GiB:", *above or ["none"], sep="\n    ")
 
 
 if __name__ == "__main__":

@@ -24,6 +24,7 @@ from in_turn import MEBI, add_programs, programs_of, show
 from worst import NOTHING, SMALL, application, serpentine
 
 FIRST = 256
+PACKETS = 65536
 
 
 def one_net(targets, packets):
@@ -51,16 +52,22 @@ def own_unloads(size):
     return kept([*loads, *(["unload", i] for i in range(1, size + 1))])
 
 
+def by_loads(size, job_of):
+    """So many packets, in loads of as many as one may have, each run and unloaded before the next."""
+    loads = [job_of(min(size - begin, PACKETS)) for begin in range(0, size, PACKETS)]
+    return [step for i, job in enumerate(loads) for step in (["load", i, job], ["run"], ["unload", i])]
+
+
 def kept_deliveries(size):
-    return [["load", 0, one_net(16383, size)], ["run"], ["unload", 0]]
+    return by_loads(size, lambda packets: one_net(16383, packets))
 
 
 def kept_by_turns(size):
-    """Packets that come to other vertices than the one before are kept each by itself: eight bytes for each delivery."""
+    """Packets that come to other vertices than the one before."""
     names = [f"v{i}" for i in range(16384)]
     nets = [{"name": name, "source": "v0", "targets": others} for name, others in (("a", names[1:-1]), ("b", names[2:]))]
-    packets = [{"net": "ab"[i % 2], "index": 0} for i in range(size)]
-    return [["load", 0, application([{"name": name} for name in names], nets, packets)], ["run"], ["unload", 0]]
+    vertices = [{"name": name} for name in names]
+    return by_loads(size, lambda packets: application(vertices, nets, [{"net": "ab"[i % 2], "index": 0} for i in range(packets)]))
 
 
 def long_pairs(size, nets=1):
@@ -78,8 +85,9 @@ def nets_in_turn(size):
 
 
 def long_packets(size):
+    """The machine is that of the first job."""
     job = serpentine(1, 1024)
-    return [["load", 0, {**job, "run": {"packets": [{"net": "n0", "index": 0}] * size}}], ["run"], ["unload", 0]]
+    return by_loads(size, lambda packets: {**job, "run": {"packets": [{"net": "n0", "index": 0}] * packets}})
 
 
 def small_pairs(size):
@@ -87,17 +95,17 @@ def small_pairs(size):
     return pairs(size, {**SMALL, "run": {"packets": []}})
 
 
-# Of each kind what makes its steps, and the first size.
+# Of each kind what makes its steps, the first size, and the most that a text has room for.
 KINDS = {
-    "kept_unloads": (kept_unloads, FIRST),
-    "own_unloads": (own_unloads, FIRST),
-    "kept_deliveries": (kept_deliveries, FIRST),
-    "kept_by_turns": (kept_by_turns, FIRST),
-    "long_pairs": (long_pairs, 64),
-    "long_nets": (long_nets, 64),
-    "nets_in_turn": (nets_in_turn, 128),
-    "long_packets": (long_packets, 64),
-    "small_pairs": (small_pairs, FIRST),
+    "kept_unloads": (kept_unloads, FIRST, 32766),
+    "own_unloads": (own_unloads, FIRST, 21844),
+    "kept_deliveries": (kept_deliveries, FIRST, 8 * PACKETS),
+    "kept_by_turns": (kept_by_turns, FIRST, 8 * PACKETS),
+    "long_pairs": (long_pairs, 64, 32766),
+    "long_nets": (long_nets, 64, 4096),
+    "nets_in_turn": (nets_in_turn, 128, 230000),
+    "long_packets": (long_packets, 64, 8 * PACKETS),
+    "small_pairs": (small_pairs, FIRST, 32767),
 }
 
 
@@ -113,12 +121,13 @@ def main():
         name, _, size = kind.partition("=")
         if name not in KINDS or not (size == "" or size.isdigit()):
             parser.error(f"{kind} is no kind, or its size no number")
-        make, first = KINDS[name]
+        make, first, _ = KINDS[name]
         before = None
         for doubling in range(asked.doublings + 1):
             count = int(size or first) << doubling
             text = json.dumps(make(count), separators=(",", ":")).encode()
-            spent = show(f"{name}={count}: {len(text) / 1e6:.2f} MB", programs, ["apps"], text, asked.runs, asked.limit * MEBI)
+            found = show(f"{name}={count}: {len(text) / 1e6:.2f} MB", programs, ["apps"], text, asked.runs, asked.limit * MEBI)
+            spent = [min(it.spent for it in listed) for listed in found]
             if before:
                 print("  times " + ", ".join(f"{now / was:.2f}" for now, was in zip(spent, before)))
             before = spent
