@@ -13,6 +13,7 @@ use Rattle.par_compile.specs.Compiled.{IsPlanOf}
 use Rattle.par_compile.specs.declared.compiling.Plan.{Plan}
 use Rattle.table_load.specs.Images.{Spells}
 use Rattle.table_load.specs.declared.tables.Image.{Image}
+use Rattle.job_readers.specs.Named.{HasNamesApart}
 use Rattle.job_readers.specs.declared.jobs.Job.{Job}
 use Rattle.run_report.specs.ReportText.{line}
 use Rattle.spin_words.specs.Commands.{spelled}
@@ -52,12 +53,17 @@ HasNoJob Compile reading r = HasNoInput job_in reading r
 HasNoJob Tables reading r = HasNoInput job_in reading r
 HasNoJob (Gen n) reading r = IsUntouched reading × (r ≡ refusals.Memory)
 
--- The words are one of a job; it has its job; and the word makes this of the job.
+-- no two vertices of a job, and no two of its nets, have one name
+abbrev pub HasNames : Job → Plan → Type 0
+HasNames job plan = HasNamesApart job.graph
+
+-- The words are one of a job; it has its job, in which no name stands twice; and the word makes this of the job.
 pub record IsMadeOfJob (words : List (List ℕ)) (reading : Reading) (parts : Parts) (text : List ℕ) : Type 0 where
   pub word : JobWord
   pub is_word : spelled words ≡ Some (OfJob word)
   pub job : Job
   pub its_job : IsJobOf word reading job
+  pub names : HasNamesApart job.graph
   pub made : IsMadeOf word job parts text
 
 -- ---- checks

@@ -15,7 +15,7 @@ ghost use Rattle.spin_jobs.specs.Words.{IsTraced};
 ghost use Rattle.spin_input.specs.Inputs.{reading_of};
 ghost use Rattle.spin_top.specs.Causes.{AskForApps, AskForCheck, HasCause};
 ghost use Rattle.spin_top.specs.Ends.{Ends, EndsGenerated, HasAnswer, IsExact, IsOfApps, IsOfCheck};
-ghost use Rattle.spin_top.specs.Made.{IsMade};
+ghost use Rattle.spin_top.specs.Made.{HasNames, IsMade};
 ghost use Rattle.spin_top.specs.Writing.{IsWritten, told_unmade, writing_of};
 
 use crate::answers::{checked, done, from_job};
@@ -63,6 +63,7 @@ pub fn spin<Rt: Threads + Wait + Sync, S: Source, K: Sink, G: Gate>(
         (reading_of S.left S.faults source.old source.new)
         (writing_of K.written K.faults sink.old sink.new)
         result }
+    ensures names { WhereGiven result.parts HasNames }
     ensures plan { WhereGiven result.parts IsThePlan }
     ensures ledger { WhereRun result.parts (λ job plan mesh report.
         MeetsJobLedger mesh plan.nets job.run.packets) }

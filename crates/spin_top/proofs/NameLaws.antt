@@ -1,0 +1,23 @@
+-- That no name stands twice in the job that a word gives.
+use Rattle.std.proofs.Common.{ℕ, List, sym, subst}
+use Rattle.job_readers.specs.Named.{HasNamesApart}
+use Rattle.job_readers.specs.declared.jobs.Job.{Job}
+use Rattle.par_compile.specs.declared.compiling.Plan.{Plan}
+use Rattle.spin_words.specs.declared.commands.JobWord.{JobWord}
+use Rattle.spin_jobs.specs.declared.outcomes.Parts.{Parts}
+use Rattle.spin_jobs.specs.Parts.{WhereGiven}
+use Rattle.spin_jobs.specs.Words.{IsMadeOf, ran, reinjected, traced, imaged, listed, generated}
+use Rattle.spin_top.specs.Made.{HasNames}
+
+pub names_given : (w : JobWord) (job : Job) (parts : Parts) (text : List ℕ) → IsMadeOf w job parts text → HasNamesApart job.graph → WhereGiven parts HasNames
+names_given w job parts text m apart = elim m.makes [
+  | ran is r ↦ subst given (sym r.4) apart
+  | reinjected is r ↦ subst given (sym r.4) apart
+  | traced is r ↦ subst given (sym r.4) apart
+  | imaged is l ↦ subst given (sym l.given) apart
+  | listed is l ↦ subst given (sym l.0) apart
+  | generated n is r ↦ subst given (sym r.4) apart
+]
+  where
+    abbrev given : Parts → Type 0
+    given p = WhereGiven p HasNames
