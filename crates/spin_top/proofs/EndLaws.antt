@@ -40,11 +40,11 @@ use Rattle.spin_top.specs.declared.outcomes.Outcome.{Outcome}
 use Rattle.spin_top.specs.Causes.{HasCause, usage, of_job, of_request, of_steps, no_memory, AreCommand, AskForApps, AskForCheck, AskForJob, HasNoNets, HaveNoLines, IsReadAsAsked}
 use Rattle.spin_top.specs.Ends.{Ends, made, refused, Says, SaysSurely, IsExact, IsGenerated, IsOfApps, IsOfCheck, HasAnswer, has_plan, has_nets, has_steps}
 use Rattle.spin_top.specs.Inputs.{AreRefused, no_value, no_answer}
-use Rattle.spin_top.specs.Made.{HasNames, HasNoJob, IsJobOf, from_job, checked, done, IsMadeOfJob}
+use Rattle.spin_top.specs.Made.{HasNoJob, IsJobOf, from_job, checked, done, IsMadeOfJob}
 use Rattle.spin_top.specs.Writing.{IsWritten, Writing, told_unmade}
 use Rattle.spin_top.proofs.AppLaws.{IsSpared, bytes_refused_spared, fault_spared, memory_spared, none_refused, zero_spared}
 use Rattle.spin_top.proofs.CheckLaws.{checked_has_nets, fault_other, IsOther, memory_other, one_due, refused_other, with_nets, zero_other}
-use Rattle.spin_top.proofs.NameLaws.{names_given}
+use Rattle.spin_top.proofs.NameLaws.{HasNames, names_given}
 use Rattle.spin_top.proofs.InputLaws.{answered_not_refused, read_told, refusal_due, refused_in_part, refused_quiet, served_memory}
 
 -- ---- words

@@ -7,7 +7,9 @@ use Rattle.spin_words.specs.declared.commands.JobWord.{JobWord}
 use Rattle.spin_jobs.specs.declared.outcomes.Parts.{Parts}
 use Rattle.spin_jobs.specs.Parts.{WhereGiven}
 use Rattle.spin_jobs.specs.Words.{IsMadeOf, ran, reinjected, traced, imaged, listed, generated}
-use Rattle.spin_top.specs.Made.{HasNames}
+
+abbrev pub HasNames : Job → Plan → Type 0
+HasNames job plan = HasNamesApart job.graph
 
 pub names_given : (w : JobWord) (job : Job) (parts : Parts) (text : List ℕ) → IsMadeOf w job parts text → HasNamesApart job.graph → WhereGiven parts HasNames
 names_given w job parts text m apart = elim m.makes [

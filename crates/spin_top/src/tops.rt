@@ -1,5 +1,6 @@
 // The top call.
 ghost use Rattle.std.specs.Prelude.{◌≡◌, ◌⊎◌, Some, None, IfOk, IfErr, MatchResult};
+ghost use Rattle.job_readers.specs.Named.{HasNamesApart};
 ghost use Rattle.mesh_core.specs.Opened.{MeetsJobLedger};
 ghost use Rattle.spin_base.specs.Outside.{FaultsRose};
 ghost use Rattle.spin_words.specs.Commands.{spelled, texts_of};
@@ -15,7 +16,7 @@ ghost use Rattle.spin_jobs.specs.Words.{IsTraced};
 ghost use Rattle.spin_input.specs.Inputs.{reading_of};
 ghost use Rattle.spin_top.specs.Causes.{AskForApps, AskForCheck, HasCause};
 ghost use Rattle.spin_top.specs.Ends.{Ends, EndsGenerated, HasAnswer, IsExact, IsOfApps, IsOfCheck};
-ghost use Rattle.spin_top.specs.Made.{HasNames, IsMade};
+ghost use Rattle.spin_top.specs.Made.{IsMade};
 ghost use Rattle.spin_top.specs.Writing.{IsWritten, told_unmade, writing_of};
 
 use crate::answers::{checked, done, from_job};
@@ -63,7 +64,7 @@ pub fn spin<Rt: Threads + Wait + Sync, S: Source, K: Sink, G: Gate>(
         (reading_of S.left S.faults source.old source.new)
         (writing_of K.written K.faults sink.old sink.new)
         result }
-    ensures names { WhereGiven result.parts HasNames }
+    ensures names { WhereGiven result.parts (λ job plan. HasNamesApart job.graph) }
     ensures plan { WhereGiven result.parts IsThePlan }
     ensures ledger { WhereRun result.parts (λ job plan mesh report.
         MeetsJobLedger mesh plan.nets job.run.packets) }
