@@ -11,15 +11,16 @@ use Rattle.spin_jobs.specs.Words.{IsMadeOf, ran, reinjected, traced, imaged, lis
 abbrev pub HasNames : Job → Plan → Type 0
 HasNames job plan = HasNamesApart job.graph
 
+-- the parts have the names of their job apart
+abbrev WhereNamed : Parts → Type 0
+WhereNamed parts = WhereGiven parts HasNames
+
 pub names_given : (w : JobWord) (job : Job) (parts : Parts) (text : List ℕ) → IsMadeOf w job parts text → HasNamesApart job.graph → WhereGiven parts HasNames
 names_given w job parts text m apart = elim m.makes [
-  | ran is r ↦ subst given (sym r.4) apart
-  | reinjected is r ↦ subst given (sym r.4) apart
-  | traced is r ↦ subst given (sym r.4) apart
-  | imaged is l ↦ subst given (sym l.given) apart
-  | listed is l ↦ subst given (sym l.0) apart
-  | generated n is r ↦ subst given (sym r.4) apart
+  | ran is r ↦ subst WhereNamed (sym r.4) apart
+  | reinjected is r ↦ subst WhereNamed (sym r.4) apart
+  | traced is r ↦ subst WhereNamed (sym r.4) apart
+  | imaged is l ↦ subst WhereNamed (sym l.given) apart
+  | listed is l ↦ subst WhereNamed (sym l.0) apart
+  | generated n is r ↦ subst WhereNamed (sym r.4) apart
 ]
-  where
-    abbrev given : Parts → Type 0
-    given p = WhereGiven p HasNames
