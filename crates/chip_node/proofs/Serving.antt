@@ -46,9 +46,6 @@ serves_more cap patience r k a b c outs i s below read of nowhere h goes = recor
     item : Service → Item
     item x = served r.index r.chip (place_at_router r.behind.now x.out) x
 
-pub serves_all : (cap patience : ℕ) (r : RouterNode) (k : McCopy) (a b : Holdings) (outs : List Out) (i : ℕ) → length outs ≤ i → ServesOuts cap patience r (take i outs) k a b → ServesOuts cap patience r outs k a b
-serves_all cap patience r k a b outs i past h = subst (λ (l : List Out). ServesOuts cap patience r l k a b) (take_all i outs past) h
-
 -- the outputs from one on still have room, where the queue behind the one before alone has changed
 pub room_left : (cap : ℕ) (links : List Link) (r : RouterNode) (a b : Holdings) (outs : List Out) (i : ℕ) (o : Out) → IsReadyRouter links r a → All IsOutput outs → AllPairs (λ x y. x ≢ y) outs → i < length outs → o ≡ get_or outs i o
     → AllWithin (HasRoomBehind cap r a) outs i (length outs) → ((q : ℕ) → place_at_router r.behind.now o ≢ Some q → slice_get b.ends.items q ≡ slice_get a.ends.items q) → AllWithin (HasRoomBehind cap r b) outs (i + 1) (length outs)

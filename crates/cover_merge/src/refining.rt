@@ -2,7 +2,7 @@
 ghost use Rattle.std.specs.Prelude.{◌≡◌, ◌<◌, ◌≤◌, ◌^◌, ◌↔◌, ◌⊎◌, [], IsTrue, IfOk, MatchOption, MatchBool, All, length, filter, not, ◌==◌, ◌+◌, ℕ, List, take, drop, ◌++◌, slice_index, slice_index_or, if◌then◌else◌};
 ghost use Rattle.std.specs.Int.{bit_at};
 ghost use Rattle.spin_base.specs.declared.blocks.Block.{Block as ABlock};
-ghost use Rattle.tern_word.specs.Ternary.{Intersects};
+ghost use Rattle.tern_word.specs.Ternary.{Intersects, all_keys};
 ghost use Rattle.tern_word.specs.SoundTable.{HoldsItsAliases, IsOrdered, IsSound, Misses};
 ghost use Rattle.cover_merge.specs.Merge.{has_row, IsOneRoute, IsMergeSet, IsLegal, merged_block, insert_place, place_for, PassesUp, PassesUpCheck, PassesDown, PassesDownCheck};
 ghost use Rattle.cover_merge.specs.Rivals.{IsRivaled};
@@ -75,7 +75,9 @@ pub(crate) fn refine_within(
 }
 
 // The block in which each key lies.
-fn all_keys() -> Block {
+fn all_keys() -> Block
+    ensures { result ≡ all_keys }
+{
     Block { key: 0, mask: 0 }
 }
 

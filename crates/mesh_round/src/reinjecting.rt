@@ -47,7 +47,7 @@ pub fn put_back(mesh: Mesh) -> Result<(Mesh, Did), (Mesh, Memory)>
 ///
 /// # Errors
 ///
-/// `Memory` where memory runs out, with the mesh after the last whole round or copy that was put back, which may go on from there.
+/// `Memory` where memory runs out, with a mesh that whole rounds and copies put back reach, which may go on from there.
 pub fn reinject<R: Threads + Wait + Sync, G: Gate>(
     rt: &R,
     alloc: Global,
