@@ -1,5 +1,5 @@
 // All copies brought to their targets.
-ghost use Rattle.std.specs.Prelude.{◌≡◌, ◌≢◌, ◌<◌, ◌∷◌, [], List, Some, IfOk, IfSome, OnOk, length, slice_get, slice_set};
+ghost use Rattle.std.specs.Prelude.{◌≡◌, ◌≢◌, ◌<◌, ◌∷◌, [], List, Some, true, IfOk, IfSome, OnOk, length, slice_get, slice_set};
 ghost use Rattle.spin_base.specs.declared.copies.McCopy.{McCopy as Copy};
 ghost use Rattle.mesh_core.specs.Expected.{IsAtRest};
 ghost use Rattle.mesh_drain.specs.Draining.{IsMoved, IsReachedDropless, MeetsSomeLedger, SendAlone};
@@ -142,8 +142,8 @@ fn send_next(
     ensures known { IfOk result (λ now.
         IfSome now (Comes mesh.new.setup vertex (last_arrivals earlier.new))) }
 {
-    let copy = mesh.unsent(vertex)[0];
-    if known == Some(copy.key) {
+    let copy = first_unsent(mesh, vertex);
+    if is_known(known, copy.key) {
         send_again(mesh, earlier, vertex, copy)?;
         return Ok(known);
     }
@@ -154,6 +154,25 @@ fn send_next(
         Ok(Some(copy.key))
     } else {
         Ok(None)
+    }
+}
+
+// The first copy that a vertex has not sent yet.
+fn first_unsent(mesh: &Mesh, vertex: u32) -> McCopy
+    requires there { vertex < length mesh.now.setup.spots }
+    requires some { slice_get mesh.now.unsent vertex ≢ Some [] }
+    ensures { (rest : List Copy) × (slice_get mesh.now.unsent vertex ≡ Some (result ∷ rest)) }
+{
+    mesh.unsent(vertex)[0]
+}
+
+// Whether the key is the one of which it is known.
+fn is_known(known: Option<u32>, key: u32) -> bool
+    ensures { result ≡ true → known ≡ Some key }
+{
+    match known {
+        Some(other) => other == key,
+        None => false,
     }
 }
 

@@ -124,7 +124,11 @@ impl Group {
     pub fn ends_with(&self, copy: McCopy, count: usize) -> bool
         ensures { result ≡ true → EndsWith self.now (sent_of copy) count }
     {
-        self.arrivals.len() == count && is_last(self.sent.as_slice(), copy)
+        let width = self.arrivals.len();
+        if width != count {
+            return false;
+        }
+        is_last(self.sent.as_slice(), copy)
     }
 
     // Puts the copy's packet at the back, which came to the same vertices.
@@ -245,7 +249,11 @@ fn is_last(sent: &[Sent], copy: McCopy) -> bool
     ensures { result ≡ true → (before : List SentOnce) × (sent.now ≡ before ++ sent_of copy ∷ []) }
 {
     let count = sent.len();
-    count > 0 && is_of(sent[count - 1], copy)
+    if count == 0 {
+        return false;
+    }
+    let last = sent[count - 1];
+    is_of(last, copy)
 }
 
 fn sent_of(copy: McCopy) -> Sent

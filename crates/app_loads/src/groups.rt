@@ -82,7 +82,10 @@ impl Groups {
             ≡ deliveries_at (last_arrivals self.now) (sent_of copy) }
     {
         let count = self.groups.len();
-        if count == 0 || self.count < before {
+        if count == 0 {
+            return false;
+        }
+        if self.count < before {
             return false;
         }
         self.groups[count - 1].ends_with(copy, self.count - before)

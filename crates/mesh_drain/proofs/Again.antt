@@ -111,14 +111,16 @@ module _ (k : McCopy) where
     collected : (s : State) (v : ℕ) (q : Option (List McCopy)) → let t : State = unwrap_or (collect_of s v q) s in
         (come : List Delivery) × (t.delivered ≡ s.delivered ++ come) ×
         ((ds : List Delivery) → unwrap_or (collect_of (like ds s) v (option_map (map numbered) q)) (like ds s) ≡ like (ds ++ map (of_packet k) come) t)
-    collected s v (Some (x ∷ rest)) =
-        (record { vertex = v; copy = x } ∷ [],
-        (refl, λ ds. ap (λ l. record (like (ds ++ record { vertex = v; copy = numbered x } ∷ []) s) { cores = l }) (sym (map-set (map numbered) s.cores v rest))))
-    collected s v (Some []) = ([], (sym (append-nil s.delivered), λ ds. ap (λ l. like l s) (sym (append-nil ds))))
-    collected s v None = ([], (sym (append-nil s.delivered), λ ds. ap (λ l. like l s) (sym (append-nil ds))))
+    collected s v (Some (x ∷ rest)) = (
+      record { vertex = v; copy = x } ∷ [],
+      refl,
+      λ ds. ap (λ l. record (like (ds ++ record { vertex = v; copy = numbered x } ∷ []) s) { cores = l }) (sym (map-set (map numbered) s.cores v rest)),
+    )
+    collected s v (Some []) = ([], sym (append-nil s.delivered), λ ds. ap (λ l. like l s) (sym (append-nil ds)))
+    collected s v None = ([], sym (append-nil s.delivered), λ ds. ap (λ l. like l s) (sym (append-nil ds)))
 
     none_comes : (s t : State) (after : State → State) → t.delivered ≡ s.delivered → ((ds : List Delivery) → after (like ds s) ≡ like ds t) → Comes s t after
-    none_comes s t after same is = ([], (same ∙ sym (append-nil s.delivered), λ ds. is ds ∙ ap (λ l. like l t) (sym (append-nil ds))))
+    none_comes s t after same is = ([], same ∙ sym (append-nil s.delivered), λ ds. is ds ∙ ap (λ l. like l t) (sym (append-nil ds)))
 
     by_event : (s : State) (e : Event) → IsOnward e → Comes s (after_event s e) (λ t. after_event t e)
     by_event s (Inject v) on = absurd on
@@ -143,7 +145,7 @@ module _ (k : McCopy) where
     by_event s (Dump c o) on = absurd on
     by_event s (Collect v) on =
         let made = collected s v (slice_get s.cores v) in
-        (made.0, (made.1.0, λ ds. ap (λ q. unwrap_or (collect_of (like ds s) v q) (like ds s)) (slice_get-map (map numbered) s.cores v) ∙ made.1.1 ds))
+        (made.0, made.1, λ ds. ap (λ q. unwrap_or (collect_of (like ds s) v q) (like ds s)) (slice_get-map (map numbered) s.cores v) ∙ made.2 ds)
 
     by_events : (s : State) (es : List Event) → All IsOnward es → Comes s (after_events s es) (λ t. after_events t es)
     by_events s [] on = none_comes s s (λ t. t) refl (λ ds. refl)
@@ -151,13 +153,11 @@ module _ (k : McCopy) where
         let first = by_event s e (All-head IsOnward e es on) in
         let rest = by_events (after_event s e) es (All-tail IsOnward e es on) in (
           first.0 ++ rest.0,
-          (
-            rest.1.0 ∙ (ap (λ l. l ++ rest.0) first.1.0 ∙ append_assoc s.delivered first.0 rest.0),
-            λ ds. ap (λ t. after_events t es) (first.1.1 ds)
-                ∙ (rest.1.1 (ds ++ map (of_packet k) first.0)
-                ∙ ap (λ l. like l (after_events (after_event s e) es))
-                (append_assoc ds (map (of_packet k) first.0) (map (of_packet k) rest.0) ∙ ap (λ l. ds ++ l) (sym (map-append (of_packet k) first.0 rest.0)))),
-          ),
+          rest.1 ∙ (ap (λ l. l ++ rest.0) first.1 ∙ append_assoc s.delivered first.0 rest.0),
+          λ ds. ap (λ t. after_events t es) (first.2 ds)
+              ∙ (rest.2 (ds ++ map (of_packet k) first.0)
+              ∙ ap (λ l. like l (after_events (after_event s e) es))
+              (append_assoc ds (map (of_packet k) first.0) (map (of_packet k) rest.0) ∙ ap (λ l. ds ++ l) (sym (map-append (of_packet k) first.0 rest.0)))),
         )
 
 -- ---- where nothing waits
@@ -292,9 +292,9 @@ module _ (s t : State) (v : ℕ) (k : McCopy) (rest : List McCopy) (may : MaySen
           events = Inject v ∷ on.events;
           dropless = All-cons DropsNone (Inject v) on.events tt (All-weaker IsOnward DropsNone onward_drops_none on.events on.onward);
           is = sym (ap (λ a. after_events a on.events) begins
-              ∙ (comes.1.1 r.delivered
+              ∙ (comes.2 r.delivered
               ∙ (ap (alike (r.delivered ++ map (of_packet x) comes.0)) (sym on.is)
-              ∙ (ap (λ l. alike (r.delivered ++ map (of_packet x) l) t) (is_come comes.0 comes.1.0)
+              ∙ (ap (λ l. alike (r.delivered ++ map (of_packet x) l) t) (is_come comes.0 comes.1)
               ∙ ends (r.delivered ++ map (of_packet x) come)))));
         }
 
@@ -303,6 +303,6 @@ module _ (s t : State) (v : ℕ) (k : McCopy) (rest : List McCopy) (may : MaySen
       let comes = by_events k [] [] (after_event s (Inject v)) on.events on.onward in
       record {
         come = come;
-        is = here comes.0 comes.1.0 ∙ ap (λ l. s.delivered ++ l) (is_come comes.0 comes.1.0);
+        is = here comes.0 comes.1 ∙ ap (λ l. s.delivered ++ l) (is_come comes.0 comes.1);
         always = λ r x left may_r same first_r key. always r x left may_r same first_r key;
       }

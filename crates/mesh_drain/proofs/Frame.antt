@@ -53,7 +53,7 @@ onward_then s t u first rest = record {
   is = rest.is ∙ (ap (λ x. after_events x rest.events) first.is ∙ sym (after_events-append s first.events rest.events));
 }
 
-onward_drops_none : (e : Event) → IsOnward e → DropsNone e
+pub onward_drops_none : (e : Event) → IsOnward e → DropsNone e
 onward_drops_none (Inject v) on = absurd on
 onward_drops_none (Take c port) on = tt
 onward_drops_none (Send c o) on = tt
