@@ -49,14 +49,6 @@ last_packet sent before p arrivals is =
 pub ends_with : (g : Inside) (copy : McCopy) (count : ℕ) (before : List Sent) → g.sent ≡ before ++ sent_of copy ∷ [] → length g.arrivals ≡ count → EndsWith (grouped_of g) (sent_of copy) count
 ends_with g copy count before is long = record { before = deliveries_in before g.arrivals; is = last_packet g.sent before (sent_of copy) g.arrivals is; long = long }
 
--- where a packet more is in the group, its deliveries are counted
-pub counted_more : (g : Inside) (sent : List Sent) (p : Sent) (count : ℕ) → IsGroup g → sent ≡ g.sent ++ p ∷ [] → count ≡ g.count + length g.arrivals → count ≡ length (deliveries_in sent g.arrivals)
-counted_more g sent p count is more sum =
-    let all = ap length (last_packet sent g.sent p g.arrivals more) ∙ length-append (deliveries_in g.sent g.arrivals) (deliveries_at g.arrivals p) in
-    let one = length-map g.arrivals (delivery_of p) in
-    let before = is.counted in
-    omega (arith, sum, all, one, before)
-
 module _ (app : LoadedApp) (g : Inside) (is : IsGroup g) where
   -- what holds of all numbers between the least and the greatest holds of all deliveries
   of_all : (P : ℕ → Type 0) → ((n : ℕ) → g.least ≤ n → n ≤ g.greatest → P n) → All (λ (d : Delivery). P d.copy.packet) (deliveries_in g.sent g.arrivals)
@@ -154,6 +146,10 @@ pub last_put_if : {E : Type 0} (r : Result Bool E) (gs : List Grouped) (count : 
     IfOk r (λ put. HasPut put g.deliveries more new.deliveries) → IfOk r (λ put. HasPut put (all_grouped gs) more (all_grouped (slice_set gs (count - 1) new)))
 last_put_if (Ok b) gs count g new more long some value put = last_put b gs count g new more long some value put
 last_put_if (Err e) gs count g new more long some value put = tt
+
+pub last_same : (gs : List Grouped) (count : ℕ) (g new : Grouped) → count ≡ length gs → count ≢ 0 → g ≡ slice_index_or gs (count - 1) g → new.deliveries ≡ g.deliveries →
+    all_grouped (slice_set gs (count - 1) new) ≡ all_grouped gs
+last_same gs count g new long some value same = last_put false gs count g new [] long some value same
 
 pub last_same_if : {X E : Type 0} (r : Result X E) (gs : List Grouped) (count : ℕ) (g new : Grouped) → count ≡ length gs → count ≢ 0 → g ≡ slice_index_or gs (count - 1) g →
     OnErr r (new.deliveries ≡ g.deliveries) → OnErr r (all_grouped (slice_set gs (count - 1) new) ≡ all_grouped gs)
@@ -257,6 +253,16 @@ module _ (gs : List Grouped) (count : ℕ) (g : Grouped) (long : count ≡ lengt
   pub repeated : (new : Grouped) (p : Sent) → new.deliveries ≡ g.deliveries ++ deliveries_at g.arrivals p →
       all_grouped (slice_set gs (count - 1) new) ≡ all_grouped gs ++ deliveries_at (last_arrivals gs) p
   repeated new p put = last_put true gs count g new (deliveries_at g.arrivals p) long some value put ∙ ap (λ l. all_grouped gs ++ deliveries_at l p) (sym last_arrivals_are)
+
+  pub counted_again : (new : Grouped) (p : Sent) (all width more : ℕ) → new.deliveries ≡ g.deliveries ++ deliveries_at g.arrivals p → all ≡ length (all_grouped gs) → width ≡ length g.arrivals →
+      more ≡ all + width → more ≡ length (all_grouped (slice_set gs (count - 1) new))
+  counted_again new p all width more put total wide sum =
+      let is = ap length (last_put true gs count g new (deliveries_at g.arrivals p) long some value put) ∙ length-append (all_grouped gs) (deliveries_at g.arrivals p) in
+      let one = length-map g.arrivals (delivery_of p) in
+      omega (arith, is, one, total, wide, sum)
+
+  pub same_item : (h : Grouped) → h ≡ slice_index_or gs (count - 1) h → h ≡ g
+  same_item h is = same_Some h g (sym (slice_get-get_or gs (count - 1) h (omega (arith, long, some)) ∙ ap Some (sym is)) ∙ last_there)
 
   pub last_arrivals_stay : (new : Grouped) → new.arrivals ≡ g.arrivals → last_arrivals (slice_set gs (count - 1) new) ≡ last_arrivals gs
   last_arrivals_stay new same = last_set gs (count - 1) new last_long ∙ (same ∙ sym last_arrivals_are)

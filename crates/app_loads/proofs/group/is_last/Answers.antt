@@ -4,4 +4,4 @@ use Rattle.app_loads.proofs.GroupLaws.{at_last}
 use Rattle.app_loads.proofs.group.is_last.Goals as goal
 
 pub returns : goal.returns
-returns c is = at_last c.args.sent.now (length c.args.sent.now) c.is_of-arg-1.result (sent_of c.args.copy) refl c.if-count-eq0.false c.is_of-arg-1.is (c.is_of.ensures is)
+returns c is = at_last c.args.sent.now (length c.args.sent.now) c.last.result (sent_of c.args.copy) refl c.if-count-eq0.false c.last.is (c.is_of.ensures is)
