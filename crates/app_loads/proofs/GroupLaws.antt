@@ -3,11 +3,12 @@ use Rattle.std.proofs.Common.{◌≡◌, ◌≢◌, ℕ, zero, suc, ◌+◌, ◌
 use Rattle.std.specs.List.{All, filter, list_any, slice_get, slice_index_or, slice_set}
 use Rattle.std.proofs.lemmas.Bool.{and_from, and_parts, cases_Bool, cases_lt, false≢true, le-leb, leb-true, lt-ltb, ltb-true, not-false, not-true, or_parts}
 use Rattle.std.proofs.lemmas.Grind.{flat_map-append}
-use Rattle.std.proofs.lemmas.List.{append_assoc, append-nil, drop_at, length-append, length-map, length-set, take_all, take_more}
+use Rattle.std.proofs.lemmas.List.{append_assoc, append-nil, drop_at, length-append, length-map, length-set, take_all}
 use Rattle.std.proofs.lemmas.List.Elements.{All-head, All-map, All-tail, All-weaker, filter-append}
 use Rattle.std.proofs.lemmas.List.Filters.{length-filter_both}
-use Rattle.std.proofs.lemmas.Option.{same_Some, slice_get-get_or}
+use Rattle.std.proofs.lemmas.Option.{same_Some, slice_get-get_or, slice_get_within}
 use Rattle.spin_base.proofs.Pairs.{All-flat_map}
+use Rattle.spin_base.proofs.Places.{take_more_at}
 use Rattle.spin_base.specs.declared.copies.Delivery.{Delivery}
 use Rattle.app_loads.specs.declared.group.Arrival.{Arrival}
 use Rattle.app_loads.specs.declared.group.Group.TheInside.{Inside}
@@ -33,12 +34,12 @@ pub joined_of : (sent all own : List Sent) (q : Sent) (arrivals other : List Arr
 joined_of sent all own q arrivals other all_is own_is same =
     ap (λ l. deliveries_in l arrivals) all_is ∙ (joined sent q arrivals other same ∙ ap (λ l. deliveries_in sent arrivals ++ deliveries_in l other) (sym own_is))
 
--- the last of so many packets
-pub at_last : (sent : List Sent) (count : ℕ) (q p : Sent) → count ≡ length sent → count ≢ 0 → q ≡ slice_index_or sent (count - 1) q → q ≡ p → (before : List Sent) × (sent ≡ before ++ p ∷ [])
-at_last sent count q p long some at is =
-    let below : count - 1 < length sent = omega (arith, long, some) in
-    let whole : take (count - 1 + 1) sent ≡ sent = take_all (count - 1 + 1) sent (omega (arith, long, some)) in
-    (take (count - 1) sent, sym whole ∙ (take_more sent (count - 1) q below ∙ ap (λ x. take (count - 1) sent ++ x ∷ []) (sym at ∙ is)))
+-- the last packet
+pub at_last : (sent : List Sent) (q p : Sent) → slice_get sent (length sent - 1) ≡ Some q → q ≡ p → (before : List Sent) × (sent ≡ before ++ p ∷ [])
+at_last sent q p at is =
+    let n : ℕ = length sent - 1 in
+    let below = slice_get_within sent n q at in
+    (take n sent, sym (take_all (n + 1) sent (omega (arith, below))) ∙ (take_more_at sent n q at ∙ ap (λ x. take n sent ++ x ∷ []) is))
 
 -- the last packet's deliveries come last
 pub last_packet : (sent before : List Sent) (p : Sent) (arrivals : List Arrival) → sent ≡ before ++ p ∷ [] → deliveries_in sent arrivals ≡ deliveries_in before arrivals ++ deliveries_at arrivals p
@@ -150,6 +151,11 @@ last_put_if (Err e) gs count g new more long some value put = tt
 pub last_same : (gs : List Grouped) (count : ℕ) (g new : Grouped) → count ≡ length gs → count ≢ 0 → g ≡ slice_index_or gs (count - 1) g → new.deliveries ≡ g.deliveries →
     all_grouped (slice_set gs (count - 1) new) ≡ all_grouped gs
 last_same gs count g new long some value same = last_put false gs count g new [] long some value same
+
+-- what holds anyway holds after a refusal
+pub on_err : {X E P : Type 0} (r : Result X E) → P → OnErr r P
+on_err (Ok x) p = tt
+on_err (Err e) p = p
 
 pub last_same_if : {X E : Type 0} (r : Result X E) (gs : List Grouped) (count : ℕ) (g new : Grouped) → count ≡ length gs → count ≢ 0 → g ≡ slice_index_or gs (count - 1) g →
     OnErr r (new.deliveries ≡ g.deliveries) → OnErr r (all_grouped (slice_set gs (count - 1) new) ≡ all_grouped gs)

@@ -1,5 +1,5 @@
 // Deliveries of packets that came to the same vertices.
-ghost use Rattle.std.specs.Prelude.{◌≡◌, ◌++◌, ◌∷◌, [], All, List, IfOk, IfSome, OnOk, OnErr, length, map, true, false};
+ghost use Rattle.std.specs.Prelude.{◌≡◌, ◌-◌, ◌++◌, ◌∷◌, [], All, List, IfOk, IfSome, OnOk, OnErr, length, map, slice_get, true, false};
 ghost use Rattle.spin_base.specs.declared.copies.Delivery.{Delivery as ADelivery};
 ghost use Rattle.app_loads.specs.Grouping.{HasPut, IsAtLeast, IsAtMost, is_others_group, is_own_group};
 ghost use Rattle.app_loads.specs.declared.group.Sent.{Sent as SentOnce};
@@ -248,12 +248,16 @@ fn is_only(sent: &[Sent], copy: McCopy) -> bool
 fn is_last(sent: &[Sent], copy: McCopy) -> bool
     ensures { result ≡ true → (before : List SentOnce) × (sent.now ≡ before ++ sent_of copy ∷ []) }
 {
-    let count = sent.len();
-    if count == 0 {
-        return false;
+    match last(sent) {
+        Some(last) => is_of(last, copy),
+        None => false,
     }
-    let last = sent[count - 1];
-    is_of(last, copy)
+}
+
+fn last(sent: &[Sent]) -> Option<Sent>
+    ensures { result ≡ slice_get sent.now (length sent.now - 1) }
+{
+    sent.last().copied()
 }
 
 fn sent_of(copy: McCopy) -> Sent

@@ -23,16 +23,16 @@ send_next-requires-clause-there c =
 pub packets-smaller : goal.packets-smaller
 packets-smaller c =
     (one_less c.args.mesh.now.unsent c.packets.mesh.unsent c.send_next.new.mesh.unsent c.args.vertex c.packets.invariant.unsent.0 c.unsent.result.now
-    c.packets.invariant.unsent.1 c.unsent.ensures (is_some' c.unsent.result.now c.packets-test.ensures) c.in_ok-send_next.ensures.unsent).1
+    c.packets.invariant.unsent.1 c.unsent.ensures (is_some' c.unsent.result.now c.packets-test.ensures) c.in_ok-known.ensures.unsent).1
 
 pub packets-preserved : goal.packets-preserved
 packets-preserved c = record {
   reached = reached_then (with_earlier (all_grouped c.args.earlier.now) c.args.mesh.now) (with_earlier (all_grouped c.packets.earlier) c.packets.mesh)
       (with_earlier (all_grouped c.send_next.new.earlier) c.send_next.new.mesh) c.packets.invariant.reached c.send_next.ensures.reached;
-  clean = c.in_ok-send_next.ensures.clean;
-  known = c.in_ok-send_next.ensures.known;
+  clean = c.in_ok-known.ensures.clean;
+  known = c.in_ok-known.ensures.known;
   unsent = (one_less c.args.mesh.now.unsent c.packets.mesh.unsent c.send_next.new.mesh.unsent c.args.vertex c.packets.invariant.unsent.0 c.unsent.result.now
-      c.packets.invariant.unsent.1 c.unsent.ensures (is_some' c.unsent.result.now c.packets-test.ensures) c.in_ok-send_next.ensures.unsent).0;
+      c.packets.invariant.unsent.1 c.unsent.ensures (is_some' c.unsent.result.now c.packets-test.ensures) c.in_ok-known.ensures.unsent).0;
 }
 
 pub returns-clause-unsent : goal.returns-clause-unsent
@@ -41,7 +41,7 @@ returns-clause-unsent c =
     (was_there (with_earlier (all_grouped c.args.earlier.now) c.args.mesh.now) c.args.vertex c.requires.clean.kept c.requires.there) c.packets.invariant.unsent.1 c.unsent.ensures
     (is_none c.unsent.result.now c.packets-test.ensures)
 
-pub returns-in_err-send_next-clause-reached : goal.returns-in_err-send_next-clause-reached
-returns-in_err-send_next-clause-reached c =
+pub returns-in_err-known-clause-reached : goal.returns-in_err-known-clause-reached
+returns-in_err-known-clause-reached c =
     reached_then (with_earlier (all_grouped c.args.earlier.now) c.args.mesh.now) (with_earlier (all_grouped c.packets.earlier) c.packets.mesh)
     (with_earlier (all_grouped c.send_next.new.earlier) c.send_next.new.mesh) c.packets.invariant.reached c.send_next.ensures.reached

@@ -1,9 +1,8 @@
 use Rattle.std.proofs.Common.{◌≡◌, ◌≢◌, ◌+◌, ◌-◌, ◌++◌, ◌∙◌, ap, arith, length, rules, subst, sym, List, ℕ}
 use Rattle.std.specs.List.{slice_index_or, slice_set}
-use Rattle.std.specs.Prelude.{OnErr}
 use Rattle.app_loads.specs.Grouping.{Grouped, all_grouped}
 use Rattle.app_loads.specs.Groups.{deliveries_at, last_arrivals, sent_of}
-use Rattle.app_loads.proofs.GroupLaws.{counted_again, last_arrivals_stay, last_same, repeated, same_item}
+use Rattle.app_loads.proofs.GroupLaws.{counted_again, last_arrivals_stay, last_same, on_err, repeated, same_item}
 use Rattle.app_loads.proofs.groups.Groups.repeat.Goals as goal
 use Rattle.app_loads.proofs.groups.Groups.repeat.Goals.{After-repeat}
 
@@ -24,8 +23,7 @@ invariant_of-self c = c.self.invariant ∙ ap length (sym (same (goal.at.invaria
 
 pub returns-in_err-repeat-clause-refused : goal.returns-in_err-repeat-clause-refused
 returns-in_err-repeat-clause-refused c =
-    subst (λ r. OnErr r (all_grouped (slice_set c.self.inside.groups.items (c.len-count.result - 1) c.repeat.new.self) ≡ all_grouped c.args.self.now)) (sym c.from_residual.ensures)
-    (same (goal.at.returns-in_err-repeat-clause-refused c).After-repeat c.in_err-repeat.ensures.refused ∙ ap all_grouped c.self.view_is)
+    on_err c.from_residual.result (same (goal.at.returns-in_err-repeat-clause-refused c).After-repeat c.in_err-repeat.ensures.refused ∙ ap all_grouped c.self.view_is)
 
 pub returns-in_err-repeat-clause-arrivals : goal.returns-in_err-repeat-clause-arrivals
 returns-in_err-repeat-clause-arrivals c = stay (goal.at.returns-in_err-repeat-clause-arrivals c).After-repeat
