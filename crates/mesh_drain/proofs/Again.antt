@@ -24,7 +24,7 @@ use Rattle.mesh_core.specs.State.{Setup, State, Hand, IsMesh, Queue, behind, inp
 use Rattle.mesh_core.specs.Step.{after_event, after_events, after_serving, collect_of, has_room, has_room_behind, in_hand, outputs, outs_without, push_at, push_behind, send_of, serves, take_of}
 use Rattle.mesh_core.specs.HasRun.{DropsNone}
 use Rattle.mesh_core.proofs.Fixed.{by_send, by_take}
-use Rattle.mesh_drain.specs.Draining.{BringsAlways, HasBrought, IsOnward, IsReachedDropless, IsReachedOnward, MaySend, of_packet}
+use Rattle.mesh_drain.specs.Draining.{HasBrought, IsOnward, IsReachedDropless, IsReachedOnward, MaySend, of_packet}
 use Rattle.mesh_drain.proofs.Frame.{kept_reached, onward_drops_none, sent_dropless, setup_reached}
 use Rattle.mesh_drain.proofs.Packets.{after_inject}
 

@@ -1,4 +1,4 @@
-use Rattle.std.proofs.Common.{◌≡◌, ◌∙◌, arith, length, subst, sym}
+use Rattle.std.proofs.Common.{◌≡◌, ◌∙◌, length, subst, sym}
 use Rattle.app_loads.specs.Grouping.{Grouped}
 use Rattle.app_loads.specs.Groups.{EndsWith, sent_of}
 use Rattle.app_loads.proofs.GroupLaws.{ends_with}

@@ -1,4 +1,4 @@
-use Rattle.std.proofs.Common.{◌≡◌, ◌-◌, ◌∙◌, ap, arith, drop, length, refl, subst, List}
+use Rattle.std.proofs.Common.{◌≡◌, ◌-◌, arith, drop, length, refl, subst, List}
 use Rattle.app_loads.specs.Grouping.{Grouped, all_grouped}
 use Rattle.app_loads.specs.Groups.{deliveries_at, last_arrivals, sent_of}
 use Rattle.app_loads.proofs.GroupLaws.{behind_others}

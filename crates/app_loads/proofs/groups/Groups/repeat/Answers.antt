@@ -1,5 +1,5 @@
-use Rattle.std.proofs.Common.{◌≡◌, ◌≢◌, ◌+◌, ◌-◌, ◌++◌, ◌∙◌, ap, arith, length, rules, subst, sym, List, ℕ}
-use Rattle.std.specs.List.{slice_index_or, slice_set}
+use Rattle.std.proofs.Common.{◌≡◌, ◌+◌, ◌-◌, ◌++◌, ◌∙◌, ap, arith, length, rules, sym, List}
+use Rattle.std.specs.List.{slice_set}
 use Rattle.app_loads.specs.Grouping.{Grouped, all_grouped}
 use Rattle.app_loads.specs.Groups.{deliveries_at, last_arrivals, sent_of}
 use Rattle.app_loads.proofs.GroupLaws.{counted_again, last_arrivals_stay, last_same, on_err, repeated, same_item}
