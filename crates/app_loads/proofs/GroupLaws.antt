@@ -210,7 +210,8 @@ module _ (p : Delivery → Bool) (all own others : List Delivery) (count left : 
 -- ---- the last group
 
 -- the deliveries of the last group come last
-last_split : (gs : List Grouped) (n : ℕ) (g : Grouped) → slice_get gs n ≡ Some g → length gs ≡ n + 1 → (front : List Delivery) × (all_grouped gs ≡ front ++ g.deliveries) × (last_arrivals gs ≡ g.arrivals)
+last_split : (gs : List Grouped) (n : ℕ) (g : Grouped) → slice_get gs n ≡ Some g → length gs ≡ n + 1 →
+    (front : List Delivery) × (all_grouped gs ≡ front ++ g.deliveries) × (last_arrivals gs ≡ g.arrivals)
 last_split [] n g at long = absurd (omega (arith, long))
 last_split (h ∷ []) zero g at long =
     let same : h ≡ g = same_Some h g at in
@@ -244,7 +245,8 @@ module _ (gs : List Grouped) (count : ℕ) (g : Grouped) (long : count ≡ lengt
   last_arrivals_are = (last_split gs (count - 1) g last_there last_long).2
 
   -- where the last group ends with a packet's deliveries, which are as many as come behind others, they are those behind
-  pub behind_others : (first all left : ℕ) (p : Sent) → all ≡ length (all_grouped gs) → first ≤ all → left ≡ all - first → EndsWith g p left → drop first (all_grouped gs) ≡ deliveries_at (last_arrivals gs) p
+  pub behind_others : (first all left : ℕ) (p : Sent) → all ≡ length (all_grouped gs) → first ≤ all → left ≡ all - first → EndsWith g p left →
+      drop first (all_grouped gs) ≡ deliveries_at (last_arrivals gs) p
   behind_others first all left p total within less ends =
       let split = last_split gs (count - 1) g last_there last_long in
       let own : List Delivery = deliveries_at g.arrivals p in

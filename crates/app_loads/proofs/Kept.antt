@@ -174,11 +174,13 @@ pub some_there : (q : List McCopy) (unsent : List (List McCopy)) (v : ℕ) → s
 some_there [] unsent v some is = absurd (some is)
 some_there (k ∷ q) unsent v some is = omega arith
 
-pub first_there : (q : List McCopy) (unsent : List (List McCopy)) (v : ℕ) (k : McCopy) → slice_get unsent v ≢ Some [] → slice_get unsent v ≡ Some q → k ≡ slice_index_or q 0 k → (rest : List McCopy) × (slice_get unsent v ≡ Some (k ∷ rest))
+pub first_there : (q : List McCopy) (unsent : List (List McCopy)) (v : ℕ) (k : McCopy) → slice_get unsent v ≢ Some [] → slice_get unsent v ≡ Some q → k ≡ slice_index_or q 0 k →
+    (rest : List McCopy) × (slice_get unsent v ≡ Some (k ∷ rest))
 first_there [] unsent v k some is at = absurd (some is)
 first_there (x ∷ q) unsent v k some is at = (q, is ∙ ap (λ y. Some (y ∷ q)) (sym at))
 
-pub dropped : (s u : State) (v : ℕ) (k : McCopy) (rest : List McCopy) → slice_get s.unsent v ≡ Some (k ∷ rest) → u ≡ record s { unsent = drop_front s.unsent v (slice_get s.unsent v) } → u ≡ record s { unsent = slice_set s.unsent v rest }
+pub dropped : (s u : State) (v : ℕ) (k : McCopy) (rest : List McCopy) → slice_get s.unsent v ≡ Some (k ∷ rest) → u ≡ record s { unsent = drop_front s.unsent v (slice_get s.unsent v) } →
+    u ≡ record s { unsent = slice_set s.unsent v rest }
 dropped s u v k rest first is = is ∙ ap (λ q. record s { unsent = drop_front s.unsent v q }) first
 
 module _ (xs ys : List Delivery) (s u : State) (v : ℕ) (k : McCopy) (rest : List McCopy) (arrivals : List Arrival) (clean : IsClean xs s) (first : slice_get s.unsent v ≡ Some (k ∷ rest))

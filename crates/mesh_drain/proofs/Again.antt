@@ -89,7 +89,8 @@ module _ (k : McCopy) where
     put_behind ds s (core v) x = ap (λ l. record (like ds s) { cores = l }) (put s.cores v x)
     put_behind ds s nowhere x = refl
 
-    sent : (ds : List Delivery) (s : State) (c : Chip) (o : Out) (hand : Option (Option Hand)) → unwrap_or (send_of (like ds s) c o (option_map held hand)) (like ds s) ≡ like ds (unwrap_or (send_of s c o hand) s)
+    sent : (ds : List Delivery) (s : State) (c : Chip) (o : Out) (hand : Option (Option Hand)) →
+        unwrap_or (send_of (like ds s) c o (option_map held hand)) (like ds s) ≡ like ds (unwrap_or (send_of s c o hand) s)
     sent ds s c o (Some (Some h)) =
         let j : ℕ = index_of s.setup.machine c in
         let q : Queue = behind s.setup c o in
@@ -193,7 +194,8 @@ same_at_rest k s t mesh_s mesh_t quiet_s quiet_t same =
     let cs = mesh_s.core_lists in
     let ct = mesh_t.core_lists in
     record {
-      inputs = all_same [] s.inputs t.inputs quiet_s.inputs_empty quiet_t.inputs_empty (is ∙ (ap (λ n. 7 * n) chips ∙ sym it)) ∙ sym (all_mapped (map (numbered k)) [] refl t.inputs quiet_t.inputs_empty);
+      inputs = all_same [] s.inputs t.inputs quiet_s.inputs_empty quiet_t.inputs_empty (is ∙ (ap (λ n. 7 * n) chips ∙ sym it)) ∙ sym
+          (all_mapped (map (numbered k)) [] refl t.inputs quiet_t.inputs_empty);
       hands = all_same None s.hands t.hands quiet_s.hands_empty quiet_t.hands_empty (hs ∙ (chips ∙ sym ht)) ∙ sym (all_mapped (held k) None refl t.hands quiet_t.hands_empty);
       cores = all_same [] s.cores t.cores quiet_s.cores_empty quiet_t.cores_empty (cs ∙ (spots ∙ sym ct)) ∙ sym (all_mapped (map (numbered k)) [] refl t.cores quiet_t.cores_empty);
     }

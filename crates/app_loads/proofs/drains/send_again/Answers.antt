@@ -11,7 +11,8 @@ use Rattle.app_loads.proofs.drains.send_again.Goals as goal
 
 pub returns-clause-reached : goal.returns-clause-reached
 returns-clause-reached c =
-    again_reached (all_grouped c.args.earlier.now) (all_grouped c.repeat.new.self) c.args.mesh.now c.drop_unsent.new.self c.args.vertex c.args.copy c.requires.first.0 (last_arrivals c.args.earlier.now)
+    again_reached (all_grouped c.args.earlier.now) (all_grouped c.repeat.new.self) c.args.mesh.now c.drop_unsent.new.self c.args.vertex c.args.copy c.requires.first.0
+    (last_arrivals c.args.earlier.now)
     c.requires.clean c.requires.first.1 c.requires.comes c.in_ok-repeat.ensures.put (dropped c.args.mesh.now c.drop_unsent.new.self c.args.vertex c.args.copy c.requires.first.0 c.requires.first.1 c.drop_unsent.ensures)
 
 pub returns-clause-clean : goal.returns-clause-clean

@@ -10,7 +10,8 @@ long : (c : After-repeat) → c.len-count.result ≡ length c.self.inside.groups
 long c = let a = c.len-count.ensures in let b = c.self.inside.groups.ok in omega (arith, a, b)
 
 -- after a refusal all are as they were
-same : (c : After-repeat) → c.repeat.new.self.deliveries ≡ c.index_mut.result.now.deliveries → all_grouped (slice_set c.self.inside.groups.items (c.len-count.result - 1) c.repeat.new.self) ≡ all_grouped c.self.inside.groups.items
+same : (c : After-repeat) → c.repeat.new.self.deliveries ≡ c.index_mut.result.now.deliveries →
+    all_grouped (slice_set c.self.inside.groups.items (c.len-count.result - 1) c.repeat.new.self) ≡ all_grouped c.self.inside.groups.items
 same c is = last_same c.self.inside.groups.items c.len-count.result c.index_mut.result.now c.repeat.new.self (long c) c.if-count-eq0.false c.index_mut.ensures.value is
 
 stay : (c : After-repeat) → last_arrivals (slice_set c.self.inside.groups.items (c.len-count.result - 1) c.repeat.new.self) ≡ last_arrivals c.args.self.now
@@ -34,12 +35,14 @@ invariant_of-self-2 c =
     let l = long (goal.at.invariant_of-self-2 c).After-repeat in
     let item = same_item c.self.inside.groups.items c.len-count.result g l c.if-count-eq0.false c.index_mut.ensures.value c.index.result.now c.index.ensures in
     let sum : c.in-Some.more ≡ c.self.inside.count + c.width.result = search (rules, arith) in
-    counted_again c.self.inside.groups.items c.len-count.result g l c.if-count-eq0.false c.index_mut.ensures.value c.repeat.new.self (sent_of c.args.copy) c.self.inside.count c.width.result c.in-Some.more
+    counted_again c.self.inside.groups.items c.len-count.result g l c.if-count-eq0.false c.index_mut.ensures.value c.repeat.new.self (sent_of c.args.copy) c.self.inside.count c.width.result
+    c.in-Some.more
     c.in_ok-repeat.ensures.put c.self.invariant (c.width.ensures ∙ ap (λ (x : Grouped). length x.arrivals) item) sum
 
 pub returns-clause-put : goal.returns-clause-put
 returns-clause-put c =
-    repeated c.self.inside.groups.items c.len-count.result c.index_mut.result.now (long (goal.at.returns-clause-put c).After-repeat) c.if-count-eq0.false c.index_mut.ensures.value c.repeat.new.self (sent_of c.args.copy)
+    repeated c.self.inside.groups.items c.len-count.result c.index_mut.result.now (long (goal.at.returns-clause-put c).After-repeat) c.if-count-eq0.false c.index_mut.ensures.value
+    c.repeat.new.self (sent_of c.args.copy)
     c.in_ok-repeat.ensures.put ∙ ap (λ (l : List Grouped). all_grouped l ++ deliveries_at (last_arrivals l) (sent_of c.args.copy)) c.self.view_is
 
 pub returns-clause-arrivals : goal.returns-clause-arrivals
