@@ -120,8 +120,8 @@ fn send_all(alloc: Global, mesh: &mut Mesh, earlier: &mut Groups, vertex: u32) -
     Ok(())
 }
 
-// A vertex sends its first packet. Where it has the key of the one before, it comes to the same vertices, and is not brought there
-// step by step. The key of which that is known then.
+// A vertex sends its first packet. Where it is known of its key to which vertices it comes, it is not brought there step by step.
+// Answers the key of which that is known then.
 fn send_next(
     alloc: Global,
     mesh: &mut Mesh,
