@@ -1,6 +1,6 @@
 use Rattle.std.proofs.Common.{◌≡◌, ◌+◌, ◌*◌, eqb, false, bit_and, get_or, arith}
-use Rattle.tcam_find.proofs.MemoryLemmas.{through_block}
-use Rattle.tcam_find.proofs.memory.next_group.Goals as goal
+use Rattle.tcam_find.proofs.KnownLemmas.{through_block}
+use Rattle.tcam_find.proofs.known.next_place.Goals as goal
 
 pub loop-block-init : goal.loop-block-init
 loop-block-init c i behind before = absurd (omega (arith, behind, before))
