@@ -24,7 +24,10 @@ serves_none cap patience r k a = record { done = []; each_once = refl; nowhere =
 pub serves_more : (cap patience : ℕ) (r : RouterNode) (k : McCopy) (a b c : Holdings) (outs : List Out) (i : ℕ) (s : Service) → i < length outs → s.out ≡ get_or outs i s.out → s.copy ≡ k → (place_at_router r.behind.now s.out ≡ None → s.fate ≡ Dumped)
     → ServesOuts cap patience r (take i outs) k a b → Goes cap patience b (service_items r (s ∷ [])) c → ServesOuts cap patience r (take (i + 1) outs) k a c
 serves_more cap patience r k a b c outs i s below read of nowhere h goes = record {
-  nowhere = All-append dumps h.done (s ∷ []) h.nowhere (All-cons dumps s [] nowhere (All-nil dumps));
+  nowhere =
+      All-append (λ (x : Service). place_at_router r.behind.now x.out ≡ None → x.fate ≡ Dumped) h.done (s ∷ []) h.nowhere
+      (All-cons (λ (x : Service). place_at_router r.behind.now x.out ≡ None → x.fate ≡ Dumped) s [] nowhere
+      (All-nil (λ (x : Service). place_at_router r.behind.now x.out ≡ None → x.fate ≡ Dumped)));
   done = h.done ++ s ∷ [];
   each_once =
       map-append pair h.done (s ∷ [])
@@ -37,9 +40,6 @@ serves_more cap patience r k a b c outs i s below read of nowhere h goes = recor
       (goes_on cap patience a b c (service_items r h.done) (service_items r (s ∷ [])) h.goes goes);
 }
   where
-    abbrev dumps : Service → Type 0
-    dumps x = place_at_router r.behind.now x.out ≡ None → x.fate ≡ Dumped
-
     pair : Service → Out × McCopy
     pair x = (x.out, x.copy)
 

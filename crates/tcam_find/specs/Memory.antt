@@ -45,10 +45,8 @@ Misses common values i key = (bit_and key (slice_index_or common i 0) == slice_i
 
 -- Each group has bits in common, with values: no entry of a group matches a key that misses it.
 abbrev pub HaveInCommon : List Group → List ℕ → List ℕ → Type 0
-HaveInCommon groups common values =
-    (i key : ℕ) (g : Group) → slice_get groups i ≡ Some g → Misses common values i key → NoneMatches key (entries_in g)
+HaveInCommon groups common values = (i key : ℕ) (g : Group) → slice_get groups i ≡ Some g → Misses common values i key → NoneMatches key (entries_in g)
 
 -- So has each block of eight groups: a key that misses a block misses each group of it.
 abbrev pub TellOfGroups : List ℕ → List ℕ → List ℕ → List ℕ → Type 0
-TellOfGroups common values block_common block_values =
-    (i key : ℕ) → i < 128 → Misses block_common block_values (i / 8) key → Misses common values i key
+TellOfGroups common values block_common block_values = (i key : ℕ) → i < 128 → Misses block_common block_values (i / 8) key → Misses common values i key
