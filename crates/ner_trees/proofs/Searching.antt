@@ -12,7 +12,7 @@ use Rattle.machine_desc.proofs.Far.{inside_from}
 use Rattle.ner_trees.specs.declared.displacements.Disp.{Disp}
 use Rattle.ner_trees.specs.Geometry.{forth, back, ahead_by, displacement_of, distance_of}
 use Rattle.ner_trees.specs.Growth.{IsNotFarther}
-use Rattle.ner_trees.specs.Search.{place_at, offset_chip, AtOffsets, AtStep, IsOnWithin, IsNearestOn, IsNoneNearer, IsBetter}
+use Rattle.ner_trees.specs.Search.{place_at, offset_chip, AtOffsets, AtStep, IsOnWithin, IsNearestOn, IsNoneOn, IsNoneNearer, IsBetter}
 use Rattle.ner_trees.proofs.Axis.{ahead_cases, Reaches}
 use Rattle.ner_trees.proofs.Signed.{length_is}
 use Rattle.ner_trees.proofs.Walking.{reaches}
@@ -259,3 +259,13 @@ module _ (m : Description) (on : List Bool) (t : Chip) (r : ℕ) where
         let less : seen.0 < r + 1 = seen.1 in
         absurd (so_far.has e (seen.0, omega arith, seen.2) (record { inside = e_in; on_it = on_it; near = within }))
   ]
+
+-- before the first ring, and after the last
+pub none_at_start : (m : Description) (on : List Bool) (t : Chip) → IsNoneNearer m on t 0
+none_at_start m on t e e_in on_it = omega arith
+
+pub none_nearer_none : (m : Description) (on : List Bool) (t : Chip) (k : ℕ) → 21 ≤ k → IsNoneNearer m on t k → IsNoneOn m on t 20
+none_nearer_none m on t k past none e is =
+    let least : k ≤ distance_of m e t = none e is.inside is.on_it in
+    let near : distance_of m e t ≤ 20 = is.near in
+    absurd (omega arith)

@@ -3,4 +3,4 @@ use Rattle.ner_trees.proofs.searches.near_chip.Given as goal
 
 -- no chip of the tree is on the rings so far
 abbrev pub invariant-loop-chips : goal.invariant-loop-chips
-invariant-loop-chips l = IsNoneNearer l.search.on.now.machine.now l.search.on.now.items.items l.target l.chips
+invariant-loop-chips l = IsNoneNearer l.tree.on.machine.now l.tree.on.items.items l.target l.chips

@@ -1,4 +1,4 @@
-use Rattle.std.proofs.Common.{◌×◌, None}
+use Rattle.std.proofs.Common.{None}
 use Rattle.std.specs.Option.{IfSome}
 use Rattle.ner_trees.specs.Search.{IsBetter, IsOnWithin}
 use Rattle.ner_trees.proofs.Searching.{Stepped}
