@@ -101,7 +101,8 @@ def call(words: List[str], text: bytes, program: Optional[str]) -> Tuple[int, by
 
 def communicate(process: subprocess.Popen[bytes], words: List[str], text: bytes) -> Tuple[int, bytes]:
     """Hands the text in and waits for the end; on a terminal it is shown how long that takes."""
-    with showing(" ".join(words)):
+    # (the program of tables alone takes no words)
+    with showing(" ".join(words) or "tables"):
         written, _ = process.communicate(text)
     return process.returncode, written
 

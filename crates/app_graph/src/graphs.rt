@@ -33,9 +33,9 @@ pub struct Graph {
 
 impl Shared for Graph {}
 
-/// How a job is to run: the capacity of each queue, how many refused offers a copy waits before it is dumped, the number
-/// of worker threads, the turns of a round, the rows that a table may keep before rows are merged, the packets, and the
-/// events of a trace.
+/// How a job is to run: how many copies a queue holds at most, after how many refusals a router drops a copy, for how many
+/// workers chips are shared, how many turns an actor takes in a round at most, how many rows a table may have before rows are
+/// merged, the packets, and the events of a trace.
 #[derive(Drop)]
 pub struct RunPart {
     pub queue: u32,

@@ -130,9 +130,6 @@ end_stays_lacks (Takes a) y (b, is, link, f) = (
   },
 )
 
-pub end_goes_lacks : (cap patience : ℕ) (x y : End) → EndLacks x y → EndGoes cap patience [] [] [] x y
-end_goes_lacks cap patience x y h = end_goes_none cap patience x y (end_stays_lacks x y h)
-
 pub end_lacks_idle : (x y : End) → EndLacks x y → IsIdle x
 end_lacks_idle Away y h = tt
 end_lacks_idle (Own a) y h = h.1

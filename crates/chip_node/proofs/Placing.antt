@@ -200,7 +200,9 @@ served_end cap patience i c q o k Dumped old new h =
     (subst (λ (l : List McCopy). EndGoes cap patience [] [] l old new) (sym (only_here q (k ∷ []))) (end_goes_refuses cap patience k old new h))
 
 served_there : (cap patience i : ℕ) (c : Chip) (q : ℕ) (o : Out) (k : McCopy) (fate : Served) (a b : Holdings) → SendsThere cap patience q (onward k) fate a.ends.items b.ends.items → b.unsent.items ≡ a.unsent.items
-    → b.deliveries ≡ a.deliveries → b.dumps.items ≡ a.dumps.items ++ recorded c (record { out = o; copy = k; fate = fate }) fate → b.dumps.spare + length (recorded c (record { out = o; copy = k; fate = fate }) fate) ≡ a.dumps.spare → Goes cap patience a (served i c (Some q) (record { out = o; copy = k; fate = fate }) ∷ []) b
+    → b.deliveries ≡ a.deliveries → b.dumps.items ≡ a.dumps.items ++ recorded c (record { out = o; copy = k; fate = fate }) fate
+    → b.dumps.spare + length (recorded c (record { out = o; copy = k; fate = fate }) fate) ≡ a.dumps.spare
+    → Goes cap patience a (served i c (Some q) (record { out = o; copy = k; fate = fate }) ∷ []) b
 served_there cap patience i c q o k fate a b h unsent deliveries dumped spare = record {
   ends_long = written_long a.ends.items b.ends.items q h.old h.new w;
   ends = ends_at cap patience a.ends.items b.ends.items (served i c (Some q) s ∷ []) q h.old h.new w (served_end cap patience i c q o k fate h.old h.new h.serves)
@@ -220,7 +222,9 @@ served_there cap patience i c q o k fate a b h unsent deliveries dumped spare = 
     w = record { stood = h.stood; stands = h.stands }
 
 pub served_goes : (cap patience i : ℕ) (c : Chip) (place : Option ℕ) (o : Out) (k : McCopy) (fate : Served) (a b : Holdings) → SendsBehind cap patience place (onward k) fate a.ends.items b.ends.items → b.unsent.items ≡ a.unsent.items
-    → b.deliveries ≡ a.deliveries → b.dumps.items ≡ a.dumps.items ++ recorded c (record { out = o; copy = k; fate = fate }) fate → b.dumps.spare + length (recorded c (record { out = o; copy = k; fate = fate }) fate) ≡ a.dumps.spare → Goes cap patience a (served i c place (record { out = o; copy = k; fate = fate }) ∷ []) b
+    → b.deliveries ≡ a.deliveries → b.dumps.items ≡ a.dumps.items ++ recorded c (record { out = o; copy = k; fate = fate }) fate
+    → b.dumps.spare + length (recorded c (record { out = o; copy = k; fate = fate }) fate) ≡ a.dumps.spare
+    → Goes cap patience a (served i c place (record { out = o; copy = k; fate = fate }) ∷ []) b
 served_goes cap patience i c None o k fate a b h unsent deliveries dumped spare = served_nowhere cap patience i c (record { out = o; copy = k; fate = fate }) a b h.1 unsent deliveries dumped spare
 served_goes cap patience i c (Some q) o k fate a b h unsent deliveries dumped spare = served_there cap patience i c q o k fate a b h unsent deliveries dumped spare
 

@@ -24,7 +24,10 @@ serves_none cap patience r k a = record { done = []; each_once = refl; nowhere =
 pub serves_more : (cap patience : ℕ) (r : RouterNode) (k : McCopy) (a b c : Holdings) (outs : List Out) (i : ℕ) (s : Service) → i < length outs → s.out ≡ get_or outs i s.out → s.copy ≡ k → (place_at_router r.behind.now s.out ≡ None → s.fate ≡ Dumped)
     → ServesOuts cap patience r (take i outs) k a b → Goes cap patience b (service_items r (s ∷ [])) c → ServesOuts cap patience r (take (i + 1) outs) k a c
 serves_more cap patience r k a b c outs i s below read of nowhere h goes = record {
-  nowhere = All-append (λ (x : Service). place_at_router r.behind.now x.out ≡ None → x.fate ≡ Dumped) h.done (s ∷ []) h.nowhere (All-cons (λ (x : Service). place_at_router r.behind.now x.out ≡ None → x.fate ≡ Dumped) s [] nowhere (All-nil (λ (x : Service). place_at_router r.behind.now x.out ≡ None → x.fate ≡ Dumped)));
+  nowhere =
+      All-append (λ (x : Service). place_at_router r.behind.now x.out ≡ None → x.fate ≡ Dumped) h.done (s ∷ []) h.nowhere
+      (All-cons (λ (x : Service). place_at_router r.behind.now x.out ≡ None → x.fate ≡ Dumped) s [] nowhere
+      (All-nil (λ (x : Service). place_at_router r.behind.now x.out ≡ None → x.fate ≡ Dumped)));
   done = h.done ++ s ∷ [];
   each_once =
       map-append pair h.done (s ∷ [])
@@ -45,9 +48,6 @@ serves_more cap patience r k a b c outs i s below read of nowhere h goes = recor
 
     item : Service → Item
     item x = served r.index r.chip (place_at_router r.behind.now x.out) x
-
-pub serves_all : (cap patience : ℕ) (r : RouterNode) (k : McCopy) (a b : Holdings) (outs : List Out) (i : ℕ) → length outs ≤ i → ServesOuts cap patience r (take i outs) k a b → ServesOuts cap patience r outs k a b
-serves_all cap patience r k a b outs i past h = subst (λ (l : List Out). ServesOuts cap patience r l k a b) (take_all i outs past) h
 
 -- the outputs from one on still have room, where the queue behind the one before alone has changed
 pub room_left : (cap : ℕ) (links : List Link) (r : RouterNode) (a b : Holdings) (outs : List Out) (i : ℕ) (o : Out) → IsReadyRouter links r a → All IsOutput outs → AllPairs (λ x y. x ≢ y) outs → i < length outs → o ≡ get_or outs i o

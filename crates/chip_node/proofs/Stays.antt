@@ -133,12 +133,6 @@ stays_on a b c h k = record {
 pub idle_before : (a b : Holdings) (q : ℕ) → Stays a b → IsIdleAt b.ends.items q → IsIdleAt a.ends.items q
 idle_before a b q h idle = λ x at. (let y = end_before b.ends.items a.ends.items q x (sym h.ends_long) at in end_idle_before x y.0 (h.ends q x y.0 at y.1) (idle y.0 y.1))
 
--- where nothing was done, what is full was full before
-pub full_before : (links : List Link) (cap : ℕ) (a b : Holdings) (q : ℕ) → AreEndsOf links a.ends.items → AreEndsOf links b.ends.items → Stays a b → IsFullAt cap b.ends.items q → IsFullAt cap a.ends.items q
-full_before links cap a b q of_a of_b h (y, at, full) =
-    let x = end_before a.ends.items b.ends.items q y h.ends_long at in
-    (x.0, x.1, end_full_before links cap x.0 y (All-at (IsEndOf links) a.ends.items q x.0 of_a x.1) (All-at (IsEndOf links) b.ends.items q y of_b at) (h.ends q x.0 y x.1 at) full)
-
 -- where nothing was done, there is as much room as before
 pub roomy_on : (cap : ℕ) (a b : Holdings) → Stays a b → HasAmpleRoom cap a → HasAmpleRoom cap b
 roomy_on cap a b h room = record {

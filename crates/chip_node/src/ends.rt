@@ -64,7 +64,8 @@ impl InEnd {
 }
 
 impl InEnd {
-    // Whether the end's link was found empty in this call.
+    // `true` comes only where, since this end last took a copy, its link was found empty, and leaves it one note more. `false` promises
+    // nothing of the link.
     pub(crate) fn finds_nothing(&mut self, links: &[Link]) -> bool
         requires { IsInEndOf links.now self.old }
         ensures yes { IsTrue result → FindsNothing (taking self.old.rx) (taking self.new.rx) }
@@ -156,7 +157,8 @@ impl End {
         }
     }
 
-    // Whether the queue was found empty in this call, where another worker sends to it.
+    // `true` comes only where nothing can be taken: of a link, where it was found empty since this end last took a copy. `false` promises
+    // nothing of the queue.
     pub(crate) fn finds_nothing(&mut self, links: &[Link]) -> bool
         requires { IsEndOf links.now self.old }
         ensures yes { IsTrue result → EndLacks self.old self.new }

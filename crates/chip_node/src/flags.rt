@@ -22,7 +22,7 @@ pub struct Flags {
 }
 
 impl Flags {
-    /// Every flag stands, and every mark.
+    /// Every flag stands, and every mark. It is a hint, and no promise rests on it.
     pub fn all() -> Flags {
         Flags {
             words: [u64::MAX; WORDS],
@@ -30,7 +30,7 @@ impl Flags {
         }
     }
 
-    /// No flag stands, and no mark.
+    /// No flag stands, and no mark. It is a hint, and no promise rests on it.
     pub fn none() -> Flags {
         Flags {
             words: [0; WORDS],
@@ -38,13 +38,13 @@ impl Flags {
         }
     }
 
-    /// Whether the flag at a place stands.
+    /// Whether the flag at a place stands. It is a hint, and no promise rests on it.
     pub fn has(&self, place: usize) -> bool {
         let word = place / 64;
         word < WORDS && self.words[word] >> (place % 64) & 1 == 1
     }
 
-    /// From now on the flag at a place stands.
+    /// From now on the flag at a place stands. It is a hint, and no promise rests on it.
     pub fn set(&mut self, place: usize) {
         let word = place / 64;
         if word < WORDS {
@@ -52,7 +52,7 @@ impl Flags {
         }
     }
 
-    /// From now on the flag at a place doesn't stand.
+    /// From now on the flag at a place doesn't stand. It is a hint, and no promise rests on it.
     pub fn clear(&mut self, place: usize) {
         let word = place / 64;
         if word < WORDS {
@@ -60,12 +60,12 @@ impl Flags {
         }
     }
 
-    /// The marks of the chip of an index, a bit each.
+    /// The marks of the chip of an index, a bit each. It is a hint, and no promise rests on it.
     pub(crate) fn marks(&self, index: u32) -> u8 {
         self.marks.get(index as usize).copied().unwrap_or(0)
     }
 
-    /// From now on a mark of a chip stands.
+    /// From now on a mark of a chip stands. It is a hint, and no promise rests on it.
     pub(crate) fn mark(&mut self, index: u32, mark: u8) {
         let index = index as usize;
         if index < CHIPS {
@@ -73,7 +73,7 @@ impl Flags {
         }
     }
 
-    /// From now on a mark of a chip doesn't stand.
+    /// From now on a mark of a chip doesn't stand. It is a hint, and no promise rests on it.
     pub(crate) fn unmark(&mut self, index: u32, mark: u8) {
         let index = index as usize;
         if index < CHIPS {
@@ -81,7 +81,7 @@ impl Flags {
         }
     }
 
-    /// From now on who takes from a queue is awake; where that is a router, the queue's port is marked.
+    /// From now on who takes from a queue is awake; where that is a router, the queue's port is marked. It is a hint, and no promise rests on it.
     pub(crate) fn wake(&mut self, behind: Behind) {
         self.set(behind.taker as usize);
         if behind.taker % 2 == 0 {
@@ -91,7 +91,7 @@ impl Flags {
         }
     }
 
-    /// The first place from one on where a flag stands.
+    /// A place from one on, meant to be the first where a flag stands. That it is, is a hint, and no promise rests on it.
     pub fn next(&self, from: usize) -> Option<usize>
         ensures from { IfSome result (λ place. from ≤ place) }
         ensures below { IfSome result (λ place. place < 8192) }

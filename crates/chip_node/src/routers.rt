@@ -13,7 +13,7 @@ use crate::ends::{Bounds, Seen, Served};
 use crate::flags::Flags;
 use crate::holdings::{Around, Holdings, Turn};
 use crate::nodes::{Behind, RouterNode};
-use crate::routing::{onward, outputs_of};
+use crate::routing::outputs_of;
 use spin_base::{DumpRec, McCopy, Out, Outs, Port};
 use std::sync::Wait;
 
@@ -248,7 +248,7 @@ impl RouterNode<'_> {
         ensures spare { hold.old.dumps.spare ≤ hold.new.dumps.spare + 1 }
         ensures ready { IsReadyRouter around.entry.links.now self.entry hold.new }
     {
-        let served = self.send(rt, around, hold, awake, out, onward(copy));
+        let served = self.send(rt, around, hold, awake, out, copy.onward());
         match served {
             Served::Sent => {}
             Served::Dumped => hold.dumps.put(DumpRec {

@@ -1,7 +1,6 @@
-// Where a router sends a copy, and the copy behind it.
+// Where a router sends a copy.
 ghost use Rattle.std.specs.Prelude.{◌≡◌, ◌≢◌, ◌≤◌, All, AllPairs, length};
 ghost use Rattle.spin_base.specs.Outputs.{IsOutput};
-ghost use Rattle.spin_base.specs.Hops.{onward};
 ghost use Rattle.chip_node.specs.Routing.{outputs_at};
 
 use spin_base::{McCopy, Outs, Port};
@@ -18,16 +17,4 @@ pub fn outputs_of(table: &Tcam, port: Port, copy: McCopy) -> Outs
         return Outs::new();
     }
     table.find(copy.key, port).outs()
-}
-
-/// The copy behind a router: one hop more. One more than 4,294,967,295 is that number again.
-pub fn onward(copy: McCopy) -> McCopy
-    ensures { result ≡ onward copy }
-{
-    McCopy {
-        packet: copy.packet,
-        key: copy.key,
-        payload: copy.payload,
-        hop: copy.hop.saturating_add(1),
-    }
 }

@@ -26,7 +26,7 @@ pub(crate) struct LastMet {
     ghost long: { length places ≡ 16 },
 }
 
-/// What is remembered before any pair.
+/// What is remembered before any pair. It is a hint, and no promise rests on it.
 pub(crate) fn none_met() -> LastMet {
     let nowhere = AliasPlace {
         row: usize::MAX,
@@ -70,7 +70,7 @@ fn meets_again(rows: &[Row], block: Block, general: u32, last: &mut LastMet) -> 
     false
 }
 
-// Exchanges the place with the first.
+// Exchanges the place with the first. It is a hint, and no promise rests on it.
 fn bring_first(last: &mut LastMet, k: usize)
     requires { k < 16 }
 {
@@ -79,7 +79,7 @@ fn bring_first(last: &mut LastMet, k: usize)
     last.places[0] = place;
 }
 
-// Puts the place before the others, and forgets the last.
+// Puts the place before the others, and forgets the last. It is a hint, and no promise rests on it.
 fn remember(last: &mut LastMet, place: AliasPlace) {
     for k in 1..REMEMBERED {
         bring_first(last, k);

@@ -17,7 +17,8 @@ use Rattle.job_text.specs.Reading.{◌▹◌}
 use Rattle.job_readers.specs.Items.{following_faults}
 use Rattle.job_readers.specs.Members.{list_member, list_member_faults}
 use Rattle.job_readers.specs.Places.{double_faults, name_place_in, new_name_faults}
-use Rattle.job_readers.specs.GraphPart.{graph_faults, graph_members, graph_members_faults, graph_value, name_faults, name_value, net_faults, net_names, net_value, nets_faults, nets_value, next_net_faults, next_vertex_faults, vertex_faults, vertex_names_of, vertex_value, vertices_faults, vertices_value}
+use Rattle.job_readers.specs.GraphPart.{graph_faults, graph_members, graph_members_faults, graph_value, name_faults, name_value, net_faults, net_names, net_value, nets_faults, nets_value}
+use Rattle.job_readers.specs.GraphPart.{next_net_faults, next_vertex_faults, vertex_faults, vertex_names_of, vertex_value, vertices_faults, vertices_value}
 use Rattle.job_readers.specs.Named.{HasNamesApart}
 use Rattle.job_readers.proofs.NoFaults.{none_first, none_inside, none_second}
 

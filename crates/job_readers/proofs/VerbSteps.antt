@@ -1,5 +1,5 @@
 -- What an event's word leads to, by what the event does.
-use Rattle.std.proofs.Common.{◌≡◌, ℕ, List, [], ◌∷◌, true, false, Option, Some, None, if◌then◌else◌, codes, refl, ap, sym, subst, ◌∙◌}
+use Rattle.std.proofs.Common.{◌≡◌, ℕ, List, [], ◌∷◌, Bool, true, false, Option, Some, None, if◌then◌else◌, codes, refl, ap, sym, subst, ◌∙◌}
 use Rattle.std.specs.Prelude.{bytes_eq}
 use Rattle.serde_json.specs.Data.{Data}
 use Rattle.spin_base.specs.declared.copies.Event.{Event}
@@ -29,40 +29,45 @@ verb_event vertices (Some Dump) ds = events.Dump (chip_of_event ds) (out_of_even
 verb_event vertices (Some Collect) ds = events.Collect (at_vertex vertices ds)
 verb_event vertices None ds = events.Collect (at_vertex vertices ds)
 
+-- the verb whose test is the first that holds
+abbrev verb_by : Bool → Bool → Bool → Bool → Bool → Option Verb
+verb_by inject take send dump collect =
+    if inject then Some Inject else (if take then Some Take else (if send then Some Send else (if dump then Some Dump else (if collect then Some Collect else None))))
+
 module _ (vertices : List (List ℕ)) (path w : List ℕ) (ds : List Data) where
+  faults_by : (inject take send dump collect : Bool) →
+      (if inject then at_vertex_faults vertices path ds
+      else (if take then at_chip_faults port_named path ds
+      else (if send then at_chip_faults out_named path ds
+      else (if dump then at_chip_faults out_named path ds
+      else (if collect then at_vertex_faults vertices path ds else Range path ∷ []))))) ≡ verb_faults vertices path (verb_by inject take send dump collect) ds
+  faults_by true take send dump collect = refl
+  faults_by false true send dump collect = refl
+  faults_by false false true dump collect = refl
+  faults_by false false false true collect = refl
+  faults_by false false false false true = refl
+  faults_by false false false false false = refl
+
+  event_by : (inject take send dump collect : Bool) →
+      (if inject then events.Inject (at_vertex vertices ds)
+      else (if take then events.Take (chip_of_event ds) (port_of_event ds)
+      else (if send then events.Send (chip_of_event ds) (out_of_event ds)
+      else (if dump then events.Dump (chip_of_event ds) (out_of_event ds)
+      else events.Collect (at_vertex vertices ds))))) ≡ verb_event vertices (verb_by inject take send dump collect) ds
+  event_by true take send dump collect = refl
+  event_by false true send dump collect = refl
+  event_by false false true dump collect = refl
+  event_by false false false true collect = refl
+  event_by false false false false true = refl
+  event_by false false false false false = refl
+
   pub word_faults : event_word_faults vertices path w ds ≡ verb_faults vertices path (verb_named w) ds
   unfolding event_word_faults verb_named
-  word_faults =
-      elim (bytes_eq w (codes "inject")) as (λ b. (if b then at_vertex_faults vertices path ds else (if bytes_eq w (codes "take") then at_chip_faults port_named path ds else (if bytes_eq w (codes "send") then at_chip_faults out_named path ds else (if bytes_eq w (codes "dump") then at_chip_faults out_named path ds else (if bytes_eq w (codes "collect") then at_vertex_faults vertices path ds else Range path ∷ []))))) ≡ verb_faults vertices path (if b then Some Inject else (if bytes_eq w (codes "take") then Some Take else (if bytes_eq w (codes "send") then Some Send else (if bytes_eq w (codes "dump") then Some Dump else (if bytes_eq w (codes "collect") then Some Collect else None))))) ds) [
-        | true ↦ refl
-        | false ↦ elim (bytes_eq w (codes "take")) as (λ b. (if b then at_chip_faults port_named path ds else (if bytes_eq w (codes "send") then at_chip_faults out_named path ds else (if bytes_eq w (codes "dump") then at_chip_faults out_named path ds else (if bytes_eq w (codes "collect") then at_vertex_faults vertices path ds else Range path ∷ [])))) ≡ verb_faults vertices path (if b then Some Take else (if bytes_eq w (codes "send") then Some Send else (if bytes_eq w (codes "dump") then Some Dump else (if bytes_eq w (codes "collect") then Some Collect else None)))) ds) [
-          | true ↦ refl
-          | false ↦ elim (bytes_eq w (codes "send")) as (λ b. (if b then at_chip_faults out_named path ds else (if bytes_eq w (codes "dump") then at_chip_faults out_named path ds else (if bytes_eq w (codes "collect") then at_vertex_faults vertices path ds else Range path ∷ []))) ≡ verb_faults vertices path (if b then Some Send else (if bytes_eq w (codes "dump") then Some Dump else (if bytes_eq w (codes "collect") then Some Collect else None))) ds) [
-            | true ↦ refl
-            | false ↦ elim (bytes_eq w (codes "dump")) as (λ b. (if b then at_chip_faults out_named path ds else (if bytes_eq w (codes "collect") then at_vertex_faults vertices path ds else Range path ∷ [])) ≡ verb_faults vertices path (if b then Some Dump else (if bytes_eq w (codes "collect") then Some Collect else None)) ds) [
-              | true ↦ refl
-              | false ↦ elim (bytes_eq w (codes "collect")) as (λ b. (if b then at_vertex_faults vertices path ds else Range path ∷ []) ≡ verb_faults vertices path (if b then Some Collect else None) ds) [ true ↦ refl | false ↦ refl ]
-            ]
-          ]
-        ]
-      ]
+  word_faults = faults_by (bytes_eq w (codes "inject")) (bytes_eq w (codes "take")) (bytes_eq w (codes "send")) (bytes_eq w (codes "dump")) (bytes_eq w (codes "collect"))
 
   pub word_event : worded_event vertices w ds ≡ verb_event vertices (verb_named w) ds
   unfolding worded_event verb_named
-  word_event =
-      elim (bytes_eq w (codes "inject")) as (λ b. (if b then events.Inject (at_vertex vertices ds) else (if bytes_eq w (codes "take") then events.Take (chip_of_event ds) (port_of_event ds) else (if bytes_eq w (codes "send") then events.Send (chip_of_event ds) (out_of_event ds) else (if bytes_eq w (codes "dump") then events.Dump (chip_of_event ds) (out_of_event ds) else events.Collect (at_vertex vertices ds))))) ≡ verb_event vertices (if b then Some Inject else (if bytes_eq w (codes "take") then Some Take else (if bytes_eq w (codes "send") then Some Send else (if bytes_eq w (codes "dump") then Some Dump else (if bytes_eq w (codes "collect") then Some Collect else None))))) ds) [
-        | true ↦ refl
-        | false ↦ elim (bytes_eq w (codes "take")) as (λ b. (if b then events.Take (chip_of_event ds) (port_of_event ds) else (if bytes_eq w (codes "send") then events.Send (chip_of_event ds) (out_of_event ds) else (if bytes_eq w (codes "dump") then events.Dump (chip_of_event ds) (out_of_event ds) else events.Collect (at_vertex vertices ds)))) ≡ verb_event vertices (if b then Some Take else (if bytes_eq w (codes "send") then Some Send else (if bytes_eq w (codes "dump") then Some Dump else (if bytes_eq w (codes "collect") then Some Collect else None)))) ds) [
-          | true ↦ refl
-          | false ↦ elim (bytes_eq w (codes "send")) as (λ b. (if b then events.Send (chip_of_event ds) (out_of_event ds) else (if bytes_eq w (codes "dump") then events.Dump (chip_of_event ds) (out_of_event ds) else events.Collect (at_vertex vertices ds))) ≡ verb_event vertices (if b then Some Send else (if bytes_eq w (codes "dump") then Some Dump else (if bytes_eq w (codes "collect") then Some Collect else None))) ds) [
-            | true ↦ refl
-            | false ↦ elim (bytes_eq w (codes "dump")) as (λ b. (if b then events.Dump (chip_of_event ds) (out_of_event ds) else events.Collect (at_vertex vertices ds)) ≡ verb_event vertices (if b then Some Dump else (if bytes_eq w (codes "collect") then Some Collect else None)) ds) [
-              | true ↦ refl
-              | false ↦ elim (bytes_eq w (codes "collect")) as (λ b. events.Collect (at_vertex vertices ds) ≡ verb_event vertices (if b then Some Collect else None) ds) [ true ↦ refl | false ↦ refl ]
-            ]
-          ]
-        ]
-      ]
+  word_event = event_by (bytes_eq w (codes "inject")) (bytes_eq w (codes "take")) (bytes_eq w (codes "send")) (bytes_eq w (codes "dump")) (bytes_eq w (codes "collect"))
 
   -- an event without a fault, and one with a fault
   module _ (v : Option Verb) (is : v ≡ verb_named w) where

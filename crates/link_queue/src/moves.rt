@@ -44,7 +44,8 @@ pub fn take<R: Wait>(rt: &R, link: &Link, rx: &mut Rx) -> Option<McCopy>
     }
 }
 
-/// Whether the queue was found empty in this call. `true` leaves the end one note more, of how many copies it took.
+/// `true` comes only where, since this end last took a copy, the queue was found empty: the whole first list was then taken. It leaves
+/// the end one note more, of how many copies it took. `false` promises nothing of the queue, and leaves the end as it was.
 pub fn finds_nothing(link: &Link, rx: &mut Rx) -> bool
     requires { IsRx link.now rx.old }
     ensures yes { IsTrue result → FindsNothing (taking rx.old) (taking rx.new) }

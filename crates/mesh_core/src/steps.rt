@@ -2,7 +2,6 @@
 ghost use Rattle.std.specs.Prelude.{◌≡◌, ℕ, List, OnOk, OnErr, IfOk, IfSome, length, slice_get};
 ghost use Rattle.machine_desc.specs.Live.{index_of, IsInside};
 ghost use Rattle.mesh_core.specs.State.{behind};
-ghost use Rattle.spin_base.specs.Hops.{onward};
 ghost use Rattle.mesh_core.specs.Step.{has_room_behind};
 ghost use Rattle.mesh_core.specs.Serving.{queue_named, copy_served, IsPlace};
 
@@ -140,7 +139,7 @@ impl Mesh {
         if !self.has_room_behind(queue) {
             return Ok(Did::Idle);
         }
-        push_behind(&mut self.inputs, &mut self.cores, queue, onward(copy))?;
+        push_behind(&mut self.inputs, &mut self.cores, queue, copy.onward())?;
         let chip = self.setup.machine().index(c) as usize;
         serve(&mut self.hands, chip, out);
         Ok(Did::Moved)
@@ -202,15 +201,5 @@ impl Mesh {
             Queue::Core(vertex) => has_room(&self.cores, vertex, self.setup.capacity()),
             Queue::Nowhere => false,
         }
-    }
-}
-
-// The copy behind a router: one hop more.
-fn onward(copy: McCopy) -> McCopy
-    ensures { result ≡ onward copy }
-{
-    McCopy {
-        hop: copy.hop.saturating_add(1),
-        ..copy
     }
 }

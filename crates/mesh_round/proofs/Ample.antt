@@ -1,5 +1,6 @@
 -- Where queues have room for a copy of each packet of a job, no round dumps a copy.
-use Rattle.std.proofs.Common.{◌≡◌, ◌≢◌, ℕ, ◌+◌, ◌-◌, ◌*◌, ◌/◌, ◌%◌, ◌<◌, ◌≤◌, ◌==◌, ◌&&◌, nat_lt, zero, suc, Bool, true, false, List, [], ◌∷◌, ◌++◌, map, filter, Some, length, refl, ap, sym, ◌∙◌, subst, arith, inl, inr, count_by, append-nil}
+use Rattle.std.proofs.Common.{◌≡◌, ◌≢◌, ℕ, ◌+◌, ◌-◌, ◌*◌, ◌/◌, ◌%◌, ◌<◌, ◌≤◌, ◌==◌, ◌&&◌, nat_lt, zero, suc, Bool, true, false, List, []}
+use Rattle.std.proofs.Common.{◌∷◌, ◌++◌, map, filter, Some, length, refl, ap, sym, ◌∙◌, subst, arith, inl, inr, count_by, append-nil}
 use Rattle.std.specs.List.{All, Contains, slice_get, sum_by, range_with_len}
 use Rattle.std.proofs.Math.Nat.{mul-le-mul_left}
 use Rattle.std.proofs.lemmas.Bool.{cases_Bool, cases_lt, and_parts, and_from, eqb-true, eq-eqb, lt-ltb}

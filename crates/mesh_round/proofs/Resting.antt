@@ -1,14 +1,13 @@
 -- A mesh without a copy in a queue or unsent is at rest.
-use Rattle.std.proofs.Common.{◌≡◌, ℕ, ◌+◌, true, ◌&&◌, List, [], ◌∷◌, length, refl, sym, ◌∙◌, arith, inl, inr}
+use Rattle.std.proofs.Common.{◌≡◌, ℕ, true, ◌&&◌, List, [], ◌∷◌, length, refl, arith, inl, inr}
 use Rattle.std.specs.List.{All, list_all, slice_index_or}
 use Rattle.std.proofs.lemmas.Bool.{and_parts, cases_lt, eqb-true}
-use Rattle.std.proofs.lemmas.List.{get_or_append_left, get_or-append-add, get_or_default, get_or_past}
+use Rattle.std.proofs.lemmas.List.{get_or_past}
 use Rattle.std.proofs.lemmas.List.Elements.{All-nil, All-cons}
 use Rattle.spin_base.specs.declared.copies.McCopy.{McCopy}
 use Rattle.mesh_core.specs.State.{State, input, core, nowhere}
 use Rattle.mesh_core.specs.Expected.{IsAtRest}
 use Rattle.mesh_round.specs.RoundFlow.{HasNoHand}
-use Rattle.mesh_run.specs.Played.{HasNone}
 use Rattle.mesh_round.specs.OnThreads.{HasSome, holds_none, has_none}
 
 no_copies : (q : List McCopy) → holds_none q ≡ true → q ≡ []
@@ -29,17 +28,6 @@ rests s is no_hand =
       waits = record { inputs_empty = all_empty s.inputs a.0; hands_empty = no_hand; cores_empty = all_empty s.cores b.0 };
       all_sent = all_empty s.unsent b.1;
     }
-
--- A mesh of which it is known that no queue holds a copy and that none is unsent.
-pub rests_with_none : (s : State) → HasNone s → HasNoHand s → IsAtRest s
-rests_with_none s none no_hand = record {
-  waits = record {
-    inputs_empty = λ i d below. get_or_default s.inputs i d [] below ∙ (sym (get_or_append_left s.inputs s.cores [] i below) ∙ none.queues i);
-    hands_empty = no_hand;
-    cores_empty = λ v d below. get_or_default s.cores v d [] below ∙ (sym (get_or-append-add s.inputs s.cores v []) ∙ none.queues (length s.inputs + v));
-  };
-  all_sent = λ v d below. get_or_default s.unsent v d [] below ∙ none.unsent v;
-}
 
 -- Where each list is empty, no item stands at a place.
 all_none : (qs : List (List McCopy)) (i : ℕ) → All (λ q. q ≡ []) qs → slice_index_or qs i [] ≡ []

@@ -1,5 +1,6 @@
 -- What passes the queues of a mesh in a round is a bag of moves.
-use Rattle.std.proofs.Common.{◌≡◌, ◌≢◌, ℕ, ◌+◌, ◌*◌, ◌/◌, ◌%◌, ◌<◌, ◌≤◌, Bool, true, false, cond, ◌==◌, List, [], ◌∷◌, ◌++◌, map, filter, Some, None, length, suc, refl, ap, ap₂, sym, ◌∙◌, subst, arith, inl, inr, count_by, if◌then◌else◌, append-nil, zero-add}
+use Rattle.std.proofs.Common.{◌≡◌, ◌≢◌, ℕ, ◌+◌, ◌*◌, ◌/◌, ◌%◌, ◌<◌, ◌≤◌, Bool, true, false, cond, ◌==◌, List, [], ◌∷◌, ◌++◌, map, filter, Some, None, length, suc}
+use Rattle.std.proofs.Common.{refl, ap, ap₂, sym, ◌∙◌, subst, arith, inl, inr, count_by, if◌then◌else◌, append-nil, zero-add}
 use Rattle.std.specs.List.{All, sum_by, range_with_len, slice_get, slice_index_or}
 use Rattle.std.proofs.lemmas.Bool.{cases_Bool, eqb-true}
 use Rattle.std.proofs.lemmas.List.{map-append, length-map}
@@ -275,7 +276,8 @@ module _ (m : State) (f : Flow) (n : State) (mesh : IsMesh m) (after : IsMesh n)
 
     collected_is : sum_by (λ (d : Delivery). count_by p (mark d.copy (at_core d.vertex) ∷ [])) f.delivered ≡ sum_by (λ v. count_by p (marks_at (at_core v) (f.left (core v)))) vertices
     collected_is =
-        sum_agree (λ (d : Delivery). count_by p (mark d.copy (at_core d.vertex) ∷ [])) (λ d. sum_by (λ v. share d v) vertices) f.delivered (λ d a. sym (of_delivery d (All-contains (λ (e : Delivery). e.vertex < length u.spots) f.delivered d passes.to_vertices (among_contains d f.delivered a))))
+        sum_agree (λ (d : Delivery). count_by p (mark d.copy (at_core d.vertex) ∷ [])) (λ d. sum_by (λ v. share d v) vertices) f.delivered
+        (λ d a. sym (of_delivery d (All-contains (λ (e : Delivery). e.vertex < length u.spots) f.delivered d passes.to_vertices (among_contains d f.delivered a))))
         ∙ (sum_swap share f.delivered vertices
         ∙ sum_agree (λ v. sum_by (λ d. share d v) f.delivered) (λ v. count_by p (marks_at (at_core v) (f.left (core v)))) vertices (λ v a. of_vertex v (below v a)))
       where

@@ -3,7 +3,6 @@ ghost use Rattle.std.specs.Prelude.{◌≡◌, OnErr, OnOk, length};
 ghost use Rattle.mesh_core.specs.State.{IsMesh, behind};
 ghost use Rattle.mesh_core.specs.Step.{has_room_behind, push_behind};
 ghost use Rattle.mesh_core.specs.Serving.{queue_named, IsPlace};
-ghost use Rattle.spin_base.specs.Hops.{onward};
 
 use mesh_core::{MeshParts, Queue};
 use spin_base::{Chip, McCopy, Memory, Out};
@@ -40,15 +39,5 @@ pub(crate) fn push_behind(parts: &mut MeshParts, queue: Queue, copy: McCopy) -> 
         Queue::Input(place) => parts.inputs[place].push(copy),
         Queue::Core(vertex) => parts.cores[vertex].push(copy),
         Queue::Nowhere => Ok(()),
-    }
-}
-
-// The copy behind a router: one hop more.
-pub(crate) fn onward(copy: McCopy) -> McCopy
-    ensures { result ≡ onward copy }
-{
-    McCopy {
-        hop: copy.hop.saturating_add(1),
-        ..copy
     }
 }

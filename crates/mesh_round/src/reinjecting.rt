@@ -12,7 +12,7 @@ ghost use Rattle.mesh_round.specs.Reinjecting.{put_back_answer, HasPasses, IsOfN
 
 use crate::flow_laws::a_round_leaves_less_to_do;
 use crate::laws::passes_keep_the_ledger;
-use crate::putting::{has_room, onward, push_behind, queue_behind};
+use crate::putting::{has_room, push_behind, queue_behind};
 use crate::rounds::run_on;
 use mesh_core::laws::a_mesh_stays_a_mesh;
 use mesh_core::{Did, Mesh, MeshParts};
@@ -47,7 +47,7 @@ pub fn put_back(mesh: Mesh) -> Result<(Mesh, Did), (Mesh, Memory)>
 ///
 /// # Errors
 ///
-/// `Memory` where memory runs out, with the mesh after the last whole round or copy that was put back, which may go on from there.
+/// `Memory` where memory runs out, with a mesh that whole rounds and copies put back reach, which may go on from there.
 pub fn reinject<R: Threads + Wait + Sync, G: Gate>(
     rt: &R,
     alloc: Global,
@@ -172,7 +172,7 @@ fn put_first_back(parts: MeshParts) -> Result<(MeshParts, Did), (MeshParts, Memo
     if !has_room(&parts, queue) {
         return Ok((parts, Did::Idle));
     }
-    if let Err(e) = push_behind(&mut parts, queue, onward(record.copy)) {
+    if let Err(e) = push_behind(&mut parts, queue, record.copy.onward()) {
         return Err((parts, e));
     }
     let _ = parts.dumped.pop();

@@ -112,7 +112,7 @@ fn at_rest(parts: MeshParts) -> Result<MeshParts, (MeshParts, Memory)>
 ///
 /// # Errors
 ///
-/// `Memory` where memory runs out, with the mesh after the last whole round, which may go on from there.
+/// `Memory` where memory runs out, with a mesh that whole rounds reach, which may go on from there.
 pub fn run_out<R: Threads + Wait + Sync, G: Gate>(
     rt: &R,
     alloc: Global,

@@ -5,8 +5,7 @@ use Rattle.mesh_run.specs.declared.layout.Layout.{Layout}
 use Rattle.mesh_run.specs.Floors.{IsFloorOf, grid_size}
 use Rattle.mesh_run.specs.Homes.{AreCutsOf, AreHomesOf, AreShareRuns, IsShareTable}
 
--- The actors stand in runs, one for each worker, on the floor of the setup. Each queue has its homes in the runs, and the cuts are the
--- queues between two of them. No copies count.
+-- The actors stand in runs on the floor of the setup. Each queue has its homes in these, and the cuts are those between two.
 pub record IsLayoutOf (u : Setup) (l : Layout) : Type 0 where
   pub floor : IsFloorOf u l.floor
   pub table : List ℕ

@@ -74,7 +74,7 @@ impl Floor {
         2 * self.chips.len()
     }
 
-    /// How many of them are of live chips.
+    /// How many of them are of live chips. It is a hint, and no promise rests on it.
     pub fn live_actors(&self) -> usize
         requires { length self.now.chips.items ≤ 4096 }
     {
@@ -114,7 +114,7 @@ impl Floor {
         }
     }
 
-    /// The place of the queue behind an output of the chip of an index, where both are there.
+    /// The place of the queue behind an output of the chip of an index, where both are there. It is a hint, and no promise rests on it.
     pub fn place_behind(&self, index: usize, number: usize) -> Option<u32> {
         match self
             .behind

@@ -17,8 +17,8 @@ pub(crate) struct Home {
     pub receiver: u32,
 }
 
-/// Where the runs of actors end, one behind the other: as many runs of equal length as there are workers, the last shorter, where the actors
-/// of live chips count. Those of other chips go with the run before.
+/// Where the runs of actors end, one behind the other: meant as runs of equal length, one for each worker, the last shorter, where the
+/// actors of live chips count. No clause says how many they are, nor how long.
 #[tactic(auto, using(crate::proofs::HomeLaws::rise_none, crate::proofs::HomeLaws::rise_more))]
 pub(crate) fn runs_of(alloc: Global, floor: &Floor, workers: u32) -> Result<Vec<usize>, Memory>
     requires staffed { 1 ≤ workers }

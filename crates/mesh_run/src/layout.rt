@@ -9,8 +9,8 @@ use mesh_core::MeshParts;
 use spin_base::Memory;
 use std::alloc::Global;
 
-/// How a mesh is shared between workers: who stands where, the run of actors of each worker, the homes of all queues, and the queues
-/// between two workers. It depends on the mesh's setup alone, so it may serve as often as a mesh of that setup is split.
+/// How a mesh is shared: who stands where, the runs of actors, the homes of all queues, and the queues between two runs. It is of the
+/// mesh's setup alone, so it may serve as often as a mesh of that setup is split.
 #[derive(Drop)]
 pub struct Layout {
     pub(crate) floor: Floor,
@@ -20,7 +20,7 @@ pub struct Layout {
 }
 
 impl Layout {
-    /// How a mesh is shared between so many workers.
+    /// How a mesh is shared, for so many workers. How many runs there are, and of how many actors, no clause says.
     ///
     /// # Errors
     ///

@@ -21,7 +21,7 @@ use std::mem;
 use std::sync::Wait;
 use std::thread::Threads;
 
-/// A mesh that is split into shares, one for each worker of a layout, and stays so between rounds.
+/// A mesh that is split into shares, one for each run of a layout, and stays so between rounds.
 #[derive(Drop)]
 pub struct RaisedMesh<'l> {
     // What never changes, and the lists that the shares' go back to.

@@ -27,7 +27,7 @@ pub(crate) struct RoundSize {
 }
 
 impl RoundSize {
-    // For how many copies more a lane is to have room that holds so many.
+    // For how many copies more a lane is to have room that holds so many. It is a hint, and no promise rests on it.
     fn lane_room(self, held: usize, all: bool) -> usize {
         let least = if all { LEAST_LANE } else { SHORT_LANE };
         held.saturating_add(least).min(self.turns as usize)
@@ -60,7 +60,7 @@ impl Share {
         self.hold.deliveries.make_room(wanted)
     }
 
-    // How many copies the banks of the share take in a round at most.
+    // How many copies the banks of the share take in a round at most. It is a hint, and no promise rests on it.
     fn most_deliveries(&self, size: RoundSize) -> usize {
         let banks = self.to.saturating_sub(self.from) / 2 + 1;
         banks.saturating_mul(size.turns as usize)

@@ -1,8 +1,7 @@
--- The search of a window: what it has seen, that it sees enough, and that near windows may be searched first.
-use Rattle.std.proofs.Common.{◌≡◌, ℕ, suc, ◌+◌, ◌-◌, ◌*◌, ◌/◌, ◌%◌, ◌<◌, ◌≤◌, max, Bool, true, false, cond, ltb, List, Option, Some, None, refl, sym, ap, ◌∙◌, subst, arith, inl, inr, ◌⊎◌}
+-- The search of a ring: what it has seen, and that it sees enough.
+use Rattle.std.proofs.Common.{◌≡◌, ℕ, suc, ◌+◌, ◌-◌, ◌*◌, ◌%◌, ◌<◌, ◌≤◌, max, Bool, true, false, cond, ltb, List, Option, Some, None, refl, sym, ap, ◌∙◌, subst, arith, inl, inr, ◌⊎◌}
 use Rattle.std.proofs.lemmas.Bool.{cases_lt, cases_eq, cond-true, cond-false, lt-ltb, le-ltb}
-use Rattle.std.proofs.Math.Nat.{lt_of_lt_of_le}
-use Rattle.std.proofs.lemmas.Nat.{mod-mul-add, div-mul-add, mul-add-lt}
+use Rattle.std.proofs.lemmas.Nat.{mod-mul-add}
 use Rattle.std.specs.Option.{IfSome, IfNone}
 use Rattle.std.specs.Prelude.{ℤ, pos, negsuc}
 use Rattle.std.proofs.lemmas.Option.{same_Some}
@@ -11,9 +10,9 @@ use Rattle.machine_desc.specs.Description.{Description, HasSize}
 use Rattle.machine_desc.specs.Live.{chip_at, index_of, IsInside}
 use Rattle.machine_desc.proofs.Far.{inside_from}
 use Rattle.ner_trees.specs.declared.displacements.Disp.{Disp}
-use Rattle.ner_trees.specs.Geometry.{length_of, forth, back, ahead_by, displacement_of, distance_of}
+use Rattle.ner_trees.specs.Geometry.{forth, back, ahead_by, displacement_of, distance_of}
 use Rattle.ner_trees.specs.Growth.{IsNotFarther}
-use Rattle.ner_trees.specs.Search.{place_at, window_chip, IsOnWithin, IsNearestOn, IsNoneOn, IsBestOf}
+use Rattle.ner_trees.specs.Search.{place_at, offset_chip, AtOffsets, AtStep, IsOnWithin, IsNearestOn, IsNoneOn, IsNoneNearer, IsBetter}
 use Rattle.ner_trees.proofs.Axis.{ahead_cases, Reaches}
 use Rattle.ner_trees.proofs.Signed.{length_is}
 use Rattle.ner_trees.proofs.Walking.{reaches}
@@ -24,15 +23,17 @@ chip_inside m None y px py = px
 chip_inside m (Some x) None px py = py
 chip_inside m (Some x) (Some y) px py = inside_from m (record { x = x; y = y }) px py
 
-pub window_is : (m : Description) (t : Chip) (wrap too : Bool) (w h r k side col row : ℕ) (x y : Option ℕ) → wrap ≡ m.wrap → too ≡ m.wrap → w ≡ m.width → h ≡ m.height → side ≡ 2 * r + 1 → col ≡ k / side →
-    row ≡ k % side → x ≡ place_at wrap w t.x r col → y ≡ place_at too h t.y r row → chip_at x y ≡ window_chip m t r k
-unfolding window_chip
-window_is m t wrap too w h r k side col row x y ewrap etoo ew eh eside ecol erow ex ey =
-    let fx : x ≡ place_at m.wrap m.width t.x r (k / (2 * r + 1)) = ex ∙ (ap (λ (b : Bool). place_at b w t.x r col) ewrap ∙ (ap (λ n. place_at m.wrap n t.x r col) ew
-    ∙ ap (λ n. place_at m.wrap m.width t.x r n) (ecol ∙ ap (λ n. k / n) eside))) in
-    let fy : y ≡ place_at m.wrap m.height t.y r (k % (2 * r + 1)) = ey ∙ (ap (λ (b : Bool). place_at b h t.y r row) etoo ∙ (ap (λ n. place_at m.wrap n t.y r row) eh
-    ∙ ap (λ n. place_at m.wrap m.height t.y r n) (erow ∙ ap (λ n. k % n) eside))) in
-    ap (λ (z : Option ℕ). chip_at z y) fx ∙ ap (λ (z : Option ℕ). chip_at (place_at m.wrap m.width t.x r (k / (2 * r + 1))) z) fy
+pub offset_is : (m : Description) (t : Chip) (wrap too : Bool) (w h r column row : ℕ) (x y : Option ℕ) → wrap ≡ m.wrap → too ≡ m.wrap → w ≡ m.width → h ≡ m.height →
+    x ≡ place_at wrap w t.x r column → y ≡ place_at too h t.y r row → chip_at x y ≡ offset_chip m t r column row
+unfolding offset_chip
+offset_is m t wrap too w h r column row x y ewrap etoo ew eh ex ey =
+    let fx : x ≡ place_at m.wrap m.width t.x r column = ex ∙ (ap (λ (b : Bool). place_at b w t.x r column) ewrap ∙ ap (λ n. place_at m.wrap n t.x r column) ew) in
+    let fy : y ≡ place_at m.wrap m.height t.y r row = ey ∙ (ap (λ (b : Bool). place_at b h t.y r row) etoo ∙ ap (λ n. place_at m.wrap n t.y r row) eh) in
+    ap (λ (z : Option ℕ). chip_at z y) fx ∙ ap (λ (z : Option ℕ). chip_at (place_at m.wrap m.width t.x r column) z) fy
+
+-- a place of a ring without a division: as many times round as it takes
+pub round_is : (k w n sum : ℕ) → sum ≡ k * w + n → n < w → sum % w ≡ n
+round_is k w n sum is at = ap (λ s. s % w) is ∙ mod-mul-add k w n at
 
 -- a place of a line, from the first of the window
 line : (w p q r i : ℕ) → p < w → q + i ≡ p + r → place_at false w q r i ≡ Some p
@@ -43,8 +44,8 @@ line w p q r i at sum =
     cond-false (ltb (q + i) r) None (cond (ltb (q + i - r) w) (Some (q + i - r)) None) (le-ltb (q + i) r low)
     ∙ (cond-true (ltb (q + i - r) w) (Some (q + i - r)) None (lt-ltb (q + i - r) w high) ∙ ap Some is)
 
--- the window has each place that is near enough
-place_covers : (wrap : Bool) (w p q r : ℕ) (z : ℤ) → Reaches wrap w p q z → forth z + back z ≤ r → (i : ℕ) × (i < 2 * r + 1) × (place_at wrap w q r i ≡ Some p)
+-- the window has each place that is near enough, as far from its middle as the displacement says
+place_covers : (wrap : Bool) (w p q r : ℕ) (z : ℤ) → Reaches wrap w p q z → forth z + back z ≤ r → (i : ℕ) × (i + forth z ≡ r + back z) × (place_at wrap w q r i ≡ Some p)
 place_covers true w p q r (pos n) reach near =
     let far : ahead_by w p q ≡ n + 0 = reach.far in
     let at : p < w = reach.from_inside in (
@@ -104,28 +105,64 @@ place_covers false w p q r (negsuc n) reach near =
       ],
     )
 
--- no chip is nearer than its displacement along one axis
-axis_low : (d : Disp) (r : ℕ) → length_of d ≤ r → (forth d.a + back d.a ≤ r) × (forth d.b + back d.b ≤ r)
-axis_low d r low =
-    let is : length_of d ≡ max (forth d.a) (forth d.b) + max (back d.a) (back d.b) = length_is d in
-    (omega (arith, is, low), omega (arith, is, low))
+-- The ring has each chip from which the centre is just so many links away.
+pub ring_covers : (m : Description) (t e : Chip) (r : ℕ) → HasSize m → IsInside m t → IsInside m e → distance_of m e t ≡ r → (s : ℕ) × (s < r + 1) × AtStep m t r s e
+unfolding offset_chip
+ring_covers m t e r size t_in e_in is = sides (signs d.a) (signs d.b)
+  where
+    d : Disp
+    d = displacement_of m e t
 
--- The window has each chip from which the centre is at most so many links away as it has chips to each side.
-pub window_covers : (m : Description) (t e : Chip) (r : ℕ) → HasSize m → IsInside m t → IsInside m e → distance_of m e t ≤ r →
-    (k : ℕ) × (k < (2 * r + 1) * (2 * r + 1)) × (window_chip m t r k ≡ Some e)
-unfolding window_chip
-window_covers m t e r size t_in e_in low =
-    let reach = reaches m e t size e_in t_in in
-    let near = axis_low (displacement_of m e t) r low in
-    let x = place_covers m.wrap m.width e.x t.x r (displacement_of m e t).a reach.0 near.0 in
-    let y = place_covers m.wrap m.height e.y t.y r (displacement_of m e t).b reach.1 near.1 in
-    let side : ℕ = 2 * r + 1 in
-    let k : ℕ = x.0 * side + y.0 in
-    let col : k / side ≡ x.0 = div-mul-add x.0 side y.0 y.1 in
-    let row : k % side ≡ y.0 = mod-mul-add x.0 side y.0 y.1 in
-    let ex : place_at m.wrap m.width t.x r (k / side) ≡ Some e.x = ap (λ n. place_at m.wrap m.width t.x r n) col ∙ x.2 in
-    let ey : place_at m.wrap m.height t.y r (k % side) ≡ Some e.y = ap (λ n. place_at m.wrap m.height t.y r n) row ∙ y.2 in
-    (k, mul-add-lt x.0 side y.0 side x.1 y.1, ap (λ (z : Option ℕ). chip_at z (place_at m.wrap m.height t.y r (k % side))) ex ∙ ap (λ (z : Option ℕ). chip_at (Some e.x) z) ey)
+    length_at : r ≡ max (forth d.a) (forth d.b) + max (back d.a) (back d.b)
+    length_at = sym is ∙ length_is d
+
+    reach : Reaches m.wrap m.width e.x t.x d.a × Reaches m.wrap m.height e.y t.y d.b
+    reach = reaches m e t size e_in t_in
+
+    x : (i : ℕ) × (i + forth d.a ≡ r + back d.a) × (place_at m.wrap m.width t.x r i ≡ Some e.x)
+    x = place_covers m.wrap m.width e.x t.x r d.a reach.0 (omega (arith, length_at))
+
+    y : (i : ℕ) × (i + forth d.b ≡ r + back d.b) × (place_at m.wrap m.height t.y r i ≡ Some e.y)
+    y = place_covers m.wrap m.height e.y t.y r d.b reach.1 (omega (arith, length_at))
+
+    signs : (z : ℤ) → (forth z ≡ 0) ⊎ (back z ≡ 0)
+    signs (pos n) = inr refl
+    signs (negsuc n) = inl refl
+
+    at : (column row : ℕ) → x.0 ≡ column → y.0 ≡ row → AtOffsets m t r column row e
+    at column row ex ey =
+        ap (λ (z : Option ℕ). chip_at z (place_at m.wrap m.height t.y r row)) (ap (λ n. place_at m.wrap m.width t.x r n) (sym ex) ∙ x.2)
+        ∙ ap (λ (z : Option ℕ). chip_at (Some e.x) z) (ap (λ n. place_at m.wrap m.height t.y r n) (sym ey) ∙ y.2)
+
+    ends : (p q n : ℕ) → n ≡ max p q → (p ≡ n) ⊎ (q ≡ n)
+    ends p q n top = elim (cases_lt p q) [
+      | inl less ↦ inr (omega (arith, top))
+      | inr more ↦ inl (omega (arith, top))
+    ]
+
+    sides : (forth d.a ≡ 0) ⊎ (back d.a ≡ 0) → (forth d.b ≡ 0) ⊎ (back d.b ≡ 0) → (s : ℕ) × (s < r + 1) × AtStep m t r s e
+    sides (inr a) (inr b) =
+        let ix : x.0 + forth d.a ≡ r + back d.a = x.1 in
+        let iy : y.0 + forth d.b ≡ r + back d.b = y.1 in
+        elim (ends (forth d.a) (forth d.b) r (omega (arith, length_at, a, b))) [
+          | inl far ↦ (y.0, omega (arith, iy, b), inl (at 0 y.0 (omega (arith, ix, a, far)) refl))
+          | inr far ↦ (x.0, omega (arith, ix, a), inr (inl (at x.0 0 refl (omega (arith, iy, b, far)))))
+        ]
+    sides (inr a) (inl b) =
+        let ix : x.0 + forth d.a ≡ r + back d.a = x.1 in
+        let iy : y.0 + forth d.b ≡ r + back d.b = y.1 in
+        (x.0, omega (arith, ix, a), inr (inr (inl (at x.0 (r + x.0) refl (omega (arith, ix, iy, a, b, length_at))))))
+    sides (inl a) (inr b) =
+        let ix : x.0 + forth d.a ≡ r + back d.a = x.1 in
+        let iy : y.0 + forth d.b ≡ r + back d.b = y.1 in
+        (y.0, omega (arith, iy, b), inr (inr (inr (inl (at (r + y.0) y.0 (omega (arith, ix, iy, a, b, length_at)) refl)))))
+    sides (inl a) (inl b) =
+        let ix : x.0 + forth d.a ≡ r + back d.a = x.1 in
+        let iy : y.0 + forth d.b ≡ r + back d.b = y.1 in
+        elim (ends (back d.a) (back d.b) r (omega (arith, length_at, a, b))) [
+          | inl far ↦ (back d.b, omega (arith, length_at, a, b), inr (inr (inr (inr (inr (at (2 * r) (r + back d.b) (omega (arith, ix, a, far)) (omega (arith, iy, b))))))))
+          | inr far ↦ (back d.a, omega (arith, length_at, a, b), inr (inr (inr (inr (inl (at (r + back d.a) (2 * r) (omega (arith, ix, a)) (omega (arith, iy, b, far))))))))
+        ]
 
 -- the order of nearness
 pub not_farther_same : (m : Description) (t c e : Chip) → c ≡ e → IsNotFarther m t c e
@@ -140,81 +177,95 @@ not_farther_trans m t b c e (inr p) (inl q) = let x : distance_of m b t ≡ dist
 not_farther_trans m t b c e (inr p) (inr q) =
     let i : index_of m b ≤ index_of m c = p.1 in let j : index_of m c ≤ index_of m e = q.1 in inr (p.0 ∙ q.0, omega arith)
 
--- what the search has seen, one chip on
-pub best_start : (m : Description) (on : List Bool) (t : Chip) (r : ℕ) → IsBestOf m on t r 0 None
-best_start m on t r j e less at is = absurd (omega arith)
+pub inside_of : (m : Description) (on : List Bool) (t : Chip) (r : ℕ) (best : Option Chip) → IfSome best (IsOnWithin m on t r) → IfSome best (IsInside m)
+inside_of m on t r None is = tt
+inside_of m on t r (Some c) is = is.inside
 
-pub best_past : (m : Description) (on : List Bool) (t : Chip) (r k : ℕ) (best : Option Chip) → ((e : Chip) → window_chip m t r k ≡ Some e → IsOnWithin m on t r e → ⊥) →
-    IsBestOf m on t r k best → IsBestOf m on t r (k + 1) best
-best_past m on t r k None none so_far = λ j e less at is. elim (cases_eq j k) [
-  | inl last ↦ none e (ap (window_chip m t r) (sym last) ∙ at) is
-  | inr other ↦ so_far j e (omega arith) at is
-]
-best_past m on t r k (Some c) none so_far = (
-  so_far.0,
-  λ j e less at is. elim (cases_eq j k) [
-    | inl last ↦ absurd (none e (ap (window_chip m t r) (sym last) ∙ at) is)
-    | inr other ↦ so_far.1 j e (omega arith) at is
-  ],
-)
+-- what the search has found, one chip on
+module _ (m : Description) (on : List Bool) (t : Chip) (r : ℕ) where
+  pub better_past : (At : Chip → Type 0) (best : Option Chip) → ((e : Chip) → At e → IsOnWithin m on t r e → ⊥) → IsBetter m on t r At best best
+  better_past At best none = record { keeps = λ e before. before; has = λ e at is. absurd (none e at is) }
 
-pub best_more : (m : Description) (on : List Bool) (t : Chip) (r k : ℕ) (best : Option Chip) (c n : Chip) → window_chip m t r k ≡ Some c → IsOnWithin m on t r c →
-    IfNone best (n ≡ c) → IfSome best (λ b. ((n ≡ b) × IsNotFarther m t b c) ⊎ ((n ≡ c) × IsNotFarther m t c b)) →
-    IsBestOf m on t r k best → IsBestOf m on t r (k + 1) (Some n)
-best_more m on t r k None c n at is first later so_far = (
-  subst (λ (x : Chip). IsOnWithin m on t r x) (sym first) is,
-  λ j e less there it. elim (cases_eq j k) [
-    | inl last ↦ not_farther_same m t n e (first ∙ same_Some c e (sym at ∙ (ap (window_chip m t r) (sym last) ∙ there)))
-    | inr other ↦ absurd (so_far j e (omega arith) there it)
-  ],
-)
-best_more m on t r k (Some b) c n at is first (inl old) so_far = (
-  subst (λ (x : Chip). IsOnWithin m on t r x) (sym old.0) so_far.0,
-  λ j e less there it. elim (cases_eq j k) [
-    | inl last ↦ subst (λ (x : Chip). IsNotFarther m t x e) (sym old.0)
-        (subst (λ (x : Chip). IsNotFarther m t b x) (same_Some c e (sym at ∙ (ap (window_chip m t r) (sym last) ∙ there))) old.1)
-    | inr other ↦ subst (λ (x : Chip). IsNotFarther m t x e) (sym old.0) (so_far.1 j e (omega arith) there it)
-  ],
-)
-best_more m on t r k (Some b) c n at is first (inr new) so_far = (
-  subst (λ (x : Chip). IsOnWithin m on t r x) (sym new.0) is,
-  λ j e less there it. elim (cases_eq j k) [
-    | inl last ↦ not_farther_same m t n e (new.0 ∙ same_Some c e (sym at ∙ (ap (window_chip m t r) (sym last) ∙ there)))
-    | inr other ↦ subst (λ (x : Chip). IsNotFarther m t x e) (sym new.0) (not_farther_trans m t c b e new.1 (so_far.1 j e (omega arith) there it))
-  ],
-)
+  pub found_more : (best : Option Chip) (c n : Chip) → IsOnWithin m on t r c → IfNone best (n ≡ c) →
+      IfSome best (λ b. ((n ≡ b) × IsNotFarther m t b c) ⊎ ((n ≡ c) × IsNotFarther m t c b)) → IfSome best (IsOnWithin m on t r) → IsOnWithin m on t r n
+  found_more None c n is first later known = subst (λ (x : Chip). IsOnWithin m on t r x) (sym first) is
+  found_more (Some b) c n is first (inl old) known = subst (λ (x : Chip). IsOnWithin m on t r x) (sym old.0) known
+  found_more (Some b) c n is first (inr new) known = subst (λ (x : Chip). IsOnWithin m on t r x) (sym new.0) is
 
-pub best_inside : (m : Description) (on : List Bool) (t : Chip) (r k : ℕ) (best : Option Chip) → IsBestOf m on t r k best → IfSome best (IsInside m)
-best_inside m on t r k None so_far = tt
-best_inside m on t r k (Some c) so_far = so_far.0.inside
+  pub better_more : (o : Option Chip) (best : Option Chip) (c n : Chip) → o ≡ Some c → IfNone best (n ≡ c) →
+      IfSome best (λ b. ((n ≡ b) × IsNotFarther m t b c) ⊎ ((n ≡ c) × IsNotFarther m t c b)) → IsBetter m on t r (λ e. o ≡ Some e) best (Some n)
+  better_more o None c n at first later = record {
+    keeps = λ e before. absurd before;
+    has = λ e there is. not_farther_same m t n e (first ∙ same_Some c e (sym at ∙ there));
+  }
+  better_more o (Some b) c n at first (inl old) = record {
+    keeps = λ e before. subst (λ (x : Chip). IsNotFarther m t x e) (sym old.0) before;
+    has = λ e there is. subst (λ (x : Chip). IsNotFarther m t x e) (sym old.0) (subst (λ (x : Chip). IsNotFarther m t b x) (same_Some c e (sym at ∙ there)) old.1);
+  }
+  better_more o (Some b) c n at first (inr new) = record {
+    keeps = λ e before. subst (λ (x : Chip). IsNotFarther m t x e) (sym new.0) (not_farther_trans m t c b e new.1 before);
+    has = λ e there is. not_farther_same m t n e (new.0 ∙ same_Some c e (sym at ∙ there));
+  }
 
--- at the end of the window
-pub best_found : (m : Description) (on : List Bool) (t : Chip) (r k : ℕ) (best : Option Chip) → HasSize m → IsInside m t → (2 * r + 1) * (2 * r + 1) ≤ k →
-    IsBestOf m on t r k best → IfSome best (IsNearestOn m on t r)
-best_found m on t r k None size t_in past so_far = tt
-best_found m on t r k (Some c) size t_in past so_far = (
-  so_far.0,
-  λ e is.
-      let seen = window_covers m t e r size t_in is.inside is.near in
-      let less : seen.0 < (2 * r + 1) * (2 * r + 1) = seen.1 in
-      so_far.1 seen.0 e (lt_of_lt_of_le less past) seen.2 is,
-)
+  pub both : (A B : Chip → Type 0) (best mid result : Option Chip) → IsBetter m on t r A best mid → IsBetter m on t r B mid result → IsBetter m on t r (λ e. A e ⊎ B e) best result
+  both A B best mid result one two = record {
+    keeps = λ e before. two.keeps e (one.keeps e before);
+    has = λ e at is. elim at [
+      | inl a ↦ two.keeps e (one.has e a is)
+      | inr b ↦ two.has e b is
+    ];
+  }
 
-pub best_none : (m : Description) (on : List Bool) (t : Chip) (r k : ℕ) (best : Option Chip) → HasSize m → IsInside m t → (2 * r + 1) * (2 * r + 1) ≤ k →
-    IsBestOf m on t r k best → IfNone best (IsNoneOn m on t r)
-best_none m on t r k (Some c) size t_in past so_far = tt
-best_none m on t r k None size t_in past so_far = λ e is.
-    let seen = window_covers m t e r size t_in is.inside is.near in
-    let less : seen.0 < (2 * r + 1) * (2 * r + 1) = seen.1 in
-    so_far seen.0 e (lt_of_lt_of_le less past) seen.2 is
+  -- what the search of a ring has found after so many steps
+  abbrev pub Stepped : ℕ → Chip → Type 0
+  Stepped i e = (s : ℕ) × (s < i) × AtStep m t r s e
 
--- the nearest in a small radius is the nearest in a larger one
-pub nearest_wider : (m : Description) (on : List Bool) (t c : Chip) (r s : ℕ) → r ≤ s → IsNearestOn m on t r c → IsNearestOn m on t s c
-nearest_wider m on t c r s wider is =
-    let near : distance_of m c t ≤ r = is.0.near in (
-      record { inside = is.0.inside; on_it = is.0.on_it; near = omega arith },
-      λ e it. elim (cases_lt r (distance_of m e t)) [
-        | inl beyond ↦ inl (omega arith)
-        | inr within ↦ is.1 e (record { inside = it.inside; on_it = it.on_it; near = within })
-      ],
-    )
+  pub steps_start : IsBetter m on t r (Stepped 0) None None
+  steps_start = record { keeps = λ e before. before; has = λ e at is. let less : at.0 < 0 = at.1 in absurd (omega arith) }
+
+  pub steps_more : (i : ℕ) (best result : Option Chip) → IsBetter m on t r (Stepped i) None best → IsBetter m on t r (AtStep m t r i) best result → IsBetter m on t r (Stepped (i + 1)) None result
+  steps_more i best result so_far next = record {
+    keeps = λ e before. absurd before;
+    has = λ e at is. elim (cases_eq at.0 i) [
+      | inl last ↦ next.has e (subst (λ s. AtStep m t r s e) last at.2) is
+      | inr other ↦ let less : at.0 < i + 1 = at.1 in next.keeps e (so_far.has e (at.0, omega arith, at.2) is)
+    ];
+  }
+
+  -- at the end of the ring
+  pub ring_found : (i : ℕ) (best : Option Chip) → HasSize m → IsInside m t → r ≤ 20 → r + 1 ≤ i → IsNoneNearer m on t r → IfSome best (IsOnWithin m on t r) → IsBetter m on t r (Stepped i) None best →
+      IfSome best (IsNearestOn m on t 20)
+  ring_found i None size t_in narrow past none is so_far = tt
+  ring_found i (Some c) size t_in narrow past none is so_far =
+      let near : distance_of m c t ≤ r = is.near in (
+        record { inside = is.inside; on_it = is.on_it; near = omega arith },
+        λ e it. elim (cases_lt r (distance_of m e t)) [
+          | inl beyond ↦ inl (omega arith)
+          | inr within ↦
+              let least : r ≤ distance_of m e t = none e it.inside it.on_it in
+              let seen = ring_covers m t e r size t_in it.inside (omega arith) in
+              let less : seen.0 < r + 1 = seen.1 in
+              so_far.has e (seen.0, omega arith, seen.2) (record { inside = it.inside; on_it = it.on_it; near = within })
+        ],
+      )
+
+  pub ring_none : (i : ℕ) (best : Option Chip) → HasSize m → IsInside m t → r + 1 ≤ i → IsNoneNearer m on t r → IsBetter m on t r (Stepped i) None best → IfNone best (IsNoneNearer m on t (r + 1))
+  ring_none i (Some c) size t_in past none so_far = tt
+  ring_none i None size t_in past none so_far = λ e e_in on_it. elim (cases_lt r (distance_of m e t)) [
+    | inl beyond ↦ omega arith
+    | inr within ↦
+        let least : r ≤ distance_of m e t = none e e_in on_it in
+        let seen = ring_covers m t e r size t_in e_in (omega arith) in
+        let less : seen.0 < r + 1 = seen.1 in
+        absurd (so_far.has e (seen.0, omega arith, seen.2) (record { inside = e_in; on_it = on_it; near = within }))
+  ]
+
+-- before the first ring, and after the last
+pub none_at_start : (m : Description) (on : List Bool) (t : Chip) → IsNoneNearer m on t 0
+none_at_start m on t e e_in on_it = omega arith
+
+pub none_nearer_none : (m : Description) (on : List Bool) (t : Chip) (k : ℕ) → 21 ≤ k → IsNoneNearer m on t k → IsNoneOn m on t 20
+none_nearer_none m on t k past none e is =
+    let least : k ≤ distance_of m e t = none e is.inside is.on_it in
+    let near : distance_of m e t ≤ 20 = is.near in
+    absurd (omega arith)

@@ -1,5 +1,5 @@
 -- The search for the chip of a tree that is nearest to a target, in a window round the target.
-use Rattle.std.specs.Prelude.{◌≡◌, ℕ, ◌+◌, ◌-◌, ◌*◌, ◌/◌, ◌%◌, ◌<◌, ◌≤◌, Bool, true, false, nat_lt, if◌then◌else◌, List, ◌++◌, Option, Some, None, All, Any, ◌⊎◌, ◌↔◌, IfSome, slice_index_or}
+use Rattle.std.specs.Prelude.{◌≡◌, ℕ, ◌+◌, ◌-◌, ◌*◌, ◌%◌, ◌<◌, ◌≤◌, Bool, true, false, nat_lt, if◌then◌else◌, List, ◌++◌, Option, Some, None, All, Any, ◌⊎◌, ◌↔◌, IfSome, slice_index_or}
 use Rattle.std.specs.Option.{IsSomeAnd}
 use Rattle.spin_base.specs.declared.chips.Chip.{Chip}
 use Rattle.spin_base.specs.declared.chips.Dir.{Dir}
@@ -31,10 +31,18 @@ place_at false places centre radius offset =
     if nat_lt (centre + offset) radius then None
     else (if nat_lt (centre + offset - radius) places then Some (centre + offset - radius) else None)
 
--- the chips of the window of so many chips to each side of the centre, numbered column by column
-unfoldable pub window_chip : Description → Chip → ℕ → ℕ → Option Chip
-window_chip m centre radius k =
-    chip_at (place_at m.wrap m.width centre.x radius (k / (2 * radius + 1))) (place_at m.wrap m.height centre.y radius (k % (2 * radius + 1)))
+-- the chip at offsets from the corner of the window of so many chips to each side of the centre
+unfoldable pub offset_chip : Description → Chip → ℕ → ℕ → ℕ → Option Chip
+offset_chip m centre radius column row = chip_at (place_at m.wrap m.width centre.x radius column) (place_at m.wrap m.height centre.y radius row)
+
+abbrev pub AtOffsets : Description → Chip → ℕ → ℕ → ℕ → Chip → Type 0
+AtOffsets m t radius column row c = offset_chip m t radius column row ≡ Some c
+
+-- the chips so many steps along each of the six sides of the ring of chips that are so many links from the centre
+abbrev pub AtStep : Description → Chip → ℕ → ℕ → Chip → Type 0
+AtStep m t radius step c =
+    AtOffsets m t radius 0 step c ⊎ (AtOffsets m t radius step 0 c ⊎ (AtOffsets m t radius step (radius + step) c
+    ⊎ (AtOffsets m t radius (radius + step) step c ⊎ (AtOffsets m t radius (radius + step) (2 * radius) c ⊎ AtOffsets m t radius (2 * radius) (radius + step) c))))
 
 -- a chip that the table has, from which the target is at most so many links away
 pub record IsOnWithin (m : Description) (on : List Bool) (t : Chip) (radius : ℕ) (c : Chip) : Type 0 where
@@ -49,11 +57,18 @@ IsNearestOn m on t radius c = IsOnWithin m on t radius c × ((e : Chip) → IsOn
 abbrev pub IsNoneOn : Description → List Bool → Chip → ℕ → Type 0
 IsNoneOn m on t radius = (e : Chip) → IsOnWithin m on t radius e → ⊥
 
--- of the first so many chips of the window the nearest
-abbrev pub IsBestOf : Description → List Bool → Chip → ℕ → ℕ → Option Chip → Type 0
-IsBestOf m on t radius k None = (j : ℕ) (e : Chip) → j < k → window_chip m t radius j ≡ Some e → IsOnWithin m on t radius e → ⊥
-IsBestOf m on t radius k (Some c) =
-    IsOnWithin m on t radius c × ((j : ℕ) (e : Chip) → j < k → window_chip m t radius j ≡ Some e → IsOnWithin m on t radius e → IsNotFarther m t c e)
+-- no chip that the table has is nearer than so many links
+abbrev pub IsNoneNearer : Description → List Bool → Chip → ℕ → Type 0
+IsNoneNearer m on t radius = (e : Chip) → IsInside m e → is_on m on e ≡ true → radius ≤ distance_of m e t
+
+-- What a search has found comes before this chip, in the order of nearness.
+abbrev pub IsBefore : Description → Chip → Option Chip → Chip → Type 0
+IsBefore m t best e = IsSomeAnd best (λ c. IsNotFarther m t c e)
+
+-- what a search has found, once it has looked at some chips more
+pub record IsBetter (m : Description) (on : List Bool) (t : Chip) (radius : ℕ) (looked_at : Chip → Type 0) (best result : Option Chip) : Type 0 where
+  pub keeps : (e : Chip) → IsBefore m t best e → IsBefore m t result e
+  pub has : (e : Chip) → looked_at e → IsOnWithin m on t radius e → IsBefore m t result e
 
 -- a walk, cut at the last of its chips that the table has
 pub record IsCutAt (m : Description) (on : List Bool) (near : Chip) (walk : List Dir) (start : Chip) (added : List Edge) : Type 0 where

@@ -1,8 +1,8 @@
 // The chip of a tree that is nearest to a target.
-ghost use Rattle.std.specs.Prelude.{◌≡◌, ◌+◌, ◌*◌, ◌<◌, ◌≤◌, ◌⊎◌, Some, IfSome, IfNone, MatchBool};
+ghost use Rattle.std.specs.Prelude.{◌≡◌, ◌+◌, ◌-◌, ◌*◌, ◌%◌, ◌<◌, ◌≤◌, ◌⊎◌, Some, IfSome, IfNone, MatchBool};
 ghost use Rattle.machine_desc.specs.Live.{IsInside, chip_at};
 ghost use Rattle.ner_trees.specs.Growth.{IsNotFarther, IsNear};
-ghost use Rattle.ner_trees.specs.Search.{place_at, window_chip, IsOnWithin, IsNearestOn, IsNoneOn, IsCloser, IsFoundAt, IsLeastFound, TellsTree};
+ghost use Rattle.ner_trees.specs.Search.{place_at, offset_chip, AtOffsets, AtStep, IsOnWithin, IsNearestOn, IsNoneNearer, IsBetter, IsCloser, IsFoundAt, IsLeastFound, TellsTree};
 ghost use Rattle.spin_base.specs.declared.chips.Chip.{Chip};
 
 use crate::displacements::{OnAxis, distance};
@@ -11,8 +11,29 @@ use crate::partial_trees::{GrowingTree, Radius};
 use machine_desc::{Edge, Machine};
 use spin_base::Chip;
 
-// How many chips a window of 20 to each side has.
-const WIDEST_WINDOW: usize = 1681;
+// The place on a ring that is `offset` places past the one that lies `radius` places before the centre. Only on a short
+// ring has it to be divided.
+fn wrapped(centre: OnAxis, radius: Radius, offset: u8) -> u8
+    requires { offset ≤ 2 * radius.chips }
+    ensures value { result
+        ≡ (centre.place + centre.places * 20 + offset - radius.chips) % centre.places }
+    ensures inside { result < centre.places }
+{
+    let (places, place, radius) = (centre.places, centre.place + offset, radius.chips);
+    if radius <= place {
+        let ahead = place - radius;
+        if ahead < places {
+            return ahead;
+        }
+        if ahead - places < places {
+            return ahead - places;
+        }
+    } else if radius - place <= places {
+        return places - (radius - place);
+    }
+    let ahead = u16::from(place) + u16::from(places) * 20;
+    ((ahead - u16::from(radius)) % u16::from(places)) as u8
+}
 
 // The place on an axis that is `offset` places past the one that lies `radius` places before the centre. `None` exactly
 // where the axis is open and has no such place.
@@ -21,11 +42,10 @@ fn place_at(wrap: bool, centre: OnAxis, radius: Radius, offset: u8) -> Option<u8
     ensures value { result ≡ place_at wrap centre.places centre.place radius.chips offset }
     ensures inside { IfSome result (λ n. n < centre.places) }
 {
-    let (places, centre, radius) = (centre.places, centre.place, radius.chips);
     if wrap {
-        let ahead = u16::from(centre) + u16::from(places) * 20 + u16::from(offset);
-        return Some(((ahead - u16::from(radius)) % u16::from(places)) as u8);
+        return Some(wrapped(centre, radius, offset));
     }
+    let (places, centre, radius) = (centre.places, centre.place, radius.chips);
     let place = centre + offset;
     if place < radius {
         return None;
@@ -58,16 +78,15 @@ struct Search<'t, 'm> {
     ghost inside: { IsInside on.now.machine.now target },
 }
 
-// The chip of a number in the window of `radius` chips to each side of the target, column by column.
-fn window_chip(search: Search<'_, '_>, radius: Radius, number: u16) -> Option<Chip>
-    requires { number < (2 * radius.chips + 1) * (2 * radius.chips + 1) }
-    ensures value { result ≡ window_chip search.entry.on.now.machine.now
-        search.entry.target radius.chips number }
+// The chip at offsets from the corner of the window of `radius` chips to each side of the target.
+fn offset_chip(search: Search<'_, '_>, radius: Radius, column: u8, row: u8) -> Option<Chip>
+    requires column { column ≤ 2 * radius.chips }
+    requires row { row ≤ 2 * radius.chips }
+    ensures value { result ≡ offset_chip search.entry.on.now.machine.now
+        search.entry.target radius.chips column row }
     ensures inside { IfSome result (IsInside search.entry.on.now.machine.now) }
 {
     let (machine, centre) = (search.on.machine(), search.target);
-    let side = 2 * u16::from(radius.chips) + 1;
-    let (column, row) = ((number / side) as u8, (number % side) as u8);
     let (wrap, places, place) = (machine.wrap(), machine.width(), centre.x);
     let x = place_at(wrap, OnAxis { places, place }, radius, column);
     let (places, place) = (machine.height(), centre.y);
@@ -75,20 +94,21 @@ fn window_chip(search: Search<'_, '_>, radius: Radius, number: u16) -> Option<Ch
     chip_at(x, y)
 }
 
-// The chip of a number in the window, where it is in the tree and the target is at most `radius` links from it.
-fn candidate(search: Search<'_, '_>, radius: Radius, number: u16) -> Option<Chip>
-    requires { number < (2 * radius.chips + 1) * (2 * radius.chips + 1) }
+// The chip at these offsets, where it is in the tree and the target is at most `radius` links from it.
+fn candidate(search: Search<'_, '_>, radius: Radius, column: u8, row: u8) -> Option<Chip>
+    requires column { column ≤ 2 * radius.chips }
+    requires row { row ≤ 2 * radius.chips }
     ensures found { IfSome result (IsOnWithin search.entry.on.now.machine.now
         search.entry.on.now.items.items search.entry.target radius.chips) }
-    ensures none { IfNone result ((e : Chip) → window_chip search.entry.on.now.machine.now
-        search.entry.target radius.chips number ≡ Some e →
+    ensures none { IfNone result ((e : Chip) → offset_chip search.entry.on.now.machine.now
+        search.entry.target radius.chips column row ≡ Some e →
         IsOnWithin search.entry.on.now.machine.now search.entry.on.now.items.items
         search.entry.target radius.chips e → ⊥) }
-    ensures that_one { IfSome result (λ c. window_chip search.entry.on.now.machine.now
-        search.entry.target radius.chips number ≡ Some c) }
+    ensures that_one { IfSome result (λ c. offset_chip search.entry.on.now.machine.now
+        search.entry.target radius.chips column row ≡ Some c) }
 {
     let machine = search.on.machine();
-    let chip = window_chip(search, radius, number)?;
+    let chip = offset_chip(search, radius, column, row)?;
     if search.on.at(chip) && distance(machine, chip, search.target) <= u32::from(radius.chips) {
         Some(chip)
     } else {
@@ -114,23 +134,6 @@ fn is_nearer(search: Search<'_, '_>, c: Chip, e: Chip) -> bool
     }
 }
 
-// The nearest chip of the tree from which the target is at most `radius` links away.
-fn nearest_within(search: Search<'_, '_>, radius: Radius) -> Option<Chip>
-    ensures found { IfSome result (IsNearestOn search.entry.on.now.machine.now
-        search.entry.on.now.items.items search.entry.target radius.chips) }
-    ensures none { IfNone result (IsNoneOn search.entry.on.now.machine.now
-        search.entry.on.now.items.items search.entry.target radius.chips) }
-{
-    let side = 2 * u16::from(radius.chips) + 1;
-    let mut best = None;
-    for number in 0..side * side {
-        if let Some(chip) = candidate(search, radius, number) {
-            best = Some(nearer(search, best, chip));
-        }
-    }
-    best
-}
-
 // The chip that comes first in the order of distance to the target, then x, then y.
 fn nearer(search: Search<'_, '_>, best: Option<Chip>, chip: Chip) -> Chip
     requires best_inside { IfSome best (IsInside search.on.now.machine.now) }
@@ -150,6 +153,73 @@ fn nearer(search: Search<'_, '_>, best: Option<Chip>, chip: Chip) -> Chip
             other
         },
     }
+}
+
+// The nearest of the best so far and the chip at these offsets.
+fn better(
+    search: Search<'_, '_>,
+    radius: Radius,
+    column: u8,
+    row: u8,
+    best: Option<Chip>,
+) -> Option<Chip>
+    requires column { column ≤ 2 * radius.chips }
+    requires row { row ≤ 2 * radius.chips }
+    requires best { IfSome best (IsOnWithin search.on.now.machine.now
+        search.on.now.items.items search.target radius.chips) }
+    ensures found { IfSome result (IsOnWithin search.entry.on.now.machine.now
+        search.entry.on.now.items.items search.entry.target radius.chips) }
+    ensures better { IsBetter search.entry.on.now.machine.now search.entry.on.now.items.items
+        search.entry.target radius.chips
+        (AtOffsets search.entry.on.now.machine.now search.entry.target radius.chips column row)
+        best result }
+{
+    match candidate(search, radius, column, row) {
+        Some(chip) => Some(nearer(search, best, chip)),
+        None => best,
+    }
+}
+
+// The nearest of the best so far and the chips of the ring, one on each of its six sides, that are `step` chips along it.
+fn better_at_step(
+    search: Search<'_, '_>,
+    radius: Radius,
+    step: u8,
+    best: Option<Chip>,
+) -> Option<Chip>
+    requires step { step ≤ radius.chips }
+    requires best { IfSome best (IsOnWithin search.on.now.machine.now
+        search.on.now.items.items search.target radius.chips) }
+    ensures found { IfSome result (IsOnWithin search.entry.on.now.machine.now
+        search.entry.on.now.items.items search.entry.target radius.chips) }
+    ensures better { IsBetter search.entry.on.now.machine.now search.entry.on.now.items.items
+        search.entry.target radius.chips
+        (AtStep search.entry.on.now.machine.now search.entry.target radius.chips step)
+        best result }
+{
+    let (side, end) = (radius.chips + step, 2 * radius.chips);
+    let one = better(search, radius, 0, step, best);
+    let two = better(search, radius, step, 0, one);
+    let three = better(search, radius, step, side, two);
+    let four = better(search, radius, side, step, three);
+    let five = better(search, radius, side, end, four);
+    better(search, radius, end, side, five)
+}
+
+// The nearest chip of the tree, where it is one of those from which the target is exactly `radius` links away.
+fn nearest_on_ring(search: Search<'_, '_>, radius: Radius) -> Option<Chip>
+    requires { IsNoneNearer search.on.now.machine.now search.on.now.items.items search.target
+        radius.chips }
+    ensures found { IfSome result (IsNearestOn search.entry.on.now.machine.now
+        search.entry.on.now.items.items search.entry.target 20) }
+    ensures none { IfNone result (IsNoneNearer search.entry.on.now.machine.now
+        search.entry.on.now.items.items search.entry.target (radius.chips + 1)) }
+{
+    let mut best = None;
+    for step in 0..radius.chips + 1 {
+        best = better_at_step(search, radius, step, best);
+    }
+    best
 }
 
 // The nearest chip that a search has come to, and how many links it is from the target.
@@ -214,20 +284,8 @@ fn nearest_of_edges(tree: &GrowingTree, target: Chip) -> Option<Found>
     best
 }
 
-// The same as `nearest_within` where the tree has at least as many edges as the window has chips; else nothing.
-fn nearest_if_many(search: Search<'_, '_>, edges: usize, radius: Radius) -> Option<Chip>
-    ensures { IfSome result (IsNearestOn search.entry.on.now.machine.now
-        search.entry.on.now.items.items search.entry.target radius.chips) }
-{
-    let side = 2 * usize::from(radius.chips) + 1;
-    if edges < side * side {
-        return None;
-    }
-    nearest_within(search, radius)
-}
-
-// The chip of the tree to which a target is joined: the nearest within 20 links, and the root where there is none. What
-// is looked through is never more than the tree: a window only where it has fewer chips, near ones first.
+// The chip of the tree to which a target is joined: the nearest within 20 links, and the root where there is none. Rings
+// round the target are looked through from the target outwards, and once these are longer than the tree, its edges.
 pub fn near_chip(tree: &GrowingTree, target: Chip) -> Chip
     requires inside { IsInside tree.now.on.machine.now target }
     requires on_is { TellsTree tree.now.on.machine.now tree.now.root
@@ -239,20 +297,17 @@ pub fn near_chip(tree: &GrowingTree, target: Chip) -> Chip
         target,
     };
     let edges = tree.edges.len();
-    if let Some(chip) = nearest_if_many(search, edges, Radius { chips: 2 }) {
-        return chip;
+    for chips in 0..21 {
+        let far = usize::from(chips);
+        if edges < 3 * far * far {
+            return match nearest_of_edges(tree, target) {
+                Some(found) => found.chip,
+                None => tree.root,
+            };
+        }
+        if let Some(chip) = nearest_on_ring(search, Radius { chips }) {
+            return chip;
+        }
     }
-    if let Some(chip) = nearest_if_many(search, edges, Radius { chips: 6 }) {
-        return chip;
-    }
-    if edges < WIDEST_WINDOW {
-        return match nearest_of_edges(tree, target) {
-            Some(found) => found.chip,
-            None => tree.root,
-        };
-    }
-    match nearest_within(search, Radius { chips: 20 }) {
-        Some(chip) => chip,
-        None => tree.root,
-    }
+    tree.root
 }

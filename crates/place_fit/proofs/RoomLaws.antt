@@ -1,7 +1,7 @@
 -- The tree over the rooms of a row.
-use Rattle.std.proofs.Common.{◌≡◌, ◌≢◌, ℕ, ◌+◌, ◌*◌, ◌/◌, ◌<◌, ◌≤◌, max, List, length, drop, set, get_or, sym, ap, ap₂, ◌∙◌, subst, zero, suc, inl, inr, arith, All}
+use Rattle.std.proofs.Common.{◌≡◌, ◌≢◌, ℕ, ◌+◌, ◌*◌, ◌/◌, ◌<◌, ◌≤◌, max, List, length, drop, get_or, ap, zero, suc, inl, inr, arith, All}
 use Rattle.std.proofs.lemmas.Bool.{cases_lt, cases_eq}
-use Rattle.std.proofs.lemmas.List.{length-set, get_or-set_same, get_or-set_other, get_or-drop, length-drop, get_or_default}
+use Rattle.std.proofs.lemmas.List.{get_or-drop, length-drop, get_or_default}
 use Rattle.place_fit.specs.RoomTree.{IsTree}
 
 -- the node has the greater of its children's rooms
@@ -81,48 +81,3 @@ module _ (leaves : ℕ) (tree : List ℕ) (is_tree : IsTree leaves tree) (need f
   }
 
 -- ---- a room changed
-
-pub mended : (leaves : ℕ) (tree : List ℕ) → IsTreeBut leaves 0 tree → IsTree leaves tree
-mended leaves tree but = record {
-  long = but.long;
-  greatest = λ q low high. but.greatest q low high (λ e. omega (arith, e));
-}
-
--- a leaf changed
-pub leaf_set : (leaves : ℕ) (tree : List ℕ) (node room : ℕ) → IsTree leaves tree → leaves ≤ node → IsTreeBut leaves (node / 2) (set tree node room)
-leaf_set leaves tree node room is_tree low = record {
-  long = length-set tree node room ∙ is_tree.long;
-  greatest = λ q some inner other.
-      get_or-set_other tree node q room 0 (λ e. omega (arith, e))
-      ∙ (is_tree.greatest q some inner
-      ∙ ap₂ max (sym (get_or-set_other tree node (2 * q) room 0 (λ e. other (omega (arith, e)))))
-      (sym (get_or-set_other tree node (2 * q + 1) room 0 (λ e. other (omega (arith, e))))));
-}
-
--- the parent of a node that was changed gets the greater of its children's rooms
-pub parent_set : (leaves : ℕ) (tree : List ℕ) (p room : ℕ) → IsTreeBut leaves p tree → 1 ≤ p → p < leaves
-    → room ≡ max (get_or tree (2 * p) 0) (get_or tree (2 * p + 1) 0) → IsTreeBut leaves (p / 2) (set tree p room)
-parent_set leaves tree p room but some inner is = record {
-  long = length-set tree p room ∙ but.long;
-  greatest = λ q low high other. elim (cases_eq q p) [
-    | inl here ↦ subst (IsGreatest (set tree p room)) (sym here) (
-        get_or-set_same tree p room 0 (omega (arith, but.long))
-        ∙ (is ∙ ap₂ max (sym (get_or-set_other tree p (2 * p) room 0 (λ e. omega (arith, e)))) (sym (get_or-set_other tree p (2 * p + 1) room 0 (λ e. omega (arith, e)))))
-        )
-    | inr there ↦ (
-        get_or-set_other tree p q room 0 there
-        ∙ (but.greatest q low high there
-        ∙ ap₂ max (sym (get_or-set_other tree p (2 * q) room 0 (λ e. other (omega (arith, e))))) (sym (get_or-set_other tree p (2 * q + 1) room 0 (λ e. other (omega (arith, e))))))
-        )
-  ];
-}
-
--- a node that has the greater of its children's rooms already
-pub already_greatest : (leaves : ℕ) (tree : List ℕ) (p : ℕ) → IsTreeBut leaves p tree → IsGreatest tree p → IsTree leaves tree
-already_greatest leaves tree p but here = record {
-  long = but.long;
-  greatest = λ q some inner. elim (cases_eq q p) [
-    | inl same ↦ subst (IsGreatest tree) (sym same) here
-    | inr other ↦ but.greatest q some inner other
-  ];
-}

@@ -1,5 +1,6 @@
 -- The spots that a board gives are those of the definition.
-use Rattle.std.proofs.Common.{◌≡◌, ◌≢◌, ℕ, ◌+◌, ◌-◌, ◌^◌, ◌<◌, ◌≤◌, ◌==◌, Bool, true, not, leb, ltb, cond, List, [], ◌∷◌, ◌++◌, length, take, filter, get_or, refl, sym, ap, ap₂, ◌∙◌, subst, zero, suc, Option, Some, None, slice_get, MatchOption, inl, inr, arith, All, AllPairs}
+use Rattle.std.proofs.Common.{◌≡◌, ◌≢◌, ℕ, ◌+◌, ◌-◌, ◌^◌, ◌<◌, ◌≤◌, ◌==◌, Bool, true, not, leb, ltb, cond, List, [], ◌∷◌, ◌++◌, length}
+use Rattle.std.proofs.Common.{take, filter, get_or, refl, sym, ap, ap₂, ◌∙◌, subst, zero, suc, Option, Some, None, slice_get, MatchOption, inl, inr, arith, All, AllPairs}
 use Rattle.std.proofs.lemmas.Bool.{cases_Bool, cond-true, cond-false, and_from, or_right, le-leb, lt-ltb, both_ways}
 use Rattle.std.proofs.lemmas.List.{length_push, length-take, take-append-le, take_at, get_or-take}
 use Rattle.std.specs.List.{AllZip}

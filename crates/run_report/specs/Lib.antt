@@ -8,6 +8,7 @@ pub use Rattle.mesh_core.specs.Opened
 pub use Rattle.mesh_core.specs.State
 pub mod Keys
 pub mod Listed
+pub mod Named
 pub mod Orders
 pub mod ReportText
 pub mod RunReport

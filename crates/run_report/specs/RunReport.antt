@@ -21,6 +21,7 @@ use Rattle.mesh_core.specs.State.{State, Hand, queue_at}
 use Rattle.mesh_core.specs.Ledger.{all_ports}
 use Rattle.run_report.specs.declared.reports.Report.{Report}
 use Rattle.run_report.specs.Listed.{placed_of, listed_keys}
+pub use Rattle.run_report.specs.Named.{named_delivery}
 use Rattle.run_report.specs.Orders.{IsSortedStably}
 
 -- ---- deliveries and dump records
@@ -32,15 +33,6 @@ delivery_key d = d.copy.packet ∷ d.vertex ∷ []
 -- by packet, then by x, y and the bit number of the output
 abbrev pub dump_key : DumpRec → List ℕ
 dump_key r = r.copy.packet ∷ r.chip.x ∷ r.chip.y ∷ out_number r.out ∷ []
-
--- the name of a vertex, and no byte where there is no such vertex (a mesh delivers to its vertices alone)
-abbrev pub vertex_name_of : Option (List ℕ × Spot) → List ℕ
-vertex_name_of (Some vertex) = vertex.0
-vertex_name_of None = []
-
--- a delivery as a report tells it: the name of the vertex, and the copy
-abbrev pub named_delivery : List (List ℕ × Spot) → Delivery → List ℕ × McCopy
-named_delivery placed d = (vertex_name_of (slice_get placed d.vertex), d.copy)
 
 -- The deliveries in their order, each with the name of its vertex.
 pub record IsDeliveredOf (placed : List (List ℕ × Spot)) (deliveries : List Delivery) (delivered : List (List ℕ × McCopy)) : Type 0 where

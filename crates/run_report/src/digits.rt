@@ -1,5 +1,5 @@
 // Hexadecimal digits, as many as a field has.
-ghost use Rattle.std.specs.Prelude.{◌≡◌, ◌<◌, false};
+ghost use Rattle.std.specs.Prelude.{◌≡◌, ◌<◌, [], ◌∷◌, ◌++◌, false};
 ghost use Rattle.std.specs.Fmt.{digit_glyph};
 ghost use Rattle.run_report.specs.ReportText.{word, hex};
 
@@ -14,10 +14,10 @@ fn digit(number: u32) -> u8
     DIGITS[number as usize]
 }
 
-// The eight digits of a number.
+// The eight digits of a number, and a byte after them.
 #[tactic(auto, unfolding(crate::specs::ReportText::hex))]
-pub(crate) fn word_digits(number: u32) -> [u8; 8]
-    ensures { result ≡ word number }
+pub(crate) fn word_digits(number: u32, after: u8) -> [u8; 9]
+    ensures { result ≡ word number ++ after ∷ [] }
 {
     let without_1 = number / 16;
     let without_2 = without_1 / 16;
@@ -35,13 +35,14 @@ pub(crate) fn word_digits(number: u32) -> [u8; 8]
         digit(without_2 % 16),
         digit(without_1 % 16),
         digit(number % 16),
+        after,
     ]
 }
 
-// The last six digits of a number.
+// The last six digits of a number, and a line feed.
 #[tactic(auto, unfolding(crate::specs::ReportText::hex))]
-pub(crate) fn route_digits(number: u32) -> [u8; 6]
-    ensures { result ≡ hex 6 number }
+pub(crate) fn route_digits(number: u32) -> [u8; 7]
+    ensures { result ≡ hex 6 number ++ 10 ∷ [] }
 {
     let without_1 = number / 16;
     let without_2 = without_1 / 16;
@@ -55,5 +56,6 @@ pub(crate) fn route_digits(number: u32) -> [u8; 6]
         digit(without_2 % 16),
         digit(without_1 % 16),
         digit(number % 16),
+        b'\n',
     ]
 }

@@ -16,6 +16,7 @@ mod digits;
 pub mod laws;
 mod lines;
 mod lists;
+mod named;
 mod orders;
 mod planned;
 mod plans;
@@ -27,6 +28,7 @@ mod waits;
 
 pub use causes::Refusal;
 pub use lines::{OUT_OF_MEMORY, line_of};
+pub use named::NamedDeliveries;
 pub use planned::PlannedGraph;
 pub use plans::plan_text;
 pub use reports::{Report, report_of};

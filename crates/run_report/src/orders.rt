@@ -1,23 +1,24 @@
 // Deliveries and dump records in the order of a report.
-ghost use Rattle.std.specs.Prelude.{◌≡◌, map, OnOk, IfOk, slice_get};
+ghost use Rattle.std.specs.Prelude.{◌≡◌, OnOk, IfOk};
 ghost use Rattle.run_report.specs.Orders.{IsSortedStably};
-ghost use Rattle.run_report.specs.RunReport.{delivery_key, dump_key, vertex_name_of, named_delivery, IsDeliveredOf};
+ghost use Rattle.run_report.specs.RunReport.{delivery_key, dump_key, IsDeliveredOf};
 
+use crate::named::NamedDeliveries;
 use mesh_core::Mesh;
-use spin_base::{Delivery, DumpRec, McCopy, Memory, Name, Seq, Spot};
+use spin_base::{Delivery, DumpRec, Memory, Name, Seq, Spot};
 use std::alloc::Global;
 
 /// The deliveries, by packet, then by the position of the vertex, each with the name of its vertex.
 pub fn delivered_of(
     alloc: Global,
-    placed: &[(Name, Spot)],
+    placed: Seq<(Name, Spot)>,
     mesh: &Mesh,
-) -> Result<Seq<(Name, McCopy)>, Memory>
-    ensures { IfOk result (λ delivered. IsDeliveredOf placed.now mesh.now.delivered delivered) }
+) -> Result<NamedDeliveries, Memory>
+    ensures { IfOk result (λ delivered. IsDeliveredOf placed mesh.now.delivered delivered) }
 {
     let mut sorted = Vec::from_slice(alloc, mesh.delivered())?;
     sort_deliveries(&mut sorted)?;
-    name_all(alloc, placed, sorted.as_slice())
+    Ok(NamedDeliveries::of(placed, sorted))
 }
 
 fn sort_deliveries(deliveries: &mut Vec<Delivery>) -> Result<(), Memory>
@@ -25,20 +26,6 @@ fn sort_deliveries(deliveries: &mut Vec<Delivery>) -> Result<(), Memory>
 {
     deliveries.sort_by_key(|delivery| (delivery.copy.packet, delivery.vertex))?;
     Ok(())
-}
-
-fn name_all(
-    alloc: Global,
-    placed: &[(Name, Spot)],
-    deliveries: &[Delivery],
-) -> Result<Seq<(Name, McCopy)>, Memory>
-    ensures { IfOk result (λ all. all ≡ map (named_delivery placed.now) deliveries.now) }
-{
-    let mut all = Seq::new(alloc);
-    for delivery in deliveries {
-        all.push((name_at(alloc, placed, delivery.vertex)?, delivery.copy))?;
-    }
-    Ok(all)
 }
 
 /// The dump records, by packet, chip and output.
@@ -62,14 +49,4 @@ fn sort_dumps(records: &mut Vec<DumpRec>) -> Result<(), Memory>
         )
     })?;
     Ok(())
-}
-
-// The name of a vertex, and no letter where there is no such vertex.
-fn name_at(alloc: Global, placed: &[(Name, Spot)], vertex: u32) -> Result<Name, Memory>
-    ensures { IfOk result (λ name. name ≡ vertex_name_of (slice_get placed.now vertex)) }
-{
-    match placed.get(vertex as usize) {
-        Some((name, _)) => Name::of(alloc, name.as_str()),
-        None => Name::of(alloc, ""),
-    }
 }

@@ -4,12 +4,13 @@ ghost use Rattle.app_graph.specs.ValidGraph.{IsValidGraph};
 ghost use Rattle.run_report.specs.RunReport.{IsReportOf};
 
 use crate::lists::{keys_of, placed_of};
+use crate::named::NamedDeliveries;
 use crate::orders::{delivered_of, dumped_of};
 use crate::planned::PlannedGraph;
 use crate::unsents::unsent_of;
 use crate::waits::waiting_of;
 use mesh_core::{Did, Mesh, Place};
-use spin_base::{Block, ChipTable, DumpRec, McCopy, Memory, Name, Seq, Spot};
+use spin_base::{Block, ChipTable, DumpRec, Memory, Name, Seq, Spot};
 use std::alloc::Global;
 
 /// What a report says.
@@ -24,7 +25,7 @@ pub struct Report {
     /// The answers to the events of a trace, in their order; none where the job was run.
     pub did: Seq<Did>,
     /// The copies that arrived, by packet, then by the position of the vertex.
-    pub delivered: Seq<(Name, McCopy)>,
+    pub delivered: NamedDeliveries,
     /// The copies that were dropped, by packet, chip and output.
     pub dumped: Seq<DumpRec>,
     /// The numbers of the packets of which a copy waits, with its place, by packet and place.
@@ -54,7 +55,8 @@ pub fn report_of(
 {
     let placed = placed_of(alloc, &planned.graph.vertices, planned.spots)?;
     let keys = keys_of(alloc, &planned.graph.nets, planned.nets)?;
-    let delivered = delivered_of(alloc, placed.as_slice(), mesh)?;
+    let named = placed_of(alloc, &planned.graph.vertices, planned.spots)?;
+    let delivered = delivered_of(alloc, named, mesh)?;
     let dumped = dumped_of(alloc, mesh)?;
     let waiting = waiting_of(alloc, mesh)?;
     let unsent = unsent_of(mesh);

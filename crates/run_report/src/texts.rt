@@ -2,14 +2,17 @@
 ghost use Rattle.std.specs.Prelude.{◌≡◌, ◌<◌, ◌^◌, [], ◌++◌, ◌∷◌, OnOk, IfOk, codes, decimal};
 ghost use Rattle.std.specs.List.{flat_map};
 ghost use Rattle.mesh_core.specs.declared.places.Place.TheVariants.{InQueue, Hand, CoreQueue};
+ghost use Rattle.run_report.specs.Named.{named_delivery};
 ghost use Rattle.run_report.specs.ReportText.{report_text, listed_text, row_total, word, hex, payload_word, place_line, keys_line, row_line, table_head, table_lines, did_word, event_line, event_lines, got_line, dump_line, wait_line, end_line, out_letters, port_letters, dir_letters};
 
 use crate::digits::{route_digits, word_digits};
+use crate::named::{NamedDeliveries, name_at};
 use crate::reports::Report;
 use itoa::Buffer;
 use mesh_core::{Did, Place};
 use spin_base::{
-    Block, Chip, ChipTable, Dir, DumpRec, Entry, McCopy, Memory, Name, Out, Port, Route, Seq, Spot,
+    Block, Chip, ChipTable, Delivery, Dir, DumpRec, Entry, McCopy, Memory, Name, Out, Port, Route,
+    Seq, Spot,
 };
 use std::alloc::Global;
 
@@ -42,7 +45,7 @@ fn put_report(text: &mut Vec<u8>, report: &Report) -> Result<(), Memory>
         report.tables.as_slice(),
     )?;
     put_events(text, report.did.as_slice())?;
-    put_gots(text, report.delivered.as_slice())?;
+    put_gots(text, &report.delivered)?;
     put_dumps(text, report.dumped.as_slice())?;
     put_waits(text, report.waiting.as_slice())?;
     put_end(text, report)?;
@@ -111,7 +114,7 @@ fn put_place(text: &mut Vec<u8>, vertex: &(Name, Spot)) -> Result<(), Memory>
 {
     put(text, "place ")?;
     put(text, vertex.0.as_str())?;
-    put(text, " ")?;
+    put_byte(text, b' ')?;
     put_chip(text, vertex.1.chip)?;
     put_number(text, u64::from(vertex.1.core), b'\n')
 }
@@ -131,7 +134,7 @@ fn put_keys(text: &mut Vec<u8>, net: &(Name, Block)) -> Result<(), Memory>
 {
     put(text, "keys ")?;
     put(text, net.0.as_str())?;
-    put(text, " ")?;
+    put_byte(text, b' ')?;
     put_word(text, net.1.key, b' ')?;
     put_word(text, net.1.mask, b'\n')
 }
@@ -216,25 +219,49 @@ fn did_end(did: Did) -> &'static str
     }
 }
 
-fn put_gots(text: &mut Vec<u8>, delivered: &[(Name, McCopy)]) -> Result<(), Memory>
+fn put_gots(text: &mut Vec<u8>, delivered: &NamedDeliveries) -> Result<(), Memory>
     ensures { OnOk result (text.new.items
         ≡ text.old.items ++ flat_map got_line delivered.now) }
 {
-    for delivery in delivered {
-        put_got(text, delivery)?;
+    let (placed, deliveries) = delivered.parts();
+    put_all_gots(text, placed, deliveries)?;
+    Ok(())
+}
+
+fn put_all_gots(
+    text: &mut Vec<u8>,
+    placed: &[(Name, Spot)],
+    deliveries: &[Delivery],
+) -> Result<(), Memory>
+    ensures { OnOk result (text.new.items
+        ≡ text.old.items ++ flat_map (λ d. got_line (named_delivery placed.now d)) deliveries.now) }
+{
+    for delivery in deliveries {
+        put_delivery(text, placed, delivery)?;
     }
     Ok(())
 }
 
-fn put_got(text: &mut Vec<u8>, delivery: &(Name, McCopy)) -> Result<(), Memory>
-    ensures { OnOk result (text.new.items ≡ text.old.items ++ got_line delivery.now) }
+fn put_delivery(
+    text: &mut Vec<u8>,
+    placed: &[(Name, Spot)],
+    delivery: &Delivery,
+) -> Result<(), Memory>
+    ensures { OnOk result (text.new.items
+        ≡ text.old.items ++ got_line (named_delivery placed.now delivery.now)) }
+{
+    put_got(text, name_at(placed, delivery.vertex), delivery.copy)
+}
+
+fn put_got(text: &mut Vec<u8>, name: &str, copy: McCopy) -> Result<(), Memory>
+    ensures { OnOk result (text.new.items ≡ text.old.items ++ got_line (name.now, copy)) }
 {
     put(text, "got ")?;
-    put(text, delivery.0.as_str())?;
-    put(text, " ")?;
-    put_number(text, u64::from(delivery.1.packet), b' ')?;
-    put_word(text, delivery.1.key, b' ')?;
-    put_payload(text, delivery.1.payload)
+    put(text, name)?;
+    put_byte(text, b' ')?;
+    put_number(text, u64::from(copy.packet), b' ')?;
+    put_word(text, copy.key, b' ')?;
+    put_payload(text, copy.payload)
 }
 
 fn put_dumps(text: &mut Vec<u8>, dumped: &[DumpRec]) -> Result<(), Memory>
@@ -384,9 +411,9 @@ fn put_chip(text: &mut Vec<u8>, chip: Chip) -> Result<(), Memory>
 fn put_word(text: &mut Vec<u8>, number: u32, after: u8) -> Result<(), Memory>
     ensures { OnOk result (text.new.items ≡ text.old.items ++ (word number ++ after ∷ [])) }
 {
-    let digits = word_digits(number);
+    let digits = word_digits(number, after);
     text.extend_from_slice(&digits)?;
-    put_byte(text, after)
+    Ok(())
 }
 
 // Puts the six hexadecimal digits of a route at the end, and a line feed.
@@ -395,7 +422,7 @@ fn put_route(text: &mut Vec<u8>, route: Route) -> Result<(), Memory>
 {
     let digits = route_digits(route.bits);
     text.extend_from_slice(&digits)?;
-    put_byte(text, b'\n')
+    Ok(())
 }
 
 // Puts a payload at the end, and a line feed.

@@ -1,61 +1,24 @@
 -- Lemmas on routes and their outputs.
-use Rattle.std.proofs.Common.{◌≡◌, ◌≢◌, ℕ, ◌+◌, ◌*◌, ◌%◌, ◌<◌, ◌≤◌, ◌^◌, List, [], ◌∷◌, ◌++◌, map, filter, take, get_or, length, true, false, arith, ap, refl, cond, append_assoc, append-nil, zero-add, w32, bit_or, lit<}
-use Rattle.std.specs.Int.{bit_at}
+use Rattle.std.proofs.Common.{◌≡◌, ◌≢◌, ℕ, ◌+◌, ◌*◌, ◌%◌, ◌<◌, ◌≤◌, ◌^◌, ◌==◌, List, [], ◌∷◌, ◌++◌, map, filter, length, zero, suc, length-append, arith, ap, sym, ◌∙◌, refl, append_assoc, append-nil, inl, inr, w32, bit_or, lit<}
+use Rattle.std.specs.Prelude.{bit_and}
 use Rattle.std.specs.List.{range_with_len}
-use Rattle.std.proofs.lemmas.Nat.{or_lt}
+use Rattle.std.specs.Int.{bit_at, bit_not, trailing_zeros}
+use Rattle.std.proofs.lemmas.Bool.{cases_eq, cases_lt}
+use Rattle.std.proofs.lemmas.Nat.{and_le_l, or_lt}
 use Rattle.std.proofs.Math.Pow.{pow-lt}
-use Rattle.std.proofs.lemmas.List.{take_more, map-append}
-use Rattle.std.proofs.lemmas.List.Elements.{filter-append}
-use Rattle.std.proofs.lemmas.List.FromFn.{filter_of_map_range_with_len_more}
-use Rattle.std.proofs.lemmas.Nat.Bits.{bit_at_above, bit_at_set_same, bit_at_set_other}
+use Rattle.std.proofs.lemmas.List.Sums.{count_by-le-length, length-filter}
+use Rattle.std.proofs.lemmas.Nat.Bits.{bit_at_above, bit_at-zero, bit_at_set_same, bit_at_set_other, bit_at-trailing_zeros, bit_at_clear_same, bit_at_clear_other}
 use Rattle.spin_base.specs.declared.routes.Out.{Out}
 use Rattle.spin_base.specs.declared.routes.Out.TheVariants.{Link, Core}
 use Rattle.spin_base.specs.declared.chips.Dir.{Dir}
 use Rattle.spin_base.specs.declared.chips.Dir.TheVariants.{East, NorthEast, North, West, SouthWest, South}
 use Rattle.spin_base.specs.declared.routes.Route.{Route}
-use Rattle.spin_base.specs.Outputs.{has, outs_of, link_outs, core_outs, out_number, IsOutput, WithOut}
+use Rattle.spin_base.specs.Outputs.{has, all_outs, outs_of, link_outs, core_outs, out_number, IsOutput, WithOut}
 use Rattle.spin_base.specs.Links.{dir_number}
-
--- the outputs of a route are its links and then its cores
-pub outs_by_parts : (r : Route) → outs_of r ≡ filter (has r) link_outs ++ filter (has r) core_outs
-outs_by_parts r = filter-append (has r) link_outs core_outs
 
 -- no bit from 24 on is set
 pub no_high_bit : (r : Route) (k : ℕ) → 24 ≤ k → bit_at r.bits k ≡ 0
 no_high_bit r k high = bit_at_above r.bits 24 k r.within high
-
--- the cores below j that a route has
-abbrev pub cores_below : Route → ℕ → List Out
-cores_below r j = filter (has r) (map Core (range_with_len 0 j))
-
-cores_below_next : (r : Route) (j : ℕ) → cores_below r (j + 1) ≡ cores_below r j ++ cond (has r (Core j)) (Core j ∷ []) []
-cores_below_next r j = filter_of_map_range_with_len_more (has r) Core 0 j j (zero-add j)
-
--- one more core, which the route has
-pub core_had : (r : Route) (before items : List Out) (j : ℕ) → items ≡ before ++ cores_below r j → has r (Core j) ≡ true → items ++ Core j ∷ [] ≡ before ++ cores_below r (j + 1)
-core_had r before items j is had =
-    rw (cores_below_next r j, had, is) (append_assoc before (cores_below r j) (Core j ∷ []))
-
--- one more core, which the route has not
-pub core_not_had : (r : Route) (before items : List Out) (j : ℕ) → items ≡ before ++ cores_below r j → has r (Core j) ≡ false → items ≡ before ++ cores_below r (j + 1)
-core_not_had r before items j is not_had =
-    rw (cores_below_next r j, not_had, append-nil (cores_below r j)) is
-
--- all eighteen cores
-pub cores_done : (r : Route) (before items : List Out) (j : ℕ) → j ≡ 18 → items ≡ before ++ cores_below r j → items ≡ before ++ filter (has r) core_outs
-unfolding core_outs
-cores_done r before items j e is = rw e at is
-
--- one more link of a list, which the route has or has not
-pub link_had : (r : Route) (links : List Dir) (items : List Out) (i : ℕ) (d : Dir) → items ≡ filter (has r) (map Link (take i links)) → i < length links →
-    has r (Link (get_or links i d)) ≡ true → items ++ Link (get_or links i d) ∷ [] ≡ filter (has r) (map Link (take (i + 1) links))
-link_had r links items i d is below had =
-    rw (take_more links i d below, map-append Link (take i links) (get_or links i d ∷ []), filter-append, had, is) refl
-
-pub link_not_had : (r : Route) (links : List Dir) (items : List Out) (i : ℕ) (d : Dir) → items ≡ filter (has r) (map Link (take i links)) → i < length links →
-    has r (Link (get_or links i d)) ≡ false → items ≡ filter (has r) (map Link (take (i + 1) links))
-link_not_had r links items i d is below had =
-    rw (take_more links i d below, map-append Link (take i links) (get_or links i d ∷ []), filter-append, had, append-nil) is
 
 -- a link's number is below 6
 pub dir_number_below : (d : Dir) → dir_number d < 6
@@ -108,3 +71,110 @@ set_bit_with_out r s o valid is =
           let apart : out_number p ≢ out_number o = λ e. other (out_number_injective p o e) in
           rw (is, bit_at_set_other w32 r.bits (out_number o) fits (out_number p) apart) refl;
     }
+
+-- ---- the set bits of a route, from the lowest on
+
+-- the outputs of a list that have their bit in a word
+abbrev pub outs_in : ℕ → List Out → List Out
+outs_in word outs = filter (λ o. bit_at word (out_number o) == 1) outs
+
+-- the numbers of outputs rise by one, from a number on
+RiseFrom : ℕ → List Out → Type 0
+RiseFrom k [] = Unit {0}
+RiseFrom k (o ∷ os) = (out_number o ≡ k) × RiseFrom (k + 1) os
+
+rise_cores : (a n k : ℕ) → 6 + a ≡ k → RiseFrom k (map Core (range_with_len a n))
+unfolding RiseFrom
+rise_cores a zero k e = tt
+rise_cores a (suc n) k e = (e, rise_cores (a + 1) n (k + 1) (omega (arith, e)))
+
+all_rise : RiseFrom 0 all_outs
+unfolding link_outs core_outs RiseFrom
+all_rise = (refl, (refl, (refl, (refl, (refl, (refl, rise_cores 0 18 6 refl))))))
+
+all_are : length all_outs ≡ 24
+unfolding link_outs core_outs
+all_are = refl
+
+-- no bit, no output
+pub no_outs : (os : List Out) → outs_in 0 os ≡ []
+no_outs [] = refl
+no_outs (o ∷ os) = rw (bit_at-zero (out_number o)) (no_outs os)
+
+pub all_found : (r : Route) (items : List Out) (word : ℕ) → items ++ outs_in word all_outs ≡ outs_of r → word ≡ 0 → items ≡ outs_of r
+all_found r items word found none = sym (append-nil items) ∙ (ap (λ l. items ++ l) (sym (no_outs all_outs) ∙ ap (λ w. outs_in w all_outs) (sym none)) ∙ found)
+
+-- a word without one of its bits
+abbrev pub less : ℕ → ℕ → ℕ
+less word i = bit_and word (bit_not w32 (1 * 2 ^ i % 2 ^ 32))
+
+module _ (word : ℕ) (fits : word < 2 ^ 24) (some : word ≢ 0) where
+  abbrev lowest : ℕ
+  lowest = trailing_zeros w32 word
+
+  low : (lowest < 32) × (bit_at word lowest ≡ 1) × ((k : ℕ) → k < lowest → bit_at word k ≡ 0)
+  low = bit_at-trailing_zeros w32 word (omega (arith, some)) (omega (arith, fits))
+
+  gone : bit_at (less word lowest) lowest ≡ 0
+  gone = bit_at_clear_same w32 word lowest low.0
+
+  kept : (k : ℕ) → k < 32 → k ≢ lowest → bit_at (less word lowest) k ≡ bit_at word k
+  kept k within other = bit_at_clear_other w32 word lowest low.0 k within other
+
+  pub lowest_below : lowest < 24
+  lowest_below = elim (cases_lt lowest 24) [
+    | inl below ↦ below
+    | inr above ↦ absurd (omega (arith, low.1, bit_at_above word 24 lowest fits above))
+  ]
+
+  pub less_fits : less word lowest < 2 ^ 24
+  less_fits = omega (arith, fits, and_le_l word (bit_not w32 (1 * 2 ^ lowest % 2 ^ 32)))
+
+  pub less_is_less : less word lowest < word
+  less_is_less = elim (cases_eq (less word lowest) word) [
+    | inl same ↦ absurd (omega (arith, gone, ap (λ n. bit_at n lowest) same, low.1))
+    | inr other ↦ omega (arith, and_le_l word (bit_not w32 (1 * 2 ^ lowest % 2 ^ 32)), other)
+  ]
+
+  -- past the lowest bit both words have the same outputs
+  same_past : (os : List Out) (k : ℕ) → RiseFrom k os → lowest < k → k + length os ≤ 32 → outs_in word os ≡ outs_in (less word lowest) os
+  unfolding RiseFrom
+  same_past [] k rise past within = refl
+  same_past (o ∷ os) k rise past within =
+      let bit : bit_at (less word lowest) (out_number o) ≡ bit_at word (out_number o) = kept (out_number o) (omega (arith, rise.0, within)) (λ e. omega (arith, rise.0, past, e)) in
+      rw (bit, same_past os (k + 1) rise.1 (omega (arith, past)) (omega (arith, within))) refl
+
+  -- the output of the lowest bit comes first
+  lowest_first : (os : List Out) (k : ℕ) (first : Out) → out_number first ≡ lowest → RiseFrom k os → k ≤ lowest → lowest < k + length os → k + length os ≤ 32 →
+      outs_in word os ≡ first ∷ outs_in (less word lowest) os
+  unfolding RiseFrom
+  lowest_first [] k first is rise from below within = absurd (omega (arith, from, below))
+  lowest_first (o ∷ os) k first is rise from below within = elim (cases_eq k lowest) [
+    | inl same ↦
+        let here : out_number o ≡ lowest = rise.0 ∙ same in
+        let one : bit_at word (out_number o) ≡ 1 = ap (bit_at word) here ∙ low.1 in
+        let none : bit_at (less word lowest) (out_number o) ≡ 0 = ap (bit_at (less word lowest)) here ∙ gone in
+        rw (one, none, same_past os (k + 1) rise.1 (omega (arith, same)) (omega (arith, within)), out_number_injective o first (here ∙ sym is)) refl
+    | inr other ↦
+        let none : bit_at word (out_number o) ≡ 0 = ap (bit_at word) rise.0 ∙ low.2 k (omega (arith, from, other)) in
+        let none' : bit_at (less word lowest) (out_number o) ≡ 0 = kept (out_number o) (omega (arith, rise.0, from, low.0)) (λ e. other (sym rise.0 ∙ e)) ∙ none in
+        rw (none, none') (lowest_first os (k + 1) first is rise.1 (omega (arith, from, other)) (omega (arith, below)) (omega (arith, within)))
+  ]
+
+  module _ (r : Route) (items : List Out) (so_far : items ++ outs_in word all_outs ≡ outs_of r) (first : Out) (is : out_number first ≡ lowest) where
+    split : outs_in word all_outs ≡ first ∷ outs_in (less word lowest) all_outs
+    split = lowest_first all_outs 0 first is all_rise (omega arith) (omega (arith, all_are, lowest_below)) (omega (arith, all_are))
+
+    pub one_more : (items ++ first ∷ []) ++ outs_in (less word lowest) all_outs ≡ outs_of r
+    one_more = append_assoc items (first ∷ []) (outs_in (less word lowest) all_outs) ∙ (ap (λ l. items ++ l) (sym split) ∙ so_far)
+
+    pub room_left : length items < 24
+    room_left = omega (
+      arith,
+      ap length so_far,
+      ap length split,
+      length-append items (outs_in word all_outs),
+      length-filter (has r) all_outs,
+      count_by-le-length (has r) all_outs,
+      all_are,
+    )

@@ -1,4 +1,7 @@
 // Copies of packets, and what becomes of them.
+ghost use Rattle.std.specs.Prelude.{◌≡◌};
+ghost use Rattle.spin_base.specs.Hops.{onward};
+
 use crate::chips::{Chip, Port};
 use crate::routes::Out;
 
@@ -12,6 +15,18 @@ pub struct McCopy {
     pub payload: Option<u32>,
     /// How many routers the copy has passed. It stays at 4,294,967,295, and a router gives a copy of that number no output.
     pub hop: u32,
+}
+
+impl McCopy {
+    /// The copy behind a router: one hop more. One more than 4,294,967,295 is that number again.
+    pub fn onward(self) -> McCopy
+        ensures { result ≡ onward self }
+    {
+        McCopy {
+            hop: self.hop.saturating_add(1),
+            ..self
+        }
+    }
 }
 
 /// A copy that could not leave by an output, and was dropped there.

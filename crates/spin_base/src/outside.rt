@@ -43,12 +43,13 @@ pub trait Sink {
         ensures counted { faults self.old ≤ faults self.new };
 }
 
-/// What workers enter before each of their turns. `enter` may wait.
+/// What workers enter before they cover tables, and before each of their turns. A gate may hold them. No clause says when it is entered,
+/// or by whom: what follows is what the program does.
 ///
 /// Workers are numbered from 0. What is to be done is cut in runs of equal length, the last shorter, a run for each worker: so
 /// there may be fewer than were asked for, as three for five chips and four workers. Phase 0 is covering: each worker enters it
-/// once, with step 0. Phase r from 1 is the r-th round of the machine: each worker enters it with step s before it gives its
-/// actors their turn s + 1, and once more after its last turn.
+/// once, with step 0. Phase r from 1 is the r-th round, counted anew where copies were put back: each worker enters it with step s
+/// before it gives its actors their turn s + 1, and once more after its last turn.
 pub trait Gate: Sync {
     fn enter(&self, phase: u32, worker: u32, step: u32);
 }

@@ -1,6 +1,5 @@
 // Routes: which links and cores get a copy of a packet.
-ghost use Rattle.std.specs.Prelude.{◌≡◌, ◌<◌, ◌≤◌, ◌^◌, ◌++◌, filter, count_by, if◌then◌else◌};
-ghost use Rattle.arrayvec.specs.ArrayVec.{array_vec_len};
+ghost use Rattle.std.specs.Prelude.{◌≡◌, ◌<◌, ◌^◌, count_by, if◌then◌else◌};
 
 use crate::chips::{CORES, Dir};
 use arrayvec::ArrayVec;
@@ -19,7 +18,7 @@ impl Default for Out {
 }
 
 impl Out {
-    ghost use Rattle.spin_base.specs.Outputs.{out_number};
+    ghost use Rattle.spin_base.specs.Outputs.{out_number, IsOutput};
 
     /// The output's bit in a route: bits 0 to 5 are the links, bits 6 to 23 the cores 0 to 17 (SpiNNaker datasheet).
     pub fn number(self) -> u16
@@ -28,6 +27,18 @@ impl Out {
         match self {
             Out::Link(link) => u16::from(link.number()),
             Out::Core(core) => 6 + u16::from(core),
+        }
+    }
+
+    /// The output of a bit.
+    pub fn of_bit(number: u8) -> Out
+        requires { number < 24 }
+        ensures output { IsOutput result }
+        ensures number { out_number result ≡ number }
+    {
+        match Dir::from_number(number) {
+            Some(link) => Out::Link(link),
+            None => Out::Core(number - 6),
         }
     }
 }
@@ -45,7 +56,7 @@ pub struct Route {
 impl Route {
     ghost use Rattle.spin_base.specs.Equality.{out_eq};
     ghost use Rattle.spin_base.specs.declared.routes.Out.{Out};
-    ghost use Rattle.spin_base.specs.Outputs.{has, outs_of, link_outs, core_outs, IsOutput, WithOut, nothing};
+    ghost use Rattle.spin_base.specs.Outputs.{has, outs_of, IsOutput, WithOut, nothing};
 
     /// No link and no core.
     pub fn nothing() -> Route
@@ -79,40 +90,18 @@ impl Route {
     }
 
     /// The outputs that get a copy, in the order of their bits, each once.
-    #[tactic(auto, using(crate::proofs::Outputs::outs_by_parts))]
     pub fn outs(self) -> Outs
         ensures all { result.items ≡ outs_of self }
         ensures once { (o : Out) → IsOutput o
             → count_by (out_eq o) result.items ≡ (if has self o then 1 else 0) }
     {
-        let mut outs = self.links();
-        self.add_cores(&mut outs);
-        outs
-    }
-
-    // The links that get a copy.
-    fn links(self) -> Outs
-        ensures all { result.items ≡ filter (has self) link_outs }
-        ensures few { array_vec_len result ≤ 6 }
-    {
         let mut outs = Outs::new();
-        for link in Dir::ALL {
-            if self.has(Out::Link(link)) {
-                outs.push(Out::Link(link));
-            }
+        let mut left = self.bits;
+        while left != 0 {
+            let number = left.trailing_zeros();
+            left &= !(1 << number);
+            outs.push(Out::of_bit(number as u8));
         }
         outs
-    }
-
-    // Adds the cores that get a copy.
-    fn add_cores(self, outs: &mut Outs)
-        requires { array_vec_len outs.old ≤ 6 }
-        ensures { outs.new.items ≡ outs.old.items ++ filter (has self) core_outs }
-    {
-        for core in 0..CORES {
-            if self.has(Out::Core(core)) {
-                outs.push(Out::Core(core));
-            }
-        }
     }
 }

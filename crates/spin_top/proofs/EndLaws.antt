@@ -44,6 +44,7 @@ use Rattle.spin_top.specs.Made.{HasNoJob, IsJobOf, from_job, checked, done, IsMa
 use Rattle.spin_top.specs.Writing.{IsWritten, Writing, told_unmade}
 use Rattle.spin_top.proofs.AppLaws.{IsSpared, bytes_refused_spared, fault_spared, memory_spared, none_refused, zero_spared}
 use Rattle.spin_top.proofs.CheckLaws.{checked_has_nets, fault_other, IsOther, memory_other, one_due, refused_other, with_nets, zero_other}
+use Rattle.spin_top.proofs.NameLaws.{HasNames, names_given}
 use Rattle.spin_top.proofs.InputLaws.{answered_not_refused, read_told, refusal_due, refused_in_part, refused_quiet, served_memory}
 
 -- ---- words
@@ -98,6 +99,9 @@ module _ {words : List (List ℕ)} {reading : Reading} {writing : Writing} {o : 
     ]
     | refused r cause parts unloaded written ↦ subst P (sym parts) none
   ]
+
+  pub names_clause : WhereGiven o.parts HasNames
+  names_clause = of_parts (λ p. WhereGiven p HasNames) tt (λ text m. names_given m.word m.job o.parts text m.made m.names)
 
   pub plan_clause : WhereGiven o.parts IsThePlan
   plan_clause = of_parts (λ p. WhereGiven p IsThePlan) tt (λ text m. plan_given m.made)

@@ -13,6 +13,7 @@ use Rattle.par_compile.specs.Compiled.{IsPlanOf}
 use Rattle.par_compile.specs.declared.compiling.Plan.{Plan}
 use Rattle.table_load.specs.Images.{Spells}
 use Rattle.table_load.specs.declared.tables.Image.{Image}
+use Rattle.job_readers.specs.Named.{HasNamesApart}
 use Rattle.job_readers.specs.declared.jobs.Job.{Job}
 use Rattle.run_report.specs.ReportText.{line}
 use Rattle.spin_words.specs.Commands.{spelled}
@@ -33,8 +34,7 @@ use Rattle.spin_top.specs.Causes.{AskForApps, AskForCheck}
 
 -- ---- words of a job
 
--- The job of a word: for `gen N` that of the number, and nothing is read; for each other one all bytes that the source had
--- left are the job.
+-- The job of a word: for `gen N` that of the number, and nothing is read; for each other one the job that all bytes left are.
 abbrev pub IsJobOf : JobWord → Reading → Job → Type 0
 IsJobOf Run reading job = IsReadAs job_in reading job
 IsJobOf Reinject reading job = IsReadAs job_in reading job
@@ -52,12 +52,13 @@ HasNoJob Compile reading r = HasNoInput job_in reading r
 HasNoJob Tables reading r = HasNoInput job_in reading r
 HasNoJob (Gen n) reading r = IsUntouched reading × (r ≡ refusals.Memory)
 
--- The words are one of a job; it has its job; and the word makes this of the job.
+-- The words are one of a job; it has its job, in which no name stands twice; and the word makes this of the job.
 pub record IsMadeOfJob (words : List (List ℕ)) (reading : Reading) (parts : Parts) (text : List ℕ) : Type 0 where
   pub word : JobWord
   pub is_word : spelled words ≡ Some (OfJob word)
   pub job : Job
   pub its_job : IsJobOf word reading job
+  pub names : HasNamesApart job.graph
   pub made : IsMadeOf word job parts text
 
 -- ---- checks
@@ -67,9 +68,8 @@ abbrev pub IsRightOfPlans : Request → List ℕ → Type 0
 IsRightOfPlans request text = (target : ℕ) (plan : Plan) (v : Image) → IsPlanOf request.job.machine request.job.graph target plan →
     HasKeptRows request.job.machine plan.tables v → request.trees ≡ trees_of plan.nets → Spells v request.image → text ≡ right_line
 
--- The text is the answer to a request, and the only one. Where it says `right`, the tables that the image loads route each key of
--- each net by the net's tree; where it says `wrong`, they give a key that it names another route. What the compiler makes is
--- answered `right`.
+-- The text is the only answer to a request. Where it says `right`, the tables that the image loads route each key of each net by its
+-- tree; where it says `wrong`, they give a key that it names another route. What the compiler makes is answered `right`.
 pub record IsChecked (request : Request) (text : List ℕ) : Type 0 where
   pub answer : IsAnswer request.job.machine request.job.graph request.trees request.image text
   pub only : (other : List ℕ) → IsAnswer request.job.machine request.job.graph request.trees request.image other → other ≡ text

@@ -3,6 +3,7 @@ ghost use Rattle.std.specs.Prelude.{◌≡◌, IfOk, IfErr};
 ghost use Rattle.app_graph.specs.RunPart.{IsRunOf};
 ghost use Rattle.app_graph.specs.ValidGraph.{IsValidGraph};
 ghost use Rattle.job_gen.specs.Generated.{gen_job};
+ghost use Rattle.job_readers.specs.Named.{HasNamesApart};
 ghost use Rattle.run_report.specs.declared.causes.Refusal.TheVariants.{Memory as NoMemory};
 ghost use Rattle.spin_input.specs.Inputs.{reading_of};
 ghost use Rattle.spin_top.specs.Made.{HasNoJob, IsJobOf};
@@ -23,6 +24,7 @@ pub(crate) fn job_for<S: Source>(
 ) -> Result<Job, Refusal>
     ensures job { IfOk result (IsJobOf word (reading_of S.left S.faults source.old source.new)) }
     ensures graph { IfOk result (λ job. IsValidGraph job.graph) }
+    ensures names { IfOk result (λ job. HasNamesApart job.graph) }
     ensures run { IfOk result (λ job. IsRunOf job.graph job.run) }
     ensures err { IfErr result (HasNoJob word (reading_of S.left S.faults source.old source.new)) }
 {
@@ -36,6 +38,7 @@ pub(crate) fn job_for<S: Source>(
 fn generated_job(alloc: Global, number: u64) -> Result<Job, Refusal>
     ensures job { IfOk result (λ job. job ≡ gen_job number) }
     ensures graph { IfOk result (λ job. IsValidGraph job.graph) }
+    ensures names { IfOk result (λ job. HasNamesApart job.graph) }
     ensures run { IfOk result (λ job. IsRunOf job.graph job.run) }
     ensures err { IfErr result (λ r. r ≡ NoMemory) }
 {

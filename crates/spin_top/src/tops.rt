@@ -1,5 +1,6 @@
 // The top call.
 ghost use Rattle.std.specs.Prelude.{◌≡◌, ◌⊎◌, Some, None, IfOk, IfErr, MatchResult};
+ghost use Rattle.job_readers.specs.Named.{HasNamesApart};
 ghost use Rattle.mesh_core.specs.Opened.{MeetsJobLedger};
 ghost use Rattle.spin_base.specs.Outside.{FaultsRose};
 ghost use Rattle.spin_words.specs.Commands.{spelled, texts_of};
@@ -63,6 +64,7 @@ pub fn spin<Rt: Threads + Wait + Sync, S: Source, K: Sink, G: Gate>(
         (reading_of S.left S.faults source.old source.new)
         (writing_of K.written K.faults sink.old sink.new)
         result }
+    ensures names { WhereGiven result.parts (λ job plan. HasNamesApart job.graph) }
     ensures plan { WhereGiven result.parts IsThePlan }
     ensures ledger { WhereRun result.parts (λ job plan mesh report.
         MeetsJobLedger mesh plan.nets job.run.packets) }

@@ -1,3 +1,4 @@
 mod CommonLemmas
+mod KnownLemmas
 mod LaneLemmas
 pub mod MemoryLemmas

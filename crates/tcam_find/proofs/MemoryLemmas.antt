@@ -1,9 +1,8 @@
 -- The entries of a memory, which stand in groups of eight.
-use Rattle.std.proofs.Common.{◌≡◌, ℕ, ◌+◌, ◌*◌, ◌<◌, ◌≤◌, eqb, Bool, true, false, List, [], ◌∷◌, ◌++◌, length, get_or, set, replicate, bit_and, refl, sym, ap, ◌∙◌, subst, arith, zero, suc, Some, None, slice_get, ◌≢◌, ◌-◌, inl, inr}
+use Rattle.std.proofs.Common.{◌≡◌, ℕ, ◌+◌, ◌*◌, ◌<◌, ◌≤◌, eqb, Bool, true, false, List, [], ◌∷◌, ◌++◌, length, get_or, set, replicate, bit_and, refl, sym, ap, ◌∙◌, subst, arith, zero, suc, Some, None, slice_get, ◌-◌, inl, inr}
 use Rattle.std.proofs.lemmas.Bool.{cases_lt, eqb-false, eqb-true}
-use Rattle.std.proofs.lemmas.List.{length-replicate, get_or-set_other, length-append, replicate-append-replicate, set-append_left, set-append_right}
+use Rattle.std.proofs.lemmas.List.{length-replicate, length-append, replicate-append-replicate, set-append_left, set-append_right}
 use Rattle.std.proofs.lemmas.List.Elements.{All-cons, All-head, All-nil, All-replicate, All-set, All-tail}
-use Rattle.std.proofs.lemmas.Grind.{get_or-set_at}
 use Rattle.std.specs.Int.Bits.{and_zero_r}
 use Rattle.spin_base.proofs.Places.{slice_get-append_left, slice_get-set_other, slice_get-set_same}
 use Rattle.spin_base.specs.declared.routes.Route.{Route}
@@ -14,7 +13,7 @@ use Rattle.spin_base.specs.Lookup.{default_route, lookup, matches}
 use Rattle.spin_base.specs.Outputs.{nothing}
 use Rattle.tcam_find.specs.declared.groups.Group.{Group}
 use Rattle.tcam_find.specs.Lanes.{first_route}
-use Rattle.tcam_find.specs.Memory.{HaveInCommon, NoneMatches, NoneMatchesFrom, entries_in, entries_of, entries_of_groups, empty_memory, unused}
+use Rattle.tcam_find.specs.Memory.{HaveInCommon, Misses, NoneMatches, NoneMatchesFrom, entries_in, entries_of, entries_of_groups, empty_memory, unused}
 
 pub length-entries_of : (keys masks : List ℕ) (routes : List Route) → length masks ≡ length keys → length routes ≡ length keys
     → length (entries_of keys masks routes) ≡ length keys
@@ -176,20 +175,11 @@ lookup_none (x ∷ xs) key port none =
     lookup_none xs key port (λ k y there. none (suc k) y there)
     ∙ pass (entries_in x) (entries_of_groups xs) key port (none 0 x refl)
 
--- what holds before a block, and in the block's first places, holds before those
-pub through_block : {P : ℕ → Type 0} (from at r : ℕ) → ((k : ℕ) → from ≤ k → k < at → P k) → ((k : ℕ) → k < r → P (at + k))
-    → (k : ℕ) → from ≤ k → k < at + r → P k
-through_block {P} from at r before here k behind lt =
-    elim (cases_lt k at) [
-      | inl early ↦ before k behind early
-      | inr late ↦ (let back : at + (k - at) ≡ k = omega (arith, late) in subst P back (here (k - at) (omega (arith, late, lt))))
-    ]
-
 -- groups before the next that may have an entry that matches
 pub passed_over : (gs : List Group) (common values : List ℕ) (group next key : ℕ)
     → ((i : ℕ) (x : Group) → i < group → slice_get gs i ≡ Some x → NoneMatches key (entries_in x))
     → ((x : Group) → slice_get gs group ≡ Some x → NoneMatches key (entries_in x))
-    → ((i : ℕ) → group + 1 ≤ i → i < next → eqb (bit_and key (get_or common i 0)) (get_or values i 0) ≡ false)
+    → ((i : ℕ) → group + 1 ≤ i → i < next → Misses common values i key)
     → HaveInCommon gs common values
     → (i : ℕ) (x : Group) → i < next → slice_get gs i ≡ Some x → NoneMatches key (entries_in x)
 passed_over gs common values group next key before here apart others i x early got =
@@ -248,36 +238,21 @@ pub rest_after : (gs : List Group) (i used more : ℕ) (h : Group) → i < more 
 rest_after gs i used more h inside longer rest k key x far got =
     rest k key x (omega (arith, far, longer)) (sym (slice_get-set_other gs i k h (λ same. omega (arith, far, inside, same))) ∙ got)
 
-pub common_after : (gs : List Group) (common values : List ℕ) (i j used c v : ℕ) (g h : Group) (e : Entry)
-    → slice_get gs i ≡ Some g → entries_in h ≡ set (entries_in g) j e → i < length common → i < length values
-    → NoneMatchesFrom used gs → HaveInCommon gs common values
-    → ((key : ℕ) → eqb (bit_and key c) v ≡ false → matches e key ≡ false)
-    → (i < used → (key : ℕ) → eqb (bit_and key c) v ≡ false → eqb (bit_and key (get_or common i 0)) (get_or values i 0) ≡ false)
-    → HaveInCommon (set gs i h) (set common i c) (set values i v)
-common_after gs common values i j used c v g h e got put in_common in_values rest others of_entry of_others k key x got_x apart =
+pub common_after : (gs : List Group) (common values new_common new_values : List ℕ) (i j : ℕ) (g h : Group) (e : Entry)
+    → slice_get gs i ≡ Some g → entries_in h ≡ set (entries_in g) j e → HaveInCommon gs common values
+    → ((k key : ℕ) → Misses new_common new_values k key → Misses common values k key)
+    → ((key : ℕ) → Misses new_common new_values i key → matches e key ≡ false)
+    → HaveInCommon (set gs i h) new_common new_values
+common_after gs common values new_common new_values i j g h e got put others before of_entry k key x got_x miss =
     by_place (eqb k i) refl
   where
-    none_before : eqb (bit_and key c) v ≡ false → NoneMatches key (entries_in g)
-    none_before there =
-        elim (cases_lt i used) [
-          | inl early ↦ others i key g got (of_others early key there)
-          | inr late ↦ rest i key g late got
-        ]
-
     by_place : (b : Bool) → eqb k i ≡ b → NoneMatches key (entries_in x)
     by_place true is =
         let same : k ≡ i = eqb-true k i is in
-        let the_common : get_or (set common i c) k 0 ≡ c = get_or-set_at common i k c 0 same in_common in
-        let the_values : get_or (set values i v) k 0 ≡ v = get_or-set_at values i k v 0 same in_values in
-        let there : eqb (bit_and key c) v ≡ false =
-        ap (λ n. eqb (bit_and key n) v) (sym the_common) ∙ ap (λ n. eqb (bit_and key (get_or (set common i c) k 0)) n) (sym the_values) ∙ apart in
         let at : slice_get (set gs i h) k ≡ Some h = ap (slice_get (set gs i h)) same ∙ slice_get-set_same gs i g h got in
         let is_h : h ≡ x = cc in
+        let here : Misses new_common new_values i key = subst (λ n. Misses new_common new_values n key) same miss in
         subst (NoneMatches key) (sym put ∙ ap entries_in is_h)
-        (All-set (λ e. matches e key ≡ false) (entries_in g) j e (of_entry key there) (none_before there))
+        (All-set (λ e. matches e key ≡ false) (entries_in g) j e (of_entry key here) (others i key g got (before i key here)))
     by_place false is =
-        let other : k ≢ i = eqb-false k i is in
-        let there : eqb (bit_and key (get_or common k 0)) (get_or values k 0) ≡ false =
-        ap (λ n. eqb (bit_and key n) (get_or values k 0)) (sym (get_or-set_other common i k c 0 other))
-        ∙ ap (λ n. eqb (bit_and key (get_or (set common i c) k 0)) n) (sym (get_or-set_other values i k v 0 other)) ∙ apart in
-        others k key x (sym (slice_get-set_other gs i k h other) ∙ got_x) there
+        others k key x (sym (slice_get-set_other gs i k h (eqb-false k i is)) ∙ got_x) (before k key miss)

@@ -1,5 +1,5 @@
 -- The lookup memory of a router.
-use Rattle.std.specs.Prelude.{◌≡◌, ℕ, ◌≤◌, ◌==◌, false, List, [], ◌∷◌, All, Some, bit_and, replicate, flat_map, slice_get, slice_index_or}
+use Rattle.std.specs.Prelude.{◌≡◌, ℕ, ◌≤◌, ◌<◌, ◌/◌, ◌==◌, false, List, [], ◌∷◌, All, Some, bit_and, replicate, flat_map, slice_get, slice_index_or}
 use Rattle.spin_base.specs.declared.routes.Route.{Route}
 use Rattle.spin_base.specs.declared.sizes.TheConstants.{ROUTER_ENTRIES}
 use Rattle.spin_base.specs.declared.blocks.Entry.{Entry}
@@ -39,8 +39,14 @@ NoneMatches key entries = All (λ e. matches e key ≡ false) entries
 abbrev pub NoneMatchesFrom : ℕ → List Group → Type 0
 NoneMatchesFrom from groups = (i key : ℕ) (g : Group) → from ≤ i → slice_get groups i ≡ Some g → NoneMatches key (entries_in g)
 
--- Each group has bits in common, with values: where a key has other values there, no entry of the group matches it.
+-- a key has other values at the bits that a place of two rows tells
+abbrev pub Misses : List ℕ → List ℕ → ℕ → ℕ → Type 0
+Misses common values i key = (bit_and key (slice_index_or common i 0) == slice_index_or values i 0) ≡ false
+
+-- Each group has bits in common, with values: no entry of a group matches a key that misses it.
 abbrev pub HaveInCommon : List Group → List ℕ → List ℕ → Type 0
-HaveInCommon groups common values =
-    (i key : ℕ) (g : Group) → slice_get groups i ≡ Some g
-    → (bit_and key (slice_index_or common i 0) == slice_index_or values i 0) ≡ false → NoneMatches key (entries_in g)
+HaveInCommon groups common values = (i key : ℕ) (g : Group) → slice_get groups i ≡ Some g → Misses common values i key → NoneMatches key (entries_in g)
+
+-- So has each block of eight groups: a key that misses a block misses each group of it.
+abbrev pub TellOfGroups : List ℕ → List ℕ → List ℕ → List ℕ → Type 0
+TellOfGroups common values block_common block_values = (i key : ℕ) → i < 128 → Misses block_common block_values (i / 8) key → Misses common values i key

@@ -1,12 +1,14 @@
-// Eight entries that stand together, and the bits that they have in common.
-ghost use Rattle.std.specs.Prelude.{◌≡◌, ℕ, ◌<◌, ◌==◌, false, bit_and, length};
-ghost use Rattle.spin_base.specs.Lookup.{matches};
+// Eight entries that stand together.
+ghost use Rattle.std.specs.Prelude.{◌≡◌, length};
 
 use crate::lanes::{LANES, first_match};
 use spin_base::{Entry, ROUTER_ENTRIES, Route};
 
 /// How many groups a memory has.
 pub(crate) const GROUPS: usize = ROUTER_ENTRIES / LANES;
+
+/// How many blocks of eight groups a memory has.
+pub(crate) const BLOCKS: usize = GROUPS / LANES;
 
 /// Eight entries: 96 bytes, so that a lookup reads two lines of a processor's cache.
 #[derive(Clone, Copy)]
@@ -79,23 +81,5 @@ impl Group {
         } else {
             None
         }
-    }
-}
-
-/// The values of a group's common bits, and these bits, once an entry is in the group. What the entry stands in place of still counts,
-/// unless the group is the first that is not yet used, or one behind.
-#[inline(always)]
-pub(crate) fn in_common(group: usize, used: usize, value: u32, common: u32, e: Entry) -> (u32, u32)
-    ensures of_entry { (key : ℕ) → (bit_and key result.1 == result.0) ≡ false → matches e key ≡ false }
-    ensures of_others { group < used → (key : ℕ) → (bit_and key result.1 == result.0) ≡ false
-        → (bit_and key common == value) ≡ false }
-{
-    if group >= used {
-        (e.key, e.mask)
-    } else if e.key & e.mask == e.key {
-        let both = common & e.mask & !(value ^ e.key);
-        (value & both, both)
-    } else {
-        (value, common)
     }
 }

@@ -5,6 +5,7 @@
 #![tactic(auto)]
 
 mod groups;
+mod known;
 mod lanes;
 mod memory;
 

@@ -1,28 +1,25 @@
 // The memory itself.
 ghost use Rattle.spin_base.specs.Links.{dir_number};
 ghost use Rattle.spin_base.specs.Lookup.{default_route};
-ghost use Rattle.std.specs.Prelude.{◌≡◌, ℕ, ◌+◌, ◌<◌, ◌≤◌, ◌==◌, ◌^◌, false, bit_and, length, slice_index};
+ghost use Rattle.std.specs.Prelude.{◌≡◌, ◌^◌};
 ghost use Rattle.tcam_find.specs.Memory.{HaveInCommon, NoneMatchesFrom};
 
-use crate::groups::{GROUPS, Group, in_common};
-use crate::lanes::{LANES, first_match};
+use crate::groups::{GROUPS, Group};
+use crate::known::Known;
+use crate::lanes::LANES;
 use spin_base::{Dir, Entry, Port, Route, Shared};
 use std::marker::Model;
 
 /// The lookup memory of a router: 1,024 entries, seen as their list.
 ///
-/// They stand in groups of eight. Behind the groups in which an entry was set no entry matches, so nobody looks there. Of each group
-/// the bits are known that its entries have in common; nobody looks at a group where a key has other values there. (These two rows
-/// have eight words more than there are groups, so that eight can be read at each place.)
+/// They stand in groups of eight. Behind the groups in which an entry was set no entry matches, so nobody looks there; nor at a group
+/// where a key misses what is known of it.
 #[derive(Drop)]
 pub struct Tcam {
-    used: usize,
     groups: [Group; GROUPS],
-    common: [u32; GROUPS + LANES],
-    values: [u32; GROUPS + LANES],
-    ghost few: { used ≤ 128 },
-    ghost rest: { NoneMatchesFrom used groups },
-    ghost others: { HaveInCommon groups common values },
+    known: Known,
+    ghost rest: { NoneMatchesFrom known.used groups },
+    ghost others: { HaveInCommon groups known.common known.values },
 }
 
 impl Shared for Tcam {}
@@ -50,10 +47,8 @@ impl Tcam {
         ensures unused_matches_no_key { (key : ℕ) → matches unused key ≡ false }
     {
         Tcam {
-            used: 0,
             groups: [Group::empty(); GROUPS],
-            common: [0; GROUPS + LANES],
-            values: [u32::MAX; GROUPS + LANES],
+            known: Known::nothing(),
         }
     }
 
@@ -65,16 +60,7 @@ impl Tcam {
     {
         let group = place as usize / LANES;
         Group::put(&mut self.groups, group, place as usize % LANES, e);
-        let (value, common) = in_common(
-            group,
-            self.used,
-            self.values[group],
-            self.common[group],
-            e,
-        );
-        self.used = self.used.max(group + 1);
-        self.values[group] = value;
-        self.common[group] = common;
+        self.known.put(group, e);
     }
 
     /// The entry at a place below 1,024.
@@ -92,33 +78,14 @@ impl Tcam {
         ensures { result ≡ lookup self.now key port }
     {
         let mut group = 0;
-        while group < self.used {
+        while group < self.known.used {
             match self.groups[group].route_of(key) {
                 Some(route) => return route,
-                None => group = next_group(&self.common, &self.values, group + 1, self.used, key),
+                None => group = self.known.next_group(group + 1, key),
             }
         }
         undecided(port)
     }
-}
-
-/// The first group from `from` on that has an entry that may match the key, and `end` or more where none before it has.
-fn next_group(common: &[u32], values: &[u32], from: usize, end: usize, key: u32) -> usize
-    requires begun { from ≤ end }
-    requires in_common { end + 8 ≤ length common.now }
-    requires in_values { end + 8 ≤ length values.now }
-    ensures ahead { from ≤ result }
-    ensures others { (i : ℕ) → from ≤ i → i < result
-        → (bit_and key (slice_index common.now i) == slice_index values.now i) ≡ false }
-{
-    for block in 0..(end - from).div_ceil(LANES) {
-        let at = from + LANES * block;
-        let ahead = first_match(values, common, at, key);
-        if ahead < LANES {
-            return at + ahead;
-        }
-    }
-    end
 }
 
 /// Where a packet goes on that no entry matches: by the opposite link, and nowhere from `Local`.

@@ -20,7 +20,8 @@ returns-in_err-vertex_of-in-Some-Inject-clause-valid c =
 
 pub returns-in_ok-vertex_of-in-Some-Inject-clause-read : goal.returns-in_ok-vertex_of-in-Some-Inject-clause-read
 returns-in_ok-vertex_of-in-Some-Inject-clause-read c =
-    verb_reads c.args.vertices.now (path_text c.args.path.now) c.args.word.now (map view c.args.rest.now) (Some Inject) (ap Some (sym c.in-Some-Inject.field-0-is) ∙ c.in-Some-Inject.ensures) (events.Inject c.in_ok-vertex_of-in-Some-Inject.field-0) c.in_ok-vertex_of-in-Some-Inject.ensures.read.0 (ap events.Inject c.in_ok-vertex_of-in-Some-Inject.ensures.read.1)
+    let named = ap Some (sym c.in-Some-Inject.field-0-is) ∙ c.in-Some-Inject.ensures in
+    verb_reads c.args.vertices.now (path_text c.args.path.now) c.args.word.now (map view c.args.rest.now) (Some Inject) named (events.Inject c.in_ok-vertex_of-in-Some-Inject.field-0) c.in_ok-vertex_of-in-Some-Inject.ensures.read.0 (ap events.Inject c.in_ok-vertex_of-in-Some-Inject.ensures.read.1)
 
 pub returns-in_ok-vertex_of-in-Some-Inject-clause-valid : goal.returns-in_ok-vertex_of-in-Some-Inject-clause-valid
 returns-in_ok-vertex_of-in-Some-Inject-clause-valid c = c.in_ok-vertex_of-in-Some-Inject.ensures.below
@@ -38,7 +39,9 @@ returns-in_err-chip-in-Some-Take-clause-valid c =
 pub returns-in_ok-chip-in-Some-Take-clause-read : goal.returns-in_ok-chip-in-Some-Take-clause-read
 unfolding port_of_event
 returns-in_ok-chip-in-Some-Take-clause-read c =
-    verb_reads c.args.vertices.now (path_text c.args.path.now) c.args.word.now (map view c.args.rest.now) (Some Take) (ap Some (sym c.in-Some-Take.field-0-is) ∙ c.in-Some-Take.ensures) (events.Take c.in_ok-chip-in-Some-Take.chip c.in_ok-chip-in-Some-Take.port) c.in_ok-chip-in-Some-Take.ensures.chip.0 (rw (c.in_ok-chip-in-Some-Take.ensures.named, ← c.in_ok-chip-in-Some-Take.ensures.chip.1) refl)
+    let named = ap Some (sym c.in-Some-Take.field-0-is) ∙ c.in-Some-Take.ensures in
+    let told = c.in_ok-chip-in-Some-Take.ensures in
+    verb_reads c.args.vertices.now (path_text c.args.path.now) c.args.word.now (map view c.args.rest.now) (Some Take) named (events.Take c.in_ok-chip-in-Some-Take.chip c.in_ok-chip-in-Some-Take.port) told.chip.0 (rw (told.named, ← told.chip.1) refl)
 
 pub returns-in_err-chip-in-Some-Send-clause-read : goal.returns-in_err-chip-in-Some-Send-clause-read
 returns-in_err-chip-in-Some-Send-clause-read c =
@@ -53,7 +56,9 @@ returns-in_err-chip-in-Some-Send-clause-valid c =
 pub returns-in_ok-chip-in-Some-Send-clause-read : goal.returns-in_ok-chip-in-Some-Send-clause-read
 unfolding out_of_event
 returns-in_ok-chip-in-Some-Send-clause-read c =
-    verb_reads c.args.vertices.now (path_text c.args.path.now) c.args.word.now (map view c.args.rest.now) (Some Send) (ap Some (sym c.in-Some-Send.field-0-is) ∙ c.in-Some-Send.ensures) (events.Send c.in_ok-chip-in-Some-Send.chip c.in_ok-chip-in-Some-Send.out) c.in_ok-chip-in-Some-Send.ensures.chip.0 (rw (c.in_ok-chip-in-Some-Send.ensures.named, ← c.in_ok-chip-in-Some-Send.ensures.chip.1) refl)
+    let named = ap Some (sym c.in-Some-Send.field-0-is) ∙ c.in-Some-Send.ensures in
+    let told = c.in_ok-chip-in-Some-Send.ensures in
+    verb_reads c.args.vertices.now (path_text c.args.path.now) c.args.word.now (map view c.args.rest.now) (Some Send) named (events.Send c.in_ok-chip-in-Some-Send.chip c.in_ok-chip-in-Some-Send.out) told.chip.0 (rw (told.named, ← told.chip.1) refl)
 
 pub returns-in_ok-chip-in-Some-Send-clause-valid : goal.returns-in_ok-chip-in-Some-Send-clause-valid
 returns-in_ok-chip-in-Some-Send-clause-valid c = c.in_ok-chip-in-Some-Send.ensures.right
@@ -71,7 +76,9 @@ returns-in_err-chip-in-Some-Dump-clause-valid c =
 pub returns-in_ok-chip-in-Some-Dump-clause-read : goal.returns-in_ok-chip-in-Some-Dump-clause-read
 unfolding out_of_event
 returns-in_ok-chip-in-Some-Dump-clause-read c =
-    verb_reads c.args.vertices.now (path_text c.args.path.now) c.args.word.now (map view c.args.rest.now) (Some Dump) (ap Some (sym c.in-Some-Dump.field-0-is) ∙ c.in-Some-Dump.ensures) (events.Dump c.in_ok-chip-in-Some-Dump.chip c.in_ok-chip-in-Some-Dump.out) c.in_ok-chip-in-Some-Dump.ensures.chip.0 (rw (c.in_ok-chip-in-Some-Dump.ensures.named, ← c.in_ok-chip-in-Some-Dump.ensures.chip.1) refl)
+    let named = ap Some (sym c.in-Some-Dump.field-0-is) ∙ c.in-Some-Dump.ensures in
+    let told = c.in_ok-chip-in-Some-Dump.ensures in
+    verb_reads c.args.vertices.now (path_text c.args.path.now) c.args.word.now (map view c.args.rest.now) (Some Dump) named (events.Dump c.in_ok-chip-in-Some-Dump.chip c.in_ok-chip-in-Some-Dump.out) told.chip.0 (rw (told.named, ← told.chip.1) refl)
 
 pub returns-in_ok-chip-in-Some-Dump-clause-valid : goal.returns-in_ok-chip-in-Some-Dump-clause-valid
 returns-in_ok-chip-in-Some-Dump-clause-valid c = c.in_ok-chip-in-Some-Dump.ensures.right
@@ -79,7 +86,8 @@ returns-in_ok-chip-in-Some-Dump-clause-valid c = c.in_ok-chip-in-Some-Dump.ensur
 pub returns-in_err-vertex_of-in-Some-Collect-clause-read : goal.returns-in_err-vertex_of-in-Some-Collect-clause-read
 returns-in_err-vertex_of-in-Some-Collect-clause-read c =
     let p = err_from_is_err_and c.from_residual-in_err-vertex_of-in-Some-Collect.result c.from_residual-in_err-vertex_of-in-Some-Collect.ensures.1 in
-    rw (p.1, p.2) (verb_fails c.args.vertices.now (path_text c.args.path.now) c.args.word.now (map view c.args.rest.now) (Some Collect) (ap Some (sym c.in-Some-Collect.field-0-is) ∙ c.in-Some-Collect.ensures) c.in_err-vertex_of-in-Some-Collect.field-0.0 c.in_err-vertex_of-in-Some-Collect.ensures.read)
+    let named = ap Some (sym c.in-Some-Collect.field-0-is) ∙ c.in-Some-Collect.ensures in
+    rw (p.1, p.2) (verb_fails c.args.vertices.now (path_text c.args.path.now) c.args.word.now (map view c.args.rest.now) (Some Collect) named c.in_err-vertex_of-in-Some-Collect.field-0.0 c.in_err-vertex_of-in-Some-Collect.ensures.read)
 
 pub returns-in_err-vertex_of-in-Some-Collect-clause-valid : goal.returns-in_err-vertex_of-in-Some-Collect-clause-valid
 returns-in_err-vertex_of-in-Some-Collect-clause-valid c =
@@ -88,7 +96,9 @@ returns-in_err-vertex_of-in-Some-Collect-clause-valid c =
 
 pub returns-in_ok-vertex_of-in-Some-Collect-clause-read : goal.returns-in_ok-vertex_of-in-Some-Collect-clause-read
 returns-in_ok-vertex_of-in-Some-Collect-clause-read c =
-    verb_reads c.args.vertices.now (path_text c.args.path.now) c.args.word.now (map view c.args.rest.now) (Some Collect) (ap Some (sym c.in-Some-Collect.field-0-is) ∙ c.in-Some-Collect.ensures) (events.Collect c.in_ok-vertex_of-in-Some-Collect.field-0) c.in_ok-vertex_of-in-Some-Collect.ensures.read.0 (ap events.Collect c.in_ok-vertex_of-in-Some-Collect.ensures.read.1)
+    let named = ap Some (sym c.in-Some-Collect.field-0-is) ∙ c.in-Some-Collect.ensures in
+    let told = c.in_ok-vertex_of-in-Some-Collect.ensures in
+    verb_reads c.args.vertices.now (path_text c.args.path.now) c.args.word.now (map view c.args.rest.now) (Some Collect) named (events.Collect c.in_ok-vertex_of-in-Some-Collect.field-0) told.read.0 (ap events.Collect told.read.1)
 
 pub returns-in_ok-vertex_of-in-Some-Collect-clause-valid : goal.returns-in_ok-vertex_of-in-Some-Collect-clause-valid
 returns-in_ok-vertex_of-in-Some-Collect-clause-valid c = c.in_ok-vertex_of-in-Some-Collect.ensures.below

@@ -19,8 +19,10 @@ returns-in_err-net-clause-read c =
     let xs = c.args.items.now in
     let f = next_net_faults c.args.version c.args.among.now.vertices.now in
     let value = net_value c.args.version c.args.among.now.vertices.now in
+    let all = following_faults f value [] (path_text c.args.path.now) 0 (map view xs) in
     let same = next_net c.args.version c.args.among.now.vertices.now c.loop-i.names c.loop-i.blocks c.loop-i.nets (item_at (path_text c.args.path.now) c.loop-i.i) (view c.index-items-i.result) c.loop-i.invariant.called c.loop-i.invariant.held in
-    rw (p.1, p.2) (following-fail view xs c.loop-i.i c.index-items-i.result (omega arith) c.index-items-i.is f value c.loop-i.nets (path_text c.args.path.now) (item_at (path_text c.args.path.now) c.loop-i.i) (following_faults f value [] (path_text c.args.path.now) 0 (map view xs)) refl c.in_err-net.field-0.0 (subst (IsFirstFault c.in_err-net.field-0.0) same c.in_err-net.ensures.read) c.loop-i.invariant.left)
+    let first = subst (IsFirstFault c.in_err-net.field-0.0) same c.in_err-net.ensures.read in
+    rw (p.1, p.2) (following-fail view xs c.loop-i.i c.index-items-i.result (omega arith) c.index-items-i.is f value c.loop-i.nets (path_text c.args.path.now) (item_at (path_text c.args.path.now) c.loop-i.i) all refl c.in_err-net.field-0.0 first c.loop-i.invariant.left)
 
 pub loop-i-preserved : goal.loop-i-preserved
 loop-i-preserved c =
@@ -28,6 +30,7 @@ loop-i-preserved c =
     let vertices = c.args.among.now.vertices.now in
     let f = next_net_faults c.args.version vertices in
     let value = net_value c.args.version vertices in
+    let all = following_faults f value [] (path_text c.args.path.now) 0 (map view xs) in
     let ns = c.loop-i.nets in
     let n = c.in_ok-net.net in
     let same = next_net c.args.version vertices c.loop-i.names c.loop-i.blocks ns (item_at (path_text c.args.path.now) c.loop-i.i) (view c.index-items-i.result) c.loop-i.invariant.called c.loop-i.invariant.held in
@@ -36,7 +39,7 @@ loop-i-preserved c =
     let pushed_value : c.push.new.self ≡ ns ++ net_value c.args.version vertices (view c.index-items-i.result) ∷ [] = rw (← is) pushed in
     let said = c.said_name.ensures ∙ sym (net_name c.args.version vertices (view c.index-items-i.result)) ∙ ap (λ (m : Net). m.name) (sym is) in
     record {
-      left = following-more view xs c.loop-i.i c.index-items-i.result (omega arith) c.index-items-i.is f value ns (path_text c.args.path.now) (item_at (path_text c.args.path.now) c.loop-i.i) (following_faults f value [] (path_text c.args.path.now) 0 (map view xs)) refl c.push.new.self pushed_value (sym same ∙ c.in_ok-net.ensures.read.0) c.loop-i.invariant.left;
+      left = following-more view xs c.loop-i.i c.index-items-i.result (omega arith) c.index-items-i.is f value ns (path_text c.args.path.now) (item_at (path_text c.args.path.now) c.loop-i.i) all refl c.push.new.self pushed_value (sym same ∙ c.in_ok-net.ensures.read.0) c.loop-i.invariant.left;
       read = values-more view xs c.loop-i.i c.index-items-i.result (omega arith) c.index-items-i.is value ns c.push.new.self c.loop-i.invariant.read pushed_value;
       counted = rw (c.in_ok-names-2.ensures, length-append) (omega arith);
       called = net_names_more ns c.push.new.self n c.loop-i.names c.in_ok-names-2.names c.said_name.result.now pushed c.loop-i.invariant.called c.in_ok-names-2.ensures said;

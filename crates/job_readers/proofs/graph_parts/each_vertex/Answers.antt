@@ -19,14 +19,17 @@ returns-in_err-vertex-clause-read c =
     let xs = c.args.items.now in
     let f = next_vertex_faults c.args.version in
     let value = vertex_value c.args.version in
+    let all = following_faults f value [] (path_text c.args.path.now) 0 (map view xs) in
     let same = next_vertex c.args.version c.loop-i.names c.loop-i.devices c.loop-i.vertices (item_at (path_text c.args.path.now) c.loop-i.i) (view c.index-items-i.result) c.loop-i.invariant.named c.loop-i.invariant.hung in
-    rw (p.1, p.2) (following-fail view xs c.loop-i.i c.index-items-i.result (omega arith) c.index-items-i.is f value c.loop-i.vertices (path_text c.args.path.now) (item_at (path_text c.args.path.now) c.loop-i.i) (following_faults f value [] (path_text c.args.path.now) 0 (map view xs)) refl c.in_err-vertex.field-0.0 (subst (IsFirstFault c.in_err-vertex.field-0.0) same c.in_err-vertex.ensures.read) c.loop-i.invariant.left)
+    let first = subst (IsFirstFault c.in_err-vertex.field-0.0) same c.in_err-vertex.ensures.read in
+    rw (p.1, p.2) (following-fail view xs c.loop-i.i c.index-items-i.result (omega arith) c.index-items-i.is f value c.loop-i.vertices (path_text c.args.path.now) (item_at (path_text c.args.path.now) c.loop-i.i) all refl c.in_err-vertex.field-0.0 first c.loop-i.invariant.left)
 
 pub loop-i-preserved : goal.loop-i-preserved
 loop-i-preserved c =
     let xs = c.args.items.now in
     let f = next_vertex_faults c.args.version in
     let value = vertex_value c.args.version in
+    let all = following_faults f value [] (path_text c.args.path.now) 0 (map view xs) in
     let vs = c.loop-i.vertices in
     let v = c.in_ok-vertex.vertex in
     let same = next_vertex c.args.version c.loop-i.names c.loop-i.devices vs (item_at (path_text c.args.path.now) c.loop-i.i) (view c.index-items-i.result) c.loop-i.invariant.named c.loop-i.invariant.hung in
@@ -35,7 +38,7 @@ loop-i-preserved c =
     let pushed_value : c.push.new.self ≡ vs ++ vertex_value c.args.version (view c.index-items-i.result) ∷ [] = rw (← is) pushed in
     let said = c.said_name.ensures ∙ sym (vertex_name c.args.version (view c.index-items-i.result)) ∙ ap (λ (w : Vertex). w.name) (sym is) in
     record {
-      left = following-more view xs c.loop-i.i c.index-items-i.result (omega arith) c.index-items-i.is f value vs (path_text c.args.path.now) (item_at (path_text c.args.path.now) c.loop-i.i) (following_faults f value [] (path_text c.args.path.now) 0 (map view xs)) refl c.push.new.self pushed_value (sym same ∙ c.in_ok-vertex.ensures.read.0) c.loop-i.invariant.left;
+      left = following-more view xs c.loop-i.i c.index-items-i.result (omega arith) c.index-items-i.is f value vs (path_text c.args.path.now) (item_at (path_text c.args.path.now) c.loop-i.i) all refl c.push.new.self pushed_value (sym same ∙ c.in_ok-vertex.ensures.read.0) c.loop-i.invariant.left;
       read = values-more view xs c.loop-i.i c.index-items-i.result (omega arith) c.index-items-i.is value vs c.push.new.self c.loop-i.invariant.read pushed_value;
       counted = rw (c.in_ok-names-2.ensures, length-append) (omega arith);
       named = names_more vs c.push.new.self v c.loop-i.names c.in_ok-names-2.names c.said_name.result.now pushed c.loop-i.invariant.named c.in_ok-names-2.ensures said;

@@ -13,7 +13,8 @@ returns-in_err-next-clause-read g c =
     let p = err_from_is_err_and c.from_residual.result c.from_residual.ensures.1 in
     let xs = c.args.items.now in
     let f = g.R.ItemReader.faults c.args.reader.now in
-    rw (p.1, p.2) (items-fail view xs c.loop-i.i c.index-items-i.result (omega arith) c.index-items-i.is f (path_text c.args.path.now) (item_at (path_text c.args.path.now) c.loop-i.i) (items_faults f (path_text c.args.path.now) 0 (map view xs)) c.in_err-next.field-0.0 refl c.in_err-next.ensures.read c.loop-i.invariant.left)
+    let all = items_faults f (path_text c.args.path.now) 0 (map view xs) in
+    rw (p.1, p.2) (items-fail view xs c.loop-i.i c.index-items-i.result (omega arith) c.index-items-i.is f (path_text c.args.path.now) (item_at (path_text c.args.path.now) c.loop-i.i) all c.in_err-next.field-0.0 refl c.in_err-next.ensures.read c.loop-i.invariant.left)
 
 pub loop-i-preserved : goal.loop-i-preserved
 loop-i-preserved g c =

@@ -31,16 +31,22 @@ pub returns-in_err-dead_chips : goal.returns-in_err-dead_chips
 unfolding machine_members_faults
 returns-in_err-dead_chips c =
     let p = err_from_is_err_and c.from_residual-in_err-dead_chips.result c.from_residual-in_err-dead_chips.ensures.1 in
-    rw (p.1, p.2, ← c.in_ok-width.ensures.read.1, ← c.in_ok-height.ensures.read.1) (fails_later c.in_err-dead_chips.field-0.0 _ _ c.in_ok-width.ensures.read.0 (fails_later c.in_err-dead_chips.field-0.0 _ _ c.in_ok-height.ensures.read.0 (fails_later c.in_err-dead_chips.field-0.0 _ _ c.in_ok-wrap.ensures.0 (fails_later c.in_err-dead_chips.field-0.0 _ _ c.in_ok-sdram.ensures.read.0 (fails_before c.in_err-dead_chips.field-0.0 _ _ c.in_err-dead_chips.ensures.read)))))
+    let e = c.in_err-dead_chips.field-0.0 in
+    rw (p.1, p.2, ← c.in_ok-width.ensures.read.1, ← c.in_ok-height.ensures.read.1) (fails_later e _ _ c.in_ok-width.ensures.read.0 (fails_later e _ _ c.in_ok-height.ensures.read.0 (fails_later e _ _ c.in_ok-wrap.ensures.0 (
+    fails_later e _ _ c.in_ok-sdram.ensures.read.0 (fails_before e _ _ c.in_err-dead_chips.ensures.read)))))
 
 pub returns-in_err-dead_cores : goal.returns-in_err-dead_cores
 unfolding machine_members_faults
 returns-in_err-dead_cores c =
     let p = err_from_is_err_and c.from_residual-in_err-dead_cores.result c.from_residual-in_err-dead_cores.ensures.1 in
-    rw (p.1, p.2, ← c.in_ok-width.ensures.read.1, ← c.in_ok-height.ensures.read.1) (fails_later c.in_err-dead_cores.field-0.0 _ _ c.in_ok-width.ensures.read.0 (fails_later c.in_err-dead_cores.field-0.0 _ _ c.in_ok-height.ensures.read.0 (fails_later c.in_err-dead_cores.field-0.0 _ _ c.in_ok-wrap.ensures.0 (fails_later c.in_err-dead_cores.field-0.0 _ _ c.in_ok-sdram.ensures.read.0 (fails_later c.in_err-dead_cores.field-0.0 _ _ c.in_ok-dead_chips.ensures.read.0 (fails_before c.in_err-dead_cores.field-0.0 _ _ c.in_err-dead_cores.ensures.read))))))
+    let e = c.in_err-dead_cores.field-0.0 in
+    rw (p.1, p.2, ← c.in_ok-width.ensures.read.1, ← c.in_ok-height.ensures.read.1) (fails_later e _ _ c.in_ok-width.ensures.read.0 (fails_later e _ _ c.in_ok-height.ensures.read.0 (fails_later e _ _ c.in_ok-wrap.ensures.0 (
+    fails_later e _ _ c.in_ok-sdram.ensures.read.0 (fails_later e _ _ c.in_ok-dead_chips.ensures.read.0 (fails_before e _ _ c.in_err-dead_cores.ensures.read))))))
 
 pub returns-in_err-dead_links : goal.returns-in_err-dead_links
 unfolding machine_members_faults
 returns-in_err-dead_links c =
     let p = err_from_is_err_and c.from_residual-in_err-dead_links.result c.from_residual-in_err-dead_links.ensures.1 in
-    rw (p.1, p.2, ← c.in_ok-width.ensures.read.1, ← c.in_ok-height.ensures.read.1) (fails_later c.in_err-dead_links.field-0.0 _ _ c.in_ok-width.ensures.read.0 (fails_later c.in_err-dead_links.field-0.0 _ _ c.in_ok-height.ensures.read.0 (fails_later c.in_err-dead_links.field-0.0 _ _ c.in_ok-wrap.ensures.0 (fails_later c.in_err-dead_links.field-0.0 _ _ c.in_ok-sdram.ensures.read.0 (fails_later c.in_err-dead_links.field-0.0 _ _ c.in_ok-dead_chips.ensures.read.0 (fails_later c.in_err-dead_links.field-0.0 _ _ c.in_ok-dead_cores.ensures.read.0 (c.in_err-dead_links.ensures.read)))))))
+    let e = c.in_err-dead_links.field-0.0 in
+    rw (p.1, p.2, ← c.in_ok-width.ensures.read.1, ← c.in_ok-height.ensures.read.1) (fails_later e _ _ c.in_ok-width.ensures.read.0 (fails_later e _ _ c.in_ok-height.ensures.read.0 (fails_later e _ _ c.in_ok-wrap.ensures.0 (
+    fails_later e _ _ c.in_ok-sdram.ensures.read.0 (fails_later e _ _ c.in_ok-dead_chips.ensures.read.0 (fails_later e _ _ c.in_ok-dead_cores.ensures.read.0 (c.in_err-dead_links.ensures.read)))))))

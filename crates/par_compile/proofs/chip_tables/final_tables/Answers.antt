@@ -28,7 +28,9 @@ pub returns-clause-few_chips : goal.returns-clause-few_chips
 returns-clause-few_chips g c =
     IfOk-weaker c.finals.result (λ (fs : List Final). AllZip (IsFinalFor c.args.request.now.target) (take (length fs) c.in_ok-blocks.blocks) fs)
     (λ (fs : List Final). length fs ≤ 4096)
-    (λ fs each. let within = finals_within c.args.request.now.machine.now c.args.nets.now c.args.request.now.target c.in_ok-blocks.blocks fs c.in_ok-blocks.ensures.blocks each in let total = c.chips-chips.ensures.total in let few = c.chips-chips.ensures.few in omega (arith, within, total, few)) c.finals.ensures.finals
+    (λ fs each.
+    let within = finals_within c.args.request.now.machine.now c.args.nets.now c.args.request.now.target c.in_ok-blocks.blocks fs c.in_ok-blocks.ensures.blocks each in
+    let total = c.chips-chips.ensures.total in let few = c.chips-chips.ensures.few in omega (arith, within, total, few)) c.finals.ensures.finals
 
 pub returns-clause-finals : goal.returns-clause-finals
 returns-clause-finals g c =

@@ -1,11 +1,12 @@
-use Rattle.std.proofs.Common.{arith}
+use Rattle.std.proofs.Common.{◌++◌, ◌∙◌, ap, sym}
+use Rattle.std.specs.List.{flat_map}
+use Rattle.std.proofs.lemmas.List.Folds.{flat_map-map}
+use Rattle.run_report.specs.Named.{named_delivery}
 use Rattle.run_report.specs.ReportText.{got_line}
-use Rattle.run_report.proofs.Gathering.{put_more, put_all}
 use Rattle.run_report.proofs.texts.put_gots.Goals as goal
 
-pub loop-delivery-preserved : goal.loop-delivery-preserved
-loop-delivery-preserved c =
-    put_more got_line c.args.delivered.now c.args.text.now.items c.loop-delivery.text.items c.loop-delivery.delivery-index c.loop-delivery.invariant c.delivery-item.result c.put_got.new.text.items (omega arith) c.delivery-item.is c.in_ok-put_got.ensures
-
 pub returns : goal.returns
-returns c = put_all got_line c.args.delivered.now c.args.text.now.items c.loop-delivery.text.items c.loop-delivery.delivery-index c.loop-delivery.invariant (omega arith)
+returns c =
+    c.in_ok-put_all_gots.ensures
+    ∙ ap (λ lines. c.args.text.now.items ++ lines)
+    (sym (flat_map-map got_line (named_delivery c.parts.result.0.now) c.parts.result.1.now) ∙ ap (flat_map got_line) (sym c.parts.ensures))

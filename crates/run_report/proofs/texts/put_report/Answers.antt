@@ -3,7 +3,7 @@ use Rattle.std.specs.List.{flat_map}
 use Rattle.spin_base.specs.declared.blocks.Block.{Block}
 use Rattle.spin_base.specs.declared.blocks.ChipTable.{ChipTable}
 use Rattle.spin_base.specs.declared.chips.Spot.{Spot}
-use Rattle.run_report.specs.ReportText.{place_line, keys_line, table_lines, event_lines, got_line, dump_line, wait_line}
+use Rattle.run_report.specs.ReportText.{place_line, keys_line, table_lines, event_lines, dump_line, wait_line}
 use Rattle.run_report.proofs.Joining.{then_more}
 use Rattle.run_report.proofs.texts.put_report.Goals as goal
 
@@ -20,7 +20,7 @@ returns c =
     ∙ (ap (λ keys. listed r.placed keys c.as_slice-3.result.now) c.as_slice-2.ensures
     ∙ ap (λ tables. listed r.placed r.keys tables) c.as_slice-3.ensures)))
     (c.in_ok-put_events.ensures ∙ ap (λ did. c.put_listed.new.text.items ++ event_lines did) c.as_slice-4.ensures))
-    (c.in_ok-put_gots.ensures ∙ ap (λ gots. c.put_events.new.text.items ++ flat_map got_line gots) c.as_slice-5.ensures))
-    (c.in_ok-put_dumps.ensures ∙ ap (λ dumps. c.put_gots.new.text.items ++ flat_map dump_line dumps) c.as_slice-6.ensures))
-    (c.in_ok-put_waits.ensures ∙ ap (λ waits. c.put_dumps.new.text.items ++ flat_map wait_line waits) c.as_slice-7.ensures))
+    c.in_ok-put_gots.ensures)
+    (c.in_ok-put_dumps.ensures ∙ ap (λ dumps. c.put_gots.new.text.items ++ flat_map dump_line dumps) c.as_slice-5.ensures))
+    (c.in_ok-put_waits.ensures ∙ ap (λ waits. c.put_dumps.new.text.items ++ flat_map wait_line waits) c.as_slice-6.ensures))
     c.in_ok-put_end.ensures

@@ -18,7 +18,7 @@ returns-clause-made g c = λ words asks.
       faults' = g.S.Source.faults c.job_for.new.source;
     }
     in
-    from_job (record { word = c.args.word; is_word = asks; job = c.in_ok-job.job; its_job = c.in_ok-job.ensures.job; made = c.in_ok-made.ensures.made }) refl
+    from_job (record { word = c.args.word; is_word = asks; job = c.in_ok-job.job; its_job = c.in_ok-job.ensures.job; names = c.in_ok-job.ensures.names; made = c.in_ok-made.ensures.made }) refl
 
 pub returns-in_err-made-clause-err : goal.returns-in_err-made-clause-err
 returns-in_err-made-clause-err g c = λ words asks.

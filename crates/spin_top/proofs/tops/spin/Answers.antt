@@ -1,5 +1,8 @@
-use Rattle.spin_top.proofs.EndLaws.{plan_clause, ledger_clause, run_clause, reinject_clause, trace_clause, generated_clause, check_clause, apps_clause, exact_clause, complete_clause}
+use Rattle.spin_top.proofs.EndLaws.{names_clause, plan_clause, ledger_clause, run_clause, reinject_clause, trace_clause, generated_clause, check_clause, apps_clause, exact_clause, complete_clause}
 use Rattle.spin_top.proofs.tops.spin.Goals as goal
+
+pub returns-clause-names : goal.returns-clause-names
+returns-clause-names g c = names_clause c.answered.ensures.ends
 
 pub returns-clause-plan : goal.returns-clause-plan
 returns-clause-plan g c = plan_clause c.answered.ensures.ends

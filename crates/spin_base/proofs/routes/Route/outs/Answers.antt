@@ -1,7 +1,34 @@
+use Rattle.std.proofs.Common.{◌++◌, ap, arith}
+use Rattle.spin_base.specs.Outputs.{all_outs}
 use Rattle.spin_base.proofs.Once.{outs_once}
-use Rattle.spin_base.proofs.Outputs.{outs_by_parts}
+use Rattle.spin_base.proofs.Outputs.{all_found, less_fits, less_is_less, lowest_below, one_more, outs_in, room_left}
 use Rattle.spin_base.proofs.routes.Route.outs.Goals as goal
 
+pub of_bit-requires : goal.of_bit-requires
+of_bit-requires c = lowest_below c.loop-left.left c.loop-left.invariant.fits c.loop-left-test.true
+
+pub push-requires : goal.push-requires
+push-requires c = (
+  omega arith,
+  room_left c.loop-left.left c.loop-left.invariant.fits c.loop-left-test.true c.args.self c.loop-left.outs.items c.loop-left.invariant.found c.of_bit.result c.of_bit.ensures.number,
+)
+
+pub loop-left-smaller : goal.loop-left-smaller
+loop-left-smaller c = less_is_less c.loop-left.left c.loop-left.invariant.fits c.loop-left-test.true
+
+pub loop-left-preserved : goal.loop-left-preserved
+loop-left-preserved c = record {
+  found =
+      rw c.push.ensures.items
+      (one_more c.loop-left.left c.loop-left.invariant.fits c.loop-left-test.true c.args.self c.loop-left.outs.items c.loop-left.invariant.found c.of_bit.result c.of_bit.ensures.number);
+  fits = less_fits c.loop-left.left c.loop-left.invariant.fits c.loop-left-test.true;
+}
+
+pub loop-left-init : goal.loop-left-init
+loop-left-init c = record { found = ap (λ l. l ++ outs_in c.args.self.bits all_outs) c.new-outs.ensures; fits = c.args.self.within }
+
+pub returns-clause-all : goal.returns-clause-all
+returns-clause-all c = all_found c.args.self c.loop-left.outs.items c.loop-left.left c.loop-left.invariant.found c.loop-left-test.false
+
 pub returns-clause-once : goal.returns-clause-once
-returns-clause-once c = λ o valid.
-    rw (c.add_cores.ensures, c.links-outs.ensures.all, ← outs_by_parts c.args.self) (outs_once c.args.self o valid)
+returns-clause-once c = λ o valid. rw (returns-clause-all c) (outs_once c.args.self o valid)

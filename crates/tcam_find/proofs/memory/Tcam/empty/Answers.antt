@@ -1,4 +1,4 @@
-use Rattle.std.proofs.Common.{◌∙◌, length, ap, arith}
+use Rattle.std.proofs.Common.{◌∙◌, length, ap}
 use Rattle.tcam_find.proofs.MemoryLemmas.{empty_is, length_empty, none_of_empty, unused_matches}
 use Rattle.tcam_find.proofs.memory.Tcam.empty.Goals as goal
 
@@ -11,4 +11,4 @@ returns c = record {
 
 pub invariant_of-result : goal.invariant_of-result
 invariant_of-result c =
-    (omega arith, (λ i key g far got. none_of_empty 128 c.empty.result c.empty.ensures i key g got, (λ i key g got apart. none_of_empty 128 c.empty.result c.empty.ensures i key g got, tt)))
+    (λ i key g far got. none_of_empty 128 c.empty.result c.empty.ensures i key g got, (λ i key g got apart. none_of_empty 128 c.empty.result c.empty.ensures i key g got, tt))

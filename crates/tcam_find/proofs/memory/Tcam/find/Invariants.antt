@@ -9,4 +9,4 @@ invariant-loop-group l =
     (i : ℕ) (g : Group) → i < l.group → slice_get l.self-inside.groups i ≡ Some g → NoneMatches l.key (entries_in g)
 
 abbrev pub decreases-loop-group : goal.decreases-loop-group
-decreases-loop-group l = l.self-inside.used - l.group
+decreases-loop-group l = l.self-inside.known.used - l.group

@@ -10,18 +10,15 @@ invariant_of-self-inside c =
     let old = c.self.inside in
     let group = c.args.place / 8 in
     let at = slice_get_there old.groups group (omega arith) in
-    let put = c.put.ensures at.0 at.1 in (
-      omega (arith, old.few, c.max-self-inside.ensures),
+    let put = c.put.ensures at.0 at.1 in
+    let known = c.put-2.new.self in (
+      subst (NoneMatchesFrom known.used) (sym put.2)
+          (rest_after old.groups group old.known.used known.used put.0 c.put-2.ensures.used.0 c.put-2.ensures.used.1 old.rest),
       (
-        subst (NoneMatchesFrom c.max-self-inside.result) (sym put.2)
-            (rest_after old.groups group old.used c.max-self-inside.result put.0 (omega (arith, c.max-self-inside.ensures)) (omega (arith, c.max-self-inside.ensures)) old.rest),
-        (
-          subst (λ gs. HaveInCommon gs (slice_set old.common group c.in_common-value.result.1) (slice_set old.values group c.in_common-value.result.0)) (sym put.2)
-              (common_after old.groups old.common old.values group (c.args.place % 8) old.used c.in_common-value.result.1 c.in_common-value.result.0
-              at.0 put.0 c.args.e at.1 put.1 (omega arith) (omega arith) old.rest old.others
-              c.in_common-value.ensures.of_entry c.in_common-value.ensures.of_others),
-          tt,
-        ),
+        subst (λ gs. HaveInCommon gs known.common known.values) (sym put.2)
+            (common_after old.groups old.known.common old.known.values known.common known.values group (c.args.place % 8) at.0 put.0 c.args.e
+            at.1 put.1 old.others c.put-2.ensures.others c.put-2.ensures.entry),
+        tt,
       ),
     )
 

@@ -1,0 +1,12 @@
+use Rattle.std.proofs.Common.{None}
+use Rattle.std.specs.Option.{IfSome}
+use Rattle.ner_trees.specs.Search.{IsBetter, IsOnWithin}
+use Rattle.ner_trees.proofs.Searching.{Stepped}
+use Rattle.ner_trees.proofs.searches.nearest_on_ring.Given as goal
+
+-- of the chips of the ring so far, the nearest
+abbrev pub invariant-loop-step : goal.invariant-loop-step
+invariant-loop-step l =
+    IfSome l.best (IsOnWithin l.search.on.now.machine.now l.search.on.now.items.items l.search.target l.radius.chips)
+    × IsBetter l.search.on.now.machine.now l.search.on.now.items.items l.search.target l.radius.chips
+    (Stepped l.search.on.now.machine.now l.search.on.now.items.items l.search.target l.radius.chips l.step) None l.best

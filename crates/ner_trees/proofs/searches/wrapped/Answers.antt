@@ -1,0 +1,13 @@
+use Rattle.std.proofs.Common.{◌≡◌, ◌+◌, ◌-◌, ◌*◌, ◌<◌, ◌≤◌, sym, arith}
+use Rattle.ner_trees.proofs.Searching.{round_is}
+use Rattle.ner_trees.proofs.searches.wrapped.Goals as goal
+
+pub returns-then-ahead-places-2-clause-value : goal.returns-then-ahead-places-2-clause-value
+returns-then-ahead-places-2-clause-value c =
+    sym (round_is 21 c.args.centre.places (c.args.centre.place + c.args.offset - c.args.radius.chips - c.args.centre.places) (c.args.centre.place + c.args.centre.places * 20 + c.args.offset - c.args.radius.chips)
+    (omega (arith, c.if-radius-place.true, c.if-ahead-places.false)) c.if-ahead-places-2.true)
+
+pub returns-then-radius-place-2-clause-value : goal.returns-then-radius-place-2-clause-value
+returns-then-radius-place-2-clause-value c =
+    sym (round_is 19 c.args.centre.places (c.args.centre.places - (c.args.radius.chips - (c.args.centre.place + c.args.offset))) (c.args.centre.place + c.args.centre.places * 20 + c.args.offset - c.args.radius.chips)
+    (omega (arith, c.if-radius-place.false, c.if-radius-place-2.true)) (omega (arith, c.if-radius-place.false, c.if-radius-place-2.true)))

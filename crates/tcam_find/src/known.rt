@@ -1,0 +1,141 @@
+// What is known of groups of entries without a look at them.
+ghost use Rattle.std.specs.Prelude.{◌≡◌, ℕ, ◌+◌, ◌<◌, ◌≤◌, ◌==◌, false, bit_and, length, slice_index};
+ghost use Rattle.tcam_find.specs.Memory.{TellOfGroups};
+
+use crate::groups::{BLOCKS, GROUPS};
+use crate::lanes::{LANES, first_match};
+use spin_base::Entry;
+
+/// Behind which group no entry was set; of each group the bits that its entries have in common, and their values; and the same of each
+/// block of eight groups. A key that has other values misses the group, or the block. (The rows have eight words more than there are
+/// groups or blocks, so that eight can be read at each place.)
+#[derive(Drop)]
+pub(crate) struct Known {
+    pub used: usize,
+    common: [u32; GROUPS + LANES],
+    values: [u32; GROUPS + LANES],
+    block_common: [u32; BLOCKS + LANES],
+    block_values: [u32; BLOCKS + LANES],
+    ghost few: { used ≤ 128 },
+    ghost blocks: { TellOfGroups common values block_common block_values },
+}
+
+impl Known {
+    ghost use Rattle.std.specs.Prelude.{◌≡◌, ℕ, ◌<◌, ◌≤◌, false};
+    ghost use Rattle.spin_base.specs.Lookup.{matches};
+    ghost use Rattle.tcam_find.specs.Memory.{Misses};
+
+    /// No entry was set.
+    pub(crate) fn nothing() -> Known
+        ensures { result.used ≡ 0 }
+    {
+        Known {
+            used: 0,
+            common: [0; GROUPS + LANES],
+            values: [u32::MAX; GROUPS + LANES],
+            block_common: [0; BLOCKS + LANES],
+            block_values: [u32::MAX; BLOCKS + LANES],
+        }
+    }
+
+    /// An entry is set in a group. What it stands in place of still counts.
+    pub(crate) fn put(&mut self, group: usize, e: Entry)
+        requires { group < 128 }
+        ensures entry { (key : ℕ) → Misses self.new.common self.new.values group key
+            → matches e key ≡ false }
+        ensures others { (i key : ℕ) → Misses self.new.common self.new.values i key
+            → Misses self.old.common self.old.values i key }
+        ensures used { (group < self.new.used) × (self.old.used ≤ self.new.used) }
+    {
+        let (value, common) = in_common(self.values[group], self.common[group], e.key, e.mask);
+        let block = group / LANES;
+        let (block_value, block_common) = in_common(
+            self.block_values[block],
+            self.block_common[block],
+            value,
+            common,
+        );
+        self.used = self.used.max(group + 1);
+        self.values[group] = value;
+        self.common[group] = common;
+        self.block_values[block] = block_value;
+        self.block_common[block] = block_common;
+    }
+
+    /// The first group from `from` on that the key doesn't miss, or one behind those used.
+    #[inline(always)]
+    pub(crate) fn next_group(&self, from: usize, key: u32) -> usize
+        ensures ahead { from ≤ result }
+        ensures others { (i : ℕ) → from ≤ i → i < result
+            → Misses self.now.common self.now.values i key }
+    {
+        let mut at = from;
+        while at < self.used {
+            let ahead = first_match(&self.values, &self.common, at, key);
+            if ahead < LANES {
+                return at + ahead;
+            }
+            at = self.next_block(at + LANES, key);
+        }
+        at
+    }
+
+    // The first group from `from` on whose block the key doesn't miss, or one behind those used.
+    #[inline(always)]
+    fn next_block(&self, from: usize, key: u32) -> usize
+        ensures ahead { from ≤ result }
+        ensures others { (i : ℕ) → from ≤ i → i < result
+            → Misses self.now.common self.now.values i key }
+    {
+        if from >= self.used {
+            return from;
+        }
+        let ahead = next_place(
+            &self.block_common,
+            &self.block_values,
+            from / LANES,
+            BLOCKS,
+            key,
+        );
+        let block = ahead.min(BLOCKS);
+        from.max(LANES * block)
+    }
+}
+
+/// The first place from `from` on where the key has the values of the bits, and `end` or more where it has them at none before.
+fn next_place(common: &[u32], values: &[u32], from: usize, end: usize, key: u32) -> usize
+    requires begun { from ≤ end }
+    requires in_common { end + 8 ≤ length common.now }
+    requires in_values { end + 8 ≤ length values.now }
+    ensures ahead { from ≤ result }
+    ensures others { (i : ℕ) → from ≤ i → i < result
+        → (bit_and key (slice_index common.now i) == slice_index values.now i) ≡ false }
+{
+    for block in 0..(end - from).div_ceil(LANES) {
+        let at = from + LANES * block;
+        let ahead = first_match(values, common, at, key);
+        if ahead < LANES {
+            return at + ahead;
+        }
+    }
+    end
+}
+
+/// The values of the bits that two have in common, and these bits: one has the values `value` of the bits `common`, the other `more` of
+/// `mask`. One that no key has doesn't count.
+#[inline(always)]
+pub(crate) fn in_common(value: u32, common: u32, more: u32, mask: u32) -> (u32, u32)
+    ensures of_one { (key : ℕ) → (bit_and key result.1 == result.0) ≡ false
+        → (bit_and key common == value) ≡ false }
+    ensures of_other { (key : ℕ) → (bit_and key result.1 == result.0) ≡ false
+        → (bit_and key mask == more) ≡ false }
+{
+    if value & common != value {
+        (more, mask)
+    } else if more & mask == more {
+        let both = common & mask & !(value ^ more);
+        (value & both, both)
+    } else {
+        (value, common)
+    }
+}
