@@ -23,13 +23,13 @@ BEGIN, END = "<!-- made by tools/house.py -->\n", "<!-- end -->\n"
 ALONE = r"\((Tests alone|No command)"
 # No count may grow beyond these. Whoever lowers one lowers its bound.
 MOST = {
-    "conditions a function, in hundredths": 63,
+    "conditions a function, in hundredths": 64,
     "conditions of one function": 5,
-    "lines of proofs": 82275,
-    "lines of proofs longer than 200 characters": 1145,
-    "lines of proofs longer than 300 characters": 47,
-    "lines of definitions": 13394,
-    "lines of definitions that docs/definitions.md lists": 8517,
+    "lines of proofs": 83388,
+    "lines of proofs longer than 200 characters": 1124,
+    "lines of proofs longer than 300 characters": 10,
+    "lines of definitions": 13491,
+    "lines of definitions that docs/definitions.md lists": 8547,
 }
 PROMISES, LAWS = "| promise | carried by | broken by |", "| law or lemma | stands as |"
 
