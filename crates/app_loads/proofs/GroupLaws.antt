@@ -1,26 +1,28 @@
 -- Deliveries held in groups.
-use Rattle.std.proofs.Common.{◌≡◌, ◌≢◌, ℕ, zero, suc, ◌+◌, ◌-◌, ◌<◌, ◌≤◌, Bool, true, false, not, ◌&&◌, ◌||◌, List, [], ◌∷◌, ◌++◌, length, refl, sym, ap, ◌∙◌, subst, arith, cond, inl, inr, leb, ltb, Some, Result, Ok, Err, IfOk, OnErr}
+use Rattle.std.proofs.Common.{◌≡◌, ◌≢◌, ℕ, zero, suc, ◌+◌, ◌-◌, ◌<◌, ◌≤◌, Bool, true, false, not, ◌&&◌, ◌||◌, List, [], ◌∷◌, ◌++◌, drop, take, length, refl, sym, ap, ◌∙◌, subst, arith, cond, inl, inr, leb, ltb, Some, Result, Ok, Err, IfOk, OnErr}
 use Rattle.std.specs.List.{All, filter, list_any, slice_get, slice_index_or, slice_set}
 use Rattle.std.proofs.lemmas.Bool.{and_from, and_parts, cases_Bool, cases_lt, false≢true, le-leb, leb-true, lt-ltb, ltb-true, not-false, not-true, or_parts}
 use Rattle.std.proofs.lemmas.Grind.{flat_map-append}
-use Rattle.std.proofs.lemmas.List.{append_assoc, append-nil, length-append}
+use Rattle.std.proofs.lemmas.List.{append_assoc, append-nil, drop_at, length-append, length-map, length-set, take_all}
 use Rattle.std.proofs.lemmas.List.Elements.{All-head, All-map, All-tail, All-weaker, filter-append}
 use Rattle.std.proofs.lemmas.List.Filters.{length-filter_both}
-use Rattle.std.proofs.lemmas.Option.{same_Some, slice_get-get_or}
+use Rattle.std.proofs.lemmas.Option.{same_Some, slice_get-get_or, slice_get_within}
 use Rattle.spin_base.proofs.Pairs.{All-flat_map}
+use Rattle.spin_base.proofs.Places.{take_more_at}
 use Rattle.spin_base.specs.declared.copies.Delivery.{Delivery}
 use Rattle.app_loads.specs.declared.group.Arrival.{Arrival}
 use Rattle.app_loads.specs.declared.group.Group.TheInside.{Inside}
 use Rattle.app_loads.specs.declared.group.Sent.{Sent}
 use Rattle.app_loads.specs.declared.loaded.LoadedApp.{LoadedApp}
 use Rattle.app_loads.specs.Grouping.{Grouped, HasPut, all_grouped, is_mixed_group, is_others_group, is_own_group}
-use Rattle.app_loads.specs.Groups.{IsBetween, IsGroup, arrival_of, deliveries_at, deliveries_in, delivery_of, grouped_of, sent_of}
+use Rattle.spin_base.specs.declared.copies.McCopy.{McCopy}
+use Rattle.app_loads.specs.Groups.{EndsWith, IsBetween, IsGroup, arrival_of, deliveries_at, deliveries_in, delivery_of, grouped_of, last_arrivals, sent_of}
 use Rattle.app_loads.specs.Leaving.{is_delivery_of, is_packet_of}
 
 -- ---- one group
 
-pub first_of : (sent : List Sent) (arrivals : List Arrival) (d : Delivery) → sent ≡ sent_of d ∷ [] → arrivals ≡ arrival_of d ∷ [] → deliveries_in sent arrivals ≡ d ∷ []
-first_of sent arrivals d sent_is arrivals_are = ap (λ l. deliveries_in l arrivals) sent_is ∙ ap (λ l. deliveries_in (sent_of d ∷ []) l) arrivals_are
+pub first_of : (sent : List Sent) (arrivals : List Arrival) (d : Delivery) → sent ≡ sent_of d.copy ∷ [] → arrivals ≡ arrival_of d ∷ [] → deliveries_in sent arrivals ≡ d ∷ []
+first_of sent arrivals d sent_is arrivals_are = ap (λ l. deliveries_in l arrivals) sent_is ∙ ap (λ l. deliveries_in (sent_of d.copy ∷ []) l) arrivals_are
 
 -- a packet more that came to the same vertices
 pub joined : (sent : List Sent) (q : Sent) (arrivals other : List Arrival) → other ≡ arrivals → deliveries_in (sent ++ q ∷ []) arrivals ≡ deliveries_in sent arrivals ++ deliveries_in (q ∷ []) other
@@ -31,6 +33,22 @@ pub joined_of : (sent all own : List Sent) (q : Sent) (arrivals other : List Arr
     deliveries_in all arrivals ≡ deliveries_in sent arrivals ++ deliveries_in own other
 joined_of sent all own q arrivals other all_is own_is same =
     ap (λ l. deliveries_in l arrivals) all_is ∙ (joined sent q arrivals other same ∙ ap (λ l. deliveries_in sent arrivals ++ deliveries_in l other) (sym own_is))
+
+-- the last packet
+pub at_last : (sent : List Sent) (q p : Sent) → slice_get sent (length sent - 1) ≡ Some q → q ≡ p → (before : List Sent) × (sent ≡ before ++ p ∷ [])
+at_last sent q p at is =
+    let n : ℕ = length sent - 1 in
+    let below = slice_get_within sent n q at in
+    (take n sent, sym (take_all (n + 1) sent (omega (arith, below))) ∙ (take_more_at sent n q at ∙ ap (λ x. take n sent ++ x ∷ []) is))
+
+-- the last packet's deliveries come last
+pub last_packet : (sent before : List Sent) (p : Sent) (arrivals : List Arrival) → sent ≡ before ++ p ∷ [] → deliveries_in sent arrivals ≡ deliveries_in before arrivals ++ deliveries_at arrivals p
+last_packet sent before p arrivals is =
+    ap (λ l. deliveries_in l arrivals) is
+    ∙ (flat_map-append (deliveries_at arrivals) before (p ∷ []) ∙ ap (λ l. deliveries_in before arrivals ++ l) (append-nil (deliveries_at arrivals p)))
+
+pub ends_with : (g : Inside) (copy : McCopy) (count : ℕ) (before : List Sent) → g.sent ≡ before ++ sent_of copy ∷ [] → length g.arrivals ≡ count → EndsWith (grouped_of g) (sent_of copy) count
+ends_with g copy count before is long = record { before = deliveries_in before g.arrivals; is = last_packet g.sent before (sent_of copy) g.arrivals is; long = long }
 
 module _ (app : LoadedApp) (g : Inside) (is : IsGroup g) where
   -- what holds of all numbers between the least and the greatest holds of all deliveries
@@ -130,6 +148,15 @@ pub last_put_if : {E : Type 0} (r : Result Bool E) (gs : List Grouped) (count : 
 last_put_if (Ok b) gs count g new more long some value put = last_put b gs count g new more long some value put
 last_put_if (Err e) gs count g new more long some value put = tt
 
+pub last_same : (gs : List Grouped) (count : ℕ) (g new : Grouped) → count ≡ length gs → count ≢ 0 → g ≡ slice_index_or gs (count - 1) g → new.deliveries ≡ g.deliveries →
+    all_grouped (slice_set gs (count - 1) new) ≡ all_grouped gs
+last_same gs count g new long some value same = last_put false gs count g new [] long some value same
+
+-- what holds anyway holds after a refusal
+pub on_err : {X E P : Type 0} (r : Result X E) → P → OnErr r P
+on_err (Ok x) p = tt
+on_err (Err e) p = p
+
 pub last_same_if : {X E : Type 0} (r : Result X E) (gs : List Grouped) (count : ℕ) (g new : Grouped) → count ≡ length gs → count ≢ 0 → g ≡ slice_index_or gs (count - 1) g →
     OnErr r (new.deliveries ≡ g.deliveries) → OnErr r (all_grouped (slice_set gs (count - 1) new) ≡ all_grouped gs)
 last_same_if (Ok x) gs count g new long some value same = tt
@@ -179,3 +206,71 @@ module _ (p : Delivery → Bool) (all own others : List Delivery) (count left : 
       let a = ap length (sym (append-nil own) ∙ own_is) in
       let b = ap length (sym (append-nil others) ∙ others_are) in
       omega (arith, counted, so_far, a, b, both)
+
+-- ---- the last group
+
+-- the deliveries of the last group come last
+last_split : (gs : List Grouped) (n : ℕ) (g : Grouped) → slice_get gs n ≡ Some g → length gs ≡ n + 1 →
+    (front : List Delivery) × (all_grouped gs ≡ front ++ g.deliveries) × (last_arrivals gs ≡ g.arrivals)
+last_split [] n g at long = absurd (omega (arith, long))
+last_split (h ∷ []) zero g at long =
+    let same : h ≡ g = same_Some h g at in
+    ([], append-nil h.deliveries ∙ ap (λ (x : Grouped). x.deliveries) same, ap (λ (x : Grouped). x.arrivals) same)
+last_split (h ∷ []) (suc n) g at long = absurd (omega (arith, long))
+last_split (h ∷ k ∷ gs) zero g at long = absurd (omega (arith, long))
+last_split (h ∷ k ∷ gs) (suc n) g at long =
+    let rest = last_split (k ∷ gs) n g at (omega (arith, long)) in
+    (h.deliveries ++ rest.0, ap (λ l. h.deliveries ++ l) rest.1 ∙ sym (append_assoc h.deliveries rest.0 g.deliveries), rest.2)
+
+last_more : (h : Grouped) (gs : List Grouped) → gs ≢ [] → last_arrivals (h ∷ gs) ≡ last_arrivals gs
+last_more h [] some = absurd (some refl)
+last_more h (k ∷ gs) some = refl
+
+last_set : (gs : List Grouped) (n : ℕ) (new : Grouped) → length gs ≡ n + 1 → last_arrivals (slice_set gs n new) ≡ new.arrivals
+last_set [] n new long = absurd (omega (arith, long))
+last_set (h ∷ []) zero new long = refl
+last_set (h ∷ []) (suc n) new long = absurd (omega (arith, long))
+last_set (h ∷ k ∷ gs) zero new long = absurd (omega (arith, long))
+last_set (h ∷ k ∷ gs) (suc n) new long =
+    last_more h (slice_set (k ∷ gs) n new) (λ none. let a = length-set (k ∷ gs) n new in let b = ap length none in omega (arith, a, b)) ∙ last_set (k ∷ gs) n new (omega (arith, long))
+
+module _ (gs : List Grouped) (count : ℕ) (g : Grouped) (long : count ≡ length gs) (some : count ≢ 0) (value : g ≡ slice_index_or gs (count - 1) g) where
+  last_there : slice_get gs (count - 1) ≡ Some g
+  last_there = slice_get-get_or gs (count - 1) g (omega (arith, long, some)) ∙ ap Some (sym value)
+
+  last_long : length gs ≡ count - 1 + 1
+  last_long = omega (arith, long, some)
+
+  pub last_arrivals_are : last_arrivals gs ≡ g.arrivals
+  last_arrivals_are = (last_split gs (count - 1) g last_there last_long).2
+
+  -- where the last group ends with a packet's deliveries, which are as many as come behind others, they are those behind
+  pub behind_others : (first all left : ℕ) (p : Sent) → all ≡ length (all_grouped gs) → first ≤ all → left ≡ all - first → EndsWith g p left →
+      drop first (all_grouped gs) ≡ deliveries_at (last_arrivals gs) p
+  behind_others first all left p total within less ends =
+      let split = last_split gs (count - 1) g last_there last_long in
+      let own : List Delivery = deliveries_at g.arrivals p in
+      let is : all_grouped gs ≡ (split.0 ++ ends.before) ++ own = split.1 ∙ (ap (λ l. split.0 ++ l) ends.is ∙ sym (append_assoc split.0 ends.before own)) in
+      let sum = ap length is ∙ length-append (split.0 ++ ends.before) own in
+      let one = length-map g.arrivals (delivery_of p) in
+      let many = ends.long in
+      let place : length (split.0 ++ ends.before) ≡ first = omega (arith, total, within, less, sum, one, many) in
+      ap (drop first) is ∙ (drop_at (split.0 ++ ends.before) own first place ∙ ap (λ l. deliveries_at l p) (sym split.2))
+
+  -- a packet more in the last group
+  pub repeated : (new : Grouped) (p : Sent) → new.deliveries ≡ g.deliveries ++ deliveries_at g.arrivals p →
+      all_grouped (slice_set gs (count - 1) new) ≡ all_grouped gs ++ deliveries_at (last_arrivals gs) p
+  repeated new p put = last_put true gs count g new (deliveries_at g.arrivals p) long some value put ∙ ap (λ l. all_grouped gs ++ deliveries_at l p) (sym last_arrivals_are)
+
+  pub counted_again : (new : Grouped) (p : Sent) (all width more : ℕ) → new.deliveries ≡ g.deliveries ++ deliveries_at g.arrivals p → all ≡ length (all_grouped gs) → width ≡ length g.arrivals →
+      more ≡ all + width → more ≡ length (all_grouped (slice_set gs (count - 1) new))
+  counted_again new p all width more put total wide sum =
+      let is = ap length (last_put true gs count g new (deliveries_at g.arrivals p) long some value put) ∙ length-append (all_grouped gs) (deliveries_at g.arrivals p) in
+      let one = length-map g.arrivals (delivery_of p) in
+      omega (arith, is, one, total, wide, sum)
+
+  pub same_item : (h : Grouped) → h ≡ slice_index_or gs (count - 1) h → h ≡ g
+  same_item h is = same_Some h g (sym (slice_get-get_or gs (count - 1) h (omega (arith, long, some)) ∙ ap Some (sym is)) ∙ last_there)
+
+  pub last_arrivals_stay : (new : Grouped) → new.arrivals ≡ g.arrivals → last_arrivals (slice_set gs (count - 1) new) ≡ last_arrivals gs
+  last_arrivals_stay new same = last_set gs (count - 1) new last_long ∙ (same ∙ sym last_arrivals_are)

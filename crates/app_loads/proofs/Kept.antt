@@ -1,18 +1,20 @@
 -- A mesh whose earlier deliveries are held apart, seen as one mesh.
-use Rattle.std.proofs.Common.{◌≡◌, Bool, ℕ, ◌+◌, ◌^◌, ◌<◌, List, [], ◌++◌, length, refl, sym, ap, ◌∙◌, subst, inl, inr, arith, Result, Ok, Err, OnOk, map}
-use Rattle.std.specs.List.{Contains, filter}
-use Rattle.std.proofs.lemmas.List.{map-append}
+use Rattle.std.proofs.Common.{◌≡◌, ◌≢◌, Bool, ℕ, ◌+◌, ◌^◌, ◌<◌, List, [], ◌++◌, ◌∷◌, drop, length, refl, sym, ap, ◌∙◌, subst, inl, inr, arith, Result, Ok, Err, OnOk, Some, map}
+use Rattle.std.specs.List.{Contains, filter, slice_get, slice_index_or, slice_set}
+use Rattle.std.proofs.lemmas.List.{append-nil, drop_at, map-append}
 use Rattle.std.proofs.lemmas.List.Sums.{count_by-le-length, length-filter}
 use Rattle.std.proofs.lemmas.List.Elements.{All-nil}
 use Rattle.spin_base.proofs.Members.{Among, among_contains, among_either, among_left, among_map, among_right, contains_among}
 use Rattle.spin_base.specs.declared.copies.Delivery.{Delivery}
+use Rattle.spin_base.specs.declared.copies.McCopy.{McCopy}
 use Rattle.mesh_core.specs.Expected.{NothingWaits}
 use Rattle.mesh_core.specs.HasRun.{DropsNone}
 use Rattle.mesh_core.specs.Ledger.{all_hand_marks, core_marks, delivered_marks, dumped_marks, input_marks, marks_of, unsent_marks}
-use Rattle.mesh_core.specs.State.{State, IsMesh}
+use Rattle.mesh_core.specs.Queues.{drop_front}
+use Rattle.mesh_core.specs.State.{Setup, State, IsMesh}
 use Rattle.mesh_core.specs.Trail.{Mark, IsUnderWayAt, delivered}
-use Rattle.mesh_drain.specs.Draining.{IsMoved, IsReachedDropless, MaySend, SendAlone}
-use Rattle.mesh_drain.proofs.Frame.{dumped_reached, kept_reached}
+use Rattle.mesh_drain.specs.Draining.{BringsAlways, HasBrought, IsMoved, IsReachedDropless, MaySend, SendAlone, of_packet}
+use Rattle.mesh_drain.proofs.Frame.{dumped_reached, kept_reached, setup_reached}
 use Rattle.app_loads.specs.declared.answers.UnloadErr.{UnloadErr}
 use Rattle.app_loads.specs.declared.answers.UnloadErr.TheVariants.{NotLoaded, Waiting, Memory}
 use Rattle.app_loads.specs.declared.loaded.LoadedApp.{LoadedApp}
@@ -20,7 +22,9 @@ use Rattle.app_loads.specs.Earlier.{with_earlier}
 use Rattle.app_loads.specs.Joining.{CanSettle}
 use Rattle.app_loads.specs.Leaving.{NoneUnderWay, WaitsIn}
 use Rattle.app_loads.specs.Removing.{IsWhyHere}
-use Rattle.app_loads.specs.Running.{IsClean}
+use Rattle.app_loads.specs.declared.group.Arrival.{Arrival}
+use Rattle.app_loads.specs.Groups.{deliveries_at, sent_of}
+use Rattle.app_loads.specs.Running.{Comes, HasBroughtMore, IsClean}
 use Rattle.app_loads.proofs.Earlier.{kept_without, reached_with}
 use Rattle.app_loads.proofs.LeftMesh.{mesh_with}
 
@@ -135,6 +139,73 @@ module _ (xs ys : List Delivery) (s t u : State) (clean : IsClean xs s) (reached
     quiet = quiet_still t u is quiet;
     none_delivered = none;
     none_dumped = ap (λ (v : State). v.dumped) is ∙ (dumped_reached s t reached ∙ clean.none_dumped);
+  }
+
+  -- what it brought came behind the earlier ones
+  pub brought_more : (v key : ℕ) → u.delivered ≡ [] → HasBrought s t v key → HasBroughtMore xs ys u.setup v key
+  brought_more v key none has =
+      let setup : s.setup ≡ u.setup = sym (setup_reached s t reached) ∙ sym (ap (λ (a : State). a.setup) is) in
+      record {
+        come = has.come;
+        is = sym (append-nil ys) ∙ (ap (λ l. ys ++ l) (sym none) ∙ (all ∙ ap (λ l. xs ++ l) (has.is ∙ ap (λ l. l ++ has.come) clean.none_delivered)));
+        always = subst (λ a. BringsAlways a v key has.come) setup has.always;
+      }
+
+-- ---- a packet with the key of the one before
+
+module _ (k copy : McCopy) (key : k.key ≡ copy.key) where
+  abbrev at : ℕ → Arrival → Delivery
+  at n a = record { vertex = a.vertex; copy = record { packet = k.packet; key = n; payload = k.payload; hop = a.hop } }
+
+  same_places : (arrivals : List Arrival) → map (of_packet k) (deliveries_at arrivals (sent_of copy)) ≡ deliveries_at arrivals (sent_of k)
+  same_places [] = refl
+  same_places (a ∷ more) = ap (λ n. at n a ∷ map (of_packet k) (deliveries_at more (sent_of copy))) (sym key) ∙ ap (λ l. at k.key a ∷ l) (same_places more)
+
+-- where what came is the last group's, it is known where others come
+pub comes_again : (before after : List Delivery) (u : Setup) (v first : ℕ) (copy : McCopy) (arrivals : List Arrival) → HasBroughtMore before after u v copy.key → first ≡ length before →
+    drop first after ≡ deliveries_at arrivals (sent_of copy) → Comes u v arrivals copy.key
+comes_again before after u v first copy arrivals has long behind = λ s k rest may same here key.
+    let come : has.come ≡ deliveries_at arrivals (sent_of copy) = sym (drop_at before has.come first (sym long)) ∙ (ap (drop first) (sym has.is) ∙ behind) in
+    subst (λ l. IsReachedDropless s (record s { unsent = slice_set s.unsent v rest; delivered = s.delivered ++ l }))
+    (ap (map (of_packet k)) come ∙ same_places k copy key arrivals) (has.always s k rest may same here key)
+
+-- a list of unsent copies that has one has a first
+pub some_there : (q : List McCopy) (unsent : List (List McCopy)) (v : ℕ) → slice_get unsent v ≢ Some [] → slice_get unsent v ≡ Some q → 0 < length q
+some_there [] unsent v some is = absurd (some is)
+some_there (k ∷ q) unsent v some is = omega arith
+
+pub first_there : (q : List McCopy) (unsent : List (List McCopy)) (v : ℕ) (k : McCopy) → slice_get unsent v ≢ Some [] → slice_get unsent v ≡ Some q → k ≡ slice_index_or q 0 k →
+    (rest : List McCopy) × (slice_get unsent v ≡ Some (k ∷ rest))
+first_there [] unsent v k some is at = absurd (some is)
+first_there (x ∷ q) unsent v k some is at = (q, is ∙ ap (λ y. Some (y ∷ q)) (sym at))
+
+pub dropped : (s u : State) (v : ℕ) (k : McCopy) (rest : List McCopy) → slice_get s.unsent v ≡ Some (k ∷ rest) → u ≡ record s { unsent = drop_front s.unsent v (slice_get s.unsent v) } →
+    u ≡ record s { unsent = slice_set s.unsent v rest }
+dropped s u v k rest first is = is ∙ ap (λ q. record s { unsent = drop_front s.unsent v q }) first
+
+module _ (xs ys : List Delivery) (s u : State) (v : ℕ) (k : McCopy) (rest : List McCopy) (arrivals : List Arrival) (clean : IsClean xs s) (first : slice_get s.unsent v ≡ Some (k ∷ rest))
+    (comes : Comes s.setup v arrivals k.key) (put : ys ≡ xs ++ deliveries_at arrivals (sent_of k)) (is : u ≡ record s { unsent = slice_set s.unsent v rest }) where
+  abbrev own : List Delivery
+  own = deliveries_at arrivals (sent_of k)
+
+  pub again_reached : IsReachedDropless (with_earlier xs s) (with_earlier ys u)
+  again_reached =
+      let may : MaySend (with_earlier xs s) =
+      record { kept = clean.kept; quiet = record { inputs_empty = clean.quiet.inputs_empty; hands_empty = clean.quiet.hands_empty; cores_empty = clean.quiet.cores_empty } }
+      in
+      let all : (xs ++ s.delivered) ++ own ≡ ys ++ s.delivered =
+      ap (λ l. (xs ++ l) ++ own) clean.none_delivered ∙ (ap (λ l. l ++ own) (append-nil xs) ∙ (sym put ∙ (sym (append-nil ys) ∙ ap (λ l. ys ++ l) (sym clean.none_delivered))))
+      in
+      subst (IsReachedDropless (with_earlier xs s))
+      (ap (λ l. record s { unsent = slice_set s.unsent v rest; delivered = l }) all ∙ ap (with_earlier ys) (sym is))
+      (comes (with_earlier xs s) k rest may refl first refl)
+
+  pub again_clean : IsClean ys u
+  again_clean = record {
+    kept = kept_reached (with_earlier xs s) (with_earlier ys u) clean.kept again_reached;
+    quiet = subst NothingWaits (sym is) (record { inputs_empty = clean.quiet.inputs_empty; hands_empty = clean.quiet.hands_empty; cores_empty = clean.quiet.cores_empty });
+    none_delivered = ap (λ (a : State). a.delivered) is ∙ clean.none_delivered;
+    none_dumped = ap (λ (a : State). a.dumped) is ∙ clean.none_dumped;
   }
 
 -- those that pass are no more

@@ -2,12 +2,15 @@
 use Rattle.std.specs.Prelude.{◌≡◌, ◌<◌, ◌≤◌, ℕ, Bool, true, false, not, ◌&&◌, ◌||◌, nat_le, nat_lt, List, ◌++◌}
 use Rattle.std.specs.List.{flat_map}
 use Rattle.spin_base.specs.declared.copies.Delivery.{Delivery}
+use Rattle.app_loads.specs.declared.group.Arrival.{Arrival}
 use Rattle.app_loads.specs.declared.loaded.LoadedApp.{LoadedApp}
 use Rattle.app_loads.specs.Leaving.{is_packet_of}
 
--- A group has deliveries, and no packet of a lesser number than its least, or of a greater one than its greatest.
+-- A group has deliveries, the places where each of its packets came, and no packet of a lesser number than its least, or of a greater
+-- one than its greatest.
 pub record Grouped : Type 0 where
   pub deliveries : List Delivery
+  pub arrivals : List Arrival
   pub least : ℕ
   pub greatest : ℕ
 

@@ -1,9 +1,12 @@
 -- What draining does to a host (this project's own).
-use Rattle.std.specs.Prelude.{◌≡◌, ℕ, List, [], Option, IfSome}
-use Rattle.mesh_core.specs.State.{State, IsMesh}
-use Rattle.mesh_drain.specs.Draining.{IsMoved, MeetsSomeLedger, SendAlone}
+use Rattle.std.specs.Prelude.{◌≡◌, ℕ, List, [], ◌∷◌, ◌++◌, Option, Some, IfSome, slice_get, slice_set}
+use Rattle.mesh_core.specs.State.{Setup, State, IsMesh}
+use Rattle.mesh_drain.specs.Draining.{BringsAlways, IsMoved, IsReachedDropless, MaySend, MeetsSomeLedger, SendAlone}
 use Rattle.mesh_core.specs.Expected.{NothingWaits}
 use Rattle.spin_base.specs.declared.copies.Delivery.{Delivery}
+use Rattle.spin_base.specs.declared.copies.McCopy.{McCopy}
+use Rattle.app_loads.specs.declared.group.Arrival.{Arrival}
+use Rattle.app_loads.specs.Groups.{deliveries_at, sent_of}
 use Rattle.app_loads.specs.Earlier.{with_earlier}
 use Rattle.app_loads.specs.Host.{Host}
 
@@ -28,3 +31,15 @@ pub record IsClean (earlier : List Delivery) (s : State) : Type 0 where
 pub record AreKnownIn (parts : State) (senders : Option (List ℕ)) : Type 0 where
   pub mesh : IsMesh parts
   pub known : IfSome senders (λ vertices. SendAlone vertices parts)
+
+-- deliveries came behind others, and so they come whenever the vertex sends a packet with this key
+pub record HasBroughtMore (before after : List Delivery) (u : Setup) (v key : ℕ) : Type 0 where
+  pub come : List Delivery
+  pub is : after ≡ before ++ come
+  pub always : BringsAlways u v key come
+
+-- whenever a vertex may send a packet with this key first, it comes to these places by events of which none drops a copy
+abbrev pub Comes : Setup → ℕ → List Arrival → ℕ → Type 0
+Comes u v arrivals key =
+    (s : State) (k : McCopy) (rest : List McCopy) → MaySend s → s.setup ≡ u → slice_get s.unsent v ≡ Some (k ∷ rest) → k.key ≡ key →
+    IsReachedDropless s (record s { unsent = slice_set s.unsent v rest; delivered = s.delivered ++ deliveries_at arrivals (sent_of k) })

@@ -1,19 +1,20 @@
 // All copies brought to their targets.
-ghost use Rattle.std.specs.Prelude.{◌≡◌, ◌≢◌, ◌<◌, ◌∷◌, [], List, Some, IfSome, OnOk, length, slice_get, slice_set};
+ghost use Rattle.std.specs.Prelude.{◌≡◌, ◌≢◌, ◌<◌, ◌∷◌, [], List, Some, true, IfOk, IfSome, OnOk, length, slice_get, slice_set};
 ghost use Rattle.spin_base.specs.declared.copies.McCopy.{McCopy as Copy};
 ghost use Rattle.mesh_core.specs.Expected.{IsAtRest};
 ghost use Rattle.mesh_drain.specs.Draining.{IsMoved, IsReachedDropless, MeetsSomeLedger, SendAlone};
 ghost use Rattle.app_loads.specs.Applications.{AreApps};
 ghost use Rattle.app_loads.specs.Earlier.{with_earlier};
 ghost use Rattle.app_loads.specs.Grouping.{all_grouped};
-ghost use Rattle.app_loads.specs.Running.{CanDrain, HasMovedMesh, IsClean};
+ghost use Rattle.app_loads.specs.Groups.{last_arrivals};
+ghost use Rattle.app_loads.specs.Running.{CanDrain, Comes, HasBroughtMore, HasMovedMesh, IsClean};
 
 use crate::apps::Apps;
 use crate::groups::Groups;
 use crate::meshes::{KeptMesh, keep, restore};
 use mesh_core::Mesh;
 use mesh_drain::{drain, drain_from, send_first};
-use spin_base::{Memory, Seq};
+use spin_base::{McCopy, Memory, Seq};
 use std::alloc::Global;
 
 impl Apps {
@@ -112,9 +113,91 @@ fn send_all(alloc: Global, mesh: &mut Mesh, earlier: &mut Groups, vertex: u32) -
     ensures clean { OnOk result (IsClean (all_grouped earlier.new) mesh.new) }
     ensures unsent { OnOk result (mesh.new.unsent ≡ slice_set mesh.old.unsent vertex []) }
 {
+    let mut known = None;
     'packets: while !mesh.unsent(vertex).is_empty() {
-        send_one(alloc, mesh, earlier, vertex)?;
+        known = send_next(alloc, mesh, earlier, vertex, known)?;
     }
+    Ok(())
+}
+
+// A vertex sends its first packet. Where it is known of its key to which vertices it comes, it is not brought there step by step.
+// Answers the key of which that is known then.
+fn send_next(
+    alloc: Global,
+    mesh: &mut Mesh,
+    earlier: &mut Groups,
+    vertex: u32,
+    known: Option<u32>,
+) -> Result<Option<u32>, Memory>
+    requires clean { IsClean (all_grouped earlier.old) mesh.old }
+    requires there { vertex < length mesh.old.setup.spots }
+    requires some { slice_get mesh.old.unsent vertex ≢ Some [] }
+    requires known { IfSome known (Comes mesh.old.setup vertex (last_arrivals earlier.old)) }
+    ensures reached { IsReachedDropless (with_earlier (all_grouped earlier.old) mesh.old)
+        (with_earlier (all_grouped earlier.new) mesh.new) }
+    ensures clean { OnOk result (IsClean (all_grouped earlier.new) mesh.new) }
+    ensures unsent { OnOk result ((copy : Copy) (rest : List Copy)
+        → slice_get mesh.old.unsent vertex ≡ Some (copy ∷ rest) →
+        mesh.new.unsent ≡ slice_set mesh.old.unsent vertex rest) }
+    ensures known { IfOk result (λ now.
+        IfSome now (Comes mesh.new.setup vertex (last_arrivals earlier.new))) }
+{
+    let copy = first_unsent(mesh, vertex);
+    if is_known(known, copy.key) {
+        send_again(mesh, earlier, vertex, copy)?;
+        return Ok(known);
+    }
+    let before = earlier.len();
+    send_one(alloc, mesh, earlier, vertex)?;
+    earlier.join();
+    if earlier.ends_with(copy, before) {
+        Ok(Some(copy.key))
+    } else {
+        Ok(None)
+    }
+}
+
+// The first copy that a vertex has not sent yet.
+fn first_unsent(mesh: &Mesh, vertex: u32) -> McCopy
+    requires there { vertex < length mesh.now.setup.spots }
+    requires some { slice_get mesh.now.unsent vertex ≢ Some [] }
+    ensures { (rest : List Copy) × (slice_get mesh.now.unsent vertex ≡ Some (result ∷ rest)) }
+{
+    mesh.unsent(vertex)[0]
+}
+
+// Whether the key is the one of which it is known.
+fn is_known(known: Option<u32>, key: u32) -> bool
+    ensures { result ≡ true → known ≡ Some key }
+{
+    match known {
+        Some(other) => other == key,
+        None => false,
+    }
+}
+
+// A vertex sends its first packet, of which it is known where it comes.
+fn send_again(
+    mesh: &mut Mesh,
+    earlier: &mut Groups,
+    vertex: u32,
+    copy: McCopy,
+) -> Result<(), Memory>
+    requires clean { IsClean (all_grouped earlier.old) mesh.old }
+    requires there { vertex < length mesh.old.setup.spots }
+    requires first { (rest : List Copy) × (slice_get mesh.old.unsent vertex ≡ Some (copy ∷ rest)) }
+    requires comes { Comes mesh.old.setup vertex (last_arrivals earlier.old) copy.key }
+    ensures reached { IsReachedDropless (with_earlier (all_grouped earlier.old) mesh.old)
+        (with_earlier (all_grouped earlier.new) mesh.new) }
+    ensures clean { OnOk result (IsClean (all_grouped earlier.new) mesh.new) }
+    ensures unsent { OnOk result ((rest : List Copy)
+        → slice_get mesh.old.unsent vertex ≡ Some (copy ∷ rest) →
+        mesh.new.unsent ≡ slice_set mesh.old.unsent vertex rest) }
+    ensures setup { mesh.new.setup ≡ mesh.old.setup }
+    ensures arrivals { last_arrivals earlier.new ≡ last_arrivals earlier.old }
+{
+    earlier.repeat(copy)?;
+    mesh.drop_unsent(vertex);
     Ok(())
 }
 
@@ -129,6 +212,9 @@ fn send_one(alloc: Global, mesh: &mut Mesh, earlier: &mut Groups, vertex: u32) -
     ensures unsent { OnOk result ((copy : Copy) (rest : List Copy)
         → slice_get mesh.old.unsent vertex ≡ Some (copy ∷ rest) →
         mesh.new.unsent ≡ slice_set mesh.old.unsent vertex rest) }
+    ensures brought { OnOk result ((copy : Copy) (rest : List Copy)
+        → slice_get mesh.old.unsent vertex ≡ Some (copy ∷ rest) →
+        HasBroughtMore (all_grouped earlier.old) (all_grouped earlier.new) mesh.new.setup vertex copy.key) }
 {
     send_first(alloc, mesh, vertex)?;
     keep(alloc, mesh, earlier)

@@ -1,8 +1,9 @@
 // Deliveries of packets that came to the same vertices.
-ghost use Rattle.std.specs.Prelude.{◌≡◌, ◌++◌, ◌∷◌, [], All, IfOk, IfSome, OnOk, OnErr, length, map, true, false};
+ghost use Rattle.std.specs.Prelude.{◌≡◌, ◌-◌, ◌++◌, ◌∷◌, [], All, List, IfOk, IfSome, OnOk, OnErr, length, map, slice_get, true, false};
 ghost use Rattle.spin_base.specs.declared.copies.Delivery.{Delivery as ADelivery};
 ghost use Rattle.app_loads.specs.Grouping.{HasPut, IsAtLeast, IsAtMost, is_others_group, is_own_group};
-ghost use Rattle.app_loads.specs.Groups.{arrival_of, deliveries_at, deliveries_in, delivery_of, sent_of};
+ghost use Rattle.app_loads.specs.declared.group.Sent.{Sent as SentOnce};
+ghost use Rattle.app_loads.specs.Groups.{EndsWith, arrival_of, deliveries_at, deliveries_in, delivery_of, sent_of};
 ghost use Rattle.app_loads.specs.Leaving.{is_delivery_of};
 
 use crate::leaving::is_packet_of;
@@ -54,7 +55,7 @@ impl Group {
         ensures { IfOk result (λ group. group.deliveries ≡ delivery ∷ []) }
     {
         let mut sent = Seq::new(alloc);
-        sent.push(sent_of(delivery))?;
+        sent.push(sent_of(delivery.copy))?;
         let mut arrivals = Seq::new(alloc);
         arrivals.push(arrival_of(delivery))?;
         Ok(Group {
@@ -73,13 +74,20 @@ impl Group {
         self.count
     }
 
+    // How many deliveries each of its packets has.
+    pub fn width(&self) -> usize
+        ensures { result ≡ length self.now.arrivals }
+    {
+        self.arrivals.len()
+    }
+
     // Puts a delivery at the back, where it is one of the only packet.
     pub fn extend(&mut self, delivery: Delivery) -> Result<bool, Memory>
         ensures put { IfOk result (λ put.
             HasPut put self.old.deliveries (delivery ∷ []) self.new.deliveries) }
         ensures refused { OnErr result (self.new.deliveries ≡ self.old.deliveries) }
     {
-        if !is_only(self.sent.as_slice(), delivery) {
+        if !is_only(self.sent.as_slice(), delivery.copy) {
             return Ok(false);
         }
         let Some(count) = self.count.checked_add(1) else {
@@ -110,6 +118,34 @@ impl Group {
         self.least = lesser(self.least, sent.packet);
         self.greatest = greater(self.greatest, sent.packet);
         true
+    }
+
+    // Whether its last deliveries, so many, are those of the copy's packet.
+    pub fn ends_with(&self, copy: McCopy, count: usize) -> bool
+        ensures { result ≡ true → EndsWith self.now (sent_of copy) count }
+    {
+        let width = self.arrivals.len();
+        if width != count {
+            return false;
+        }
+        is_last(self.sent.as_slice(), copy)
+    }
+
+    // Puts the copy's packet at the back, which came to the same vertices.
+    pub fn repeat(&mut self, copy: McCopy) -> Result<(), Memory>
+        ensures put { OnOk result (self.new.deliveries
+            ≡ self.old.deliveries ++ deliveries_at self.old.arrivals (sent_of copy)) }
+        ensures refused { OnErr result (self.new.deliveries ≡ self.old.deliveries) }
+        ensures arrivals { self.new.arrivals ≡ self.old.arrivals }
+    {
+        let Some(count) = self.count.checked_add(self.arrivals.len()) else {
+            return Err(Memory);
+        };
+        self.sent.push(sent_of(copy))?;
+        self.count = count;
+        self.least = lesser(self.least, copy.packet);
+        self.greatest = greater(self.greatest, copy.packet);
+        Ok(())
     }
 
     // Whether the least and the greatest packet are the application's: so all are.
@@ -198,23 +234,39 @@ fn only(sent: &[Sent]) -> Option<Sent>
     if sent.len() == 1 { Some(sent[0]) } else { None }
 }
 
-// Whether there is one packet alone, of which the delivery is.
-fn is_only(sent: &[Sent], delivery: Delivery) -> bool
-    ensures { result ≡ true → sent.now ≡ sent_of delivery ∷ [] }
+// Whether there is one packet alone, of which the copy is.
+fn is_only(sent: &[Sent], copy: McCopy) -> bool
+    ensures { result ≡ true → sent.now ≡ sent_of copy ∷ [] }
 {
     match only(sent) {
-        Some(sent) => is_of(sent, delivery),
+        Some(sent) => is_of(sent, copy),
         None => false,
     }
 }
 
-fn sent_of(delivery: Delivery) -> Sent
-    ensures { result ≡ sent_of delivery }
+// Whether the copy is of the last packet.
+fn is_last(sent: &[Sent], copy: McCopy) -> bool
+    ensures { result ≡ true → (before : List SentOnce) × (sent.now ≡ before ++ sent_of copy ∷ []) }
+{
+    match last(sent) {
+        Some(last) => is_of(last, copy),
+        None => false,
+    }
+}
+
+fn last(sent: &[Sent]) -> Option<Sent>
+    ensures { result ≡ slice_get sent.now (length sent.now - 1) }
+{
+    sent.last().copied()
+}
+
+fn sent_of(copy: McCopy) -> Sent
+    ensures { result ≡ sent_of copy }
 {
     Sent {
-        packet: delivery.copy.packet,
-        key: delivery.copy.key,
-        payload: delivery.copy.payload,
+        packet: copy.packet,
+        key: copy.key,
+        payload: copy.payload,
     }
 }
 
@@ -241,10 +293,8 @@ fn delivery_of(sent: Sent, arrival: Arrival) -> Delivery
     }
 }
 
-fn is_of(sent: Sent, delivery: Delivery) -> bool
-    ensures { result ≡ true → sent ≡ sent_of delivery }
+fn is_of(sent: Sent, copy: McCopy) -> bool
+    ensures { result ≡ true → sent ≡ sent_of copy }
 {
-    sent.packet == delivery.copy.packet
-        && sent.key == delivery.copy.key
-        && sent.payload == delivery.copy.payload
+    sent.packet == copy.packet && sent.key == copy.key && sent.payload == copy.payload
 }

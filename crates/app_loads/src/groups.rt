@@ -1,14 +1,15 @@
 // Groups of deliveries, one after the other.
-ghost use Rattle.std.specs.Prelude.{◌≡◌, ◌≤◌, ◌+◌, ◌++◌, ◌∷◌, [], IfOk, OnOk, OnErr, filter, length, not, vec_capacity, vec_len, true, false};
+ghost use Rattle.std.specs.Prelude.{◌≡◌, ◌≤◌, ◌+◌, ◌++◌, ◌∷◌, [], IfOk, OnOk, OnErr, drop, filter, length, not, vec_capacity, vec_len, true, false};
 ghost use Rattle.std.specs.List.{list_any};
 ghost use Rattle.spin_base.specs.declared.copies.Delivery.{Delivery as ADelivery};
 ghost use Rattle.app_loads.specs.Grouping.{CanHoldOne, HasPut, all_grouped, is_mixed_group};
+ghost use Rattle.app_loads.specs.Groups.{deliveries_at, last_arrivals, sent_of};
 ghost use Rattle.app_loads.specs.Leaving.{is_delivery_of};
 ghost use Rattle.app_loads.specs.Parting.{HasRoomFor};
 
 use crate::group::Group;
 use crate::loaded::LoadedApp;
-use spin_base::{Delivery, Memory, Seq};
+use spin_base::{Delivery, McCopy, Memory, Seq};
 use std::alloc::Global;
 use std::marker::Model;
 
@@ -65,6 +66,47 @@ impl Groups {
         };
         push_last(alloc, &mut self.groups, delivery)?;
         self.count = count;
+        Ok(())
+    }
+
+    // Joins the last group to the one before, where its only packet came to the same vertices.
+    pub fn join(&mut self)
+        ensures { all_grouped self.new ≡ all_grouped self.old }
+    {
+        join_last(&mut self.groups);
+    }
+
+    // Whether those behind so many deliveries are those of the copy's packet, which came to the vertices of the last group.
+    pub fn ends_with(&self, copy: McCopy, before: usize) -> bool
+        ensures { result ≡ true → drop before (all_grouped self.now)
+            ≡ deliveries_at (last_arrivals self.now) (sent_of copy) }
+    {
+        let count = self.groups.len();
+        if count == 0 {
+            return false;
+        }
+        if self.count < before {
+            return false;
+        }
+        self.groups[count - 1].ends_with(copy, self.count - before)
+    }
+
+    // Puts the copy's packet at the back, which came to the vertices of the last group.
+    pub fn repeat(&mut self, copy: McCopy) -> Result<(), Memory>
+        ensures put { OnOk result (all_grouped self.new ≡ all_grouped self.old
+            ++ deliveries_at (last_arrivals self.old) (sent_of copy)) }
+        ensures refused { OnErr result (all_grouped self.new ≡ all_grouped self.old) }
+        ensures arrivals { last_arrivals self.new ≡ last_arrivals self.old }
+    {
+        let count = self.groups.len();
+        if count == 0 {
+            return Ok(());
+        }
+        let Some(more) = self.count.checked_add(self.groups[count - 1].width()) else {
+            return Err(Memory);
+        };
+        self.groups[count - 1].repeat(copy)?;
+        self.count = more;
         Ok(())
     }
 

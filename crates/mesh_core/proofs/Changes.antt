@@ -1,9 +1,9 @@
 -- What every mesh has stays when one list changes, and when a mesh is made.
-use Rattle.std.proofs.Common.{◌≡◌, ◌≢◌, ℕ, ◌*◌, ◌^◌, ◌<◌, ◌≤◌, sym, ap, ◌∙◌, arith, true, false, List, [], length, set, replicate, Option, Some, None, inl, inr, lit<}
+use Rattle.std.proofs.Common.{◌≡◌, ◌≢◌, ℕ, ◌*◌, ◌^◌, ◌<◌, ◌≤◌, refl, sym, ap, ◌∙◌, arith, true, false, List, [], ◌∷◌, length, set, replicate, Option, Some, None, inl, inr, lit<}
 use Rattle.std.specs.Prelude.{AllPairs, IfSome}
 use Rattle.std.specs.List.{All, slice_get}
 use Rattle.std.proofs.lemmas.List.{length-set, length-replicate, get_or-replicate}
-use Rattle.std.proofs.lemmas.List.Elements.{All-nil, All-set, All-replicate}
+use Rattle.std.proofs.lemmas.List.Elements.{All-nil, All-set, All-tail, All-replicate}
 use Rattle.std.proofs.lemmas.Option.{slice_get-get_or}
 use Rattle.std.proofs.lemmas.Bool.{cases_eq}
 use Rattle.spin_base.specs.declared.chips.Chip.{Chip}
@@ -20,7 +20,8 @@ use Rattle.machine_desc.specs.Live.{index_of, is_live_chip, is_live_link, IsInsi
 use Rattle.machine_desc.proofs.Far.{index_below, live_inside, same_index}
 use Rattle.mesh_core.specs.State.{Setup, State, Hand, FitsQueue, FitsHand, IsMesh, queue_at}
 use Rattle.mesh_core.specs.Opened.{empty_mesh}
-use Rattle.spin_base.proofs.Places.{slice_get-set_same, slice_get-set_other}
+use Rattle.mesh_core.specs.Queues.{drop_front}
+use Rattle.spin_base.proofs.Places.{All-at, slice_get-set_same, slice_get-set_other}
 
 -- what a port's number is below
 pub port_below : (port : Port) → port_number port < 7
@@ -175,3 +176,13 @@ empty_from u unsent inputs cores hands is_unsent is_inputs is_hands is_cores =
     ∙ (ap (λ i. from (replicate (length u.spots) []) i hands cores) is_inputs
     ∙ (ap (λ h. from (replicate (length u.spots) []) (replicate (7 * (u.machine.width * u.machine.height)) []) h cores) is_hands
     ∙ ap (λ c. from (replicate (length u.spots) []) (replicate (7 * (u.machine.width * u.machine.height)) []) (replicate (u.machine.width * u.machine.height) None) c) is_cores)))
+
+-- the first unsent copy of a vertex is gone
+pub IsMesh-dropped : (s : State) (v : ℕ) → IsMesh s → IsMesh (record s { unsent = drop_front s.unsent v (slice_get s.unsent v) })
+IsMesh-dropped s v h = by_first (slice_get s.unsent v) refl
+  where
+    by_first : (q : Option (List McCopy)) → slice_get s.unsent v ≡ q → IsMesh (record s { unsent = drop_front s.unsent v q })
+    by_first (Some (k ∷ rest)) at =
+        IsMesh-unsent s v rest h (All-tail (λ (x : McCopy). x.hop ≡ 0) k rest (All-at (λ q. All (λ (x : McCopy). x.hop ≡ 0) q) s.unsent v (k ∷ rest) h.unsent_at_start at))
+    by_first (Some []) at = h
+    by_first None at = h

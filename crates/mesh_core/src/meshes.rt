@@ -4,7 +4,7 @@ ghost use Rattle.std.specs.Option.{option_copied};
 
 use crate::hands::Hand;
 use crate::parts::{EmptyLists, MeshParts};
-use crate::queues::push_at;
+use crate::queues::{drop_front, push_at};
 use crate::setups::{MeshSetup, every_setup_has_sites, queue_place};
 use machine_desc::Machine;
 use spin_base::{Chip, Delivery, DumpRec, Fifo, McCopy, Memory, Port, Seq, Spot};
@@ -45,6 +45,7 @@ impl Mesh {
     ghost use Rattle.mesh_core.specs.State.{queue_at, IsMesh};
     ghost use Rattle.mesh_core.specs.Opened.{empty_mesh};
     ghost use Rattle.mesh_core.specs.Step.{push_at};
+    ghost use Rattle.mesh_core.specs.Queues.{drop_front};
 
     /// A mesh without a copy.
     pub fn new(alloc: Global, setup: MeshSetup) -> Result<Mesh, Memory>
@@ -143,6 +144,17 @@ impl Mesh {
         ensures err { OnErr result (self.new ≡ self.old) }
     {
         push_at(&mut self.unsent, vertex as usize, copy)
+    }
+
+    /// Takes away the first copy that vertex `vertex` has not sent yet, if there is one. It takes constant time and no memory.
+    pub fn drop_unsent(&mut self, vertex: u32)
+        requires { vertex < length self.old.setup.spots }
+        ensures { self.new
+            ≡ record self.old {
+              unsent = drop_front self.old.unsent vertex (slice_get self.old.unsent vertex);
+            } }
+    {
+        drop_front(&mut self.unsent, vertex as usize);
     }
 
     /// Takes another list of deliveries, and hands back the one that it had. It takes constant time and no memory.

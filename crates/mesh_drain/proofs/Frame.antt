@@ -1,7 +1,7 @@
 -- Events that drop no copy: what they leave as it is, and that they follow on each other.
-use Rattle.std.proofs.Common.{◌≡◌, refl, sym, ap, ◌∙◌, subst, List, [], ◌∷◌, ◌++◌}
+use Rattle.std.proofs.Common.{◌≡◌, ℕ, refl, sym, ap, ◌∙◌, subst, List, [], ◌∷◌, ◌++◌}
 use Rattle.std.specs.List.{slice_get, All}
-use Rattle.std.proofs.lemmas.List.Elements.{All-head, All-tail, All-nil, All-cons, All-append}
+use Rattle.std.proofs.lemmas.List.Elements.{All-head, All-tail, All-nil, All-cons, All-append, All-weaker}
 use Rattle.spin_base.specs.declared.copies.Event.{Event}
 use Rattle.spin_base.specs.declared.copies.Event.TheVariants.{Inject, Take, Send, Dump, Collect}
 use Rattle.machine_desc.specs.Live.{index_of}
@@ -10,17 +10,9 @@ use Rattle.mesh_core.specs.Step.{after_event, after_events}
 use Rattle.mesh_core.proofs.EventsLaw.{events_keep}
 use Rattle.mesh_core.proofs.Fixed.{setup_after, after_events-append, push_behind_leaves, by_take, by_send, by_collect, dumped_stays}
 use Rattle.mesh_core.specs.HasRun.{DropsNone}
-use Rattle.mesh_drain.specs.Draining.{MeetsSomeLedger, IsReachedDropless}
+use Rattle.mesh_drain.specs.Draining.{MeetsSomeLedger, IsOnward, IsReachedDropless, IsReachedOnward}
 
 -- ---- what stays
-
--- an event of a packet under way sends no other packet, and drops no copy
-abbrev pub IsOnward : Event → Type 0
-IsOnward (Inject v) = ⊥
-IsOnward (Take c port) = Unit {0}
-IsOnward (Send c o) = Unit {0}
-IsOnward (Dump c o) = ⊥
-IsOnward (Collect v) = Unit {0}
 
 pub unsent_stays : (s : State) (e : Event) → IsOnward e → (after_event s e).unsent ≡ s.unsent
 unsent_stays s (Inject v) none = absurd none
@@ -45,6 +37,37 @@ reached_then s t u first rest = record {
   dropless = All-append DropsNone first.events rest.events first.dropless rest.dropless;
   is = rest.is ∙ (ap (λ x. after_events x rest.events) first.is ∙ sym (after_events-append s first.events rest.events));
 }
+
+-- ---- the same for events of packets under way
+
+pub onward_none : (s t : State) → t ≡ s → IsReachedOnward s t
+onward_none s t is = record { events = []; onward = All-nil IsOnward; is = is }
+
+pub onward_by : (s t : State) (e : Event) → IsOnward e → t ≡ after_event s e → IsReachedOnward s t
+onward_by s t e on is = record { events = e ∷ []; onward = All-cons IsOnward e [] on (All-nil IsOnward); is = is }
+
+pub onward_then : (s t u : State) → IsReachedOnward s t → IsReachedOnward t u → IsReachedOnward s u
+onward_then s t u first rest = record {
+  events = first.events ++ rest.events;
+  onward = All-append IsOnward first.events rest.events first.onward rest.onward;
+  is = rest.is ∙ (ap (λ x. after_events x rest.events) first.is ∙ sym (after_events-append s first.events rest.events));
+}
+
+pub onward_drops_none : (e : Event) → IsOnward e → DropsNone e
+onward_drops_none (Inject v) on = absurd on
+onward_drops_none (Take c port) on = tt
+onward_drops_none (Send c o) on = tt
+onward_drops_none (Dump c o) on = on
+onward_drops_none (Collect v) on = tt
+
+pub dropless : (s t : State) → IsReachedOnward s t → IsReachedDropless s t
+dropless s t reached = record { events = reached.events; dropless = All-weaker IsOnward DropsNone onward_drops_none reached.events reached.onward; is = reached.is }
+
+-- a packet was sent, and went on
+pub sent_dropless : (s t : State) (v : ℕ) → IsReachedOnward (after_event s (Inject v)) t → IsReachedDropless s t
+sent_dropless s t v on = reached_then s (after_event s (Inject v)) t (reached_by s (after_event s (Inject v)) (Inject v) tt refl) (dropless (after_event s (Inject v)) t on)
+
+-- ---- what holds of what is reached
 
 pub kept_reached : (s t : State) → MeetsSomeLedger s → IsReachedDropless s t → MeetsSomeLedger t
 kept_reached s t kept reached =

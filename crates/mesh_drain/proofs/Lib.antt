@@ -1,3 +1,4 @@
+mod Again
 pub mod Frame
 pub mod Moving
 mod Opened

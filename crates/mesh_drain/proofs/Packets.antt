@@ -61,6 +61,10 @@ module _ (s : State) (kept : MeetsSomeLedger s) (quiet : NothingWaits s) (v : �
       ∙ (ap (λ b. if b then Some (after (slice_get s.inputs i)) else None) room
       ∙ ap (λ q. Some (after q)) at)))
 
+  pub after_inject : after_event s (Inject v) ≡ record s { unsent = slice_set s.unsent v rest; inputs = slice_set s.inputs (queue_at s.setup.machine spot.chip Local) (k ∷ []) }
+  unfolding sent_mesh
+  after_inject = injected_is
+
   pub inject_unsent : (after_event s (Inject v)).unsent ≡ slice_set s.unsent v rest
   unfolding sent_mesh
   inject_unsent = ap (λ (t : State). t.unsent) injected_is

@@ -33,6 +33,11 @@ pub on_ok : {T E A B : Type 0} (r : Result T E) → OnOk r A → (A → B) → O
 on_ok (Ok x) here then' = then' here
 on_ok (Err e) here then' = tt
 
+-- what follows from two facts
+pub on_both : {T E A B C : Type 0} (r : Result T E) → OnOk r A → OnOk r B → (A → B → C) → OnOk r C
+on_both (Ok x) a b then' = then' a b
+on_both (Err e) a b then' = tt
+
 -- ---- an output is served
 
 module _ (s t : State) (w : List Waiting) (c : Chip) (o : Out) (is : t ≡ after_event s (Send c o)) where

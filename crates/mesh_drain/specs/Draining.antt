@@ -1,11 +1,12 @@
 -- Meshes that can be drained, and what is reached by events (this project's own).
-use Rattle.std.specs.Prelude.{◌≡◌, ◌≢◌, ◌<◌, ◌≤◌, ℕ, List, [], ◌∷◌, ◌++◌, All, Contains, Some, length, slice_get}
+use Rattle.std.specs.Prelude.{◌≡◌, ◌≢◌, ◌<◌, ◌≤◌, ℕ, List, [], ◌∷◌, ◌++◌, All, Contains, Some, length, map, slice_get, slice_set}
 use Rattle.spin_base.specs.declared.copies.Event.{Event}
+use Rattle.spin_base.specs.declared.copies.Delivery.{Delivery}
 use Rattle.spin_base.specs.declared.copies.McCopy.{McCopy}
 use Rattle.spin_base.specs.declared.copies.DumpRec.{DumpRec}
 use Rattle.machine_desc.specs.declared.nets.NetPlan.{NetPlan}
 use Rattle.machine_desc.specs.RightTables.{AreRight}
-use Rattle.spin_base.specs.declared.copies.Event.TheVariants.{Collect}
+use Rattle.spin_base.specs.declared.copies.Event.TheVariants.{Inject, Take, Send, Dump, Collect}
 use Rattle.mesh_core.specs.State.{Setup, State, IsMesh, Queue, input, core, nowhere, behind}
 use Rattle.mesh_core.specs.Step.{after_event, after_events}
 use Rattle.mesh_core.specs.Ledger.{Label, MeetsLedger, OnlyUnderWay}
@@ -36,6 +37,37 @@ pub record IsReachedDropless (before after : State) : Type 0 where
   pub events : List Event
   pub dropless : All DropsNone events
   pub is : after ≡ after_events before events
+
+-- an event of a packet under way sends no other packet, and drops no copy
+abbrev pub IsOnward : Event → Type 0
+IsOnward (Inject v) = ⊥
+IsOnward (Take c port) = Unit {0}
+IsOnward (Send c o) = Unit {0}
+IsOnward (Dump c o) = ⊥
+IsOnward (Collect v) = Unit {0}
+
+-- A mesh is reached from another by events of packets under way.
+pub record IsReachedOnward (before after : State) : Type 0 where
+  pub events : List Event
+  pub onward : All IsOnward events
+  pub is : after ≡ after_events before events
+
+-- the same delivery, but of this packet
+abbrev pub of_packet : McCopy → Delivery → Delivery
+of_packet k d = record { vertex = d.vertex; copy = record { packet = k.packet; key = d.copy.key; payload = k.payload; hop = d.copy.hop } }
+
+-- Whenever a vertex may send a packet with this key first, it is brought by events of which none drops a copy, and its deliveries are
+-- these, but of its number and payload: a router looks at a copy's key and hop number alone.
+abbrev pub BringsAlways : Setup → ℕ → ℕ → List Delivery → Type 0
+BringsAlways u v key come =
+    (s : State) (k : McCopy) (rest : List McCopy) → MaySend s → s.setup ≡ u → slice_get s.unsent v ≡ Some (k ∷ rest) → k.key ≡ key →
+    IsReachedDropless s (record s { unsent = slice_set s.unsent v rest; delivered = s.delivered ++ map (of_packet k) come })
+
+-- Deliveries have come, and so they come whenever the vertex sends a packet with this key.
+pub record HasBrought (before after : State) (v key : ℕ) : Type 0 where
+  pub come : List Delivery
+  pub is : after.delivered ≡ before.delivered ++ come
+  pub always : BringsAlways before.setup v key come
 
 -- A mesh is reached from another by events.
 pub record IsAfter (before after : State) : Type 0 where

@@ -3,11 +3,11 @@ ghost use Rattle.std.specs.Prelude.{◌≡◌, ◌≢◌, ℕ, List, [], ◌∷�
 ghost use Rattle.spin_base.specs.declared.copies.McCopy.{McCopy as Copy};
 ghost use Rattle.spin_base.specs.declared.routes.Out.{Out as Output};
 ghost use Rattle.std.specs.Option.{option_to_list};
-ghost use Rattle.spin_base.specs.declared.copies.Event.TheVariants.{Collect};
+ghost use Rattle.spin_base.specs.declared.copies.Event.TheVariants.{Collect, Inject};
 ghost use Rattle.machine_desc.specs.Live.{index_of};
 ghost use Rattle.mesh_core.specs.Step.{after_event};
 ghost use Rattle.mesh_core.specs.Expected.{IsAtRest, NothingWaits};
-ghost use Rattle.mesh_drain.specs.Draining.{CanSendFirst, DropsAtNoVertex, MaySend, MeetsSomeLedger, IsReachedDropless, IsMoved, DropsNoneWhereRoomy, SendAlone};
+ghost use Rattle.mesh_drain.specs.Draining.{CanSendFirst, DropsAtNoVertex, MaySend, MeetsSomeLedger, IsReachedDropless, IsReachedOnward, HasBrought, IsMoved, DropsNoneWhereRoomy, SendAlone};
 ghost use Rattle.mesh_drain.specs.UnderWay.{work, outs_in, next_place, MaySendFrom, WaitsAlone, IsServing};
 
 use crate::settling::settle;
@@ -55,7 +55,7 @@ pub fn drain_from(alloc: Global, mesh: &mut Mesh, vertices: &[usize]) -> Result<
     Ok(())
 }
 
-/// A vertex sends its first packet, which is brought to its targets. It moves what it moves.
+/// A vertex sends its first packet, which is brought to its targets, and so would be any other with its key. It moves what it moves.
 ///
 /// # Errors
 ///
@@ -67,6 +67,9 @@ pub fn send_first(alloc: Global, mesh: &mut Mesh, vertex: u32) -> Result<(), Mem
     ensures unsent { OnOk result ((copy : Copy) (rest : List Copy)
         → slice_get mesh.old.unsent vertex ≡ Some (copy ∷ rest) →
         mesh.new.unsent ≡ slice_set mesh.old.unsent vertex rest) }
+    ensures brought { OnOk result ((copy : Copy) (rest : List Copy)
+        → slice_get mesh.old.unsent vertex ≡ Some (copy ∷ rest) →
+        HasBrought mesh.old mesh.new vertex copy.key) }
 {
     let mut waiting = Vec::new(alloc);
     send_packet(mesh, &mut waiting, vertex)
@@ -112,6 +115,7 @@ fn send_packet(mesh: &mut Mesh, waiting: &mut Vec<Waiting>, vertex: u32) -> Resu
     requires can { MaySendFrom mesh.old waiting.old.items vertex }
     requires some { slice_get mesh.old.unsent vertex ≢ Some [] }
     ensures reached { IsReachedDropless mesh.old mesh.new }
+    ensures onward { OnOk result (IsReachedOnward (after_event mesh.old (Inject vertex)) mesh.new) }
     ensures quiet { OnOk result (NothingWaits mesh.new) }
     ensures none { OnOk result (waiting.new.items ≡ []) }
     ensures unsent { OnOk result ((copy : Copy) (rest : List Copy)
@@ -134,7 +138,7 @@ fn send_packet(mesh: &mut Mesh, waiting: &mut Vec<Waiting>, vertex: u32) -> Resu
 // A packet that waits at a port goes on from there to the next routers, or to the vertices of the chip.
 fn go_on(mesh: &mut Mesh, waiting: &mut Vec<Waiting>, at: Waiting) -> Result<(), Memory>
     requires { WaitsAlone mesh.old (waiting.old.items ++ at ∷ []) }
-    ensures reached { IsReachedDropless mesh.old mesh.new }
+    ensures reached { IsReachedOnward mesh.old mesh.new }
     ensures under_way { OnOk result (WaitsAlone mesh.new waiting.new.items) }
     ensures unsent { OnOk result (mesh.new.unsent ≡ mesh.old.unsent) }
     ensures less { OnOk result (work mesh.new waiting.new.items ≤ work mesh.old waiting.old.items) }
@@ -164,7 +168,7 @@ fn held_outs(router: Router) -> Result<Outs, Memory>
 // takes it.
 fn serve(mesh: &mut Mesh, waiting: &mut Vec<Waiting>, chip: Chip, out: Out) -> Result<(), Memory>
     requires { (rest : List Output) × IsServing mesh.old waiting.old.items chip (out ∷ rest) }
-    ensures reached { IsReachedDropless mesh.old mesh.new }
+    ensures reached { IsReachedOnward mesh.old mesh.new }
     ensures served { OnOk result ((rest : List Output) →
         IsServing mesh.old waiting.old.items chip (out ∷ rest)
         → IsServing mesh.new waiting.new.items chip rest) }
@@ -182,7 +186,7 @@ fn serve(mesh: &mut Mesh, waiting: &mut Vec<Waiting>, chip: Chip, out: Out) -> R
 // The vertex takes the packet.
 pub fn collect(mesh: &mut Mesh, vertex: u32) -> Result<(), Memory>
     ensures taken { OnOk result (mesh.new ≡ after_event mesh.old (Collect vertex)) }
-    ensures reached { IsReachedDropless mesh.old mesh.new }
+    ensures reached { IsReachedOnward mesh.old mesh.new }
 {
     mesh.step(Event::Collect(vertex))?;
     Ok(())

@@ -8,6 +8,7 @@ pub packets-init : goal.packets-init
 packets-init c = record {
   reached = reached_none (with_earlier (all_grouped c.args.earlier.now) c.args.mesh.now);
   clean = c.requires.clean;
+  known = tt;
   unsent = as_before c.args.mesh.now c.args.vertex;
 }
 
@@ -15,22 +16,23 @@ pub unsent-requires : goal.unsent-requires
 unsent-requires c =
     there_still (with_earlier (all_grouped c.args.earlier.now) c.args.mesh.now) (with_earlier (all_grouped c.packets.earlier) c.packets.mesh) c.args.vertex c.packets.invariant.reached c.requires.there
 
-pub send_one-requires-clause-there : goal.send_one-requires-clause-there
-send_one-requires-clause-there c =
+pub send_next-requires-clause-there : goal.send_next-requires-clause-there
+send_next-requires-clause-there c =
     there_still (with_earlier (all_grouped c.args.earlier.now) c.args.mesh.now) (with_earlier (all_grouped c.packets.earlier) c.packets.mesh) c.args.vertex c.packets.invariant.reached c.requires.there
 
 pub packets-smaller : goal.packets-smaller
 packets-smaller c =
-    (one_less c.args.mesh.now.unsent c.packets.mesh.unsent c.send_one.new.mesh.unsent c.args.vertex c.packets.invariant.unsent.0 c.unsent.result.now
-    c.packets.invariant.unsent.1 c.unsent.ensures (is_some' c.unsent.result.now c.packets-test.ensures) c.in_ok-send_one.ensures.unsent).1
+    (one_less c.args.mesh.now.unsent c.packets.mesh.unsent c.send_next.new.mesh.unsent c.args.vertex c.packets.invariant.unsent.0 c.unsent.result.now
+    c.packets.invariant.unsent.1 c.unsent.ensures (is_some' c.unsent.result.now c.packets-test.ensures) c.in_ok-known.ensures.unsent).1
 
 pub packets-preserved : goal.packets-preserved
 packets-preserved c = record {
   reached = reached_then (with_earlier (all_grouped c.args.earlier.now) c.args.mesh.now) (with_earlier (all_grouped c.packets.earlier) c.packets.mesh)
-      (with_earlier (all_grouped c.send_one.new.earlier) c.send_one.new.mesh) c.packets.invariant.reached c.send_one.ensures.reached;
-  clean = c.in_ok-send_one.ensures.clean;
-  unsent = (one_less c.args.mesh.now.unsent c.packets.mesh.unsent c.send_one.new.mesh.unsent c.args.vertex c.packets.invariant.unsent.0 c.unsent.result.now
-      c.packets.invariant.unsent.1 c.unsent.ensures (is_some' c.unsent.result.now c.packets-test.ensures) c.in_ok-send_one.ensures.unsent).0;
+      (with_earlier (all_grouped c.send_next.new.earlier) c.send_next.new.mesh) c.packets.invariant.reached c.send_next.ensures.reached;
+  clean = c.in_ok-known.ensures.clean;
+  known = c.in_ok-known.ensures.known;
+  unsent = (one_less c.args.mesh.now.unsent c.packets.mesh.unsent c.send_next.new.mesh.unsent c.args.vertex c.packets.invariant.unsent.0 c.unsent.result.now
+      c.packets.invariant.unsent.1 c.unsent.ensures (is_some' c.unsent.result.now c.packets-test.ensures) c.in_ok-known.ensures.unsent).0;
 }
 
 pub returns-clause-unsent : goal.returns-clause-unsent
@@ -39,7 +41,7 @@ returns-clause-unsent c =
     (was_there (with_earlier (all_grouped c.args.earlier.now) c.args.mesh.now) c.args.vertex c.requires.clean.kept c.requires.there) c.packets.invariant.unsent.1 c.unsent.ensures
     (is_none c.unsent.result.now c.packets-test.ensures)
 
-pub returns-in_err-send_one-clause-reached : goal.returns-in_err-send_one-clause-reached
-returns-in_err-send_one-clause-reached c =
+pub returns-in_err-known-clause-reached : goal.returns-in_err-known-clause-reached
+returns-in_err-known-clause-reached c =
     reached_then (with_earlier (all_grouped c.args.earlier.now) c.args.mesh.now) (with_earlier (all_grouped c.packets.earlier) c.packets.mesh)
-    (with_earlier (all_grouped c.send_one.new.earlier) c.send_one.new.mesh) c.packets.invariant.reached c.send_one.ensures.reached
+    (with_earlier (all_grouped c.send_next.new.earlier) c.send_next.new.mesh) c.packets.invariant.reached c.send_next.ensures.reached

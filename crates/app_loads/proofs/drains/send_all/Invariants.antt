@@ -1,10 +1,12 @@
 use Rattle.std.proofs.Common.{◌≡◌, [], List, length, get_or}
+use Rattle.std.specs.Prelude.{IfSome}
 use Rattle.std.specs.List.{slice_set}
 use Rattle.spin_base.specs.declared.copies.McCopy.{McCopy}
 use Rattle.mesh_drain.specs.Draining.{IsReachedDropless}
 use Rattle.app_loads.specs.Earlier.{with_earlier}
 use Rattle.app_loads.specs.Grouping.{all_grouped}
-use Rattle.app_loads.specs.Running.{IsClean}
+use Rattle.app_loads.specs.Groups.{last_arrivals}
+use Rattle.app_loads.specs.Running.{Comes, IsClean}
 use Rattle.app_loads.proofs.drains.send_all.Given as goal
 
 -- the vertex has some packets unsent, and all else is as it was
@@ -12,6 +14,7 @@ abbrev pub invariant-packets : goal.invariant-packets
 invariant-packets l = record {
   reached : IsReachedDropless (with_earlier (all_grouped l.fn.earlier) l.fn.mesh) (with_earlier (all_grouped l.earlier) l.mesh);
   clean : IsClean (all_grouped l.earlier) l.mesh;
+  known : IfSome l.known (Comes l.mesh.setup l.vertex (last_arrivals l.earlier));
   unsent : (left : List McCopy) × (l.mesh.unsent ≡ slice_set l.fn.mesh.unsent l.vertex left);
 }
 

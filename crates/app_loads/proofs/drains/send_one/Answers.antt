@@ -2,7 +2,7 @@ use Rattle.std.proofs.Common.{◌∙◌, ap}
 use Rattle.mesh_core.specs.State.{State}
 use Rattle.app_loads.specs.Grouping.{all_grouped}
 use Rattle.app_loads.proofs.Earlier.{reached_with}
-use Rattle.app_loads.proofs.Kept.{may_send, ok_then, sent_clean, sent_reached}
+use Rattle.app_loads.proofs.Kept.{brought_more, may_send, ok_then, sent_clean, sent_reached}
 use Rattle.app_loads.proofs.drains.send_one.Goals as goal
 
 pub send_first-requires : goal.send_first-requires
@@ -24,3 +24,11 @@ returns-clause-clean c =
 pub returns-clause-unsent : goal.returns-clause-unsent
 returns-clause-unsent c =
     ok_then c.keep.result (λ none copy rest at. ap (λ (s : State). s.unsent) c.keep.ensures.mesh ∙ c.in_ok-send_first.ensures.unsent copy rest at) c.keep.ensures.none
+
+pub returns-clause-brought : goal.returns-clause-brought
+returns-clause-brought c =
+    ok_then c.keep.result
+    (λ none copy rest at.
+    brought_more (all_grouped c.args.earlier.now) (all_grouped c.keep.new.earlier) c.args.mesh.now c.send_first.new.mesh c.keep.new.mesh c.requires.clean c.send_first.ensures.reached
+    c.keep.ensures.mesh c.keep.ensures.all
+    c.args.vertex copy.key none (c.in_ok-send_first.ensures.brought copy rest at)) c.keep.ensures.none

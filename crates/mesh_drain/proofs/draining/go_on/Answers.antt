@@ -3,14 +3,14 @@ use Rattle.std.proofs.lemmas.List.{drop_all}
 use Rattle.mesh_core.specs.State.{State}
 use Rattle.spin_base.specs.declared.copies.Event.TheVariants.{Take}
 use Rattle.mesh_drain.specs.UnderWay.{IsServing}
-use Rattle.mesh_drain.proofs.Frame.{reached_by, reached_then, unsent_stays}
+use Rattle.mesh_drain.proofs.Frame.{onward_by, onward_then, unsent_stays}
 use Rattle.mesh_drain.proofs.Packets.{serving_done}
 use Rattle.mesh_drain.proofs.Turns.{taken_serving, taken_less, outs_left}
 use Rattle.mesh_drain.proofs.draining.go_on.Goals as goal
 
 pub loop-out-init : goal.loop-out-init
 loop-out-init c = record {
-  reached = reached_by c.args.mesh.now c.step.new.self (Take c.args.at.chip c.args.at.port) tt c.in_ok-step.ensures.moves;
+  reached = onward_by c.args.mesh.now c.step.new.self (Take c.args.at.chip c.args.at.port) tt c.in_ok-step.ensures.moves;
   serving = taken_serving c.args.mesh.now c.step.new.self c.args.waiting.now.items c.args.at c.in_ok-outs.outs.items c.as_slice-out-items.result.now
       c.in_ok-step.ensures.moves c.requires c.in_ok-outs.ensures c.as_slice-out-items.ensures.value;
   unsent = ap (λ (s : State). s.unsent) c.in_ok-step.ensures.moves ∙ unsent_stays c.args.mesh.now (Take c.args.at.chip c.args.at.port) tt;
@@ -30,7 +30,7 @@ loop-out-preserved c =
     let os = c.as_slice-out-items.result.now in
     let i = c.loop-out.out-index in
     record {
-      reached = reached_then c.args.mesh.now c.loop-out.mesh c.serve.new.mesh c.loop-out.invariant.reached c.serve.ensures.reached;
+      reached = onward_then c.args.mesh.now c.loop-out.mesh c.serve.new.mesh c.loop-out.invariant.reached c.serve.ensures.reached;
       serving = c.in_ok-serve.ensures.served (drop (i + 1) os)
           (subst (IsServing c.loop-out.mesh c.loop-out.waiting.items c.args.at.chip) (outs_left os i _ c.loop-out-test.true) c.loop-out.invariant.serving);
       unsent = c.in_ok-serve.ensures.unsent ∙ c.loop-out.invariant.unsent;
@@ -43,7 +43,7 @@ returns-clause-under_way c =
     (subst (IsServing c.loop-out.mesh c.loop-out.waiting.items c.args.at.chip) (drop_all c.loop-out.out-index c.as_slice-out-items.result.now c.loop-out-test.false) c.loop-out.invariant.serving)
 
 pub returns-in_err-outs-clause-reached : goal.returns-in_err-outs-clause-reached
-returns-in_err-outs-clause-reached c = reached_by c.args.mesh.now c.step.new.self (Take c.args.at.chip c.args.at.port) tt c.in_ok-step.ensures.moves
+returns-in_err-outs-clause-reached c = onward_by c.args.mesh.now c.step.new.self (Take c.args.at.chip c.args.at.port) tt c.in_ok-step.ensures.moves
 
 pub returns-in_err-serve-clause-reached : goal.returns-in_err-serve-clause-reached
-returns-in_err-serve-clause-reached c = reached_then c.args.mesh.now c.loop-out.mesh c.serve.new.mesh c.loop-out.invariant.reached c.serve.ensures.reached
+returns-in_err-serve-clause-reached c = onward_then c.args.mesh.now c.loop-out.mesh c.serve.new.mesh c.loop-out.invariant.reached c.serve.ensures.reached

@@ -1,12 +1,12 @@
 use Rattle.std.proofs.Common.{◌≡◌, ◌≤◌, drop}
-use Rattle.mesh_drain.specs.Draining.{IsReachedDropless}
+use Rattle.mesh_drain.specs.Draining.{IsReachedOnward}
 use Rattle.mesh_drain.specs.UnderWay.{work, IsServing}
 use Rattle.mesh_drain.proofs.draining.go_on.Given as goal
 
 -- the outputs from here on are still to be served
 abbrev pub invariant-loop-out : goal.invariant-loop-out
 invariant-loop-out l = record {
-  reached : IsReachedDropless l.fn.mesh l.mesh;
+  reached : IsReachedOnward l.fn.mesh l.mesh;
   serving : IsServing l.mesh l.waiting.items l.at.chip (drop l.out-index l.out-items);
   unsent : l.mesh.unsent ≡ l.fn.mesh.unsent;
   less : work l.mesh l.waiting.items ≤ work l.fn.mesh l.fn.waiting.items;

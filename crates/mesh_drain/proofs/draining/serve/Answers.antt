@@ -2,7 +2,7 @@ use Rattle.std.proofs.Common.{ap, ◌∙◌, arith, length, refl}
 use Rattle.mesh_core.specs.State.{State}
 use Rattle.mesh_core.specs.Step.{after_event}
 use Rattle.spin_base.specs.declared.copies.Event.TheVariants.{Send, Collect}
-use Rattle.mesh_drain.proofs.Frame.{reached_by, reached_then, unsent_stays}
+use Rattle.mesh_drain.proofs.Frame.{onward_by, onward_then, unsent_stays}
 use Rattle.mesh_drain.proofs.Packets.{few_in_mesh}
 use Rattle.mesh_drain.proofs.Steps.{kept_after}
 use Rattle.mesh_drain.proofs.Turns.{on_ok, link_served, core_served, nowhere_served}
@@ -18,7 +18,7 @@ overflow_cast-vertex c =
     omega (arith, few, lists, same, below)
 
 pub returns-in-Input-clause-reached : goal.returns-in-Input-clause-reached
-returns-in-Input-clause-reached c = reached_by c.args.mesh.now c.step.new.self (Send c.args.chip c.args.out) tt c.in_ok-step.ensures.moves
+returns-in-Input-clause-reached c = onward_by c.args.mesh.now c.step.new.self (Send c.args.chip c.args.out) tt c.in_ok-step.ensures.moves
 
 pub returns-in-Input-clause-served : goal.returns-in-Input-clause-served
 returns-in-Input-clause-served c =
@@ -39,8 +39,8 @@ returns-in-Input-clause-less c =
 
 pub returns-in-Core-clause-reached : goal.returns-in-Core-clause-reached
 returns-in-Core-clause-reached c =
-    reached_then c.args.mesh.now c.step.new.self c.collect.new.mesh
-    (reached_by c.args.mesh.now c.step.new.self (Send c.args.chip c.args.out) tt c.in_ok-step.ensures.moves) c.collect.ensures.reached
+    onward_then c.args.mesh.now c.step.new.self c.collect.new.mesh
+    (onward_by c.args.mesh.now c.step.new.self (Send c.args.chip c.args.out) tt c.in_ok-step.ensures.moves) c.collect.ensures.reached
 
 pub returns-in-Core-clause-served : goal.returns-in-Core-clause-served
 returns-in-Core-clause-served c =
@@ -61,7 +61,7 @@ returns-in-Core-clause-less c =
     c.in-Core.vertex c.in-Core.ensures.queue c.collect.new.mesh last c.requires.0 c.requires.1).1)
 
 pub returns-in-Nowhere-clause-reached : goal.returns-in-Nowhere-clause-reached
-returns-in-Nowhere-clause-reached c = reached_by c.args.mesh.now c.step.new.self (Send c.args.chip c.args.out) tt c.in_ok-step.ensures.moves
+returns-in-Nowhere-clause-reached c = onward_by c.args.mesh.now c.step.new.self (Send c.args.chip c.args.out) tt c.in_ok-step.ensures.moves
 
 pub returns-in-Nowhere-clause-served : goal.returns-in-Nowhere-clause-served
 returns-in-Nowhere-clause-served c = λ rest u.

@@ -1,6 +1,7 @@
 use Rattle.std.proofs.Common.{◌≡◌, arith, subst}
 use Rattle.std.specs.Prelude.{OnOk}
 use Rattle.mesh_drain.specs.Draining.{collected_from}
+use Rattle.mesh_drain.proofs.Frame.{dropless}
 use Rattle.mesh_drain.proofs.Packets.{few_in_mesh}
 use Rattle.mesh_drain.proofs.settling.collect_behind.Goals as goal
 
@@ -14,3 +15,6 @@ overflow_cast-vertex c =
 pub returns-in-Core-clause-collected : goal.returns-in-Core-clause-collected
 returns-in-Core-clause-collected c =
     subst (λ q. OnOk c.collect.result (c.collect.new.mesh ≡ collected_from c.args.mesh.now q)) c.in-Core.ensures.queue c.collect.ensures.taken
+
+pub returns-in-Core-clause-reached : goal.returns-in-Core-clause-reached
+returns-in-Core-clause-reached c = dropless c.args.mesh.now c.collect.new.mesh c.collect.ensures.reached
