@@ -12,7 +12,6 @@ use Rattle.chip_node.specs.declared.ends.OutEnd.{OutEnd}
 use Rattle.chip_node.specs.Going.{EndGoes, EndStays, IsFullEnd, IsFullMoment, IsIdle, LaneGoes, SenderGoes}
 use Rattle.chip_node.specs.Offers.{Sends as SendsOffer, RefusesOffers}
 use Rattle.chip_node.specs.Passing.{EndLacks, EndRefuses, EndSends, EndTakes}
-use Rattle.chip_node.proofs.Flows.{end_goes_none}
 use Rattle.chip_node.proofs.Stays.{sender_same}
 
 -- ---- a copy was sent

@@ -16,7 +16,7 @@ use Rattle.chip_node.specs.declared.ends.InEnd.{InEnd}
 use Rattle.chip_node.specs.declared.ends.OutEnd.{OutEnd}
 use Rattle.chip_node.specs.declared.holdings.Holdings.{Holdings}
 use Rattle.chip_node.specs.Ends.{IsOutEndOf}
-use Rattle.chip_node.specs.Going.{AreEndsOf, EndStays, EndHasRoom, IsEndOf, IsFullAt, IsFullEnd, IsIdle, IsIdleAt, HasAmpleRoom, SenderGoes, Stays, TakerGoes}
+use Rattle.chip_node.specs.Going.{EndStays, EndHasRoom, IsIdle, IsIdleAt, HasAmpleRoom, SenderGoes, Stays, TakerGoes}
 
 -- ---- ends of links, one step after the other
 
@@ -91,18 +91,6 @@ same_cap : (links : List Link) (x y : OutEnd) → IsOutEndOf links x → IsOutEn
 same_cap links x y h k same =
     let of : k.of ≡ h.of = same_Some k.of h.of (sym k.stands ∙ (ap (slice_get links) same ∙ h.stands)) in
     k.is_end.cap ∙ (ap (λ (l : Link). cap_of l) of ∙ sym h.is_end.cap)
-
-end_full_before : (links : List Link) (cap : ℕ) (x y : End) → IsEndOf links x → IsEndOf links y → EndStays x y → IsFullEnd cap y → IsFullEnd cap x
-end_full_before links cap Away y ex ey h full = subst (IsFullEnd cap) h full
-end_full_before links cap (Own a) y ex ey h full = subst (IsFullEnd cap) h full
-end_full_before links cap (Sends a) y ex ey (b, is, h) full =
-    let then : (sending b.tx).cap ≤ length ((sending b.tx).first ++ (sending b.tx).sent) = subst (IsFullEnd cap) is full in
-    let of : IsOutEndOf links b = subst (IsEndOf links) is ey in
-    let caps = same_cap links a b ex of h.link in
-    let put : (sending b.tx).first ++ (sending b.tx).sent ≡ (sending a.tx).first ++ (sending a.tx).sent =
-    ap (λ l. l ++ (sending b.tx).sent) h.first ∙ ap (λ l. (sending a.tx).first ++ l) (h.sent ∙ append-nil (sending a.tx).sent) in
-    subst (λ n. n ≤ length ((sending a.tx).first ++ (sending a.tx).sent)) caps (subst (λ (l : List McCopy). (sending b.tx).cap ≤ length l) put then)
-end_full_before links cap (Takes a) y ex ey (b, is, h) full = subst (IsFullEnd cap) is full
 
 -- ---- all that is held
 
