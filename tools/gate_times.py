@@ -5,9 +5,11 @@
 
 It looks twice a second at the processes of the prover, and adds up what each had used when it was last seen, so that a figure
 is short by at most half a second a process. An edit is told by its place in the order in which `rt ci` tries a crate's edits,
-which is that of their names; one that is tried a second time counts besides. What the command prints goes to out/gate.log.
+which is that of their names; one that is tried a second time counts besides. What the command prints goes to out/gate.log. Where this
+script is ended, it ends the command, and tells what was used so far.
 """
 import os
+import signal
 import subprocess
 import sys
 import time
@@ -53,6 +55,8 @@ def main(command):
     seen, order, begun = {}, defaultdict(list), time.time()
     with open("out/gate.log", "w", encoding="utf-8") as log:
         gate = subprocess.Popen(command, stdout=log, stderr=subprocess.STDOUT)
+        for ending in (signal.SIGINT, signal.SIGTERM):
+            signal.signal(ending, lambda *_: gate.terminate())
         while gate.poll() is None:
             for process, crate, kind, folder, seconds in provers(gate.pid):
                 seen[process] = (crate, kind, folder, seconds)
