@@ -228,6 +228,66 @@ fn better_at_step(
     better(search, radius, end, side, five)
 }
 
+// The column at an offset of the window round the target.
+#[inline(always)]
+fn column_at(search: Search<'_, '_>, radius: Radius, offset: u8) -> Option<u8>
+    requires { offset ≤ 2 * radius.chips }
+    ensures value { result ≡ place_at search.entry.on.now.machine.now.wrap
+        search.entry.on.now.machine.now.width search.entry.target.x radius.chips offset }
+    ensures inside { IfSome result (λ n. n < search.entry.on.now.machine.now.width) }
+{
+    let machine = search.on.machine();
+    let (places, place) = (machine.width(), search.target.x);
+    place_at(machine.wrap(), OnAxis { places, place }, radius, offset)
+}
+
+// The row at an offset of the window round the target.
+#[inline(always)]
+fn row_at(search: Search<'_, '_>, radius: Radius, offset: u8) -> Option<u8>
+    requires { offset ≤ 2 * radius.chips }
+    ensures value { result ≡ place_at search.entry.on.now.machine.now.wrap
+        search.entry.on.now.machine.now.height search.entry.target.y radius.chips offset }
+    ensures inside { IfSome result (λ n. n < search.entry.on.now.machine.now.height) }
+{
+    let machine = search.on.machine();
+    let (places, place) = (machine.height(), search.target.y);
+    place_at(machine.wrap(), OnAxis { places, place }, radius, offset)
+}
+
+// Whether no chip of the tree is at these coordinates.
+#[inline(always)]
+fn is_off(search: Search<'_, '_>, x: Option<u8>, y: Option<u8>) -> bool
+    requires x_inside { IfSome x (λ n. n < search.on.now.machine.now.width) }
+    requires y_inside { IfSome y (λ n. n < search.on.now.machine.now.height) }
+    ensures { result ≡ true → (c : Chip) → chip_at x y ≡ Some c →
+        is_on search.entry.on.now.machine.now search.entry.on.now.items.items c ≡ true → ⊥ }
+{
+    match chip_at(x, y) {
+        None => true,
+        Some(chip) => !search.on.at(chip),
+    }
+}
+
+// Whether no chip of the tree is on the ring `step` chips along any of its sides.
+fn is_off_at_step(search: Search<'_, '_>, radius: Radius, step: u8) -> bool
+    requires { step ≤ radius.chips }
+    ensures { result ≡ true → (c : Chip) →
+        AtStep search.entry.on.now.machine.now search.entry.target radius.chips step c →
+        is_on search.entry.on.now.machine.now search.entry.on.now.items.items c ≡ true → ⊥ }
+{
+    let (side, end) = (radius.chips + step, 2 * radius.chips);
+    let (first_x, step_x) = (column_at(search, radius, 0), column_at(search, radius, step));
+    let (side_x, end_x) = (column_at(search, radius, side), column_at(search, radius, end));
+    let (first_y, step_y) = (row_at(search, radius, 0), row_at(search, radius, step));
+    let (side_y, end_y) = (row_at(search, radius, side), row_at(search, radius, end));
+    is_off(search, first_x, step_y)
+        && is_off(search, step_x, first_y)
+        && is_off(search, step_x, side_y)
+        && is_off(search, side_x, step_y)
+        && is_off(search, side_x, end_y)
+        && is_off(search, end_x, side_y)
+}
+
 // The nearest chip of the tree, where it is one of those from which the target is exactly `radius` links away.
 fn nearest_on_ring(search: Search<'_, '_>, radius: Radius) -> Option<Chip>
     requires { IsNoneNearer search.on.now.machine.now search.on.now.items.items search.target
@@ -239,7 +299,9 @@ fn nearest_on_ring(search: Search<'_, '_>, radius: Radius) -> Option<Chip>
 {
     let mut best = None;
     for step in 0..radius.chips + 1 {
-        best = better_at_step(search, radius, step, best);
+        if !is_off_at_step(search, radius, step) {
+            best = better_at_step(search, radius, step, best);
+        }
     }
     best
 }
@@ -299,7 +361,7 @@ pub fn near_chip(tree: &GrowingTree, target: Chip) -> Chip
     let edges = tree.edges.len();
     for chips in 0..21 {
         let far = usize::from(chips);
-        if edges < 3 * far * far {
+        if edges < 64 + 3 * far * far {
             return nearest_of_all(tree, target);
         }
         if let Some(chip) = nearest_on_ring(search, Radius { chips }) {
