@@ -12,7 +12,7 @@ use Rattle.machine_desc.proofs.Far.{inside_from}
 use Rattle.ner_trees.specs.declared.displacements.Disp.{Disp}
 use Rattle.ner_trees.specs.Geometry.{forth, back, ahead_by, displacement_of, distance_of}
 use Rattle.ner_trees.specs.Growth.{IsNotFarther}
-use Rattle.ner_trees.specs.Search.{place_at, offset_chip, AtOffsets, AtStep, IsOnWithin, IsNearestOn, IsNoneOn, IsNoneNearer, IsBetter}
+use Rattle.ner_trees.specs.Search.{is_on, place_at, offset_chip, AtOffsets, AtStep, IsOnWithin, IsNearestOn, IsNoneOn, IsNoneNearer, IsBetter}
 use Rattle.ner_trees.proofs.Axis.{ahead_cases, Reaches}
 use Rattle.ner_trees.proofs.Signed.{length_is}
 use Rattle.ner_trees.proofs.Walking.{reaches}
@@ -30,6 +30,16 @@ offset_is m t wrap too w h r column row x y ewrap etoo ew eh ex ey =
     let fx : x ≡ place_at m.wrap m.width t.x r column = ex ∙ (ap (λ (b : Bool). place_at b w t.x r column) ewrap ∙ ap (λ n. place_at m.wrap n t.x r column) ew) in
     let fy : y ≡ place_at m.wrap m.height t.y r row = ey ∙ (ap (λ (b : Bool). place_at b h t.y r row) etoo ∙ ap (λ n. place_at m.wrap n t.y r row) eh) in
     ap (λ (z : Option ℕ). chip_at z y) fx ∙ ap (λ (z : Option ℕ). chip_at (place_at m.wrap m.width t.x r column) z) fy
+
+-- at offsets where the table has no chip of two coordinates, it has none
+pub none_at : (m : Description) (on : List Bool) (t : Chip) (r column row : ℕ) (x y : Option ℕ) → x ≡ place_at m.wrap m.width t.x r column → y ≡ place_at m.wrap m.height t.y r row →
+    ((c : Chip) → chip_at x y ≡ Some c → is_on m on c ≡ true → ⊥) → (c : Chip) → AtOffsets m t r column row c → is_on m on c ≡ true → ⊥
+none_at m on t r column row x y ex ey none c at = none c (offset_is m t m.wrap m.wrap m.width m.height r column row x y refl refl refl refl ex ey ∙ at)
+
+-- chips that the table has not leave the best as it was
+pub better_without : (m : Description) (on : List Bool) (t : Chip) (r : ℕ) (looked_at : Chip → Type 0) (best : Option Chip) →
+    ((c : Chip) → looked_at c → is_on m on c ≡ true → ⊥) → IsBetter m on t r looked_at best best
+better_without m on t r looked_at best none = record { keeps = λ e before. before; has = λ e at is. absurd (none e at is.on_it) }
 
 -- a place of a ring without a division: as many times round as it takes
 pub round_is : (k w n sum : ℕ) → sum ≡ k * w + n → n < w → sum % w ≡ n
