@@ -54,7 +54,7 @@ pub fn new_branch(alloc: Global, on: &Marks, near: Chip, walk: &[Dir]) -> Result
 }
 
 // Notes in the table the chips where links lead.
-pub fn mark(on: &mut Marks, links: &[Edge])
+pub fn mark(on: &mut Marks, links: &[Edge]) -> Result<(), Memory>
     requires { All (λ e. IsInside on.old.machine.now e.chip) links.now }
     ensures machine { on.new.machine.now ≡ on.old.machine.now }
     ensures marked { IsMarkedBy on.old.machine.now on.old.items.items on.new.items.items links.now }
@@ -62,7 +62,8 @@ pub fn mark(on: &mut Marks, links: &[Edge])
     let machine = on.machine();
     for link in links {
         if let Some(chip) = machine.far(link.chip, link.dir) {
-            on.set(chip);
+            on.set(chip)?;
         }
     }
+    Ok(())
 }

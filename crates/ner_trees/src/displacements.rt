@@ -93,6 +93,7 @@ pub struct OnAxis {
 }
 
 // How many places `to` is ahead of `from`, on an axis that is closed to a ring.
+#[inline(always)]
 fn ahead_by(from: OnAxis, to: u8) -> OnAxis
     requires { to < from.places }
     ensures places { result.places ≡ from.places }
@@ -127,6 +128,7 @@ fn on_torus(across: OnAxis, up: OnAxis) -> Disp
 }
 
 // The length of that displacement: the least of the lengths of the four.
+#[inline(always)]
 fn length_on_torus(across: OnAxis, up: OnAxis) -> u32
     ensures value { result ≡
         length_of (on_torus across.places up.places across.place up.place) }
@@ -170,6 +172,7 @@ pub fn displacement(machine: &Machine, p: Chip, q: Chip) -> Disp
 }
 
 /// The number of links from `p` to `q` where none is dead: the length of the displacement, 0 to 128.
+#[inline(always)]
 pub fn distance(machine: &Machine, p: Chip, q: Chip) -> u32
     requires from_inside { IsInside machine.now p }
     requires to_inside { IsInside machine.now q }
@@ -177,15 +180,13 @@ pub fn distance(machine: &Machine, p: Chip, q: Chip) -> u32
     ensures few { result ≤ 128 }
 {
     if machine.wrap() {
-        let x = OnAxis {
-            places: machine.width(),
-            place: p.x,
-        };
-        let y = OnAxis {
-            places: machine.height(),
-            place: p.y,
-        };
-        length_on_torus(ahead_by(x, q.x), ahead_by(y, q.y))
+        let (width, height) = (u32::from(machine.width()), u32::from(machine.height()));
+        let (px, qx) = (u32::from(p.x), u32::from(q.x));
+        let (py, qy) = (u32::from(p.y), u32::from(q.y));
+        let a = if qx < px { qx + (width - px) } else { qx - px };
+        let b = if qy < py { qy + (height - py) } else { qy - py };
+        let (behind, below) = (width - a, height - b);
+        a.max(b).min(behind + b).min(a + below).min(behind.max(below))
     } else {
         displacement(machine, p, q).length()
     }

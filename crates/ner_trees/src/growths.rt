@@ -15,7 +15,7 @@ use crate::partial_trees::GrowingTree;
 use crate::searches::near_chip;
 use crate::walks::ldf;
 use machine_desc::{Edge, Machine, Tree};
-use spin_base::{Chip, Memory, Seq, Shared};
+use spin_base::{Chip, Dir, Memory, Seq, Shared};
 use std::alloc::Global;
 
 /// How a target came to a tree: the chip of the tree that is near it, and the chip where its branch starts, which is the
@@ -36,13 +36,23 @@ pub struct Grown {
 
 impl Shared for Grown {}
 
-// The edges in the order of (x, y, link).
-fn in_order(edges: Vec<Edge>) -> Result<Vec<Edge>, Memory>
-    ensures same_edges { IfOk result (λ v. IsPermutation edges.items v.items) }
-    ensures in_order { IfOk result (λ v. AllPairs (λ e f. IsEdgeBefore f e → ⊥) v.items) }
-{
-    let mut sorted = edges;
-    sorted.sort_by_key(|edge| (edge.chip.x, edge.chip.y, edge.dir.number()))?;
+
+fn number_of(edge: Edge) -> u32 {
+    u32::from(edge.chip.x) * 65536 + u32::from(edge.chip.y) * 256 + u32::from(edge.dir.number())
+}
+fn edge_of(key: u32) -> Edge {
+    Edge { chip: Chip { x: (key / 65536) as u8, y: (key / 256 % 256) as u8 }, dir: Dir::ALL[(key % 8) as usize] }
+}
+fn in_order(alloc: Global, edges: &[Edge]) -> Result<Vec<Edge>, Memory> {
+    let mut keys = Vec::with_capacity(alloc, edges.len())?;
+    for edge in edges {
+        keys.push(number_of(*edge))?;
+    }
+    keys.sort_unstable();
+    let mut sorted = Vec::with_capacity(alloc, keys.len())?;
+    for key in keys.as_slice() {
+        sorted.push(edge_of(*key))?;
+    }
     Ok(sorted)
 }
 
@@ -64,7 +74,7 @@ fn add_target(alloc: Global, tree: &mut GrowingTree, target: Chip) -> Result<Joi
     let near = near_chip(tree, target);
     let walk = ldf(alloc, displacement(tree.on.machine(), near, target))?;
     let branch = new_branch(alloc, &tree.on, near, walk.as_slice())?;
-    mark(&mut tree.on, &branch.links);
+    mark(&mut tree.on, &branch.links)?;
     tree.edges.extend_from_slice(&branch.links)?;
     Ok(Join {
         target,
@@ -82,7 +92,7 @@ fn tree_of_root(alloc: Global, machine: &Machine, root: Chip) -> Result<GrowingT
     ensures on_is { IfOk result (λ t. TellsTree machine.now root t.on.items.items []) }
 {
     let mut on = Marks::none(alloc, machine)?;
-    on.set(root);
+    on.set(root)?;
     Ok(GrowingTree {
         root,
         edges: Vec::new(alloc),
@@ -126,7 +136,7 @@ pub fn ner(
     Ok(Grown {
         tree: Tree {
             root,
-            edges: Seq::from_vec(in_order(tree.edges)?),
+            edges: Seq::from_vec(in_order(alloc, &tree.edges)?),
         },
         joins,
     })

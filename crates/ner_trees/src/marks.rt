@@ -11,6 +11,7 @@ use std::alloc::Global;
 pub struct Marks<'m> {
     machine: &'m Machine,
     items: Vec<bool>,
+    chips: Vec<Chip>,
     pub ghost size: { HasSize machine.now },
     pub ghost long: { length items.items ≡ machine.now.width * machine.now.height },
 }
@@ -26,7 +27,7 @@ impl<'m> Marks<'m> {
             t.items.items ≡ replicate (machine.now.width * machine.now.height) false) }
     {
         let items = vec![in alloc; false; machine.chips()]?;
-        Ok(Marks { machine, items })
+        Ok(Marks { machine, items, chips: Vec::new(alloc) })
     }
 
     // The machine whose chips these are.
@@ -46,7 +47,7 @@ impl<'m> Marks<'m> {
     }
 
     // Marks a chip.
-    pub fn set(&mut self, chip: Chip)
+    pub fn set(&mut self, chip: Chip) -> Result<(), Memory>
         requires { IsInside self.old.machine.now chip }
         ensures machine { self.new.machine.now ≡ self.old.machine.now }
         ensures items { self.new.items.items ≡
@@ -54,5 +55,8 @@ impl<'m> Marks<'m> {
     {
         let place = self.machine.index(chip) as usize;
         self.items[place] = true;
+        self.chips.push(chip)?;
+        Ok(())
     }
+    pub fn chips(&self) -> &[Chip] { &self.chips }
 }

@@ -8,7 +8,7 @@ ghost use Rattle.spin_base.specs.declared.chips.Chip.{Chip};
 use crate::displacements::{OnAxis, distance};
 use crate::marks::Marks;
 use crate::partial_trees::{GrowingTree, Radius};
-use machine_desc::{Edge, Machine};
+use machine_desc::Machine;
 use spin_base::Chip;
 
 // The place on a ring that is `offset` places past the one that lies `radius` places before the centre, by a division.
@@ -323,12 +323,9 @@ fn least_nearness(tree: &GrowingTree, target: Chip) -> u32
         result }
 {
     let machine = tree.on.machine();
-    let edges: &[Edge] = &tree.edges;
     let mut least = nearness(machine, target, tree.root);
-    for edge in edges {
-        if let Some(chip) = machine.far(edge.chip, edge.dir) {
-            least = least.min(nearness(machine, target, chip));
-        }
+    for chip in tree.on.chips() {
+        least = least.min(nearness(machine, target, *chip));
     }
     least
 }
