@@ -153,12 +153,11 @@ module _ (rows : List Row) (places : List ℕ) (merged met : Block) (k : ℕ) (w
   pub kept_more : (free word s : ℕ) → s ≡ get_or places k 0 → ((j : ℕ) → j < 32 → bit_at free j ≡ cond (can_choose merged met j) 1 0) → ((j : ℕ) → j < 32 → bit_at word j ≡ cond (keeps rows met j s) (bit_at free j) 0)
       → (new : List ℕ) → ((j : ℕ) → j < 32 → get_or new j 0 ≡ get_or counts j 0 + bit_at word j) → AreKeptCounts new rows (take (k + 1) places) merged met
   kept_more free word s read free_is word_is new new_is j low =
-      let can = can_choose merged met j in
       let p = keeps rows met j in
       new_is j low
       ∙ ap (λ n. n + bit_at word j) (so_far j low)
       ∙ ap (λ n. kept_count rows (take k places) merged met j + n) (word_is j low ∙ ap (λ n. cond (p s) n 0) (free_is j low))
-      ∙ more p can (take k places) s
+      ∙ more p (can_choose merged met j) (take k places) s
       ∙ ap (λ x. kept_count rows (take k places ++ x ∷ []) merged met j) read
       ∙ ap (λ l. kept_count rows l merged met j) (sym (take_more places k 0 within))
 

@@ -137,12 +137,11 @@ module _ (routes : List ℕ) (rows : List Row) (numbers : List ℕ) (are : AreNu
   best_largest set two outer low refined =
       let some : 0 < most.size = omega (arith, two) in
       let own = is.own some in
-      let bits = is.bits some in
       let found : Refines rows (places_of (get_or routes most.number 0) 0 rows) set = forgets rows outer low (places_of (get_or routes most.number 0) 0 rows) set refined in
       let many : length set ≡ most.size =
       size_of_kept rows own.0.outer own.0.low (get_or routes most.number 0) own.0.size (keeps most.number own.0 (is.inside some) own.1) set found ∙ own.2 in record {
         bits = most.bits;
-        refined = subst (λ n. Refines rows (places_of n 0 rows) set) bits found;
+        refined = subst (λ n. Refines rows (places_of n 0 rows) set) (is.bits some) found;
         two = omega (arith, two, many);
         others = λ route. subst (IsNoRival rows route.bits most.bits) (sym many) (no_rival route.bits);
       }

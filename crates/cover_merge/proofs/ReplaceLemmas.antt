@@ -168,7 +168,6 @@ module _ (places : List ℕ) (place : ℕ) (ascending : AllPairs (λ s t. s < t)
           let most = end_most (i + 1) (omega (arith, within)) in
           let parts : b ≡ a + suc n = omega (arith, next) in
           let one : suc a ≡ a + 1 = omega arith in
-          let x = get_or old a item in
           let count : 0 + length (take a old) ≡ a = omega (arith, length-take a old, next, most, fits) in
           let found : has_row places a ≡ true = ap (has_row places) (end_is i within) ∙ has-at places i within in
           ap (λ m. left places 0 (take m old)) parts
@@ -177,7 +176,7 @@ module _ (places : List ℕ) (place : ℕ) (ascending : AllPairs (λ s t. s < t)
           ∙ ap (λ m. left places 0 (take a old) ++ left places m (take (suc n) (drop a old))) count
           ∙ ap (λ l. left places 0 (take a old) ++ left places a (take (suc n) l)) (drop-cons old a item (omega (arith, next, most, fits)))
           ∙ ap (λ l. left places 0 (take a old) ++ l)
-          (kept_out places a x (take n (drop (suc a) old)) found
+          (kept_out places a (get_or old a item) (take n (drop (suc a) old)) found
           ∙ kept_free places (suc a) (take n (drop (suc a) old)) (λ k from less. free_between i k within (omega (arith, from)) (omega (arith, less, length-take n (drop (suc a) old), next)))
           ∙ ap (λ m. take n (drop m old)) one)
 

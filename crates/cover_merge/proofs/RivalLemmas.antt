@@ -172,9 +172,8 @@ module _ (rows : List Row) (rivals : Rivals) (rivaled : IsRivaled rows rivals) w
           | inr later ↦
               let it = are.each listed.at e listed.within in
               let same : it.place ≡ r = rivaled.apart it.place r it.is.inside inside (sym it.is.serial ∙ listed.found e) in
-              let low = place_for-below rows g rivaled.sound.ordered r d before in
               let level = it.is.general d ∙ ap (λ i. generality (get_or rows i d).block) same in
-              omega (arith, level, low, left listed.at e later listed.within)
+              omega (arith, level, place_for-below rows g rivaled.sound.ordered r d before, left listed.at e later listed.within)
         ])
       ]
         where
@@ -211,8 +210,7 @@ module _ (rows : List Row) (rivals : Rivals) (rivaled : IsRivaled rows rivals) w
         comes_before none up =
             let it = are.each n v within in
             let d : Row = merge_rows [] in
-            let level = it.is.general d in
-            let before = place_for-above rows g rivaled.sound.ordered it.place d it.is.inside (omega (arith, level, low)) in
+            let before = place_for-above rows g rivaled.sound.ordered it.place d it.is.inside (omega (arith, it.is.general d, low)) in
             it.meets d (up it.place it.behind before d (false_from_ne_true (has_row places it.place) (none it.place it.behind it.is.serial it.is.bits)))
 
         pub other_refuses : (a : Row) → ((get_or list n v).bits ≡ (get_or rows s a).route.bits → ⊥) → PassesUp rows places s (place_for rows g) → ⊥

@@ -12,8 +12,7 @@ use Rattle.cover_merge.proofs.choosing.make_ready.Goals as goal
 -- the number of the row's route
 number : (c : After-index) → get_or c.args.known.now.numbers.items c.args.i 0 ≡ c.index.result.now
 number c =
-    let known = c.requires.known in
-    let many = as_many c.args.known.now.routes.items c.args.table.now.rows c.args.known.now.numbers.items known.numbers in
+    let many = as_many c.args.known.now.routes.items c.args.table.now.rows c.args.known.now.numbers.items c.requires.known.numbers in
     get_or_default c.args.known.now.numbers.items c.args.i 0 c.index.result.now (omega (arith, many, c.requires.inside)) ∙ sym c.index.ensures
 
 low : (c : After-index) → c.index.result.now < length c.args.known.now.routes.items
@@ -56,12 +55,11 @@ returns-in_ok-find_newer-clause-changes c =
 pub returns-in_ok-find_newer-clause-own : goal.returns-in_ok-find_newer-clause-own
 returns-in_ok-find_newer-clause-own c d =
     let rows = c.args.table.now.rows in
-    let gs = c.args.known.now.times.items in
     let routes = c.args.known.now.routes.items in
     let number = c.index.result.now in
     let before = (goal.at.returns-in_ok-find_newer-clause-own c).After-index in
     let begins = first (goal.at.returns-in_ok-find_newer-clause-own c).After-index-then-not-index (low before) in
-    subst (λ b. AreNewerOf b 0 rows gs c.find_newer.new.newer.items) (bits before d)
+    subst (λ b. AreNewerOf b 0 rows c.args.known.now.times.items c.find_newer.new.newer.items) (bits before d)
     (subst (λ l. AreNewerOf (get_or routes number 0) 0 rows l c.find_newer.new.newer.items) c.deref.ensures.value (c.in_ok-find_newer.ensures.own (get_or routes number 0) begins))
 
 pub returns-else-not-index-clause-own : goal.returns-else-not-index-clause-own

@@ -99,11 +99,10 @@ merge_from-merged-requires-clause-in_range c =
     let xs = c.loop-i.set.items in
     let i = c.loop-i.i in
     let w = c.loop-i.kept in
-    let some = c.loop-i-test.true in
     let old = c.loop-i.invariant in
     let read : take (i - 1) c.deref-else-passes-2.result.now ++ take (length c.deref-else-passes-3.result.now - w) (drop w c.deref-else-passes-3.result.now) ≡ take (i - 1) xs ++ drop w xs =
     ap (λ l. take (i - 1) l ++ take (length c.deref-else-passes-3.result.now - w) (drop w c.deref-else-passes-3.result.now)) c.deref-else-passes-2.ensures.value ∙ ap (λ l. take (i - 1) xs ++ l) (rest_of w c.deref-else-passes-3.result.now xs c.deref-else-passes-3.ensures.value) in
-    subst (All (λ s. s < length rows)) (sym read) (out_in_range rows xs i w some old.gap old.within old.set)
+    subst (All (λ s. s < length rows)) (sym read) (out_in_range rows xs i w c.loop-i-test.true old.gap old.within old.set)
 
 pub merge_from-merged-requires-clause-known : goal.merge_from-merged-requires-clause-known
 merge_from-merged-requires-clause-known c k d before inside =
@@ -161,9 +160,8 @@ returns-clause-found c =
     let rows = c.args.rows.now in
     let xs = c.loop-i.set.items in
     let i = c.loop-i.i in
-    let w = c.loop-i.kept in
     let old = c.loop-i.invariant in
-    let now = take i xs ++ drop w xs in
+    let now = take i xs ++ drop c.loop-i.kept xs in
     let is : c.take_out_run.new.set.items ≡ now = c.take_out_run.ensures in
     let two : 2 ≤ length now = subst (λ l. 2 ≤ length l) is (omega (arith, c.len-2.ensures, c.if-len-lt2.false)) in
     subst (λ l. (2 ≤ length l) × (c.loop-i.merged ≡ merged_block rows l) × (PassesUpCheck rows l)) (sym is)
