@@ -1,17 +1,14 @@
 -- A job of version 1 or 2 has no device.
-use Rattle.std.proofs.Common.{◌≡◌, ℕ, ◌≤◌, ◌<◌, refl, sym, ap, ◌∙◌, subst, arith, inl, inr, List, [], ◌∷◌, ◌++◌, map, Bool, true, false, Option, Some, None, unwrap_or}
+use Rattle.std.proofs.Common.{◌≡◌, ℕ, ◌≤◌, refl, ap, subst, arith, List, [], Bool, true, false, Option, Some, None, unwrap_or}
 use Rattle.std.specs.List.{All}
 use Rattle.std.specs.Prelude.{option_map, nat_le, codes, if◌then◌else◌}
 use Rattle.std.proofs.lemmas.Bool.{and_parts, leb-true, lt-leb}
 use Rattle.serde_json.specs.Data.{Data}
 use Rattle.spin_base.proofs.Members.{Contains-unmap}
 use Rattle.spin_base.proofs.Places.{All-each}
-use Rattle.machine_desc.specs.declared.trees.Edge.{Edge}
 use Rattle.app_graph.specs.declared.graphs.Vertex.{Vertex}
-use Rattle.job_text.specs.declared.faults.JobFault.{JobFault}
 use Rattle.job_text.specs.Members.{member_of, whole_number}
 use Rattle.job_text.specs.Paths.{member_at}
-use Rattle.job_text.specs.Reading.{◌▹◌}
 use Rattle.job_text.specs.Fields.{is_within, number_faults, number_value, object_value, range_unless, typed_faults}
 use Rattle.job_readers.specs.Entries.{link_value}
 use Rattle.job_readers.specs.Job.{job_own_faults, version_faults, version_value}
