@@ -317,6 +317,10 @@ pub(crate) fn events(
     ensures valid { IfOk result (λ es. All (IsEventOf (length graph.now.vertices)) es) }
 {
     let items = long_list_of(alloc, run, path, "events", false)?;
+    // Most jobs have none, and then no vertex is looked up.
+    if items.is_empty() {
+        return Ok(Seq::new(alloc));
+    }
     let path = Path::Member(path, "events");
     let names = names_of_vertices(alloc, graph.vertices.as_slice())?;
     let listed = Listed { vertices: &names };
