@@ -1,6 +1,6 @@
 // Deliveries and dump records in the order of a report.
 ghost use Rattle.std.specs.Prelude.{◌≡◌, OnOk, IfOk};
-ghost use Rattle.run_report.specs.Orders.{IsSortedStably};
+ghost use Rattle.run_report.specs.Orders.{IsRegrouped, IsSortedStably};
 ghost use Rattle.run_report.specs.RunReport.{delivery_key, dump_key, IsDeliveredOf};
 
 use crate::named::NamedDeliveries;
@@ -16,9 +16,57 @@ pub fn delivered_of(
 ) -> Result<NamedDeliveries, Memory>
     ensures { IfOk result (λ delivered. IsDeliveredOf placed mesh.now.delivered delivered) }
 {
-    let mut sorted = Vec::from_slice(alloc, mesh.delivered())?;
+    let mut sorted = by_packet(alloc, mesh.delivered())?;
+    // They are in order by now, which one pass sees.
     sort_deliveries(&mut sorted)?;
     Ok(NamedDeliveries::of(placed, sorted))
+}
+
+// The deliveries packet by packet, those of one packet by their vertices. That no delivery is lost, and that none passes one of its
+// key, is all that is promised of them, since they are sorted after.
+fn by_packet(alloc: Global, deliveries: &[Delivery]) -> Result<Vec<Delivery>, Memory>
+    ensures { IfOk result (λ all. IsRegrouped delivery_key deliveries.now all.items) }
+{
+    let groups = groups_of(alloc, deliveries)?;
+    joined(alloc, groups)
+}
+
+// The deliveries of each packet, by its number, in their order.
+fn groups_of(alloc: Global, deliveries: &[Delivery]) -> Result<Vec<Vec<Delivery>>, Memory> {
+    let mut groups = Vec::new(alloc);
+    for delivery in deliveries {
+        let place = delivery.copy.packet as usize;
+        widen(alloc, &mut groups, place)?;
+        put_in(&mut groups, place, *delivery)?;
+    }
+    Ok(groups)
+}
+
+// As many groups as a place needs.
+fn widen(alloc: Global, groups: &mut Vec<Vec<Delivery>>, place: usize) -> Result<(), Memory> {
+    for _ in groups.len()..=place {
+        groups.push(Vec::new(alloc))?;
+    }
+    Ok(())
+}
+
+fn put_in(
+    groups: &mut Vec<Vec<Delivery>>,
+    place: usize,
+    delivery: Delivery,
+) -> Result<(), Memory> {
+    groups[place].push(delivery)?;
+    Ok(())
+}
+
+// The groups one after the other, each in its order.
+fn joined(alloc: Global, groups: Vec<Vec<Delivery>>) -> Result<Vec<Delivery>, Memory> {
+    let mut all = Vec::new(alloc);
+    for mut group in groups {
+        sort_deliveries(&mut group)?;
+        all.extend_from_slice(group.as_slice())?;
+    }
+    Ok(all)
 }
 
 fn sort_deliveries(deliveries: &mut Vec<Delivery>) -> Result<(), Memory>
