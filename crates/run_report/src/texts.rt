@@ -224,7 +224,8 @@ fn put_gots(text: &mut Vec<u8>, delivered: &NamedDeliveries) -> Result<(), Memor
         ≡ text.old.items ++ flat_map got_line delivered.now) }
 {
     let (placed, deliveries) = delivered.parts();
-    put_all_gots(text, placed, deliveries)
+    put_all_gots(text, placed, deliveries)?;
+    Ok(())
 }
 
 fn put_all_gots(
