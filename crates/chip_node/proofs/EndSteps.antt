@@ -12,7 +12,6 @@ use Rattle.chip_node.specs.declared.ends.OutEnd.{OutEnd}
 use Rattle.chip_node.specs.Going.{EndGoes, EndStays, IsFullEnd, IsFullMoment, IsIdle, LaneGoes, SenderGoes}
 use Rattle.chip_node.specs.Offers.{Sends as SendsOffer, RefusesOffers}
 use Rattle.chip_node.specs.Passing.{EndLacks, EndRefuses, EndSends, EndTakes}
-use Rattle.chip_node.proofs.Flows.{end_goes_none}
 use Rattle.chip_node.proofs.Stays.{sender_same}
 
 -- ---- a copy was sent
@@ -129,9 +128,6 @@ end_stays_lacks (Takes a) y (b, is, link, f) = (
     took = ap (λ (v : Known). v.took) f.noted ∙ sym (append-nil (taking a.rx).took);
   },
 )
-
-pub end_goes_lacks : (cap patience : ℕ) (x y : End) → EndLacks x y → EndGoes cap patience [] [] [] x y
-end_goes_lacks cap patience x y h = end_goes_none cap patience x y (end_stays_lacks x y h)
 
 pub end_lacks_idle : (x y : End) → EndLacks x y → IsIdle x
 end_lacks_idle Away y h = tt

@@ -36,13 +36,6 @@ out_end_stays links e l tx h is end = record {
 pub out_end_read : (links : List Link) (e : OutEnd) (l : Link) → IsOutEndOf links e → l ≡ get_or links e.link l → IsTx l e.tx
 out_end_read links e l h is = subst (λ m. IsTx m e.tx) (sym (is ∙ get_or_from_slice_get links e.link h.of l h.stands)) h.is_end
 
-pub refuses_none : (v : Known) → RefusesOffers 0 v v
-refuses_none v = record {
-  noted = ap (λ (l : List ℕ). record v { fulls = l }) (sym (append-nil v.fulls));
-  looked = λ h. absurd (omega arith);
-  full = λ h. absurd (omega arith);
-}
-
 -- an offer is refused
 refuses_one : (cap : ℕ) (v u : Known) → RefusesOffer cap v u → v.cap ≡ cap → RefusesOffers 1 v u
 refuses_one cap v u r is = record { noted = r.noted; looked = λ _. r.looked; full = λ _. (let full = r.full in omega arith) }

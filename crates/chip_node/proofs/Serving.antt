@@ -1,7 +1,7 @@
 -- Outputs of a copy that are served one after the other.
-use Rattle.std.proofs.Common.{◌≡◌, ◌≢◌, ℕ, ◌+◌, ◌<◌, ◌≤◌, List, [], ◌∷◌, ◌++◌, length, map, take, get_or, Some, None, refl, sym, ap, subst, ◌∙◌, arith}
+use Rattle.std.proofs.Common.{◌≡◌, ◌≢◌, ℕ, ◌+◌, ◌<◌, List, [], ◌∷◌, ◌++◌, length, map, take, get_or, Some, None, refl, sym, ap, subst, ◌∙◌, arith}
 use Rattle.std.specs.List.{All, AllPairs, AllWithin, slice_get}
-use Rattle.std.proofs.lemmas.List.{get_or_default, map-append, take_more, take_all}
+use Rattle.std.proofs.lemmas.List.{get_or_default, map-append, take_more}
 use Rattle.spin_base.specs.declared.copies.McCopy.{McCopy}
 use Rattle.spin_base.specs.declared.routes.Out.{Out}
 use Rattle.spin_base.specs.Outputs.{IsOutput}
@@ -48,9 +48,6 @@ serves_more cap patience r k a b c outs i s below read of nowhere h goes = recor
 
     item : Service → Item
     item x = served r.index r.chip (place_at_router r.behind.now x.out) x
-
-pub serves_all : (cap patience : ℕ) (r : RouterNode) (k : McCopy) (a b : Holdings) (outs : List Out) (i : ℕ) → length outs ≤ i → ServesOuts cap patience r (take i outs) k a b → ServesOuts cap patience r outs k a b
-serves_all cap patience r k a b outs i past h = subst (λ (l : List Out). ServesOuts cap patience r l k a b) (take_all i outs past) h
 
 -- the outputs from one on still have room, where the queue behind the one before alone has changed
 pub room_left : (cap : ℕ) (links : List Link) (r : RouterNode) (a b : Holdings) (outs : List Out) (i : ℕ) (o : Out) → IsReadyRouter links r a → All IsOutput outs → AllPairs (λ x y. x ≢ y) outs → i < length outs → o ≡ get_or outs i o

@@ -16,7 +16,7 @@ use Rattle.chip_node.specs.declared.ends.InEnd.{InEnd}
 use Rattle.chip_node.specs.declared.ends.OutEnd.{OutEnd}
 use Rattle.chip_node.specs.declared.holdings.Holdings.{Holdings}
 use Rattle.chip_node.specs.Ends.{IsOutEndOf}
-use Rattle.chip_node.specs.Going.{AreEndsOf, EndStays, EndHasRoom, IsEndOf, IsFullAt, IsFullEnd, IsIdle, IsIdleAt, HasAmpleRoom, SenderGoes, Stays, TakerGoes}
+use Rattle.chip_node.specs.Going.{EndStays, EndHasRoom, IsIdle, IsIdleAt, HasAmpleRoom, SenderGoes, Stays, TakerGoes}
 
 -- ---- ends of links, one step after the other
 
@@ -92,18 +92,6 @@ same_cap links x y h k same =
     let of : k.of ≡ h.of = same_Some k.of h.of (sym k.stands ∙ (ap (slice_get links) same ∙ h.stands)) in
     k.is_end.cap ∙ (ap (λ (l : Link). cap_of l) of ∙ sym h.is_end.cap)
 
-end_full_before : (links : List Link) (cap : ℕ) (x y : End) → IsEndOf links x → IsEndOf links y → EndStays x y → IsFullEnd cap y → IsFullEnd cap x
-end_full_before links cap Away y ex ey h full = subst (IsFullEnd cap) h full
-end_full_before links cap (Own a) y ex ey h full = subst (IsFullEnd cap) h full
-end_full_before links cap (Sends a) y ex ey (b, is, h) full =
-    let then : (sending b.tx).cap ≤ length ((sending b.tx).first ++ (sending b.tx).sent) = subst (IsFullEnd cap) is full in
-    let of : IsOutEndOf links b = subst (IsEndOf links) is ey in
-    let caps = same_cap links a b ex of h.link in
-    let put : (sending b.tx).first ++ (sending b.tx).sent ≡ (sending a.tx).first ++ (sending a.tx).sent =
-    ap (λ l. l ++ (sending b.tx).sent) h.first ∙ ap (λ l. (sending a.tx).first ++ l) (h.sent ∙ append-nil (sending a.tx).sent) in
-    subst (λ n. n ≤ length ((sending a.tx).first ++ (sending a.tx).sent)) caps (subst (λ (l : List McCopy). (sending b.tx).cap ≤ length l) put then)
-end_full_before links cap (Takes a) y ex ey (b, is, h) full = subst (IsFullEnd cap) is full
-
 -- ---- all that is held
 
 pub stays_same : (a : Holdings) → Stays a a
@@ -132,12 +120,6 @@ stays_on a b c h k = record {
 -- where nothing was done and nothing is there to take, nothing was there before
 pub idle_before : (a b : Holdings) (q : ℕ) → Stays a b → IsIdleAt b.ends.items q → IsIdleAt a.ends.items q
 idle_before a b q h idle = λ x at. (let y = end_before b.ends.items a.ends.items q x (sym h.ends_long) at in end_idle_before x y.0 (h.ends q x y.0 at y.1) (idle y.0 y.1))
-
--- where nothing was done, what is full was full before
-pub full_before : (links : List Link) (cap : ℕ) (a b : Holdings) (q : ℕ) → AreEndsOf links a.ends.items → AreEndsOf links b.ends.items → Stays a b → IsFullAt cap b.ends.items q → IsFullAt cap a.ends.items q
-full_before links cap a b q of_a of_b h (y, at, full) =
-    let x = end_before a.ends.items b.ends.items q y h.ends_long at in
-    (x.0, x.1, end_full_before links cap x.0 y (All-at (IsEndOf links) a.ends.items q x.0 of_a x.1) (All-at (IsEndOf links) b.ends.items q y of_b at) (h.ends q x.0 y x.1 at) full)
 
 -- where nothing was done, there is as much room as before
 pub roomy_on : (cap : ℕ) (a b : Holdings) → Stays a b → HasAmpleRoom cap a → HasAmpleRoom cap b
