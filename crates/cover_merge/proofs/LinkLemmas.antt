@@ -209,14 +209,6 @@ links_made routes rows numbers once are nexts heads one_next one_head first next
 
 -- ---- the loop that links
 
--- where no place is left, nothing is ahead
-pub ahead_end : (numbers : List ℕ) (c x : ℕ) → x ≡ length numbers → IsAhead numbers (length numbers) c x
-ahead_end numbers c x is = record {
-  reached = omega (arith, is);
-  same = λ within. absurd (omega (arith, within, is));
-  none = λ j from before within same. absurd (omega (arith, from, within));
-}
-
 -- one place more at the front
 ahead_here : (numbers : List ℕ) (k : ℕ) → IsAhead numbers k (get_or numbers k 0) k
 ahead_here numbers k = record {
