@@ -161,9 +161,6 @@ module _ (row : Row) (later : List Row) (d : Dir) (bits : (straight_on d).bits �
       let same : strip.arrival ≡ d = straight_injective strip.arrival d (ap (λ (r : Route). r.bits) (sym strip.route) ∙ sym bits) in
       subst (λ x. All (λ (a : Alias). a.port ≡ Link x) row.aliases) same strip.arrives
 
-pub strips_not : (row : Row) (later : List Row) → ((d : Dir) → (straight_on d).bits ≡ row.route.bits → ⊥) → IsStrippable row later → ⊥
-strips_not row later none strip = none strip.arrival (ap (λ (r : Route). r.bits) (sym strip.route))
-
 -- both parts, as the code finds them
 pub match_strip : (row : Row) (later : List Row) (d : Dir) (b : Bool) → (straight_on d).bits ≡ row.route.bits → All (λ (a : Alias). a.port ≡ Link d) row.aliases
     → MatchBool b (All (λ (r : Row). Misses r.block row) later) (All (λ (r : Row). Misses r.block row) later → ⊥) → MatchBool b (IsStrippable row later) (IsStrippable row later → ⊥)
