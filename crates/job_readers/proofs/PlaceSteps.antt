@@ -87,12 +87,4 @@ abbrev pub IsNoneOf : List (List ℕ) → List ℕ → Type 0
 IsNoneOf [] s = Unit {0}
 IsNoneOf (n ∷ names) s = (s ≡ n → ⊥) × IsNoneOf names s
 
-pub place_in-none : (names : List (List ℕ)) (s : List ℕ) → IsNoneOf names s → name_place_in names s ≡ None
-place_in-none [] s none = refl
-place_in-none (n ∷ names) s none =
-    elim (bytes_eq n s) as (λ b. bytes_eq n s ≡ b → (if b then Some 0 else option_map (λ i. i + 1) (name_place_in names s)) ≡ None) [
-      | true ↦ λ same. absurd (none.0 (sym ((bytes_eq-Decides n s).0 same)))
-      | false ↦ λ differs. ap (option_map (λ i. i + 1)) (place_in-none names s none.1)
-    ] refl
-
 pub ruleset bounds = (place_in-below)
