@@ -9,7 +9,7 @@ use Rattle.crossbeam_queue.proofs.Lists.{at_set}
 use Rattle.spin_base.specs.declared.copies.McCopy.{McCopy}
 use Rattle.link_queue.specs.declared.known.Known.{Known}
 use Rattle.link_queue.specs.TheRule.{put_of, IsFullNote, IsNoneNote, StartsWith, SenderFits, ReceiverFits, FitsRule, Kept}
-use Rattle.link_queue.specs.Ups.{ListPlaced, Emptied, NoNotes, PoppedTo, Rests}
+use Rattle.link_queue.specs.Ups.{Emptied, NoNotes, PoppedTo, Rests}
 use Rattle.link_queue.specs.Steps.{blank, newborn, placed, offered, popped, full_noted, none_noted, told, sender_of, receiver_of, joined, renewed, SeenFull, SeenEmpty, Balanced}
 
 abbrev Each : (ℕ → Known → Type 0) → List Known → Type 0
@@ -322,37 +322,6 @@ begins = record {
     λ _. record { seated = e; knows = refl; room = omega arith; begins = ([], refl); noted = λ i d inside. absurd (omega arith) },
   ));
 }
-
-pub told_placed : (n : ℕ) (v : Known) → v ≡ told n newborn → ListPlaced n [] v
-told_placed n v e = subst (ListPlaced n []) (sym e) (record {
-  start = record { first = refl; sent = refl; took = refl; fulls = refl; nones = refl };
-  sends = refl;
-  takes = refl;
-  cap_is = refl;
-})
-
-pub placed_more : (n h : ℕ) (list more : List McCopy) (v w : Known) (x : McCopy) → ListPlaced n list v → w ≡ placed v x h → more ≡ list ++ x ∷ [] → ListPlaced n more w
-placed_more n h list more v w x p e m = subst (ListPlaced n more) (sym e) (record {
-  start = record { first = ap (λ l. l ++ x ∷ []) p.start.first ∙ sym m; sent = p.start.sent; took = p.start.took; fulls = p.start.fulls; nones = p.start.nones };
-  sends = p.sends;
-  takes = p.takes;
-  cap_is = p.cap_is;
-})
-
--- so far as many copies entered as were placed
-pub placed_length : (n : ℕ) (list : List McCopy) (v : Known) → ListPlaced n list v → length (put_of v) ≡ length list
-placed_length n list v p = ap length (ap (λ l. v.first ++ l) p.start.sent ∙ append-nil v.first ∙ p.start.first)
-
-pub popped_none : (v : Known) → v.sends ≡ true → v.takes ≡ true → PoppedTo v [] v
-popped_none v s t = record { sends = s; takes = t; put = refl; took_is = sym (append-nil v.took) }
-
-pub popped_more : (v : Known) (got more : List McCopy) (u w : Known) (x : McCopy) → PoppedTo v got u → w ≡ popped u x 0 → more ≡ got ++ x ∷ [] → PoppedTo v more w
-popped_more v got more u w x p e m = subst (PoppedTo v more) (sym e) (record {
-  sends = p.sends;
-  takes = p.takes;
-  put = p.put;
-  took_is = ap (λ l. l ++ x ∷ []) p.took_is ∙ append_assoc v.took got (x ∷ []) ∙ ap (λ l. v.took ++ l) (sym m);
-})
 
 -- how many are popped and how many are held
 pub popped_count : (v : Known) (got : List McCopy) (u : Known) (items held : List McCopy) → PoppedTo v got u → put_of u ≡ u.took ++ items → put_of v ≡ v.took ++ held
