@@ -1,5 +1,5 @@
 -- A step along an axis of the grid, and the step back.
-use Rattle.std.proofs.Common.{◌≡◌, ℕ, ◌+◌, ◌-◌, ◌%◌, ◌<◌, ◌≤◌, Bool, true, false, cond, ltb, eqb, Some, None, refl, sym, ap, ◌∙◌, arith, inl, inr}
+use Rattle.std.proofs.Common.{◌≡◌, ℕ, ◌+◌, ◌-◌, ◌%◌, ◌<◌, Bool, true, false, cond, ltb, eqb, Some, None, refl, sym, ap, ◌∙◌, arith, inl, inr}
 use Rattle.std.proofs.lemmas.Bool.{lt-ltb, le-ltb, eq-eqb, ne_eqb, cases_lt, cases_eq, cond-true, cond-false}
 use Rattle.std.proofs.Math.Nat.{mod-eq_of_lt, mod_self, add-mod_right}
 use Rattle.spin_base.specs.declared.chips.Dir.{Dir}
@@ -110,14 +110,6 @@ stepped_inside false w Back n k h e = elim (cases_eq n 0) [
 pub stepped_ahead_inside : (wrap : Bool) (n w : ℕ) → n + 1 < w → stepped wrap w Ahead n ≡ Some (n + 1)
 stepped_ahead_inside true n w h = ap Some (ahead_inside n w h)
 stepped_ahead_inside false n w h = cond-true (ltb (n + 1) w) (Some (n + 1)) None (lt-ltb _ _ h)
-
-pub stepped_ahead_last : (wrap : Bool) (n w : ℕ) → n < w → w ≤ n + 1 → stepped wrap w Ahead n ≡ cond wrap (Some 0) None
-stepped_ahead_last true n w h k = ap Some (ahead_last n w (omega arith))
-stepped_ahead_last false n w h k = cond-false (ltb (n + 1) w) (Some (n + 1)) None (le-ltb _ _ k)
-
-pub stepped_back_inside : (wrap : Bool) (n w : ℕ) → n < w → 0 < n → stepped wrap w Back n ≡ Some (n - 1)
-stepped_back_inside true n w h k = ap Some (back_inside n w k h)
-stepped_back_inside false n w h k = cond-false (eqb n 0) None (Some (n - 1)) (ne_eqb _ _ (omega arith))
 
 pub stepped_back_first : (wrap : Bool) (n w : ℕ) → n < w → n ≡ 0 → stepped wrap w Back n ≡ cond wrap (Some (w - 1)) None
 stepped_back_first true n w h k = ap Some (ap (λ j. (j + (w - 1)) % w) k ∙ back_first w (omega arith))

@@ -1,9 +1,9 @@
 -- A table that tells which things are listed, as the list is read.
-use Rattle.std.proofs.Common.{◌≡◌, ℕ, ◌+◌, ◌<◌, ◌≤◌, Bool, true, false, ◌||◌, List, length, get_or, take, set, replicate, sym, ap, ◌∙◌, subst, arith, inl, inr}
+use Rattle.std.proofs.Common.{◌≡◌, ℕ, ◌+◌, ◌<◌, ◌≤◌, Bool, true, false, ◌||◌, List, length, get_or, take, set, sym, ap, ◌∙◌, subst, arith, inl, inr}
 use Rattle.std.specs.List.{list_any}
-use Rattle.std.proofs.lemmas.Bool.{cases_eq, cases_lt, or_right, false_from_ne_true}
+use Rattle.std.proofs.lemmas.Bool.{cases_eq, or_right, false_from_ne_true}
 use Rattle.std.proofs.lemmas.Nat.{same_from_place}
-use Rattle.std.proofs.lemmas.List.{get_or-set_same, get_or-set_other, get_or-replicate, get_or_past, length-replicate}
+use Rattle.std.proofs.lemmas.List.{get_or-set_same, get_or-set_other}
 use Rattle.std.proofs.lemmas.List.Folds.{list_any_more}
 use Rattle.std.proofs.Math.Bool.{or-false}
 use Rattle.spin_base.specs.declared.chips.Chip.{Chip}
@@ -16,17 +16,6 @@ use Rattle.machine_desc.specs.declared.grids.Grid.{Grid}
 use Rattle.machine_desc.specs.Equality.{edge_eq}
 use Rattle.machine_desc.specs.Tables.{TellsListed, IsOn, IsCoreOn, IsEdgeOn, chip_place, core_place, edge_place, TellsChips, TellsCores, TellsLinks}
 use Rattle.machine_desc.proofs.Same.{same_chip, same_spot, same_edge, same_dir, below_six, edge_eq-true, edge_eq_self}
-
--- a clear table tells of the empty list
-pub Tells-none : {K : Type 0} (HasPlace : K → Type 0) (place_of : K → ℕ) (same : K → K → Bool) (n : ℕ) (table : List Bool) (listed : List K) →
-    table ≡ replicate n false → TellsListed HasPlace place_of same table (take 0 listed)
-Tells-none HasPlace place_of same n table listed e = λ k _. rw e (clear (place_of k))
-  where
-    clear : (i : ℕ) → get_or (replicate n false) i false ≡ false
-    clear i = elim (cases_lt i n) [
-      | inl below ↦ get_or-replicate n i false false below
-      | inr past ↦ let long : length (replicate n false) ≤ i = rw (length-replicate n false) past in get_or_past (replicate n false) i false long
-    ]
 
 module _ {K : Type 0} (HasPlace : K → Type 0) (place_of : K → ℕ) (same : K → K → Bool)
     (same_true : (a b : K) → same a b ≡ true → a ≡ b) (same_self : (a : K) → same a a ≡ true) where
