@@ -144,10 +144,6 @@ apart cuts start k l s a b are at_k at_l less of =
 
 -- ---- dealing
 
--- no end of the first cuts' links is held there
-IsUncutTo : List Cut → ℕ → ℕ → ℕ → Type 0
-IsUncutTo cuts n s q = (l : ℕ) (c : Cut) → l < n → slice_get cuts l ≡ Some c → IsOfCut c s q → ⊥
-
 pub record DealtTo (cuts : List Cut) (start : Standing) (before : List Share) (n : ℕ) (standing : Standing) (now : List Share) : Type 0 where
   pub ends : List LinkEnds
   pub held : HoldsAll ends start

@@ -1,9 +1,9 @@
 -- Floors chip by chip: the vertices on a chip, the queues behind its outputs, and that there are few vertices.
-use Rattle.std.proofs.Common.{◌≡◌, ◌≢◌, Bool, true, false, ℕ, ◌+◌, ◌*◌, ◌<◌, ◌≤◌, List, [], ◌∷◌, ◌++◌, map, length, get_or, Option, Some, None, refl, sym, ap, ◌∙◌, subst, arith, suc, append_assoc, length-append, inl, inr}
+use Rattle.std.proofs.Common.{◌≡◌, ◌≢◌, ℕ, ◌+◌, ◌*◌, ◌<◌, ◌≤◌, List, [], ◌∷◌, ◌++◌, map, length, get_or, Option, Some, None, refl, sym, ap, ◌∙◌, subst, arith, suc, append_assoc, length-append, inl, inr}
 use Rattle.std.specs.List.{All, AllPairs, slice_get}
 use Rattle.std.specs.Option.{option_to_list}
 use Rattle.std.proofs.lemmas.Bool.{cases_eq, cases_lt}
-use Rattle.std.proofs.lemmas.Option.{get_or_from_slice_get, none-some, same_Some, slice_get_within}
+use Rattle.std.proofs.lemmas.Option.{get_or_from_slice_get, none-some, slice_get_within}
 use Rattle.std.proofs.lemmas.List.{get_or-map, length-map, length_push}
 use Rattle.std.proofs.Math.Nat.{mul-le-mul_left}
 use Rattle.spin_base.specs.declared.chips.Chip.{Chip}
@@ -14,7 +14,7 @@ use Rattle.spin_base.proofs.Members.{Among, Contains-at, among_contains, among_e
 use Rattle.spin_base.proofs.Places.{All-at, slice_get_there, slice_get-append_left, slice_get-push_cases, slice_get-pushed}
 use Rattle.spin_base.proofs.Outputs.{out_number_below, out_number_injective}
 use Rattle.machine_desc.specs.Description.{Description, HasSize}
-use Rattle.machine_desc.specs.Live.{chip_of, is_live_chip, IsSite}
+use Rattle.machine_desc.specs.Live.{chip_of, IsSite}
 use Rattle.machine_desc.specs.NetsOn.{vertex_at}
 use Rattle.machine_desc.proofs.Branches.{length_le_from_apart}
 use Rattle.mesh_core.specs.State.{Setup}
@@ -25,7 +25,7 @@ use Rattle.chip_node.specs.Acting.{place_in}
 use Rattle.chip_node.specs.declared.nodes.Behind.{Behind}
 use Rattle.chip_node.specs.declared.nodes.CoreBank.{CoreBank}
 use Rattle.mesh_run.specs.declared.floors.Floor.{Floor}
-use Rattle.mesh_run.specs.Floors.{AddsBehind, AreVerticesOn, AreVerticesOf, IsBankOf, IsFloorOf, IsFloorSoFar, grid_size, live_if, live_one, place_of_slot}
+use Rattle.mesh_run.specs.Floors.{AddsBehind, AreVerticesOn, AreVerticesOf, IsBankOf, IsFloorOf, IsFloorSoFar, grid_size, live_one, place_of_slot}
 use Rattle.mesh_run.specs.Played.{place_behind, port_count, IsVertexOn}
 
 -- ---- few vertices
@@ -239,22 +239,3 @@ floor_more u n f g chip bank so_far chips is_chip adds banks is_bank =
         | inr last ↦ subst (λ (x : CoreBank). IsBankOf u i x) last.1 (subst (λ k. IsBankOf u k bank) (sym (last.0 ∙ so_far.banks_long)) is_bank)
       ];
     }
-
--- what stands at a chip's place tells whether it is live
-pub live_there : (u : Setup) (i : ℕ) (chip : Chip) → Some chip ≡ live_one u i → (is_live_chip u.machine (chip_of u.machine i) ≡ true) × (chip ≡ chip_of u.machine i)
-live_there u i chip is = by (is_live_chip u.machine (chip_of u.machine i)) is
-  where
-    by : (b : Bool) → Some chip ≡ live_if b (chip_of u.machine i) → (b ≡ true) × (chip ≡ chip_of u.machine i)
-    by true e = (refl, same_Some chip (chip_of u.machine i) e)
-    by false e = absurd (none-some chip (sym e))
-
-pub dead_there : (u : Setup) (i : ℕ) → None ≡ live_one u i → is_live_chip u.machine (chip_of u.machine i) ≡ false
-dead_there u i is = by (is_live_chip u.machine (chip_of u.machine i)) is
-  where
-    by : (b : Bool) → None ≡ live_if b (chip_of u.machine i) → b ≡ false
-    by true e = absurd (none-some (chip_of u.machine i) e)
-    by false e = refl
-
--- the chip that is read at a place
-pub chip_read : (u : Setup) (f : Floor) (i : ℕ) (d : Option Chip) → IsFloorOf u f → i < grid_size u → get_or f.chips.items i d ≡ live_one u i
-chip_read u f i d floor below = get_or_from_slice_get f.chips.items i (live_one u i) d (floor.chips i below)

@@ -41,20 +41,6 @@ next_share old now n start logs moved s so_far below read = read ∙ so_far.gone
 inside : (old now : List Share) (n : ℕ) (start logs : MeshLogs) (moved : Bool) → GatheredTo old now n start logs moved → n < length now → n < length old
 inside old now n start logs moved so_far below = let long = so_far.gone.long in omega (arith, long, below)
 
--- there is room for what it logged
-pub room_next : (old now : List Share) (n : ℕ) (start logs : MeshLogs) (moved : Bool) (s : Share) → GatheredTo old now n start logs moved → n < length now → s ≡ get_or now n s →
-    (length s.hold.deliveries.items ≤ logs.delivered.spare) × (length s.hold.dumps.items ≤ logs.dumped.spare)
-room_next old now n start logs moved s so_far below read =
-    let is = next_share old now n start logs moved s so_far below read in
-    let within = inside old now n start logs moved so_far below in
-    let first = sum_by-drop_more (λ (x : Share). length x.hold.deliveries.items) old n s within in
-    let second = sum_by-drop_more (λ (x : Share). length x.hold.dumps.items) old n s within in
-    let one : length s.hold.deliveries.items ≡ length (get_or old n s).hold.deliveries.items = ap (λ (x : Share). length x.hold.deliveries.items) is in
-    let two : length s.hold.dumps.items ≡ length (get_or old n s).hold.dumps.items = ap (λ (x : Share). length x.hold.dumps.items) is in
-    let a = so_far.delivered_room in
-    let b = so_far.dumped_room in
-    (omega (arith, first, one, a), omega (arith, second, two, b))
-
 pub gathered_more : (old now new : List Share) (n : ℕ) (start logs after : MeshLogs) (moved next : Bool) (s t : Share) → GatheredTo old now n start logs moved → n < length now → s ≡ get_or now n s → new ≡ set now n t →
     IsEmptied s t → next ≡ (moved || s.moved) →
     after.delivered.items ≡ logs.delivered.items ++ s.hold.deliveries.items → after.delivered.spare + length s.hold.deliveries.items ≡ logs.delivered.spare →

@@ -112,16 +112,6 @@ table_none ends table none = record {
   below = λ a k at. absurd (none-some k (ap (λ (l : List ℕ). slice_get l a) (sym none) ∙ at));
 }
 
-pub run_none : (ends : List ℕ) (n : ℕ) (table : List ℕ) → TableTo ends n table → RunTo ends n (length table) table
-run_none ends n table so_far =
-    let long = so_far.long in
-    record {
-      long = refl;
-      done = so_far.done;
-      here = λ a from to. absurd (omega (arith, from, to, long));
-      below = λ a k at. let was = so_far.below a k at in omega (arith, was);
-    }
-
 pub run_more : (ends : List ℕ) (n p : ℕ) (table new : List ℕ) → RunTo ends n p table → new ≡ table ++ n ∷ [] → RunTo ends n (p + 1) new
 run_more ends n p table new so_far is = subst (RunTo ends n (p + 1)) (sym is) (record {
   long = length_push table n ∙ ap (λ k. k + 1) so_far.long;
@@ -213,16 +203,6 @@ vertex_more table chips m home homes new so_far listed is = subst (AreHomesTo ta
 -- the indices of live chips on the same chip are the same
 pub same_chip : (u : Setup) (i j : ℕ) → IsLiveIndex u i → IsLiveIndex u j → chip_of u.machine i ≡ chip_of u.machine j → i ≡ j
 same_chip u i j first second same = sym first.is ∙ (ap (index_of u.machine) same ∙ second.is)
-
-pub senders_none : (u : Setup) (table : List ℕ) (homes : List Home) → AreHomesTo table (grid_size u) (length u.spots) homes → HaveSenders u table 0 0 homes
-senders_none u table homes are = record {
-  homes_are = are;
-  routers = λ i o q k h before. absurd (nothing i o before);
-}
-  where
-    nothing : (i : ℕ) (o : Out) → IsBefore 0 0 i o → ⊥
-    nothing i o (inl less) = omega (arith, less)
-    nothing i o (inr same) = let less = same.1 in omega (arith, less)
 
 -- an output more
 pub senders_more : (u : Setup) (table : List ℕ) (n m sender : ℕ) (place : Option ℕ) (p : Out) (homes new : List Home) → HaveSenders u table n m homes → IsLiveIndex u n → n < grid_size u → IsOutput p → out_number p ≡ m →

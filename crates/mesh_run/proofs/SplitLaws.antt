@@ -22,9 +22,6 @@ use Rattle.mesh_run.proofs.HomeLaws.{start_more}
 
 -- ---- one queue of a mesh
 
-pub queues_of : State → List (List McCopy)
-queues_of m = m.inputs ++ m.cores
-
 pub same_state : (m : State) → SameButCopies m m
 same_state m = record { setup = refl; hands = refl; inputs_long = refl; cores_long = refl; unsent_long = refl; delivered = refl; dumped = refl }
 
@@ -130,9 +127,6 @@ unsent_set before after share vertex s t copies stands below is from to ends dum
     | inr other ↦ ap (λ (o : Option Share). unsent_in o v) (slice_get-set_other before share k t other)
   ];
 })
-
-pub unsent_read : (shares : List Share) (share vertex : ℕ) (s : Share) (copies : List McCopy) → slice_get shares share ≡ Some s → copies ≡ get_or s.hold.unsent.items vertex [] → copies ≡ unsent_at shares share vertex
-unsent_read shares share vertex s copies stands read = read ∙ ap (λ (o : Option Share). unsent_in o vertex) (sym stands)
 
 pub unsent_self : (shares : List Share) → AreSameButUnsent shares shares
 unsent_self shares = (refl, λ k s t at also. subst (SameButUnsent s) (same_Some s t (sym at ∙ also)) (record { from = refl; to = refl; ends = refl; unsent_long = refl; dumps = refl; deliveries = refl }))
