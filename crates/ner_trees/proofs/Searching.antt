@@ -9,7 +9,6 @@ use Rattle.std.proofs.lemmas.Option.{same_Some}
 use Rattle.spin_base.specs.declared.chips.Chip.{Chip}
 use Rattle.machine_desc.specs.Description.{Description, HasSize}
 use Rattle.machine_desc.specs.Live.{chip_at, index_of, IsInside}
-use Rattle.machine_desc.proofs.Far.{inside_from}
 use Rattle.ner_trees.specs.declared.displacements.Disp.{Disp}
 use Rattle.ner_trees.specs.Geometry.{length_of, forth, back, ahead_by, displacement_of, distance_of}
 use Rattle.ner_trees.specs.Growth.{IsNotFarther}
@@ -17,12 +16,6 @@ use Rattle.ner_trees.specs.Search.{place_at, window_chip, IsOnWithin, IsNearestO
 use Rattle.ner_trees.proofs.Axis.{ahead_cases, Reaches}
 use Rattle.ner_trees.proofs.Signed.{length_is}
 use Rattle.ner_trees.proofs.Walking.{reaches}
-
--- a chip of two coordinates is inside where they are
-pub chip_inside : (m : Description) (x y : Option ℕ) → IfSome x (λ n. n < m.width) → IfSome y (λ n. n < m.height) → IfSome (chip_at x y) (IsInside m)
-chip_inside m None y px py = px
-chip_inside m (Some x) None px py = py
-chip_inside m (Some x) (Some y) px py = inside_from m (record { x = x; y = y }) px py
 
 pub window_is : (m : Description) (t : Chip) (wrap too : Bool) (w h r k side col row : ℕ) (x y : Option ℕ) → wrap ≡ m.wrap → too ≡ m.wrap → w ≡ m.width → h ≡ m.height → side ≡ 2 * r + 1 → col ≡ k / side →
     row ≡ k % side → x ≡ place_at wrap w t.x r col → y ≡ place_at too h t.y r row → chip_at x y ≡ window_chip m t r k
@@ -139,10 +132,6 @@ not_farther_trans m t b c e (inl p) (inr q) = let x : distance_of m c t ≡ dist
 not_farther_trans m t b c e (inr p) (inl q) = let x : distance_of m b t ≡ distance_of m c t = p.0 in inl (omega arith)
 not_farther_trans m t b c e (inr p) (inr q) =
     let i : index_of m b ≤ index_of m c = p.1 in let j : index_of m c ≤ index_of m e = q.1 in inr (p.0 ∙ q.0, omega arith)
-
--- what the search has seen, one chip on
-pub best_start : (m : Description) (on : List Bool) (t : Chip) (r : ℕ) → IsBestOf m on t r 0 None
-best_start m on t r j e less at is = absurd (omega arith)
 
 pub best_past : (m : Description) (on : List Bool) (t : Chip) (r k : ℕ) (best : Option Chip) → ((e : Chip) → window_chip m t r k ≡ Some e → IsOnWithin m on t r e → ⊥) →
     IsBestOf m on t r k best → IsBestOf m on t r (k + 1) best
