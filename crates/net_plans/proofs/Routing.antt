@@ -34,20 +34,11 @@ dropped_head (y ∷ ys) (suc k) x rest is =
     let up : suc k + 1 ≡ suc (k + 1) = omega arith in
     (deeper.0, ap (λ n. drop n (y ∷ ys)) up ∙ deeper.1)
 
--- where none is left, all places were read
-pub dropped_none : {X : Type 0} (xs : List X) (k : ℕ) → drop k xs ≡ [] → length xs ≤ k
-dropped_none [] k is = omega arith
-dropped_none (x ∷ xs) zero is = cc
-dropped_none (x ∷ xs) (suc k) is = let deeper = dropped_none xs k is in omega (arith, deeper)
-
 -- the plans of the first so many items
 pub record HaveWaysTo (items : List RoutedNet) (plans : List NetPlan) (k : ℕ) : Type 0 where
   pub within : k ≤ length items
   pub plans_long : length plans ≡ k
   pub each : (i : ℕ) (item : RoutedNet) (plan : NetPlan) → slice_get items i ≡ Some item → slice_get plans i ≡ Some plan → item.way ≡ Ok plan
-
-pub no_ways : (items : List RoutedNet) → HaveWaysTo items [] 0
-no_ways items = record { within = omega arith; plans_long = refl; each = λ i item plan at plan_at. cc }
 
 pub one_way_more : (items : List RoutedNet) (plans more : List NetPlan) (k : ℕ) (item : RoutedNet) (plan : NetPlan) → HaveWaysTo items plans k →
     slice_get items k ≡ Some item → item.way ≡ Ok plan → more ≡ plans ++ plan ∷ [] → HaveWaysTo items more (k + 1)
