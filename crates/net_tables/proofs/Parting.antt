@@ -1,7 +1,7 @@
 -- Of original blocks those that do not go straight on, gathered some nets at a time.
 use Rattle.std.proofs.Common.{◌≡◌, ℕ, ◌*◌, ◌<◌, ◌≤◌, ◌++◌, ◌-◌, List, [], ◌∷◌, drop, length, get_or, map, take, filter, replicate, refl, sym, ap, ◌∙◌, subst, inl, inr}
 use Rattle.std.proofs.lemmas.Bool.{cases_lt}
-use Rattle.std.proofs.lemmas.List.{get_or-replicate, get_or_past, append-nil, append_assoc, drop_all, length-replicate, map-append}
+use Rattle.std.proofs.lemmas.List.{get_or-replicate, get_or_past, append_assoc, length-replicate, map-append}
 use Rattle.std.proofs.lemmas.List.Elements.{filter-append}
 use Rattle.std.proofs.lemmas.List.Folds.{drop_split}
 use Rattle.spin_base.specs.declared.chips.Chip.{Chip}
@@ -60,6 +60,3 @@ pub front_more : (nets front : List NetPlan) (done end : ℕ) → done ≤ end �
     (front ++ take (end - done) (drop done nets)) ++ drop end nets ≡ nets
 front_more nets front done end up whole =
     append_assoc front (take (end - done) (drop done nets)) (drop end nets) ∙ (ap (λ l. front ++ l) (sym (drop_split nets done end up)) ∙ whole)
-
-pub front_all : (nets front : List NetPlan) (done : ℕ) → length nets ≤ done → front ++ drop done nets ≡ nets → front ≡ nets
-front_all nets front done past whole = sym (append-nil front) ∙ (ap (λ l. front ++ l) (sym (drop_all done nets past)) ∙ whole)

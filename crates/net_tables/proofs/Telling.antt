@@ -1,9 +1,8 @@
 -- What ports and routes tell, as a tree's edges and targets are read one by one.
-use Rattle.std.proofs.Common.{◌≡◌, ◌≢◌, ℕ, ◌+◌, ◌*◌, ◌<◌, ◌≤◌, ◌==◌, Bool, true, false, ◌||◌, List, [], ◌∷◌, ◌++◌, length, get_or, take, set, Option, Some, None, refl, sym, ap, ◌∙◌, subst, inl, inr}
+use Rattle.std.proofs.Common.{◌≡◌, ◌≢◌, ℕ, ◌+◌, ◌*◌, ◌<◌, ◌≤◌, Bool, true, false, ◌||◌, List, [], ◌∷◌, ◌++◌, length, get_or, take, set, Option, Some, None, refl, sym, ap, ◌∙◌, subst, inl, inr}
 use Rattle.std.specs.List.{list_any}
 use Rattle.std.proofs.lemmas.Bool.{cases_eq, cases_Bool, or_right, false_from_ne_true, false≢true}
 use Rattle.std.proofs.Math.Bool.{or-false, or_assoc}
-use Rattle.std.proofs.lemmas.Nat.Bits.{bit_at-zero}
 use Rattle.std.proofs.lemmas.List.{get_or-set_same, get_or-set_other, get_or_default, take_all, take_more}
 use Rattle.std.proofs.Math.ListN.{length-set}
 use Rattle.std.proofs.lemmas.List.Elements.{Contains-append_left, Contains-push, Contains-push_cases}
@@ -18,7 +17,7 @@ use Rattle.spin_base.specs.declared.routes.Out.{Out}
 use Rattle.spin_base.specs.declared.routes.Out.TheVariants.{Link, Core}
 use Rattle.spin_base.specs.declared.routes.Route.{Route}
 use Rattle.spin_base.specs.Links.{opposite_of}
-use Rattle.spin_base.specs.Outputs.{has, IsOutput, nothing, WithOut, out_number, out_of}
+use Rattle.spin_base.specs.Outputs.{has, IsOutput, nothing, WithOut, out_of}
 use Rattle.machine_desc.specs.declared.trees.Edge.{Edge}
 use Rattle.machine_desc.specs.Description.{Description}
 use Rattle.machine_desc.specs.Live.{IsInside, index_of}
@@ -114,16 +113,6 @@ ports_all m root items edges i ports same past =
     subst (λ es. TellsPorts m root es ports) (take_all i edges (subst (λ (es : List Edge). length es ≤ i) same past))
 
 -- ---- routes
-
-has_nothing : (o : Out) → has nothing o ≡ false
-has_nothing o = ap (λ n. n == 1) (bit_at-zero (out_number o))
-
-none_wanted : (c : Chip) (o : Out) → is_wanted [] [] c o ≡ false
-none_wanted c (Link d) = refl
-none_wanted c (Core p) = refl
-
-pub routes_start : (m : Description) (edges : List Edge) (routes : List Route) → IsBlank m nothing routes → TellsRoutes m (take 0 edges) [] routes
-routes_start m edges routes clear c o inside valid = ap (λ r. has r o) (clear.clear c inside) ∙ (has_nothing o ∙ sym (none_wanted c o))
 
 -- where the route of a chip of the tree is written, chips off the tree have none as before
 pub off_kept : (m : Description) (net : NetPlan) (k : Chip) (p : ℕ) (r : Route) (routes : List Route) → IsInside m k → HasChip m net k → p ≡ index_of m k →
