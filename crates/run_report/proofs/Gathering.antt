@@ -1,5 +1,5 @@
 -- What is gathered from the items of a list, one item more.
-use Rattle.std.proofs.Common.{◌≡◌, ap₂, subst, ℕ, zero, suc, ◌+◌, ◌-◌, ◌^◌, ◌<◌, ◌≤◌, List, [], ◌∷◌, ◌++◌, take, length, get_or, min, sum_by, sym, ap, ◌∙◌, arith, append_assoc, map, map-id, Some}
+use Rattle.std.proofs.Common.{◌≡◌, ap₂, subst, ℕ, ◌+◌, ◌-◌, ◌^◌, ◌<◌, ◌≤◌, List, [], ◌∷◌, ◌++◌, take, length, get_or, min, sum_by, sym, ap, ◌∙◌, arith, append_assoc, map, map-id, Some}
 use Rattle.std.specs.List.{slice_get, slice_index_or, range_with_len, flat_map}
 use Rattle.std.proofs.lemmas.List.{flat_map_more, map_push, take_more, take_all}
 use Rattle.std.proofs.lemmas.List.FromFn.{sum_by-map-range_with_len_more}
@@ -14,12 +14,6 @@ use Rattle.mesh_core.specs.declared.places.Place.TheVariants.{CoreQueue}
 use Rattle.mesh_core.specs.State.{State}
 use Rattle.run_report.specs.ReportText.{event_line}
 use Rattle.run_report.specs.RunReport.{waits_at, copies_at, core_waits}
-
--- an item that a loop shows is there
-pub shown_there : {X : Type 0} (xs : List X) (i : ℕ) (x : X) → i < length xs → x ≡ get_or xs i x → slice_get xs i ≡ Some x
-shown_there [] i x low is = absurd (omega arith)
-shown_there (y ∷ ys) zero x low is = ap Some (sym is)
-shown_there (y ∷ ys) (suc i) x low is = shown_there ys i x (omega arith) is
 
 -- a sum over the numbers from 0 on, and the next
 pub sum_more : (g : ℕ → ℕ) (n : ℕ) → sum_by g (range_with_len 0 (n + 1)) ≡ sum_by g (range_with_len 0 n) + g n
