@@ -1,5 +1,5 @@
 -- Laws of bytes that are given and taken piece by piece.
-use Rattle.std.proofs.Common.{◌≡◌, ℕ, ◌+◌, ◌<◌, ◌≤◌, List, [], ◌∷◌, ◌++◌, length, take, Option, Some, None, refl, ap, sym, ◌∙◌, arith, append_assoc, append-nil, length-append, length-take-le, length-drop, drop}
+use Rattle.std.proofs.Common.{◌≡◌, ℕ, ◌+◌, ◌<◌, ◌≤◌, List, [], ◌∷◌, ◌++◌, length, take, Option, Some, None, refl, ap, sym, ◌∙◌, arith, append_assoc, length-append, length-take-le, length-drop, drop}
 use Rattle.std.proofs.Math.Seq.{take-add, take-length}
 use Rattle.std.proofs.lemmas.List.{take-append-le, take-append-drop, drop-drop}
 use Rattle.std.proofs.Common.{inl, inr, ◌-◌}
@@ -24,11 +24,6 @@ pub gives_more : (a b : Option (List ℕ)) (g : List ℕ) (limit : ℕ) → Give
 gives_more (Some x) (Some y) g limit gives more = omega (arith, ap length gives, length-append g y)
 gives_more (Some x) None g limit gives more = absurd gives
 gives_more None b g limit gives more = tt
-
--- before the first write nothing was taken
-pub takes_nothing : (a : Option (List ℕ)) → Takes a [] a
-takes_nothing (Some bytes) = sym (append-nil bytes)
-takes_nothing None = tt
 
 -- what two writes take is taken in order
 pub takes_then : (a b c : Option (List ℕ)) (g h : List ℕ) → Takes a g b → Takes b h c → Takes a (g ++ h) c
