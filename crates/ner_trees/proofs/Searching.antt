@@ -177,51 +177,10 @@ not_farther_trans m t b c e (inr p) (inl q) = let x : distance_of m b t ≡ dist
 not_farther_trans m t b c e (inr p) (inr q) =
     let i : index_of m b ≤ index_of m c = p.1 in let j : index_of m c ≤ index_of m e = q.1 in inr (p.0 ∙ q.0, omega arith)
 
-pub inside_of : (m : Description) (on : List Bool) (t : Chip) (r : ℕ) (best : Option Chip) → IfSome best (IsOnWithin m on t r) → IfSome best (IsInside m)
-inside_of m on t r None is = tt
-inside_of m on t r (Some c) is = is.inside
-
--- what the search has found, one chip on
 module _ (m : Description) (on : List Bool) (t : Chip) (r : ℕ) where
-  pub better_past : (At : Chip → Type 0) (best : Option Chip) → ((e : Chip) → At e → IsOnWithin m on t r e → ⊥) → IsBetter m on t r At best best
-  better_past At best none = record { keeps = λ e before. before; has = λ e at is. absurd (none e at is) }
-
-  pub found_more : (best : Option Chip) (c n : Chip) → IsOnWithin m on t r c → IfNone best (n ≡ c) →
-      IfSome best (λ b. ((n ≡ b) × IsNotFarther m t b c) ⊎ ((n ≡ c) × IsNotFarther m t c b)) → IfSome best (IsOnWithin m on t r) → IsOnWithin m on t r n
-  found_more None c n is first later known = subst (λ (x : Chip). IsOnWithin m on t r x) (sym first) is
-  found_more (Some b) c n is first (inl old) known = subst (λ (x : Chip). IsOnWithin m on t r x) (sym old.0) known
-  found_more (Some b) c n is first (inr new) known = subst (λ (x : Chip). IsOnWithin m on t r x) (sym new.0) is
-
-  pub better_more : (o : Option Chip) (best : Option Chip) (c n : Chip) → o ≡ Some c → IfNone best (n ≡ c) →
-      IfSome best (λ b. ((n ≡ b) × IsNotFarther m t b c) ⊎ ((n ≡ c) × IsNotFarther m t c b)) → IsBetter m on t r (λ e. o ≡ Some e) best (Some n)
-  better_more o None c n at first later = record {
-    keeps = λ e before. absurd before;
-    has = λ e there is. not_farther_same m t n e (first ∙ same_Some c e (sym at ∙ there));
-  }
-  better_more o (Some b) c n at first (inl old) = record {
-    keeps = λ e before. subst (λ (x : Chip). IsNotFarther m t x e) (sym old.0) before;
-    has = λ e there is. subst (λ (x : Chip). IsNotFarther m t x e) (sym old.0) (subst (λ (x : Chip). IsNotFarther m t b x) (same_Some c e (sym at ∙ there)) old.1);
-  }
-  better_more o (Some b) c n at first (inr new) = record {
-    keeps = λ e before. subst (λ (x : Chip). IsNotFarther m t x e) (sym new.0) (not_farther_trans m t c b e new.1 before);
-    has = λ e there is. not_farther_same m t n e (new.0 ∙ same_Some c e (sym at ∙ there));
-  }
-
-  pub both : (A B : Chip → Type 0) (best mid result : Option Chip) → IsBetter m on t r A best mid → IsBetter m on t r B mid result → IsBetter m on t r (λ e. A e ⊎ B e) best result
-  both A B best mid result one two = record {
-    keeps = λ e before. two.keeps e (one.keeps e before);
-    has = λ e at is. elim at [
-      | inl a ↦ two.keeps e (one.has e a is)
-      | inr b ↦ two.has e b is
-    ];
-  }
-
   -- what the search of a ring has found after so many steps
   abbrev pub Stepped : ℕ → Chip → Type 0
   Stepped i e = (s : ℕ) × (s < i) × AtStep m t r s e
-
-  pub steps_start : IsBetter m on t r (Stepped 0) None None
-  steps_start = record { keeps = λ e before. before; has = λ e at is. let less : at.0 < 0 = at.1 in absurd (omega arith) }
 
   pub steps_more : (i : ℕ) (best result : Option Chip) → IsBetter m on t r (Stepped i) None best → IsBetter m on t r (AtStep m t r i) best result → IsBetter m on t r (Stepped (i + 1)) None result
   steps_more i best result so_far next = record {
