@@ -14,7 +14,8 @@ use Rattle.cover_merge.specs.Refinement.{IsDownStep, Refines, ends_empty}
 use Rattle.cover_merge.specs.Kept.{IsKept, IsGone, LeadsWithin, RefinesWithin}
 use Rattle.cover_merge.specs.Covering.{places_of, IsNoRival, IsLargest, HasNoLargest}
 use Rattle.cover_merge.specs.Links.{place_of_route, IsEachOnce, AreLinks, AreNumbers, IsFirstOfRoute}
-use Rattle.cover_merge.specs.Known.{AreAllKept, AreRoutesKept, AreStillKept, IsApart, MissesAllOf, IsMostBefore}
+use Rattle.cover_merge.specs.Known.{AreAllKept, AreRoutesKept, AreStillKept, IsApart, IsFresh, MissesAllOf, IsMostBefore}
+use Rattle.cover_merge.specs.declared.choosing.Fresh.{Fresh}
 use Rattle.cover_merge.specs.declared.keeping.Kept.{Kept}
 use Rattle.cover_merge.specs.declared.keeping.Most.{Most}
 use Rattle.cover_merge.proofs.LinkLemmas.{number_of_route, route_there, routes_all}
@@ -172,6 +173,21 @@ all_more kept c own inside all k less = by_case (cases_eq k c)
     by_case (inl same) = (own, get_or-set_at kept c k (Some own) None same inside)
     by_case (inr apart) = let old = all k (less_of k c apart less) in (old.0, get_or-set_other kept c k (Some own) None apart ∙ old.1)
 
+pub all_known : (kept : List (Option Kept)) (c : ℕ) → (it : Kept) × (get_or kept c None ≡ Some it) → ((k : ℕ) → k < c → (it : Kept) × (get_or kept k None ≡ Some it)) → (k : ℕ) → k < c + 1 → (it : Kept) × (get_or kept k None ≡ Some it)
+all_known kept c own all k less = by_case (cases_eq k c)
+  where
+    by_case : (k ≡ c) ⊎ (k ≢ c) → (it : Kept) × (get_or kept k None ≡ Some it)
+    by_case (inl same) = (own.0, ap (λ n. get_or kept n None) same ∙ own.1)
+    by_case (inr apart) = all k (less_of k c apart less)
+
+-- ---- the set that was refined last
+
+pub fresh_more : (routes : List ℕ) (rows : List Row) (c : ℕ) (found : List ℕ) (outer : Block) (low : ℕ) → RefinesWithin rows outer low (places_of (get_or routes c 0) 0 rows) found → (old new : Fresh) → (new ≡ old) ⊎ ((new.number ≡ c) × (new.set ≡ found))
+    → IsFresh routes rows old → IsFresh routes rows new
+fresh_more routes rows c found outer low refined old new (inl same) before = subst (IsFresh routes rows) (sym same) before
+fresh_more routes rows c found outer low refined old new (inr own) before = λ some.
+    (outer, low, subst (λ k. RefinesWithin rows outer low (places_of (get_or routes k 0) 0 rows) new.set) (sym own.0) (subst (RefinesWithin rows outer low (places_of (get_or routes c 0) 0 rows)) (sym own.1) refined))
+
 -- ---- what is left
 
 pub left_all : (P : ℕ → Kept → Type 0) (xs : List (Option Kept)) → ((k : ℕ) (it : Kept) → get_or xs k None ≡ Some it → P k it) → AreStillKept P xs xs
@@ -193,6 +209,17 @@ left_set P Q old now new c v inside is before others here = record {
     by_case k it found (inr apart) =
         let was = before.each k it (sym (get_or-set_other now c k v None apart) ∙ found) in
         (was.0, others k it apart was.1)
+
+-- of one route more it is shown
+pub left_more : (P : Kept → Type 0) (old now : List (Option Kept)) (i : ℕ) → AreStillKept (λ k it. k < i → P it) old now → ((it : Kept) → get_or now i None ≡ Some it → P it) → AreStillKept (λ k it. k < i + 1 → P it) old now
+left_more P old now i before here = record {
+  one_each = before.one_each;
+  each = λ k it is. ((before.each k it is).0, λ less. by_case k it is less (cases_eq k i));
+}
+  where
+    by_case : (k : ℕ) (it : Kept) → get_or now k None ≡ Some it → k < i + 1 → (k ≡ i) ⊎ (k ≢ i) → P it
+    by_case k it is less (inl same) = here it (ap (λ n. get_or now n None) (sym same) ∙ is)
+    by_case k it is less (inr apart) = (before.each k it is).1 (less_of k i apart less)
 
 -- what is still kept after two steps
 pub left_twice : (P Q R : ℕ → Kept → Type 0) (old now new : List (Option Kept)) → AreStillKept P old now → AreStillKept Q now new → ((k : ℕ) (it : Kept) → P k it → Q k it → R k it) → AreStillKept R old new

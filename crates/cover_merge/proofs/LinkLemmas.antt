@@ -270,10 +270,12 @@ module _ (routes : List ℕ) (rows : List Row) (numbers : List ℕ) (are : AreNu
       let n = insert_place rows places in
       let m = merged_row rows places in
       let q = λ (k : ℕ). not (has_row places k) in
-      let low : number < length routes = subst (λ x. x < length routes) (sym first) (are.below (get_or places 0 0) 0 (omega (arith, as_many routes rows numbers are, member_inside))) in record {
+      let P : ℕ → Type 0 = λ c. c < length routes in
+      let low : number < length routes = subst P (sym first) (are.below (get_or places 0 0) 0 (omega (arith, as_many routes rows numbers are, member_inside))) in record {
         each =
             ap (λ l. picked q 0 l) (ap (λ l. insert l p number) are.each ∙ ap (λ i. insert (numbers_for routes rows) i number) place ∙ ap (insert (numbers_for routes rows) n) number_is ∙ numbers_insert routes m n rows)
             ∙ numbers_picked routes q 0 (insert rows n m)
             ∙ ap (numbers_for routes) (after_is rows places ordered merge);
-        below = All-picked (λ c. c < length routes) q 0 (insert numbers p number) (All-append (λ c. c < length routes) (take p numbers) (number ∷ drop p numbers) (All-take (λ c. c < length routes) p numbers are.below) (All-cons (λ c. c < length routes) number (drop p numbers) low (All-drop (λ c. c < length routes) p numbers are.below)));
+        below = All-picked P q 0 (insert numbers p number)
+            (All-append P (take p numbers) (number ∷ drop p numbers) (All-take P p numbers are.below) (All-cons P number (drop p numbers) low (All-drop P p numbers are.below)));
       }

@@ -1,5 +1,6 @@
 -- Places taken out one after another, the greatest first.
-use Rattle.std.proofs.Common.{◌≡◌, ◌≢◌, ℕ, zero, suc, ◌+◌, ◌<◌, ◌≤◌, ◌⊎◌, ◌==◌, ◌||◌, IsTrue, Bool, true, false, cond, List, [], ◌∷◌, ◌++◌, length, get_or, take, inl, inr, refl, sym, ap, ◌∙◌, subst, length-append, length-take, set, drop, ◌-◌, ◌↔◌, append_assoc, add-one, length-drop, get_or-take, arith}
+use Rattle.std.proofs.Common.{◌≡◌, ◌≢◌, ℕ, zero, suc, ◌+◌, ◌<◌, ◌≤◌, ◌⊎◌, ◌==◌, ◌||◌, IsTrue, Bool, true, false, cond, List, [], ◌∷◌, ◌++◌, length, get_or, take, inl}
+use Rattle.std.proofs.Common.{inr, refl, sym, ap, ◌∙◌, subst, length-append, length-take, set, drop, ◌-◌, ◌↔◌, append_assoc, add-one, length-drop, get_or-take, arith, take-append-drop}
 use Rattle.std.specs.Prelude.{All, AllPairs, filter, map, not, remove}
 use mathlib.Core.Bool.{true≢false}
 use Rattle.std.proofs.lemmas.Bool.{cases_lt, eq-eqb}
@@ -288,3 +289,38 @@ module _ (rows : List Row) (xs : List ℕ) (i w : ℕ) (some : 0 < i) (gap : i �
   kept_now x read =
       let at : i - 1 + 1 ≡ i = omega (arith, some) in
       ap (λ y. take (i - 1) (set xs (w - 1) y) ++ drop (w - 1) (set xs (w - 1) y)) (read ∙ get_or_default xs (i - 1) x 0 (omega (arith, some, gap, inside))) ∙ gap_kept xs (i - 1) w (omega (arith, some, gap)) inside ∙ ap (λ n. take n xs ++ drop w xs) at
+
+-- ---- all places at once
+
+-- the place of this number, asked with those behind it
+module _ (rows : List Row) (xs : List ℕ) (one : IsOneRoute rows xs) (k s d : ℕ) (inside : k < length xs) (read : s ≡ get_or xs k d) where
+  whole : take (k + 1) xs ++ drop (k + 1) xs ≡ xs
+  whole = take-append-drop (k + 1) xs
+
+  both : IsOneRoute rows (take (k + 1) xs ++ drop (k + 1) xs)
+  both = subst (IsOneRoute rows) (sym whole) one
+
+  back : k + 1 - 1 ≡ k
+  back = omega arith
+
+  here : s ≡ get_or xs (k + 1 - 1) s
+  here = read ∙ get_or_default xs k d s inside ∙ ap (λ n. get_or xs n s) (sym back)
+
+  pub member_inside : s < length rows
+  member_inside = last_within rows xs (k + 1) (k + 1) (omega arith) (omega arith) (omega (arith, inside)) both s here
+
+  pub member_alike : (r : ℕ) → s < r → has_row (drop (k + 1) xs) r ≡ true → SameRoute rows s r
+  member_alike = alike_behind rows xs (k + 1) (k + 1) (omega arith) (omega arith) (omega (arith, inside)) both s here
+
+  pub member_passes : (p : ℕ) (t : Bool) → (IsTrue t) ↔ (PassesUp rows (drop (k + 1) xs) s p) → IsTrue t → ((n : ℕ) → n < k → PassesUp rows xs (get_or xs n 0) p) → (n : ℕ) → n < k + 1 → PassesUp rows xs (get_or xs n 0) p
+  member_passes p t tells passed before n less = by_case (cases_lt n k)
+    where
+      now : (IsTrue t) ↔ (PassesUp rows xs (get_or xs (k + 1 - 1) 0) p)
+      now = subst (λ l. (IsTrue t) ↔ (PassesUp rows l (get_or l (k + 1 - 1) 0) p)) whole
+          (up_of rows xs (k + 1) (k + 1) (omega arith) (omega arith) (omega (arith, inside)) both s here p t tells)
+
+      by_case : (n < k) ⊎ (k ≤ n) → PassesUp rows xs (get_or xs n 0) p
+      by_case (inl low) = before n low
+      by_case (inr from) =
+          let same : k + 1 - 1 ≡ n = omega (arith, less, from) in
+          subst (λ m. PassesUp rows xs (get_or xs m 0) p) same (now.0 passed)

@@ -5,9 +5,11 @@ use Rattle.tern_word.specs.declared.tables.Row.{Row}
 use Rattle.tern_word.specs.Ternary.{Intersects, generality}
 use Rattle.tern_word.specs.SoundTable.{Misses}
 use Rattle.cover_merge.specs.Rivals.{IsRivaled}
-use Rattle.cover_merge.specs.Kept.{IsKept}
+use Rattle.cover_merge.specs.Covering.{places_of}
+use Rattle.cover_merge.specs.Kept.{IsKept, RefinesWithin}
 use Rattle.cover_merge.specs.Links.{IsEachOnce, AreNumbers}
 use Rattle.cover_merge.specs.Tried.{AreNoLater, AreTriedUpTo}
+use Rattle.cover_merge.specs.declared.choosing.Fresh.{Fresh}
 use Rattle.cover_merge.specs.declared.keeping.Kept.{Kept}
 use Rattle.cover_merge.specs.declared.keeping.Most.{Most}
 use Rattle.cover_merge.specs.declared.knowing.Known.{Known}
@@ -69,3 +71,8 @@ pub record IsMostBefore (routes : List ℕ) (kept : List (Option Kept)) (k : ℕ
   pub bits : 0 < most.size → slice_index routes most.number ≡ most.bits
   pub no_larger : (c : ℕ) (it : Kept) → c < k → slice_index_or kept c None ≡ Some it → it.size ≤ most.size
   pub smaller : (c : ℕ) (it : Kept) → c < k → slice_index_or kept c None ≡ Some it → 0 < most.size → slice_index routes c < most.bits → it.size < most.size
+
+-- the set, where it has places, is one to which the rows of its route are refined
+abbrev pub IsFresh : List ℕ → List Row → Fresh → Type 0
+IsFresh routes rows fresh =
+    0 < length fresh.set → (outer : Block) × (low : ℕ) × (RefinesWithin rows outer low (places_of (slice_index routes fresh.number) 0 rows) fresh.set)

@@ -1,12 +1,13 @@
 // Which rows are merged next.
-ghost use Rattle.std.specs.Prelude.{◌≡◌, ◌<◌, ◌^◌, ℕ, suc, [], ◌∷◌, All, IfOk, OnOk, IsTrue, MatchOption, length, slice_index, slice_index_or};
+ghost use Rattle.std.specs.Prelude.{◌≡◌, ◌<◌, ◌^◌, ℕ, suc, [], ◌∷◌, All, IfOk, OnOk, IsTrue, MatchBool, MatchOption, None, Some, ⊤, ◌⊎◌, length, slice_index, slice_index_or};
 ghost use Rattle.cover_merge.specs.Rivals.{IsRivaled};
 ghost use Rattle.cover_merge.specs.Tried.{AreNewerOf, AreChangesFrom, AreTried, AreTriedUpTo, IsNextSince};
+ghost use Rattle.cover_merge.specs.declared.keeping.Kept.{Kept as AKept};
 ghost use Rattle.cover_merge.specs.declared.times.Times.{Times as ATimes};
 ghost use Rattle.tern_word.specs.declared.tables.Row.{Row as ARow};
 ghost use Rattle.cover_merge.specs.Links.{AreLinks, AreNexts, IsFirstOfRoute};
-ghost use Rattle.cover_merge.specs.Kept.{IsKept};
-ghost use Rattle.cover_merge.specs.Known.{AreAllKept, IsKnown};
+ghost use Rattle.cover_merge.specs.Kept.{RefinesWithin};
+ghost use Rattle.cover_merge.specs.Known.{AreAllKept, IsFresh, IsKnown};
 ghost use Rattle.cover_merge.specs.Changes.{AreChanges};
 ghost use Rattle.cover_merge.specs.Covering.{places_of, IsFirstPartner, IsLargest, HasNoLargest, IsLegalPair, HasNoLegalPair, IsFirstLegalPair, IsChosen, HasNoChosen};
 
@@ -38,51 +39,86 @@ pub(crate) fn chosen(
 {
     let rows = table.rows.as_slice();
     let links = links_of(alloc, rows, &known.numbers, &known.routes)?;
-    keep_all(alloc, table, known, &links)?;
-    match largest(alloc, table, known, &links)? {
+    let fresh = keep_all(alloc, table, known, &links)?;
+    match largest(alloc, table, known, &links, fresh)? {
         Some(set) => Ok(Some(set)),
         None => first_pair(alloc, table, known, &links, now),
     }
 }
 
-// Refines the rows of each route of which nothing is kept, and keeps how many places are left.
-fn keep_all(alloc: Global, table: &Table, known: &mut Known, links: &Links) -> Result<(), Memory>
+// A set to which the rows of the route of this number were refined, or none.
+#[derive(Drop)]
+struct Fresh {
+    number: usize,
+    set: Seq<u32>,
+}
+
+// Refines the rows of each route of which nothing is kept, and keeps how many places are left. The largest of these sets, so
+// that it need not be refined once more.
+fn keep_all(alloc: Global, table: &Table, known: &mut Known, links: &Links) -> Result<Fresh, Memory>
     requires known { IsKnown table.now.rows known.old }
     requires links { AreLinks known.old.routes.items table.now.rows links.now.next.items
         links.now.heads.items }
     ensures known { OnOk result (IsKnown table.now.rows known.new) }
     ensures all { OnOk result (AreAllKept known.new.routes.items known.new.kept.items) }
+    ensures fresh { IfOk result (IsFresh known.new.routes.items table.now.rows) }
     ensures times { OnOk result (known.new.times.items ≡ known.old.times.items) }
     ensures routes { OnOk result (known.new.routes.items ≡ known.old.routes.items) }
 {
+    let mut fresh = Fresh {
+        number: 0,
+        set: Seq::new(alloc),
+    };
     for c in 0..known.routes.len() {
-        let it = kept_of(alloc, table, known, links, c)?;
-        known.kept[c] = Some(it);
+        if is_known(&known.kept, c) {
+            continue;
+        }
+        let Refined { set, kept } = refined_of(alloc, table, known, links, c)?;
+        known.kept[c] = Some(kept);
+        renew_fresh(&mut fresh, c, set);
     }
-    Ok(())
+    Ok(fresh)
 }
 
-// What is kept of the route of this number, or what comes of refining its rows.
-fn kept_of(
+// Whether something is kept of the route of this number.
+fn is_known(kept: &[Option<Kept>], c: usize) -> bool
+    requires { c < length kept.now }
+    ensures { MatchBool result ((it : AKept) × (slice_index_or kept.now c None ≡ Some it)) ⊤ }
+{
+    match kept[c] {
+        Some(_it) => true,
+        None => false,
+    }
+}
+
+// Has the set of the route of this number in place of the other, where it is larger.
+fn renew_fresh(fresh: &mut Fresh, c: usize, set: Seq<u32>)
+    ensures { (fresh.new ≡ fresh.old) ⊎ ((fresh.new.number ≡ c) × (fresh.new.set ≡ set)) }
+{
+    if set.len() > fresh.set.len() {
+        fresh.number = c;
+        fresh.set = set;
+    }
+}
+
+// The set to which the rows of the route of this number are refined, and what is kept of it.
+fn refined_of(
     alloc: Global,
     table: &Table,
     known: &Known,
     links: &Links,
     c: usize,
-) -> Result<Kept, Memory>
+) -> Result<Refined, Memory>
     requires known { IsKnown table.now.rows known.now }
     requires links { AreLinks known.now.routes.items table.now.rows links.now.next.items
         links.now.heads.items }
     requires inside { c < length known.now.routes.items }
-    ensures { IfOk result (λ it. IsKept table.now.rows (slice_index known.now.routes.items c) it.size
-        it.outer it.low) }
+    ensures refined { IfOk result (λ r. RefinesWithin table.now.rows r.kept.outer r.kept.low
+        (places_of (slice_index known.now.routes.items c) 0 table.now.rows) r.set) }
+    ensures size { IfOk result (λ r. length r.set ≡ r.kept.size) }
 {
-    if let Some(it) = known.kept[c] {
-        return Ok(it);
-    }
     let places = places_from(alloc, table.rows.as_slice(), links, links.heads[c])?;
-    let Refined { set: _, kept } = refine_within(alloc, table, &known.rivals, places)?;
-    Ok(kept)
+    refine_within(alloc, table, &known.rivals, places)
 }
 
 // The largest refined set, where one has two places: that of the route of which most places are kept.
@@ -91,11 +127,13 @@ fn largest(
     table: &Table,
     known: &Known,
     links: &Links,
+    fresh: Fresh,
 ) -> Result<Option<Seq<u32>>, Memory>
     requires known { IsKnown table.now.rows known.now }
     requires all { AreAllKept known.now.routes.items known.now.kept.items }
     requires links { AreLinks known.now.routes.items table.now.rows links.now.next.items
         links.now.heads.items }
+    requires fresh { IsFresh known.now.routes.items table.now.rows fresh }
     ensures { IfOk result (λ found. MatchOption found (HasNoLargest table.now.rows) (λ set.
         IsLargest table.now.rows set)) }
 {
@@ -103,9 +141,10 @@ fn largest(
     if most.size < 2 {
         return Ok(None);
     }
-    let first = links.heads[most.number];
-    let places = places_from(alloc, table.rows.as_slice(), links, first)?;
-    let Refined { set, kept: _ } = refine_within(alloc, table, &known.rivals, places)?;
+    if fresh.number == most.number && fresh.set.len() == most.size {
+        return Ok(Some(fresh.set));
+    }
+    let Refined { set, kept: _ } = refined_of(alloc, table, known, links, most.number)?;
     Ok(Some(set))
 }
 

@@ -1,6 +1,7 @@
 // What is kept of each route from one merge to the next: how many places its refined set has. The set itself is not kept,
 // so no place changes.
-ghost use Rattle.std.specs.Prelude.{◌≡◌, ◌+◌, ◌<◌, ◌≤◌, ◌⊎◌, Some, MatchBool, length};
+ghost use Rattle.std.specs.Prelude.{◌≡◌, ◌+◌, ◌<◌, ◌≤◌, ◌⊎◌, Some, MatchBool, ⊤, length};
+ghost use Rattle.tern_word.specs.Ternary.{generality};
 ghost use Rattle.cover_merge.specs.Known.{AreStillKept, IsApart, IsMostBefore};
 ghost use Rattle.cover_merge.specs.declared.keeping.Kept.{Kept as AKept};
 
@@ -81,23 +82,28 @@ pub(crate) fn forget_own(kept: &mut Vec<Option<Kept>>, own: usize)
 pub(crate) fn forget_near(kept: &mut Vec<Option<Kept>>, merged: Block)
     ensures { AreStillKept (λ c it. IsApart merged it) kept.old.items kept.new.items }
 {
+    let general = generality(merged);
     for c in 0..kept.len() {
-        kept[c] = apart(kept[c], merged);
+        if is_apart(kept[c], merged, general) {
+            continue;
+        }
+        kept[c] = None;
     }
 }
 
-// What is kept, where the block is apart from all that was down-checked.
-fn apart(kept: Option<Kept>, merged: Block) -> Option<Kept>
-    ensures { (it : AKept) → result ≡ Some it → (kept ≡ Some it) × (IsApart merged it) }
+// Whether the block, which is so general, is apart from all that was down-checked.
+fn is_apart(kept: Option<Kept>, merged: Block, general: u32) -> bool
+    requires { general ≡ generality merged }
+    ensures { MatchBool result ((it : AKept) → kept ≡ Some it → IsApart merged it) ⊤ }
 {
     let Some(it) = kept else {
-        return None;
+        return true;
     };
-    if generality(merged) <= it.low {
-        return kept;
+    if general <= it.low {
+        return true;
     }
     if intersects(merged, it.outer) {
-        return None;
+        return false;
     }
-    kept
+    true
 }

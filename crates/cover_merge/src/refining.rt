@@ -1,5 +1,5 @@
 // The refined set of places of one route.
-ghost use Rattle.std.specs.Prelude.{◌≡◌, ◌<◌, ◌≤◌, ◌^◌, ◌↔◌, ◌⊎◌, [], IsTrue, IfOk, MatchOption, MatchBool, All, length, filter, not, ◌==◌, ◌+◌, ℕ, List, take, drop, ◌++◌, slice_index, slice_index_or, if◌then◌else◌};
+ghost use Rattle.std.specs.Prelude.{◌≡◌, true, ◌<◌, ◌≤◌, ◌^◌, ◌↔◌, ◌⊎◌, [], IsTrue, IfOk, MatchOption, MatchBool, All, length, filter, not, ◌==◌, ◌+◌, ℕ, List, take, drop, ◌++◌, slice_index, slice_index_or, if◌then◌else◌};
 ghost use Rattle.std.specs.Int.{bit_at};
 ghost use Rattle.spin_base.specs.declared.blocks.Block.{Block as ABlock};
 ghost use Rattle.tern_word.specs.Ternary.{Intersects};
@@ -62,7 +62,7 @@ pub(crate) fn refine_within(
     let mut outer = all_keys();
     let mut low = UNCHECKED;
     while set.len() >= 2 {
-        if let Some(merged) = sift(alloc, rows, rivals, &mut set)? {
+        if let Some(merged) = sifted(alloc, rows, rivals, &mut set)? {
             outer = outermost(outer, low, merged);
             low = generality(merged);
             if narrow(rows, &mut set, merged) {
@@ -98,6 +98,46 @@ fn with_bounds(set: Vec<u32>, outer: Block, low: u32) -> Refined
         set: Seq::from_vec(set),
         kept: Kept { size, outer, low },
     }
+}
+
+// Takes out the places for which the up-check fails. The merge where two are left. Mostly none is taken out, so that is asked
+// first.
+fn sifted(
+    alloc: Global,
+    rows: &[Row],
+    rivals: &Rivals,
+    set: &mut Vec<u32>,
+) -> Result<Option<Block>, Memory>
+    requires rivaled { IsRivaled rows.now rivals.now }
+    requires set { IsMergeSet rows.now set.old.items }
+    ensures one_route { IfOk result (λ found. IsOneRoute rows.now set.new.items) }
+    ensures fewer { length set.new.items ≤ length set.old.items }
+    ensures steps { IfOk result (λ found. (outer : ABlock) (low : ℕ) → LeadsWithin rows.now outer
+        low set.old.items set.new.items) }
+    ensures found { IfOk result (λ found. MatchOption found (length set.new.items < 2) (λ merged.
+        (2 ≤ length set.new.items) × (merged ≡ merged_block rows.now set.new.items)
+        × (PassesUpCheck rows.now set.new.items))) }
+{
+    let merged = merged_block(rows, set);
+    if all_pass(rows, rivals, set, generality(merged)) {
+        return Ok(Some(merged));
+    }
+    sift(alloc, rows, rivals, set)
+}
+
+// Whether no place fails the up-check with a merge of this generality.
+fn all_pass(rows: &[Row], rivals: &Rivals, set: &[u32], general: u32) -> bool
+    requires rivaled { IsRivaled rows.now rivals.now }
+    requires set { IsOneRoute rows.now set.now }
+    ensures { IsTrue result → (s : ℕ) → has_row set.now s ≡ true
+        → PassesUp rows.now set.now s (place_for rows.now general) }
+{
+    for k in 0..set.len() {
+        if !passes(rows, rivals, &set[k + 1..], set[k], general) {
+            return false;
+        }
+    }
+    true
 }
 
 // Takes out the places for which the up-check fails, the greatest first, each time with the merge of those that are

@@ -8,7 +8,9 @@ use Rattle.cover_merge.proofs.applying.apply.Goals as goal
 pub put_in-requires-clause-before : goal.put_in-requires-clause-before
 put_in-requires-clause-before c =
     let made : c.in_ok-merged.merged ≡ merged_row c.args.table.now.rows c.args.places.now = c.in_ok-merged.ensures ∙ ap (λ l. merged_row l c.as_slice-members.result.now) c.as_slice.ensures ∙ ap (merged_row c.args.table.now.rows) c.as_slice-members.ensures in
-    subst (All (λ t. t < c.place_in-place.result)) (sym c.as_slice-members.ensures) (found_before c.args.table.now.rows c.args.places.now c.requires.ordered c.requires.set c.as_slice-2.result.now c.as_slice-2.ensures c.in_ok-merged.merged made c.generality.result c.place_in-place.result c.generality.ensures.value c.place_in-place.ensures.value)
+    subst (All (λ t. t < c.place_in-place.result)) (sym c.as_slice-members.ensures)
+    (found_before c.args.table.now.rows c.args.places.now c.requires.ordered c.requires.set c.as_slice-2.result.now c.as_slice-2.ensures c.in_ok-merged.merged made
+    c.generality.result c.place_in-place.result c.generality.ensures.value c.place_in-place.ensures.value)
 
 pub returns-clause-ok : goal.returns-clause-ok
 returns-clause-ok c =

@@ -3,20 +3,28 @@ use Rattle.std.proofs.Common.{◌<◌, ◌+◌, ◌∙◌, refl, sym, length, ar
 use Rattle.std.specs.Prelude.{None}
 use Rattle.std.proofs.lemmas.List.{get_or_default}
 use Rattle.cover_merge.specs.Known.{IsApart}
-use Rattle.cover_merge.proofs.KeepLemmas.{inside_some, left_all, left_set, less_of}
+use Rattle.cover_merge.proofs.KeepLemmas.{inside_some, left_all, left_more, left_set, less_of, none_some}
 use Rattle.cover_merge.proofs.keeping.forget_near.Goals as goal
 
 pub loop-c-init : goal.loop-c-init
 loop-c-init c = left_all (λ k it. k < 0 → IsApart c.args.merged it) c.args.kept.now.items (λ k it is less. absurd (omega (arith, less)))
+
+pub loop-c-preserved-then-is_apart : goal.loop-c-preserved-then-is_apart
+loop-c-preserved-then-is_apart c =
+    let now = c.loop-c.kept.items in
+    let i = c.loop-c.c in
+    let inside : i < length now = omega (arith, c.loop-c-test.true, c.len-c-end.ensures, c.loop-c.invariant.one_each) in
+    left_more (IsApart c.args.merged) c.args.kept.now.items now i c.loop-c.invariant
+    (λ it is. c.if-is_apart.ensures it (c.index.ensures ∙ sym (get_or_default now i None _ inside) ∙ is))
 
 pub loop-c-preserved : goal.loop-c-preserved
 loop-c-preserved c =
     let now = c.loop-c.kept.items in
     let i = c.loop-c.c in
     let inside : i < length now = omega (arith, c.loop-c-test.true, c.len-c-end.ensures, c.loop-c.invariant.one_each) in
-    left_set (λ k it. k < i → IsApart c.args.merged it) (λ k it. k < i + 1 → IsApart c.args.merged it) c.args.kept.now.items now _ i c.apart.result inside refl c.loop-c.invariant
+    left_set (λ k it. k < i → IsApart c.args.merged it) (λ k it. k < i + 1 → IsApart c.args.merged it) c.args.kept.now.items now _ i None inside refl c.loop-c.invariant
     (λ k it apart was less. was (less_of k i apart less))
-    (λ it is. let told = c.apart.ensures it is in (get_or_default now i None _ inside ∙ sym c.index.ensures ∙ told.0, λ was less. told.1))
+    (λ it is. absurd (none_some it is))
 
 pub returns : goal.returns
 returns c = record {

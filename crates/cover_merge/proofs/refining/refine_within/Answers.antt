@@ -11,8 +11,8 @@ use Rattle.cover_merge.proofs.KeepLemmas.{turn_down, turn_legal}
 use Rattle.cover_merge.proofs.RefineLemmas.{one_route_after, legal_here}
 use Rattle.cover_merge.proofs.refining.refine_within.Goals as goal
 
-pub sift-requires-clause-rivaled : goal.sift-requires-clause-rivaled
-sift-requires-clause-rivaled c = subst (λ l. IsRivaled l c.args.rivals.now) (sym c.as_slice-rows.ensures) c.requires.rivaled
+pub sifted-requires-clause-rivaled : goal.sifted-requires-clause-rivaled
+sifted-requires-clause-rivaled c = subst (λ l. IsRivaled l c.args.rivals.now) (sym c.as_slice-rows.ensures) c.requires.rivaled
 
 pub loop-rows-init : goal.loop-rows-init
 loop-rows-init c = record {
@@ -23,7 +23,7 @@ loop-rows-init c = record {
 pub returns-then-narrow-clause-refined : goal.returns-then-narrow-clause-refined
 returns-then-narrow-clause-refined c =
     let rows = c.as_slice-rows.result.now in
-    let left = c.sift.new.set.items in
+    let left = c.sifted.new.set.items in
     let made = c.with_bounds.result in
     let sifted : (2 ≤ length left) × (c.in-Some.merged ≡ merged_block rows left) × (PassesUpCheck rows left) =
     subst (λ o. MatchOption o (length left < 2) (λ (m : Block). (2 ≤ length left) × (m ≡ merged_block rows left) × (PassesUpCheck rows left))) c.in-Some.is c.in_ok-merged.ensures.found in
@@ -36,7 +36,7 @@ returns-then-narrow-clause-refined c =
 pub returns-then-narrow-clause-legal : goal.returns-then-narrow-clause-legal
 returns-then-narrow-clause-legal c =
     let rows = c.as_slice-rows.result.now in
-    let left = c.sift.new.set.items in
+    let left = c.sifted.new.set.items in
     let made = c.with_bounds.result in
     let sifted : (2 ≤ length left) × (c.in-Some.merged ≡ merged_block rows left) × (PassesUpCheck rows left) =
     subst (λ o. MatchOption o (length left < 2) (λ (m : Block). (2 ≤ length left) × (m ≡ merged_block rows left) × (PassesUpCheck rows left))) c.in-Some.is c.in_ok-merged.ensures.found in
@@ -47,7 +47,7 @@ returns-then-narrow-clause-legal c =
 pub loop-rows-preserved-else-narrow : goal.loop-rows-preserved-else-narrow
 loop-rows-preserved-else-narrow c =
     let rows = c.as_slice-rows.result.now in
-    let left = c.sift.new.set.items in
+    let left = c.sifted.new.set.items in
     let step = c.if-narrow.ensures.0 in
     let sifted : (2 ≤ length left) × (c.in-Some.merged ≡ merged_block rows left) × (PassesUpCheck rows left) =
     subst (λ o. MatchOption o (length left < 2) (λ (m : Block). (2 ≤ length left) × (m ≡ merged_block rows left) × (PassesUpCheck rows left))) c.in-Some.is c.in_ok-merged.ensures.found in
@@ -61,7 +61,7 @@ loop-rows-preserved-else-narrow c =
 pub loop-rows-preserved : goal.loop-rows-preserved
 loop-rows-preserved c = record {
   set = c.in_ok-merged.ensures.one_route;
-  gone = gone_up c.as_slice-rows.result.now c.args.places c.loop-rows.set.items c.loop-rows.outer c.loop-rows.low c.loop-rows.invariant.gone c.sift.new.set.items c.loop-rows.invariant.set.in_range c.in_ok-merged.ensures.steps;
+  gone = gone_up c.as_slice-rows.result.now c.args.places c.loop-rows.set.items c.loop-rows.outer c.loop-rows.low c.loop-rows.invariant.gone c.sifted.new.set.items c.loop-rows.invariant.set.in_range c.in_ok-merged.ensures.steps;
 }
 
 pub returns-clause-refined : goal.returns-clause-refined
