@@ -17,7 +17,8 @@ loop-i-init c = record {
 pub loop-i-preserved-in-Continue-1 : goal.loop-i-preserved-in-Continue-1
 loop-i-preserved-in-Continue-1 c = record {
   within = omega (arith, c.loop-i.invariant.within);
-  in_range = in_range_more (length c.args.rows.now) (c.loop-i.i - 1) c.loop-i.kept.items c.push.new.self.items c.loop-i.invariant.in_range (omega (arith, c.loop-i.invariant.within)) c.in_ok-push.ensures.items;
+  in_range = in_range_more (length c.args.rows.now) (c.loop-i.i - 1) c.loop-i.kept.items c.push.new.self.items
+      c.loop-i.invariant.in_range (omega (arith, c.loop-i.invariant.within)) c.in_ok-push.ensures.items;
   kept = kept_stays c.args.rows.now c.loop-i.i c.loop-i.kept.items c.deref.result.now c.deref.ensures.value c.loop-i.invariant.in_range
       c.index-rows-i.result c.index-rows-i.is c.loop-i-test.true c.loop-i.invariant.within c.loop-i.invariant.kept c.if-not-can_go.ensures c.push.new.self.items c.in_ok-push.ensures.items;
 }
@@ -26,7 +27,8 @@ pub loop-i-preserved : goal.loop-i-preserved
 loop-i-preserved c = record {
   within = omega (arith, c.loop-i.invariant.within);
   in_range = c.loop-i.invariant.in_range;
-  kept = kept_goes c.args.rows.now c.loop-i.i c.loop-i.kept.items c.deref.result.now c.deref.ensures.value c.loop-i.invariant.in_range c.index-rows-i.result c.index-rows-i.is c.loop-i-test.true c.loop-i.invariant.within c.loop-i.invariant.kept c.if-not-can_go.ensures;
+  kept = kept_goes c.args.rows.now c.loop-i.i c.loop-i.kept.items c.deref.result.now c.deref.ensures.value c.loop-i.invariant.in_range
+      c.index-rows-i.result c.index-rows-i.is c.loop-i-test.true c.loop-i.invariant.within c.loop-i.invariant.kept c.if-not-can_go.ensures;
 }
 
 pub can_go-requires-clause-apart : goal.can_go-requires-clause-apart
