@@ -312,12 +312,12 @@ module _ (rows : List Row) (xs : List ℕ) (one : IsOneRoute rows xs) (k s d : �
   pub member_alike : (r : ℕ) → s < r → has_row (drop (k + 1) xs) r ≡ true → SameRoute rows s r
   member_alike = alike_behind rows xs (k + 1) (k + 1) (omega arith) (omega arith) (omega (arith, inside)) both s here
 
-  pub member_passes : (p : ℕ) (t : Bool) → (IsTrue t) ↔ (PassesUp rows (drop (k + 1) xs) s p) → IsTrue t → ((n : ℕ) → n < k → PassesUp rows xs (get_or xs n 0) p) → (n : ℕ) → n < k + 1 → PassesUp rows xs (get_or xs n 0) p
-  member_passes p t tells passed before n less = by_case (cases_lt n k)
+  pub member_passes : (p : ℕ) (t : Bool) (behind : List ℕ) → behind ≡ drop (k + 1) xs → (IsTrue t) ↔ (PassesUp rows behind s p) → IsTrue t → ((n : ℕ) → n < k → PassesUp rows xs (get_or xs n 0) p) → (n : ℕ) → n < k + 1 → PassesUp rows xs (get_or xs n 0) p
+  member_passes p t behind is tells passed before n less = by_case (cases_lt n k)
     where
       now : (IsTrue t) ↔ (PassesUp rows xs (get_or xs (k + 1 - 1) 0) p)
       now = subst (λ l. (IsTrue t) ↔ (PassesUp rows l (get_or l (k + 1 - 1) 0) p)) whole
-          (up_of rows xs (k + 1) (k + 1) (omega arith) (omega arith) (omega (arith, inside)) both s here p t tells)
+          (up_of rows xs (k + 1) (k + 1) (omega arith) (omega arith) (omega (arith, inside)) both s here p t (subst (λ l. (IsTrue t) ↔ (PassesUp rows l s p)) is tells))
 
       by_case : (n < k) ⊎ (k ≤ n) → PassesUp rows xs (get_or xs n 0) p
       by_case (inl low) = before n low

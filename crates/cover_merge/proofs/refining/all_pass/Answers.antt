@@ -1,9 +1,9 @@
 -- One place more does not fail.
-use Rattle.std.proofs.Common.{◌≡◌, ◌<◌, ◌+◌, ◌↔◌, IsTrue, ℕ, true, length, drop, refl, sym, subst, arith}
+use Rattle.std.proofs.Common.{◌≡◌, ◌<◌, ◌+◌, ℕ, true, length, refl, sym, subst, arith}
 use Rattle.std.specs.Prelude.{All}
 use Rattle.std.proofs.lemmas.List.{take_rest}
 use Rattle.std.proofs.lemmas.List.Elements.{All-drop}
-use Rattle.cover_merge.specs.Merge.{PassesUp, has_row, place_for}
+use Rattle.cover_merge.specs.Merge.{has_row, place_for}
 use Rattle.cover_merge.proofs.RefineLemmas.{none_fails}
 use Rattle.cover_merge.proofs.SiftLemmas.{member_alike, member_inside, member_passes}
 use Rattle.cover_merge.proofs.refining.all_pass.Goals as goal
@@ -30,7 +30,7 @@ loop-k-preserved c =
     let xs = c.args.set.now in
     let k = c.loop-k.k in
     let p = place_for rows c.args.general in
-    member_passes rows xs c.requires.set k _ _ (omega (arith, c.loop-k-test.true)) refl p c.passes.result (subst (λ l. (IsTrue c.passes.result) ↔ (PassesUp rows l _ p)) (take_rest xs (k + 1)) c.passes.ensures) c.if-not-passes.false c.loop-k.invariant
+    member_passes rows xs c.requires.set k _ _ (omega (arith, c.loop-k-test.true)) refl p c.passes.result _ (take_rest xs (k + 1)) c.passes.ensures c.if-not-passes.false c.loop-k.invariant
 
 pub returns : goal.returns
 returns c passed = none_fails c.args.rows.now c.args.set.now (place_for c.args.rows.now c.args.general) 0 (omega arith) (λ k from within. c.loop-k.invariant k (omega (arith, within, c.loop-k-test.false)))
