@@ -3,14 +3,14 @@ use Rattle.std.proofs.Common.{◌≡◌, ◌≢◌, ℕ, zero, suc, ◌+◌, ◌
 use Rattle.std.specs.List.{All, filter, list_any, slice_get, slice_index_or, slice_set}
 use Rattle.std.proofs.lemmas.Bool.{and_from, and_parts, cases_Bool, cases_lt, false≢true, le-leb, leb-true, lt-ltb, ltb-true, not-false, not-true, or_parts}
 use Rattle.std.proofs.lemmas.Grind.{flat_map-append}
-use Rattle.std.proofs.lemmas.List.{append_assoc, append-nil, drop_at, length-append, length-map, length-set, take_all}
+use Rattle.std.proofs.lemmas.List.{append_assoc, append-nil, drop_at, length-append, length-map, length-set, set-get_or, take_all}
 use Rattle.std.proofs.lemmas.List.Elements.{All-head, All-map, All-tail, All-weaker, filter-append}
 use Rattle.std.proofs.lemmas.List.Filters.{length-filter_both}
 use Rattle.std.proofs.lemmas.Option.{same_Some, slice_get-get_or, slice_get_within}
 use Rattle.spin_base.proofs.Pairs.{All-flat_map}
 use Rattle.spin_base.proofs.Places.{take_more_at}
 use Rattle.spin_base.specs.declared.copies.Delivery.{Delivery}
-use Rattle.app_loads.specs.declared.group.Arrival.{Arrival}
+use Rattle.app_loads.specs.declared.arrivals.Arrival.{Arrival}
 use Rattle.app_loads.specs.declared.group.Group.TheInside.{Inside}
 use Rattle.app_loads.specs.declared.group.Sent.{Sent}
 use Rattle.app_loads.specs.declared.loaded.LoadedApp.{LoadedApp}
@@ -274,3 +274,29 @@ module _ (gs : List Grouped) (count : ℕ) (g : Grouped) (long : count ≡ lengt
 
   pub last_arrivals_stay : (new : Grouped) → new.arrivals ≡ g.arrivals → last_arrivals (slice_set gs (count - 1) new) ≡ last_arrivals gs
   last_arrivals_stay new same = last_set gs (count - 1) new last_long ∙ (same ∙ sym last_arrivals_are)
+
+  -- a group that is as it was
+  pub same_groups : (new : Grouped) → new ≡ g → slice_set gs (count - 1) new ≡ gs
+  same_groups new same = ap (slice_set gs (count - 1)) (same ∙ value) ∙ set-get_or gs (count - 1) g
+
+-- ---- a group at the back
+
+-- a group at the back is the last
+last_pushed : (gs : List Grouped) (g : Grouped) → last_arrivals (gs ++ g ∷ []) ≡ g.arrivals
+last_pushed [] g = refl
+last_pushed (h ∷ []) g = refl
+last_pushed (h ∷ k ∷ gs) g = last_pushed (k ∷ gs) g
+
+module _ (gs new : List Grouped) (g : Grouped) (p : Sent) (arrivals : List Arrival) (is : new ≡ gs ++ g ∷ []) where
+  pub put_back : g.deliveries ≡ deliveries_at arrivals p → all_grouped new ≡ all_grouped gs ++ deliveries_at arrivals p
+  put_back own = ap all_grouped is ∙ (grouped_push gs g ∙ ap (λ l. all_grouped gs ++ l) own)
+
+  pub put_counted : (all width more : ℕ) → g.deliveries ≡ deliveries_at arrivals p → all ≡ length (all_grouped gs) → width ≡ length arrivals →
+      more ≡ all + width → more ≡ length (all_grouped new)
+  put_counted all width more own total wide sum =
+      let long = ap length (put_back own) ∙ length-append (all_grouped gs) (deliveries_at arrivals p) in
+      let one = length-map arrivals (delivery_of p) in
+      omega (arith, long, one, total, wide, sum)
+
+  pub put_last_arrivals : g.arrivals ≡ arrivals → last_arrivals new ≡ arrivals
+  put_last_arrivals own = ap last_arrivals is ∙ (last_pushed gs g ∙ own)

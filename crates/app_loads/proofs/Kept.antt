@@ -1,5 +1,12 @@
 -- A mesh whose earlier deliveries are held apart, seen as one mesh.
-use Rattle.std.proofs.Common.{◌≡◌, ◌≢◌, Bool, ℕ, ◌+◌, ◌^◌, ◌<◌, List, [], ◌++◌, ◌∷◌, drop, length, refl, sym, ap, ◌∙◌, subst, inl, inr, arith, Result, Ok, Err, OnOk, Some, map}
+use Rattle.std.proofs.Common.{◌≡◌, ◌≢◌, Bool, ℕ, ◌+◌, ◌^◌, ◌<◌, List, [], ◌++◌, ◌∷◌, cond, drop, length, refl, sym, ap, ◌∙◌, subst, inl, inr, arith, true, Option, Result, Ok, Err, OnOk, Some, map}
+use Rattle.std.proofs.Common.{Less, Greater, nat_cmp}
+use Rattle.std.specs.BTreeMap.{BTreeMap, Updates, get, is_at}
+use Rattle.std.specs.Cmp.{nat_cmp_is}
+use Rattle.std.specs.Map.{lookup}
+use Rattle.std.specs.Ordering.{is_eq}
+use Rattle.std.proofs.lemmas.Bool.{cases_Bool, cases_order, false≢true}
+use Rattle.std.proofs.lemmas.Option.{none-some, same_Some}
 use Rattle.std.specs.List.{Contains, filter, slice_get, slice_index_or, slice_set}
 use Rattle.std.proofs.lemmas.List.{append-nil, drop_at, map-append}
 use Rattle.std.proofs.lemmas.List.Sums.{count_by-le-length, length-filter}
@@ -22,9 +29,9 @@ use Rattle.app_loads.specs.Earlier.{with_earlier}
 use Rattle.app_loads.specs.Joining.{CanSettle}
 use Rattle.app_loads.specs.Leaving.{NoneUnderWay, WaitsIn}
 use Rattle.app_loads.specs.Removing.{IsWhyHere}
-use Rattle.app_loads.specs.declared.group.Arrival.{Arrival}
+use Rattle.app_loads.specs.declared.arrivals.Arrival.{Arrival}
 use Rattle.app_loads.specs.Groups.{deliveries_at, sent_of}
-use Rattle.app_loads.specs.Running.{Comes, HasBroughtMore, IsClean}
+use Rattle.app_loads.specs.Running.{AreKnown, Comes, HasBroughtMore, IsClean}
 use Rattle.app_loads.proofs.Earlier.{kept_without, reached_with}
 use Rattle.app_loads.proofs.LeftMesh.{mesh_with}
 
@@ -32,6 +39,11 @@ use Rattle.app_loads.proofs.LeftMesh.{mesh_with}
 pub ok_then : {X E : Type 0} {P Q : Type 0} (r : Result X E) → (P → Q) → OnOk r P → OnOk r Q
 ok_then (Ok x) f p = f p
 ok_then (Err e) f p = tt
+
+-- what holds anyway holds where a call was answered
+pub ok_anyway : {X E P : Type 0} (r : Result X E) → P → OnOk r P
+ok_anyway (Ok x) p = p
+ok_anyway (Err e) p = tt
 
 -- ---- the same mesh, whose deliveries are held otherwise
 
@@ -207,6 +219,40 @@ module _ (xs ys : List Delivery) (s u : State) (v : ℕ) (k : McCopy) (rest : Li
     none_delivered = ap (λ (a : State). a.delivered) is ∙ clean.none_delivered;
     none_dumped = ap (λ (a : State). a.dumped) is ∙ clean.none_dumped;
   }
+
+-- a list of unsent copies with a first one is not empty
+pub some_first : (q : Option (List McCopy)) (k : McCopy) (rest : List McCopy) → q ≡ Some (k ∷ rest) → q ≢ Some []
+some_first q k rest is none = let long = ap length (same_Some (k ∷ rest) [] (sym is ∙ none)) in absurd (omega (arith, long))
+
+-- ---- keys of which it is known where they come
+
+pub comes_there : (u w : Setup) (v key : ℕ) (arrivals own : List Arrival) → w ≡ u → own ≡ arrivals → Comes u v arrivals key → Comes w v own key
+comes_there u w v key arrivals own setup is comes = subst (λ x. Comes x v own key) (sym setup) (subst (λ l. Comes u v l key) (sym is) comes)
+
+pub known_still : (u w : Setup) (v : ℕ) (known : BTreeMap ℕ (List Arrival)) → w ≡ u → AreKnown u v known → AreKnown w v known
+known_still u w v known setup all = subst (λ x. AreKnown x v known) (sym setup) all
+
+pub none_known : (u : Setup) (v : ℕ) (known : BTreeMap ℕ (List Arrival)) → known.entries ≡ [] → AreKnown u v known
+none_known u v known none key arrivals at = absurd (none-some arrivals (sym (ap (lookup (is_at (nat_cmp key))) none) ∙ at))
+
+same_key : (a b : ℕ) → is_eq (nat_cmp a b) ≡ true → a ≡ b
+same_key a b is = elim (cases_order a b) [
+  | inl same ↦ same
+  | inr (inl less) ↦ absurd (false≢true (ap is_eq (nat_cmp_is a b Less less) ∙ is))
+  | inr (inr more) ↦ absurd (false≢true (ap is_eq (nat_cmp_is a b Greater more) ∙ is))
+]
+
+-- one more
+pub one_known : (u : Setup) (v key : ℕ) (own : List Arrival) (known new : BTreeMap ℕ (List Arrival)) → Updates nat_cmp known new key (Some own) → AreKnown u v known → Comes u v own key →
+    AreKnown u v new
+one_known u v key own known new updates all comes other arrivals at =
+    let found : cond (is_eq (nat_cmp key other)) (Some own) (get nat_cmp known other) ≡ Some arrivals = sym (updates.0 other) ∙ at in
+    elim (cases_Bool (is_eq (nat_cmp key other))) [
+      | inl yes' ↦
+          subst (λ n. Comes u v arrivals n) (same_key key other yes')
+          (subst (λ l. Comes u v l key) (same_Some own arrivals (sym (ap (λ b. cond b (Some own) (get nat_cmp known other)) yes') ∙ found)) comes)
+      | inr no' ↦ all other arrivals (sym (ap (λ b. cond b (Some own) (get nat_cmp known other)) no') ∙ found)
+    ]
 
 -- those that pass are no more
 pub few_own : (p : Delivery → Bool) (xs ys own late : List Delivery) → own ≡ filter p xs → late ≡ filter p ys → length xs + length ys < 2 ^ 64 → length own + length late < 2 ^ 64

@@ -2,7 +2,7 @@
 use Rattle.std.specs.Prelude.{◌≡◌, ◌<◌, ◌≤◌, ℕ, Bool, true, false, not, ◌&&◌, ◌||◌, nat_le, nat_lt, List, ◌++◌}
 use Rattle.std.specs.List.{flat_map}
 use Rattle.spin_base.specs.declared.copies.Delivery.{Delivery}
-use Rattle.app_loads.specs.declared.group.Arrival.{Arrival}
+use Rattle.app_loads.specs.declared.arrivals.Arrival.{Arrival}
 use Rattle.app_loads.specs.declared.loaded.LoadedApp.{LoadedApp}
 use Rattle.app_loads.specs.Leaving.{is_packet_of}
 

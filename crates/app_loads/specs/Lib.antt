@@ -10,6 +10,7 @@ pub use Rattle.mesh_core.specs.Step
 pub use Rattle.mesh_drain.specs.Draining
 pub mod Alike
 pub mod Applications
+pub mod Arriving
 pub mod Claims
 pub mod Counting
 pub mod Earlier

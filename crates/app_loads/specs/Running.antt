@@ -1,11 +1,13 @@
 -- What draining does to a host (this project's own).
 use Rattle.std.specs.Prelude.{◌≡◌, ℕ, List, [], ◌∷◌, ◌++◌, Option, Some, IfSome, slice_get, slice_set}
+use Rattle.std.specs.BTreeMap.{BTreeMap, get}
+use Rattle.std.specs.Ordering.{nat_cmp}
 use Rattle.mesh_core.specs.State.{Setup, State, IsMesh}
 use Rattle.mesh_drain.specs.Draining.{BringsAlways, IsMoved, IsReachedDropless, MaySend, MeetsSomeLedger, SendAlone}
 use Rattle.mesh_core.specs.Expected.{NothingWaits}
 use Rattle.spin_base.specs.declared.copies.Delivery.{Delivery}
 use Rattle.spin_base.specs.declared.copies.McCopy.{McCopy}
-use Rattle.app_loads.specs.declared.group.Arrival.{Arrival}
+use Rattle.app_loads.specs.declared.arrivals.Arrival.{Arrival}
 use Rattle.app_loads.specs.Groups.{deliveries_at, sent_of}
 use Rattle.app_loads.specs.Earlier.{with_earlier}
 use Rattle.app_loads.specs.Host.{Host}
@@ -43,3 +45,7 @@ abbrev pub Comes : Setup → ℕ → List Arrival → ℕ → Type 0
 Comes u v arrivals key =
     (s : State) (k : McCopy) (rest : List McCopy) → MaySend s → s.setup ≡ u → slice_get s.unsent v ≡ Some (k ∷ rest) → k.key ≡ key →
     IsReachedDropless s (record s { unsent = slice_set s.unsent v rest; delivered = s.delivered ++ deliveries_at arrivals (sent_of k) })
+
+-- of each key that has places, it is known that the vertex's packets with this key come there
+abbrev pub AreKnown : Setup → ℕ → BTreeMap ℕ (List Arrival) → Type 0
+AreKnown u v known = (key : ℕ) (arrivals : List Arrival) → get nat_cmp known key ≡ Some arrivals → Comes u v arrivals key

@@ -1,21 +1,27 @@
 // All copies brought to their targets.
-ghost use Rattle.std.specs.Prelude.{◌≡◌, ◌≢◌, ◌<◌, ◌∷◌, [], List, Some, true, IfOk, IfSome, OnOk, length, slice_get, slice_set};
+ghost use Rattle.std.specs.Prelude.{◌≡◌, ◌≢◌, ◌<◌, ℕ, ◌∷◌, [], List, Some, true, IfOk, IfSome, OnOk, length, slice_get, slice_set};
 ghost use Rattle.spin_base.specs.declared.copies.McCopy.{McCopy as Copy};
 ghost use Rattle.mesh_core.specs.Expected.{IsAtRest};
+ghost use Rattle.mesh_core.specs.State.{Setup};
 ghost use Rattle.mesh_drain.specs.Draining.{IsMoved, IsReachedDropless, MeetsSomeLedger, SendAlone};
 ghost use Rattle.app_loads.specs.Applications.{AreApps};
 ghost use Rattle.app_loads.specs.Earlier.{with_earlier};
 ghost use Rattle.app_loads.specs.Grouping.{all_grouped};
 ghost use Rattle.app_loads.specs.Groups.{last_arrivals};
-ghost use Rattle.app_loads.specs.Running.{CanDrain, Comes, HasBroughtMore, HasMovedMesh, IsClean};
+ghost use Rattle.app_loads.specs.Running.{AreKnown, CanDrain, Comes, HasBroughtMore, HasMovedMesh, IsClean};
 
 use crate::apps::Apps;
+use crate::arrivals::Arrivals;
 use crate::groups::Groups;
 use crate::meshes::{KeptMesh, keep, restore};
 use mesh_core::Mesh;
 use mesh_drain::{drain, drain_from, send_first};
 use spin_base::{McCopy, Memory, Seq};
 use std::alloc::Global;
+use std::collections::BTreeMap;
+
+// By the keys of packets that a vertex sent in this drain: where each such packet comes.
+type Known = BTreeMap<u32, Arrivals>;
 
 impl Apps {
     /// Brings all packets to their targets, until nothing waits and nothing is unsent. No copy is dropped where nothing waited
@@ -113,48 +119,108 @@ fn send_all(alloc: Global, mesh: &mut Mesh, earlier: &mut Groups, vertex: u32) -
     ensures clean { OnOk result (IsClean (all_grouped earlier.new) mesh.new) }
     ensures unsent { OnOk result (mesh.new.unsent ≡ slice_set mesh.old.unsent vertex []) }
 {
-    let mut known = None;
+    let mut known = BTreeMap::new(alloc);
+    let mut last = None;
     'packets: while !mesh.unsent(vertex).is_empty() {
-        known = send_next(alloc, mesh, earlier, vertex, known)?;
+        last = send_next(alloc, mesh, earlier, vertex, &mut known, last)?;
     }
     Ok(())
 }
 
-// A vertex sends its first packet. Where it is known of its key to which vertices it comes, it is not brought there step by step.
-// Answers the key of which that is known then.
+// A vertex sends its first packet. Where it is known of its key where it comes, it is not brought there step by step. Answers the key
+// that comes where the packets of the last group came, if that is known.
 fn send_next(
     alloc: Global,
     mesh: &mut Mesh,
     earlier: &mut Groups,
     vertex: u32,
-    known: Option<u32>,
+    known: &mut Known,
+    last: Option<u32>,
 ) -> Result<Option<u32>, Memory>
     requires clean { IsClean (all_grouped earlier.old) mesh.old }
     requires there { vertex < length mesh.old.setup.spots }
     requires some { slice_get mesh.old.unsent vertex ≢ Some [] }
-    requires known { IfSome known (Comes mesh.old.setup vertex (last_arrivals earlier.old)) }
+    requires known { AreKnown mesh.old.setup vertex known.old }
+    requires last { IfSome last (Comes mesh.old.setup vertex (last_arrivals earlier.old)) }
     ensures reached { IsReachedDropless (with_earlier (all_grouped earlier.old) mesh.old)
         (with_earlier (all_grouped earlier.new) mesh.new) }
     ensures clean { OnOk result (IsClean (all_grouped earlier.new) mesh.new) }
     ensures unsent { OnOk result ((copy : Copy) (rest : List Copy)
         → slice_get mesh.old.unsent vertex ≡ Some (copy ∷ rest) →
         mesh.new.unsent ≡ slice_set mesh.old.unsent vertex rest) }
-    ensures known { IfOk result (λ now.
+    ensures known { OnOk result (AreKnown mesh.new.setup vertex known.new) }
+    ensures last { IfOk result (λ now.
         IfSome now (Comes mesh.new.setup vertex (last_arrivals earlier.new))) }
 {
     let copy = first_unsent(mesh, vertex);
-    if is_known(known, copy.key) {
+    if is_last(last, copy.key) {
         send_again(mesh, earlier, vertex, copy)?;
-        return Ok(known);
+        return Ok(last);
     }
+    match known.get(&copy.key) {
+        Some(arrivals) => send_to(alloc, mesh, earlier, vertex, copy, arrivals),
+        None => send_new(alloc, mesh, earlier, vertex, copy, known),
+    }
+}
+
+// A vertex sends its first packet, of whose key nothing is known yet.
+fn send_new(
+    alloc: Global,
+    mesh: &mut Mesh,
+    earlier: &mut Groups,
+    vertex: u32,
+    copy: McCopy,
+    known: &mut Known,
+) -> Result<Option<u32>, Memory>
+    requires clean { IsClean (all_grouped earlier.old) mesh.old }
+    requires there { vertex < length mesh.old.setup.spots }
+    requires first { (rest : List Copy) × (slice_get mesh.old.unsent vertex ≡ Some (copy ∷ rest)) }
+    requires known { AreKnown mesh.old.setup vertex known.old }
+    ensures reached { IsReachedDropless (with_earlier (all_grouped earlier.old) mesh.old)
+        (with_earlier (all_grouped earlier.new) mesh.new) }
+    ensures clean { OnOk result (IsClean (all_grouped earlier.new) mesh.new) }
+    ensures unsent { OnOk result ((first : Copy) (rest : List Copy)
+        → slice_get mesh.old.unsent vertex ≡ Some (first ∷ rest) →
+        mesh.new.unsent ≡ slice_set mesh.old.unsent vertex rest) }
+    ensures known { OnOk result (AreKnown mesh.new.setup vertex known.new) }
+    ensures last { IfOk result (λ now.
+        IfSome now (Comes mesh.new.setup vertex (last_arrivals earlier.new))) }
+{
     let before = earlier.len();
     send_one(alloc, mesh, earlier, vertex)?;
+    share_near(earlier, known, copy.key);
     earlier.join();
     if earlier.ends_with(copy, before) {
+        remember(earlier, known, copy.key)?;
         Ok(Some(copy.key))
     } else {
         Ok(None)
     }
+}
+
+// The last group holds the list of the nearest key that is known, where both are the same: keys of one net are near each other.
+fn share_near(earlier: &mut Groups, known: &Known, key: u32)
+    ensures { earlier.new ≡ earlier.old }
+{
+    if let Some((_, arrivals)) = known.range(..key).next_back() {
+        if earlier.share(arrivals) {
+            return;
+        }
+    }
+    if let Some((_, arrivals)) = known.range(key..).next() {
+        earlier.share(arrivals);
+    }
+}
+
+// It is known of a key that it comes where the packets of the last group came.
+fn remember(earlier: &Groups, known: &mut Known, key: u32) -> Result<(), Memory>
+    ensures { OnOk result ((u : Setup) (v : ℕ) → AreKnown u v known.old →
+        Comes u v (last_arrivals earlier.now) key → AreKnown u v known.new) }
+{
+    if let Some(arrivals) = earlier.last_arrivals() {
+        known.insert(key, arrivals.share()?)?;
+    }
+    Ok(())
 }
 
 // The first copy that a vertex has not sent yet.
@@ -166,17 +232,17 @@ fn first_unsent(mesh: &Mesh, vertex: u32) -> McCopy
     mesh.unsent(vertex)[0]
 }
 
-// Whether the key is the one of which it is known.
-fn is_known(known: Option<u32>, key: u32) -> bool
-    ensures { result ≡ true → known ≡ Some key }
+// Whether the key is that of the last group.
+fn is_last(last: Option<u32>, key: u32) -> bool
+    ensures { result ≡ true → last ≡ Some key }
 {
-    match known {
+    match last {
         Some(other) => other == key,
         None => false,
     }
 }
 
-// A vertex sends its first packet, of which it is known where it comes.
+// A vertex sends its first packet, which comes where the packets of the last group came.
 fn send_again(
     mesh: &mut Mesh,
     earlier: &mut Groups,
@@ -199,6 +265,34 @@ fn send_again(
     earlier.repeat(copy)?;
     mesh.drop_unsent(vertex);
     Ok(())
+}
+
+// A vertex sends its first packet, which comes to these places.
+fn send_to(
+    alloc: Global,
+    mesh: &mut Mesh,
+    earlier: &mut Groups,
+    vertex: u32,
+    copy: McCopy,
+    arrivals: &Arrivals,
+) -> Result<Option<u32>, Memory>
+    requires clean { IsClean (all_grouped earlier.old) mesh.old }
+    requires there { vertex < length mesh.old.setup.spots }
+    requires first { (rest : List Copy) × (slice_get mesh.old.unsent vertex ≡ Some (copy ∷ rest)) }
+    requires comes { Comes mesh.old.setup vertex arrivals.now copy.key }
+    ensures reached { IsReachedDropless (with_earlier (all_grouped earlier.old) mesh.old)
+        (with_earlier (all_grouped earlier.new) mesh.new) }
+    ensures clean { OnOk result (IsClean (all_grouped earlier.new) mesh.new) }
+    ensures unsent { OnOk result ((first : Copy) (rest : List Copy)
+        → slice_get mesh.old.unsent vertex ≡ Some (first ∷ rest) →
+        mesh.new.unsent ≡ slice_set mesh.old.unsent vertex rest) }
+    ensures setup { mesh.new.setup ≡ mesh.old.setup }
+    ensures last { IfOk result (λ now.
+        IfSome now (Comes mesh.new.setup vertex (last_arrivals earlier.new))) }
+{
+    earlier.put(alloc, copy, arrivals)?;
+    mesh.drop_unsent(vertex);
+    Ok(Some(copy.key))
 }
 
 // A vertex sends its first packet, whose deliveries are held apart.

@@ -6,18 +6,12 @@ ghost use Rattle.app_loads.specs.declared.group.Sent.{Sent as SentOnce};
 ghost use Rattle.app_loads.specs.Groups.{EndsWith, arrival_of, deliveries_at, deliveries_in, delivery_of, sent_of};
 ghost use Rattle.app_loads.specs.Leaving.{is_delivery_of};
 
+use crate::arrivals::{Arrival, Arrivals};
 use crate::leaving::is_packet_of;
 use crate::loaded::LoadedApp;
 use spin_base::{Delivery, McCopy, Memory, Seq};
 use std::alloc::Global;
 use std::marker::Model;
-
-// Where a copy came, and how many routers it had passed.
-#[derive(Clone, Copy)]
-pub struct Arrival {
-    pub vertex: u32,
-    pub hop: u32,
-}
 
 // What all copies of a packet have in common.
 #[derive(Clone, Copy)]
@@ -31,7 +25,7 @@ pub struct Sent {
 #[derive(Drop)]
 pub struct Group {
     sent: Seq<Sent>,
-    arrivals: Seq<Arrival>,
+    arrivals: Arrivals,
     count: usize,
     least: u32,
     greatest: u32,
@@ -56,14 +50,29 @@ impl Group {
     {
         let mut sent = Seq::new(alloc);
         sent.push(sent_of(delivery.copy))?;
-        let mut arrivals = Seq::new(alloc);
-        arrivals.push(arrival_of(delivery))?;
         Ok(Group {
             sent,
-            arrivals,
+            arrivals: Arrivals::of(alloc, arrival_of(delivery))?,
             count: 1,
             least: delivery.copy.packet,
             greatest: delivery.copy.packet,
+        })
+    }
+
+    // The group of a copy's packet, which came there.
+    pub fn at(alloc: Global, copy: McCopy, arrivals: &Arrivals) -> Result<Group, Memory>
+        ensures all { IfOk result (λ group.
+            group.deliveries ≡ deliveries_at arrivals.now (sent_of copy)) }
+        ensures arrivals { IfOk result (λ group. group.arrivals ≡ arrivals.now) }
+    {
+        let mut sent = Seq::new(alloc);
+        sent.push(sent_of(copy))?;
+        Ok(Group {
+            sent,
+            arrivals: arrivals.share()?,
+            count: arrivals.len(),
+            least: copy.packet,
+            greatest: copy.packet,
         })
     }
 
@@ -93,9 +102,32 @@ impl Group {
         let Some(count) = self.count.checked_add(1) else {
             return Err(Memory);
         };
-        self.arrivals.push(arrival_of(delivery))?;
+        if !self.arrivals.push(arrival_of(delivery))? {
+            return Ok(false);
+        }
         self.count = count;
         Ok(true)
+    }
+
+    // Where its packets came.
+    pub fn arrivals(&self) -> &Arrivals
+        ensures { result.now ≡ self.now.arrivals }
+    {
+        &self.arrivals
+    }
+
+    // Holds a list in place of its own, where both are the same. Answers whether it does.
+    pub fn share(&mut self, arrivals: &Arrivals) -> bool
+        ensures { self.new ≡ self.old }
+    {
+        if !self.arrivals.are_same(arrivals) {
+            return false;
+        }
+        let Ok(shared) = arrivals.share() else {
+            return false;
+        };
+        self.arrivals = shared;
+        true
     }
 
     // Puts another group's deliveries at the back, where it has one packet, which came to the same vertices.
@@ -105,7 +137,7 @@ impl Group {
         let Some(sent) = only(other.sent.as_slice()) else {
             return false;
         };
-        if !are_same(self.arrivals.as_slice(), other.arrivals.as_slice()) {
+        if !self.arrivals.are_same(&other.arrivals) {
             return false;
         }
         let Some(count) = self.count.checked_add(other.count) else {
@@ -192,27 +224,6 @@ fn push_packet(sent: Sent, arrivals: &[Arrival], list: &mut Seq<Delivery>) -> Re
         list.push(delivery_of(sent, *arrival))?;
     }
     Ok(())
-}
-
-// Whether both lists have the same places, where one is not answered no for nothing.
-fn are_same(arrivals: &[Arrival], others: &[Arrival]) -> bool
-    ensures { result ≡ true → others.now ≡ arrivals.now }
-{
-    if arrivals.len() != others.len() {
-        return false;
-    }
-    for (at, arrival) in arrivals.iter().enumerate() {
-        if !is_same(*arrival, others[at]) {
-            return false;
-        }
-    }
-    true
-}
-
-fn is_same(a: Arrival, b: Arrival) -> bool
-    ensures { result ≡ true → b ≡ a }
-{
-    a.vertex == b.vertex && a.hop == b.hop
 }
 
 fn lesser(a: u32, b: u32) -> u32

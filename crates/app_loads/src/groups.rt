@@ -1,5 +1,5 @@
 // Groups of deliveries, one after the other.
-ghost use Rattle.std.specs.Prelude.{◌≡◌, ◌≤◌, ◌+◌, ◌++◌, ◌∷◌, [], IfOk, OnOk, OnErr, drop, filter, length, not, vec_capacity, vec_len, true, false};
+ghost use Rattle.std.specs.Prelude.{◌≡◌, ◌≤◌, ◌+◌, ◌++◌, ◌∷◌, [], IfOk, IfSome, OnOk, OnErr, drop, filter, length, not, vec_capacity, vec_len, true, false};
 ghost use Rattle.std.specs.List.{list_any};
 ghost use Rattle.spin_base.specs.declared.copies.Delivery.{Delivery as ADelivery};
 ghost use Rattle.app_loads.specs.Grouping.{CanHoldOne, HasPut, all_grouped, is_mixed_group};
@@ -7,6 +7,7 @@ ghost use Rattle.app_loads.specs.Groups.{deliveries_at, last_arrivals, sent_of};
 ghost use Rattle.app_loads.specs.Leaving.{is_delivery_of};
 ghost use Rattle.app_loads.specs.Parting.{HasRoomFor};
 
+use crate::arrivals::Arrivals;
 use crate::group::Group;
 use crate::loaded::LoadedApp;
 use spin_base::{Delivery, McCopy, Memory, Seq};
@@ -108,6 +109,43 @@ impl Groups {
         self.groups[count - 1].repeat(copy)?;
         self.count = more;
         Ok(())
+    }
+
+    // Puts the copy's packet at the back, which came there.
+    pub fn put(&mut self, alloc: Global, copy: McCopy, arrivals: &Arrivals) -> Result<(), Memory>
+        ensures put { OnOk result (all_grouped self.new ≡ all_grouped self.old
+            ++ deliveries_at arrivals.now (sent_of copy)) }
+        ensures refused { OnErr result (all_grouped self.new ≡ all_grouped self.old) }
+        ensures arrivals { OnOk result (last_arrivals self.new ≡ arrivals.now) }
+    {
+        let Some(count) = self.count.checked_add(arrivals.len()) else {
+            return Err(Memory);
+        };
+        self.groups.push(Group::at(alloc, copy, arrivals)?)?;
+        self.count = count;
+        Ok(())
+    }
+
+    // Where the packets of the last group came.
+    pub fn last_arrivals(&self) -> Option<&Arrivals>
+        ensures { IfSome result (λ arrivals. arrivals.now ≡ last_arrivals self.now) }
+    {
+        let count = self.groups.len();
+        if count == 0 {
+            return None;
+        }
+        Some(self.groups[count - 1].arrivals())
+    }
+
+    // The last group holds a list in place of its own, where both are the same. Answers whether it does.
+    pub fn share(&mut self, arrivals: &Arrivals) -> bool
+        ensures { self.new ≡ self.old }
+    {
+        let count = self.groups.len();
+        if count == 0 {
+            return false;
+        }
+        self.groups[count - 1].share(arrivals)
     }
 
     // Puts all deliveries at the back of a list.

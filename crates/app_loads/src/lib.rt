@@ -8,6 +8,7 @@
 
 mod answers;
 mod apps;
+mod arrivals;
 mod claims;
 mod deliveries;
 mod drains;

@@ -2,13 +2,15 @@ use Rattle.mesh_drain.proofs.Frame.{reached_none, reached_then}
 use Rattle.mesh_drain.proofs.Turns.{all_sent_there, as_before, is_none, is_some', one_less, there_still, was_there}
 use Rattle.app_loads.specs.Earlier.{with_earlier}
 use Rattle.app_loads.specs.Grouping.{all_grouped}
+use Rattle.app_loads.proofs.Kept.{none_known}
 use Rattle.app_loads.proofs.drains.send_all.Goals as goal
 
 pub packets-init : goal.packets-init
 packets-init c = record {
   reached = reached_none (with_earlier (all_grouped c.args.earlier.now) c.args.mesh.now);
   clean = c.requires.clean;
-  known = tt;
+  known = none_known c.args.mesh.now.setup c.args.vertex c.new-known.result c.new-known.ensures.empty;
+  last = tt;
   unsent = as_before c.args.mesh.now c.args.vertex;
 }
 
@@ -23,16 +25,17 @@ send_next-requires-clause-there c =
 pub packets-smaller : goal.packets-smaller
 packets-smaller c =
     (one_less c.args.mesh.now.unsent c.packets.mesh.unsent c.send_next.new.mesh.unsent c.args.vertex c.packets.invariant.unsent.0 c.unsent.result.now
-    c.packets.invariant.unsent.1 c.unsent.ensures (is_some' c.unsent.result.now c.packets-test.ensures) c.in_ok-known.ensures.unsent).1
+    c.packets.invariant.unsent.1 c.unsent.ensures (is_some' c.unsent.result.now c.packets-test.ensures) c.in_ok-last.ensures.unsent).1
 
 pub packets-preserved : goal.packets-preserved
 packets-preserved c = record {
   reached = reached_then (with_earlier (all_grouped c.args.earlier.now) c.args.mesh.now) (with_earlier (all_grouped c.packets.earlier) c.packets.mesh)
       (with_earlier (all_grouped c.send_next.new.earlier) c.send_next.new.mesh) c.packets.invariant.reached c.send_next.ensures.reached;
-  clean = c.in_ok-known.ensures.clean;
-  known = c.in_ok-known.ensures.known;
+  clean = c.in_ok-last.ensures.clean;
+  known = c.in_ok-last.ensures.known;
+  last = c.in_ok-last.ensures.last;
   unsent = (one_less c.args.mesh.now.unsent c.packets.mesh.unsent c.send_next.new.mesh.unsent c.args.vertex c.packets.invariant.unsent.0 c.unsent.result.now
-      c.packets.invariant.unsent.1 c.unsent.ensures (is_some' c.unsent.result.now c.packets-test.ensures) c.in_ok-known.ensures.unsent).0;
+      c.packets.invariant.unsent.1 c.unsent.ensures (is_some' c.unsent.result.now c.packets-test.ensures) c.in_ok-last.ensures.unsent).0;
 }
 
 pub returns-clause-unsent : goal.returns-clause-unsent
@@ -41,7 +44,7 @@ returns-clause-unsent c =
     (was_there (with_earlier (all_grouped c.args.earlier.now) c.args.mesh.now) c.args.vertex c.requires.clean.kept c.requires.there) c.packets.invariant.unsent.1 c.unsent.ensures
     (is_none c.unsent.result.now c.packets-test.ensures)
 
-pub returns-in_err-known-clause-reached : goal.returns-in_err-known-clause-reached
-returns-in_err-known-clause-reached c =
+pub returns-in_err-last-clause-reached : goal.returns-in_err-last-clause-reached
+returns-in_err-last-clause-reached c =
     reached_then (with_earlier (all_grouped c.args.earlier.now) c.args.mesh.now) (with_earlier (all_grouped c.packets.earlier) c.packets.mesh)
     (with_earlier (all_grouped c.send_next.new.earlier) c.send_next.new.mesh) c.packets.invariant.reached c.send_next.ensures.reached

@@ -6,7 +6,7 @@ use Rattle.mesh_drain.specs.Draining.{IsReachedDropless}
 use Rattle.app_loads.specs.Earlier.{with_earlier}
 use Rattle.app_loads.specs.Grouping.{all_grouped}
 use Rattle.app_loads.specs.Groups.{last_arrivals}
-use Rattle.app_loads.specs.Running.{Comes, IsClean}
+use Rattle.app_loads.specs.Running.{AreKnown, Comes, IsClean}
 use Rattle.app_loads.proofs.drains.send_all.Given as goal
 
 -- the vertex has some packets unsent, and all else is as it was
@@ -14,7 +14,8 @@ abbrev pub invariant-packets : goal.invariant-packets
 invariant-packets l = record {
   reached : IsReachedDropless (with_earlier (all_grouped l.fn.earlier) l.fn.mesh) (with_earlier (all_grouped l.earlier) l.mesh);
   clean : IsClean (all_grouped l.earlier) l.mesh;
-  known : IfSome l.known (Comes l.mesh.setup l.vertex (last_arrivals l.earlier));
+  known : AreKnown l.mesh.setup l.vertex l.known;
+  last : IfSome l.last (Comes l.mesh.setup l.vertex (last_arrivals l.earlier));
   unsent : (left : List McCopy) × (l.mesh.unsent ≡ slice_set l.fn.mesh.unsent l.vertex left);
 }
 

@@ -1,5 +1,5 @@
 use Rattle.std.proofs.Common.{◌≡◌, take}
-use Rattle.app_loads.proofs.group.are_same.Given as goal
+use Rattle.app_loads.proofs.arrivals.are_same.Given as goal
 
 -- the places so far are the same
 abbrev pub invariant-loop-at : goal.invariant-loop-at

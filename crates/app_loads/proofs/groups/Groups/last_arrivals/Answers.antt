@@ -1,0 +1,12 @@
+use Rattle.std.proofs.Common.{◌≡◌, ◌∙◌, ap, arith, length, sym}
+use Rattle.app_loads.specs.Groups.{last_arrivals}
+use Rattle.app_loads.proofs.GroupLaws.{last_arrivals_are}
+use Rattle.app_loads.proofs.groups.Groups.last_arrivals.Goals as goal
+
+pub returns : goal.returns
+returns c =
+    let gs = c.self.inside.groups.items in
+    let a = c.len-count.ensures in
+    let b = c.self.inside.groups.ok in
+    let long : c.len-count.result ≡ length gs = omega (arith, a, b) in
+    c.arrivals.ensures ∙ (sym (last_arrivals_are gs c.len-count.result c.index.result.now long c.if-count-eq0.false c.index.ensures) ∙ ap last_arrivals c.self.view_is)

@@ -1,0 +1,19 @@
+use Rattle.std.proofs.Common.{◌≡◌, ◌-◌, ◌∙◌, ap, arith, length, sym, List}
+use Rattle.std.specs.List.{slice_set}
+use Rattle.app_loads.specs.Grouping.{Grouped, all_grouped}
+use Rattle.app_loads.proofs.GroupLaws.{same_groups}
+use Rattle.app_loads.proofs.groups.Groups.share.Goals as goal
+use Rattle.app_loads.proofs.groups.Groups.share.Goals.{After-share}
+
+same : (c : After-share) → slice_set c.self.inside.groups.items (c.len-count.result - 1) c.share.new.self ≡ c.self.inside.groups.items
+same c =
+    let a = c.len-count.ensures in
+    let b = c.self.inside.groups.ok in
+    let long : c.len-count.result ≡ length c.self.inside.groups.items = omega (arith, a, b) in
+    same_groups c.self.inside.groups.items c.len-count.result c.index_mut.result.now long c.if-count-eq0.false c.index_mut.ensures.value c.share.new.self c.share.ensures
+
+pub invariant_of-self : goal.invariant_of-self
+invariant_of-self c = c.self.invariant ∙ ap (λ (gs : List Grouped). length (all_grouped gs)) (sym (same (goal.at.invariant_of-self c).After-share))
+
+pub returns : goal.returns
+returns c = same (goal.at.returns c).After-share ∙ c.self.view_is
