@@ -8,7 +8,6 @@ use Rattle.machine_desc.specs.Description.{Description}
 use Rattle.machine_desc.specs.Live.{chip_at, index_of, IsInside}
 use Rattle.machine_desc.specs.RoutingTree.{end_of, IsTreeChip}
 use Rattle.ner_trees.specs.Geometry.{distance_of}
-use Rattle.ner_trees.specs.declared.searches.Found.{Found}
 use Rattle.ner_trees.specs.Growth.{IsNotFarther, IsTreeChipWithin, end_of_walk, links_of, next_of}
 
 -- what a table with a place for each chip says of a chip
@@ -82,21 +81,13 @@ pub record IsCutAt (m : Description) (on : List Bool) (near : Chip) (walk : List
   pub added_inside : All (λ e. IsInside m e.chip) added
   pub added_off : All (λ e. is_on m on (next_of m e.chip e.dir) ≡ false) added
 
--- a chip inside the grid, with how far the target is from it
-pub record IsFoundAt (m : Description) (t : Chip) (found : Found) : Type 0 where
-  pub inside : IsInside m found.chip
-  pub far : found.far ≡ distance_of m found.chip t
+-- a number that orders chips by how near they are to a target: the links from there to the target, then the index, which is below 4096
+abbrev pub nearness : Description → Chip → Chip → ℕ
+nearness m t c = distance_of m c t * 4096 + index_of m c
 
--- Of what a search has found and one chip more, what comes first in the order of nearness, of chips at most 20 links from
--- the target.
-pub record IsCloser (m : Description) (t : Chip) (best : Option Found) (chip : Chip) (result : Option Found) : Type 0 where
-  pub far : IfSome result (λ f. f.far ≡ distance_of m f.chip t)
-  pub one_of : IfSome result (λ f. (best ≡ Some f) ⊎ ((f.chip ≡ chip) × (distance_of m chip t ≤ 20)))
-  pub not_farther : IfSome best (λ b. IsSomeAnd result (λ f. IsNotFarther m t f.chip b.chip))
-  pub than_the_chip : distance_of m chip t ≤ 20 → IsSomeAnd result (λ f. IsNotFarther m t f.chip chip)
-
--- The nearest of the chips of a tree within 20 links of the target.
-pub record IsLeastFound (m : Description) (root : Chip) (tree : List Edge) (t : Chip) (best : Option Found) : Type 0 where
-  pub far : IfSome best (λ b. b.far ≡ distance_of m b.chip t)
-  pub within : IfSome best (λ b. IsTreeChipWithin m root tree t 20 b.chip)
-  pub least : (e : Chip) → IsTreeChipWithin m root tree t 20 e → IsSomeAnd best (λ b. IsNotFarther m t b.chip e)
+-- the least of these numbers, of the chips of a tree
+pub record IsLeastNearness (m : Description) (root : Chip) (tree : List Edge) (t : Chip) (least : ℕ) : Type 0 where
+  pub chip : Chip
+  pub on : IsTreeChip m root tree chip
+  pub is : least ≡ nearness m t chip
+  pub first : (e : Chip) → IsTreeChip m root tree e → least ≤ nearness m t e

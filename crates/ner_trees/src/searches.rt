@@ -2,7 +2,7 @@
 ghost use Rattle.std.specs.Prelude.{◌≡◌, ◌+◌, ◌-◌, ◌*◌, ◌%◌, ◌<◌, ◌≤◌, ◌⊎◌, Some, IfSome, IfNone, MatchBool};
 ghost use Rattle.machine_desc.specs.Live.{IsInside, chip_at};
 ghost use Rattle.ner_trees.specs.Growth.{IsNotFarther, IsNear};
-ghost use Rattle.ner_trees.specs.Search.{place_at, offset_chip, AtOffsets, AtStep, IsOnWithin, IsNearestOn, IsNoneNearer, IsBetter, IsCloser, IsFoundAt, IsLeastFound, TellsTree};
+ghost use Rattle.ner_trees.specs.Search.{place_at, offset_chip, AtOffsets, AtStep, IsOnWithin, IsNearestOn, IsNoneNearer, IsBetter, IsLeastNearness, TellsTree, nearness};
 ghost use Rattle.spin_base.specs.declared.chips.Chip.{Chip};
 
 use crate::displacements::{OnAxis, distance};
@@ -222,66 +222,44 @@ fn nearest_on_ring(search: Search<'_, '_>, radius: Radius) -> Option<Chip>
     best
 }
 
-// The nearest chip that a search has come to, and how many links it is from the target.
-#[derive(Clone, Copy)]
-struct Found {
-    chip: Chip,
-    far: u32,
-}
-
-// Of two chips the one that comes first in the order of distance to the target, then x, then y.
-fn first_of(machine: &Machine, target: Chip, old: Found, new: Found) -> Found
-    requires old { IsFoundAt machine.now target old }
-    requires new { IsFoundAt machine.now target new }
-    ensures { ((result ≡ old) × IsNotFarther machine.now target old.chip new.chip)
-        ⊎ ((result ≡ new) × IsNotFarther machine.now target new.chip old.chip) }
-{
-    if new.far < old.far {
-        return new;
-    }
-    if old.far < new.far {
-        return old;
-    }
-    if machine.index(new.chip) < machine.index(old.chip) {
-        new
-    } else {
-        old
-    }
-}
-
-// The nearest of what was found and one chip more, where the target is at most 20 links from it.
-fn closer(machine: &Machine, target: Chip, best: Option<Found>, chip: Chip) -> Option<Found>
+// A number that orders chips by how near they are to a target: the links from there to the target, then the index.
+#[inline(always)]
+fn nearness(machine: &Machine, target: Chip, chip: Chip) -> u32
     requires target_inside { IsInside machine.now target }
     requires inside { IsInside machine.now chip }
-    requires best { IfSome best (IsFoundAt machine.now target) }
-    ensures { IsCloser machine.now target best chip result }
+    ensures { result ≡ nearness machine.now target chip }
 {
-    let far = distance(machine, chip, target);
-    if far > 20 {
-        return best;
-    }
-    let found = Found { chip, far };
-    match best {
-        None => Some(found),
-        Some(old) => Some(first_of(machine, target, old, found)),
-    }
+    distance(machine, chip, target) * 4096 + machine.index(chip)
 }
 
-// The nearest chip of the tree within 20 links of the target, found by going over the tree's edges.
-fn nearest_of_edges(tree: &GrowingTree, target: Chip) -> Option<Found>
+// The least of these numbers, of the chips of a tree, found by going over its edges.
+fn least_nearness(tree: &GrowingTree, target: Chip) -> u32
     requires { IsInside tree.now.on.machine.now target }
-    ensures { IsLeastFound
-        tree.now.on.machine.now tree.now.root tree.now.edges.items target result }
+    ensures { IsLeastNearness tree.now.on.machine.now tree.now.root tree.now.edges.items target
+        result }
 {
     let machine = tree.on.machine();
     let edges: &[Edge] = &tree.edges;
-    let mut best = closer(machine, target, None, tree.root);
+    let mut least = nearness(machine, target, tree.root);
     for edge in edges {
         if let Some(chip) = machine.far(edge.chip, edge.dir) {
-            best = closer(machine, target, best, chip);
+            least = least.min(nearness(machine, target, chip));
         }
     }
-    best
+    least
+}
+
+// The nearest chip of the tree within 20 links of the target, and the root where there is none.
+fn nearest_of_all(tree: &GrowingTree, target: Chip) -> Chip
+    requires { IsInside tree.now.on.machine.now target }
+    ensures { IsNear tree.now.on.machine.now tree.now.root tree.now.edges.items target result }
+{
+    let least = least_nearness(tree, target);
+    if least < 21 * 4096 {
+        tree.on.machine().chip_at(least % 4096)
+    } else {
+        tree.root
+    }
 }
 
 // The chip of the tree to which a target is joined: the nearest within 20 links, and the root where there is none. Rings
@@ -300,10 +278,7 @@ pub fn near_chip(tree: &GrowingTree, target: Chip) -> Chip
     for chips in 0..21 {
         let far = usize::from(chips);
         if edges < 3 * far * far {
-            return match nearest_of_edges(tree, target) {
-                Some(found) => found.chip,
-                None => tree.root,
-            };
+            return nearest_of_all(tree, target);
         }
         if let Some(chip) = nearest_on_ring(search, Radius { chips }) {
             return chip;

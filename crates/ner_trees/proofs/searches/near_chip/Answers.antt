@@ -1,6 +1,5 @@
 use Rattle.std.proofs.Common.{◌≡◌, inl, inr, refl}
 use Rattle.ner_trees.proofs.Growing.{near_is}
-use Rattle.ner_trees.proofs.Nearest.{near_found, near_root}
 use Rattle.ner_trees.proofs.Searching.{none_nearer_none, none_at_start}
 use Rattle.ner_trees.proofs.searches.near_chip.Goals as goal
 
@@ -15,16 +14,8 @@ nearest_on_ring-requires c = c.loop-chips.invariant
 
 pub returns-in-Some : goal.returns-in-Some
 returns-in-Some c =
-    near_found c.args.tree.now.on.machine.now c.args.tree.now.root c.args.target c.args.tree.now.edges.items c.in-Some.found c.in-Some.ensures
-
-pub returns-in-None : goal.returns-in-None
-returns-in-None c =
-    near_root c.args.tree.now.on.machine.now c.args.tree.now.root c.args.target c.args.tree.now.edges.items c.in-None.ensures
-
-pub returns-in-Some-nearest_on_ring : goal.returns-in-Some-nearest_on_ring
-returns-in-Some-nearest_on_ring c =
-    near_is c.args.tree.now.on.machine.now c.args.tree.now.root c.args.tree.now.on.items.items c.args.tree.now.edges.items c.args.target c.in-Some-nearest_on_ring.chip c.args.tree.now.root_inside c.args.tree.now.edges_inside c.requires.on_is
-    (inl c.in-Some-nearest_on_ring.ensures.found)
+    near_is c.args.tree.now.on.machine.now c.args.tree.now.root c.args.tree.now.on.items.items c.args.tree.now.edges.items c.args.target c.in-Some.chip c.args.tree.now.root_inside c.args.tree.now.edges_inside c.requires.on_is
+    (inl c.in-Some.ensures.found)
 
 pub returns : goal.returns
 returns c =
