@@ -1,8 +1,8 @@
 // The chip of a tree that is nearest to a target.
-ghost use Rattle.std.specs.Prelude.{◌≡◌, ◌+◌, ◌-◌, ◌*◌, ◌%◌, ◌<◌, ◌≤◌, ◌⊎◌, Some, IfSome, IfNone, MatchBool};
+ghost use Rattle.std.specs.Prelude.{◌≡◌, ◌+◌, ◌-◌, ◌*◌, ◌%◌, ◌<◌, ◌≤◌, ◌⊎◌, true, Some, IfSome, IfNone, MatchBool};
 ghost use Rattle.machine_desc.specs.Live.{IsInside, chip_at};
 ghost use Rattle.ner_trees.specs.Growth.{IsNotFarther, IsNear};
-ghost use Rattle.ner_trees.specs.Search.{place_at, offset_chip, AtOffsets, AtStep, IsOnWithin, IsNearestOn, IsNoneNearer, IsBetter, IsLeastNearness, TellsTree, nearness};
+ghost use Rattle.ner_trees.specs.Search.{place_at, offset_chip, AtOffsets, AtStep, IsOnWithin, IsNearestOn, IsNoneNearer, IsBetter, IsLeastNearness, TellsTree, is_on, nearness};
 ghost use Rattle.spin_base.specs.declared.chips.Chip.{Chip};
 
 use crate::displacements::{OnAxis, distance};
@@ -11,32 +11,44 @@ use crate::partial_trees::{GrowingTree, Radius};
 use machine_desc::{Edge, Machine};
 use spin_base::Chip;
 
-// The place on a ring that is `offset` places past the one that lies `radius` places before the centre. Only on a short
-// ring has it to be divided.
+// The place on a ring that is `offset` places past the one that lies `radius` places before the centre, by a division.
+#[inline(never)]
+fn divided(centre: OnAxis, radius: Radius, offset: u8) -> u8
+    requires { offset ≤ 2 * radius.chips }
+    ensures value { result
+        ≡ (centre.place + centre.places * 20 + offset - radius.chips) % centre.places }
+    ensures inside { result < centre.places }
+{
+    let ahead = u16::from(centre.place + offset) + u16::from(centre.places) * 20;
+    ((ahead - u16::from(radius.chips)) % u16::from(centre.places)) as u8
+}
+
+// The same. Only on a short ring has it to be divided.
+#[inline(always)]
 fn wrapped(centre: OnAxis, radius: Radius, offset: u8) -> u8
     requires { offset ≤ 2 * radius.chips }
     ensures value { result
         ≡ (centre.place + centre.places * 20 + offset - radius.chips) % centre.places }
     ensures inside { result < centre.places }
 {
-    let (places, place, radius) = (centre.places, centre.place + offset, radius.chips);
-    if radius <= place {
-        let ahead = place - radius;
+    let (places, place, chips) = (centre.places, centre.place + offset, radius.chips);
+    if chips <= place {
+        let ahead = place - chips;
         if ahead < places {
             return ahead;
         }
         if ahead - places < places {
             return ahead - places;
         }
-    } else if radius - place <= places {
-        return places - (radius - place);
+    } else if chips - place <= places {
+        return places - (chips - place);
     }
-    let ahead = u16::from(place) + u16::from(places) * 20;
-    ((ahead - u16::from(radius)) % u16::from(places)) as u8
+    divided(centre, radius, offset)
 }
 
 // The place on an axis that is `offset` places past the one that lies `radius` places before the centre. `None` exactly
 // where the axis is open and has no such place.
+#[inline(always)]
 fn place_at(wrap: bool, centre: OnAxis, radius: Radius, offset: u8) -> Option<u8>
     requires { offset ≤ 2 * radius.chips }
     ensures value { result ≡ place_at wrap centre.places centre.place radius.chips offset }
@@ -58,6 +70,7 @@ fn place_at(wrap: bool, centre: OnAxis, radius: Radius, offset: u8) -> Option<u8
 }
 
 // The chip of two coordinates, where there are both.
+#[inline(always)]
 fn chip_at(x: Option<u8>, y: Option<u8>) -> Option<Chip>
     ensures { result ≡ chip_at x y }
 {
@@ -79,6 +92,7 @@ struct Search<'t, 'm> {
 }
 
 // The chip at offsets from the corner of the window of `radius` chips to each side of the target.
+#[inline(always)]
 fn offset_chip(search: Search<'_, '_>, radius: Radius, column: u8, row: u8) -> Option<Chip>
     requires column { column ≤ 2 * radius.chips }
     requires row { row ≤ 2 * radius.chips }
@@ -92,28 +106,6 @@ fn offset_chip(search: Search<'_, '_>, radius: Radius, column: u8, row: u8) -> O
     let (places, place) = (machine.height(), centre.y);
     let y = place_at(wrap, OnAxis { places, place }, radius, row);
     chip_at(x, y)
-}
-
-// The chip at these offsets, where it is in the tree and the target is at most `radius` links from it.
-fn candidate(search: Search<'_, '_>, radius: Radius, column: u8, row: u8) -> Option<Chip>
-    requires column { column ≤ 2 * radius.chips }
-    requires row { row ≤ 2 * radius.chips }
-    ensures found { IfSome result (IsOnWithin search.entry.on.now.machine.now
-        search.entry.on.now.items.items search.entry.target radius.chips) }
-    ensures none { IfNone result ((e : Chip) → offset_chip search.entry.on.now.machine.now
-        search.entry.target radius.chips column row ≡ Some e →
-        IsOnWithin search.entry.on.now.machine.now search.entry.on.now.items.items
-        search.entry.target radius.chips e → ⊥) }
-    ensures that_one { IfSome result (λ c. offset_chip search.entry.on.now.machine.now
-        search.entry.target radius.chips column row ≡ Some c) }
-{
-    let machine = search.on.machine();
-    let chip = offset_chip(search, radius, column, row)?;
-    if search.on.at(chip) && distance(machine, chip, search.target) <= u32::from(radius.chips) {
-        Some(chip)
-    } else {
-        None
-    }
 }
 
 // Whether the first chip comes before the second in the order of distance to the target, then x, then y.
@@ -155,7 +147,33 @@ fn nearer(search: Search<'_, '_>, best: Option<Chip>, chip: Chip) -> Chip
     }
 }
 
+// The nearest of the best so far and a chip of the tree, where the target is at most `radius` links from it.
+#[inline(never)]
+fn better_with(
+    search: Search<'_, '_>,
+    radius: Radius,
+    best: Option<Chip>,
+    chip: Chip,
+) -> Option<Chip>
+    requires inside { IsInside search.on.now.machine.now chip }
+    requires on_it { is_on search.on.now.machine.now search.on.now.items.items chip ≡ true }
+    requires best { IfSome best (IsOnWithin search.on.now.machine.now
+        search.on.now.items.items search.target radius.chips) }
+    ensures found { IfSome result (IsOnWithin search.entry.on.now.machine.now
+        search.entry.on.now.items.items search.entry.target radius.chips) }
+    ensures better { IsBetter search.entry.on.now.machine.now search.entry.on.now.items.items
+        search.entry.target radius.chips (λ e. e ≡ chip) best result }
+{
+    let machine = search.on.machine();
+    if distance(machine, chip, search.target) <= u32::from(radius.chips) {
+        Some(nearer(search, best, chip))
+    } else {
+        best
+    }
+}
+
 // The nearest of the best so far and the chip at these offsets.
+#[inline(always)]
 fn better(
     search: Search<'_, '_>,
     radius: Radius,
@@ -174,9 +192,13 @@ fn better(
         (AtOffsets search.entry.on.now.machine.now search.entry.target radius.chips column row)
         best result }
 {
-    match candidate(search, radius, column, row) {
-        Some(chip) => Some(nearer(search, best, chip)),
+    match offset_chip(search, radius, column, row) {
         None => best,
+        Some(chip) => if search.on.at(chip) {
+            better_with(search, radius, best, chip)
+        } else {
+            best
+        },
     }
 }
 
