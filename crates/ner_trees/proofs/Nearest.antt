@@ -125,10 +125,12 @@ module _ (m : Description) (root t : Chip) where
     near_chip_is c low c_inside is =
         let same : known.chip ≡ c = same_index m known.chip c (on_inside m root tree root_in inside known.chip known.on) c_inside (sym (is ∙ index_told)) in
         subst (λ (x : Chip). IsNear m root tree t x) same (
-        inl ((known.on, first_digit (distance_of m known.chip t) (index_of m known.chip) least known.is low),
-        λ e w.
-        digits_ordered (distance_of m known.chip t) (index_of m known.chip) (distance_of m e t) (index_of m e) (index_few known.chip known.on) (index_few e w.0)
-        (subst (λ n. n ≤ nearness m t e) known.is (known.first e w.0))))
+        inl (
+          (known.on, first_digit (distance_of m known.chip t) (index_of m known.chip) least known.is low),
+          λ e w.
+              digits_ordered (distance_of m known.chip t) (index_of m known.chip) (distance_of m e t) (index_of m e) (index_few known.chip known.on) (index_few e w.0)
+              (subst (λ n. n ≤ nearness m t e) known.is (known.first e w.0)),
+        ))
 
     pub near_root_is : 21 * 4096 ≤ least → IsNear m root tree t root
     near_root_is high = inr (
