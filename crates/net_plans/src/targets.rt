@@ -1,9 +1,9 @@
 // The targets of a net, and their chips.
-ghost use Rattle.std.specs.Prelude.{◌≡◌, ◌<◌, ℕ, All, map, length, slice_index_or, IfOk};
+ghost use Rattle.std.specs.Prelude.{◌≡◌, ◌<◌, All, map, length, slice_index_or, IfOk, IsTrue};
 ghost use Rattle.spin_base.specs.declared.chips.Spot.{Spot};
 ghost use Rattle.machine_desc.specs.Live.{IsInside};
-ghost use Rattle.net_plans.specs.Targets.{spot_key, chip_key, AreTargets, AreTargetChips};
-ghost use Rattle.net_plans.specs.Keys.{nowhere, spot_at, chip_of_key};
+ghost use Rattle.net_plans.specs.Targets.{spot_key, AreTargets, AreTargetChips};
+ghost use Rattle.net_plans.specs.Keys.{nowhere, spot_at, chip_of_key, AreChipKeys, IsChipOfOne};
 
 use crate::orders::each_once;
 use machine_desc::Machine;
@@ -93,18 +93,31 @@ pub struct Root<'a> {
     pub ghost inside: { IsInside machine.now chip },
 }
 
-// Of each target the distance from the root, and its chip's x and y.
+// The keys of the targets' chips: the distance from the root, x and y. Targets in order have the cores of one chip side by side,
+// so each chip is measured once, and most keys stand once before they are put in order.
 fn chip_keys(alloc: Global, root: Root, targets: &Seq<Spot>) -> Result<Vec<(u32, u8, u8)>, Memory>
     requires { All (λ s. IsInside root.machine.now s.chip) targets.now }
-    ensures { IfOk result (λ keys. keys.items
-        ≡ map (λ (s : Spot). chip_key root.entry.machine.now root.entry.chip s.chip) targets.now) }
+    ensures { IfOk result (λ keys.
+        AreChipKeys root.entry.machine.now root.entry.chip targets.now keys.items) }
 {
     let mut keys = Vec::with_capacity(alloc, targets.len())?;
     for i in 0..targets.len() {
         let chip = targets.get(i).chip;
-        keys.push((distance(root.machine, root.chip, chip), chip.x, chip.y))?;
+        if !ends_at(&keys, chip) {
+            keys.push((distance(root.machine, root.chip, chip), chip.x, chip.y))?;
+        }
     }
     Ok(keys)
+}
+
+// Whether the last of these keys is that of the chip.
+fn ends_at(keys: &[(u32, u8, u8)], chip: Chip) -> bool
+    ensures { IsTrue result → IsChipOfOne keys.now chip }
+{
+    match keys.last() {
+        Some(key) => Chip { x: key.1, y: key.2 } == chip,
+        None => false,
+    }
 }
 
 fn chips_at(alloc: Global, keys: &[(u32, u8, u8)]) -> Result<Seq<Chip>, Memory>

@@ -1,17 +1,24 @@
-use Rattle.std.proofs.Common.{ℕ, [], ◌∷◌, ◌++◌, map, take, take_all, sym, ap, ◌∙◌, arith}
+use Rattle.std.proofs.Common.{take, take_all, ap, ◌∙◌, subst, arith}
 use Rattle.spin_base.specs.declared.chips.Spot.{Spot}
-use Rattle.spin_base.proofs.Places.{All-at, map_more_at}
+use Rattle.spin_base.proofs.Places.{All-at}
 use Rattle.machine_desc.specs.Live.{IsInside}
-use Rattle.net_plans.specs.Targets.{chip_key}
+use Rattle.net_plans.specs.Keys.{AreChipKeys, IsChipOfOne}
+use Rattle.net_plans.proofs.TargetLaws.{key_pushed, key_there, no_keys}
+use Rattle.net_plans.proofs.targets.chip_keys.Goals.{then-not-ends_at+in_ok-push, else-not-ends_at}
 use Rattle.net_plans.proofs.targets.chip_keys.Goals as goal
 
+pub loop-i-init : goal.loop-i-init
+loop-i-init c = no_keys c.args.root.machine.now c.args.root.chip c.in_ok-keys.keys.items c.in_ok-keys.ensures.items
+
 pub loop-i-preserved : goal.loop-i-preserved
-loop-i-preserved c =
-    let key : Spot → ℕ × ℕ × ℕ = λ s. chip_key c.args.root.machine.now c.args.root.chip s.chip in
-    c.in_ok-push.ensures.items
-    ∙ (ap (λ l. l ++ (c.distance.result, c.get.result.now.chip.x, c.get.result.now.chip.y) ∷ []) c.loop-i.invariant
-    ∙ (ap (λ n. map key (take c.loop-i.i c.args.targets.now) ++ (n, c.get.result.now.chip.x, c.get.result.now.chip.y) ∷ []) c.distance.ensures.value
-    ∙ sym (map_more_at key c.args.targets.now c.loop-i.i c.get.result.now c.get.ensures)))
+loop-i-preserved c = elim c.if-not-ends_at.branch [
+  | then-not-ends_at+in_ok-push w ↦
+      key_pushed c.args.root.machine.now c.args.root.chip c.args.targets.now c.loop-i.i c.get.result.now c.get.ensures c.loop-i.keys.items c.loop-i.invariant
+      w.distance.result w.distance.ensures.value c.if-not-ends_at.keys.items (ap (λ v. v.items) w.keys-is ∙ w.in_ok-push.ensures.items)
+  | else-not-ends_at w ↦
+      key_there c.args.root.machine.now c.args.root.chip c.args.targets.now c.loop-i.i c.get.result.now c.get.ensures c.loop-i.keys.items c.loop-i.invariant
+      (subst (λ ks. IsChipOfOne ks c.get.result.now.chip) c.deref.ensures.value (c.ends_at.ensures w.if-not-ends_at.false)) c.if-not-ends_at.keys.items (ap (λ v. v.items) w.keys-is)
+]
 
 pub distance-requires-clause-to_inside : goal.distance-requires-clause-to_inside
 distance-requires-clause-to_inside c =
@@ -19,5 +26,5 @@ distance-requires-clause-to_inside c =
 
 pub returns : goal.returns
 returns c =
-    c.loop-i.invariant
-    ∙ ap (map (λ (s : Spot). chip_key c.args.root.machine.now c.args.root.chip s.chip)) (take_all c.loop-i.i c.args.targets.now (omega (arith, c.loop-i-test.false, c.len-i-end.ensures)))
+    subst (λ ts. AreChipKeys c.args.root.machine.now c.args.root.chip ts c.loop-i.keys.items)
+    (take_all c.loop-i.i c.args.targets.now (omega (arith, c.loop-i-test.false, c.len-i-end.ensures))) c.loop-i.invariant
