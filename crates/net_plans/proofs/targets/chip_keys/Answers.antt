@@ -1,4 +1,4 @@
-use Rattle.std.proofs.Common.{take, take_all, ap, ◌∙◌, subst, arith}
+use Rattle.std.proofs.Common.{take_all, ap, ◌∙◌, subst, arith}
 use Rattle.spin_base.specs.declared.chips.Spot.{Spot}
 use Rattle.spin_base.proofs.Places.{All-at}
 use Rattle.machine_desc.specs.Live.{IsInside}
