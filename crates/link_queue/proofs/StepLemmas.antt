@@ -9,7 +9,7 @@ use Rattle.crossbeam_queue.proofs.Lists.{at_set}
 use Rattle.spin_base.specs.declared.copies.McCopy.{McCopy}
 use Rattle.link_queue.specs.declared.known.Known.{Known}
 use Rattle.link_queue.specs.TheRule.{put_of, IsFullNote, IsNoneNote, StartsWith, SenderFits, ReceiverFits, FitsRule, Kept}
-use Rattle.link_queue.specs.Ups.{ListPlaced, Emptied, NoNotes, PoppedTo, Rests}
+use Rattle.link_queue.specs.Ups.{NoNotes, Rests}
 use Rattle.link_queue.specs.Steps.{blank, newborn, placed, offered, popped, full_noted, none_noted, told, sender_of, receiver_of, joined, renewed, SeenFull, SeenEmpty, Balanced}
 
 abbrev Each : (ℕ → Known → Type 0) → List Known → Type 0
@@ -322,30 +322,6 @@ begins = record {
     λ _. record { seated = e; knows = refl; room = omega arith; begins = ([], refl); noted = λ i d inside. absurd (omega arith) },
   ));
 }
-
--- how many are popped and how many are held
-pub popped_count : (v : Known) (got : List McCopy) (u : Known) (items held : List McCopy) → PoppedTo v got u → put_of u ≡ u.took ++ items → put_of v ≡ v.took ++ held
-    → length got + length items ≡ length held
-popped_count v got u items held p now before =
-    let a = ap length now ∙ length-append u.took items in
-    let b = ap length before ∙ length-append v.took held in
-    let c = ap length p.put in
-    let d = ap length p.took_is ∙ length-append v.took got in
-    omega (arith, a, b, c, d)
-
-no_items : (items : List McCopy) → length items ≡ 0 → items ≡ []
-no_items [] e = refl
-no_items (x ∷ xs) e = absurd (omega arith)
-
-pub emptied : (cap : ℕ) (v : Known) (got : List McCopy) (u : Known) (items held : List McCopy) → PoppedTo v got u → put_of u ≡ u.took ++ items → Balanced v held
-    → length got ≡ length held → length held ≤ cap → Emptied cap v got
-emptied cap v got u items held p now before all bound =
-    let none = no_items items (omega (arith, popped_count v got u items held p now before.0)) in
-    record {
-      balance = sym p.put ∙ now ∙ ap (λ l. u.took ++ l) none ∙ append-nil u.took ∙ p.took_is;
-      bound = omega arith;
-      noted = before.1;
-    }
 
 -- ---- a link that rests
 
