@@ -5,11 +5,11 @@ use Rattle.std.proofs.lemmas.Nat.{pow_pos, shr_split}
 use Rattle.std.proofs.lemmas.Nat.Bits.{and_high_mask}
 use Rattle.spin_base.specs.declared.blocks.Block.{Block}
 use Rattle.app_graph.specs.declared.graphs.Net.{Net}
-use Rattle.app_graph.specs.ValidGraph.{IsFixedFor, ShareNoKey}
+use Rattle.app_graph.specs.ValidGraph.{IsFixedFor}
 use Rattle.tern_word.specs.Ternary.{Matches, Intersects}
 use Rattle.tern_word.proofs.BlockLaws.{range_keys, exponent_le, key_small}
 use Rattle.key_alloc.specs.KeyBlocks.{size_of, MissesRange, IsLeastBlock, IsBlockFor}
-use Rattle.key_alloc.proofs.Ranges.{room_above, in_facts, in_from}
+use Rattle.key_alloc.proofs.Ranges.{room_above, in_from}
 
 -- the block's keys are those from its key on, as many as its size
 pub record IsRange (b : Block) : Type 0 where
@@ -58,14 +58,6 @@ range_of_block taken net b = by_fixed net.fixed
     by_fixed (Some f) fixed is = subst (λ x. IsRange x × (net.keys ≤ size_of x)) (sym is) (range_of_fixed net.keys f fixed, fixed_enough net.keys f fixed)
 
 -- ---- ranges that share no key
-
--- blocks that share no key miss each other as ranges
-pub miss_apart : (a b : Block) → IsRange a → IsRange b → ShareNoKey a b → MissesRange b.key (size_of b) a
-miss_apart a b range_a range_b apart k in_a in_b =
-    let at_a = in_facts a.key (size_of a) k in_a in
-    let at_b = in_facts b.key (size_of b) k in_b in
-    let small : k < 2 ^ 32 = omega (arith, at_a, range_a.within) in
-    apart k small ((range_a.keys k small).1 at_a) ((range_b.keys k small).1 at_b)
 
 -- and the other way round
 pub apart_missed : (a b : Block) → IsRange a → IsRange b → MissesRange b.key (size_of b) a → Intersects a b → ⊥

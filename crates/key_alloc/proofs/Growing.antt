@@ -15,9 +15,6 @@ use Rattle.key_alloc.specs.KeyBlocks.{size_of, fixed_of, MissesRange, IsLeastBlo
 use Rattle.key_alloc.proofs.BlockRanges.{IsRange, range_of_block, apart_missed}
 use Rattle.key_alloc.proofs.FixedBlocks.{HaveFixed, serves_at, apart_at}
 
-pub none_yet : (nets : List Net) → AreFirstBlocks nets []
-none_yet nets = record { few = omega arith; each = λ i net b is_net is_block. cc }
-
 pub one_more : (nets : List Net) (blocks : List Block) (i : ℕ) (net : Net) (b : Block) → AreFirstBlocks nets blocks → length blocks ≡ i → slice_get nets i ≡ Some net
     → IsBlockFor (fixed_of nets ++ blocks) net b → AreFirstBlocks nets (blocks ++ b ∷ [])
 one_more nets blocks i net b first here is right = record {

@@ -2,7 +2,6 @@
 use Rattle.std.proofs.Common.{◌≡◌, ℕ, ◌+◌, ◌*◌, ◌/◌, ◌^◌, ◌<◌, ◌≤◌, max, refl, subst, inl, inr, arith}
 use Rattle.std.specs.Int.{IsPowerOfTwo}
 use Rattle.std.proofs.lemmas.Bool.{cases_lt}
-use Rattle.std.proofs.lemmas.Nat.{pow_pos}
 use Rattle.std.proofs.lemmas.Grind.{pow_more}
 use Rattle.std.proofs.Math.Pow.{pow_mono}
 use Rattle.key_alloc.specs.KeyBlocks.{IsSizeFor}
@@ -14,9 +13,6 @@ half i j lt =
       | inl less ↦ (let up : 2 ^ (i + 1) ≤ 2 ^ j = pow_mono (omega arith) in omega (arith, up, pow_more 2 i))
       | inr more ↦ (let down : 2 ^ j ≤ 2 ^ i = pow_mono more in absurd (omega (arith, down, lt)))
     ]
-
-pub positive : (s : ℕ) → IsPowerOfTwo s → 0 < s
-positive s (e, is) = omega (arith, is, pow_pos e)
 
 -- a power of two that is not below the number, and whose half is
 pub size_from_half : (keys s : ℕ) → 1 ≤ keys → IsPowerOfTwo s → keys ≤ s → s / 2 < max 1 keys → IsSizeFor keys s
