@@ -1,10 +1,9 @@
 -- Runs of chips whose tables workers cover, chip by chip.
-use Rattle.std.proofs.Common.{◌≡◌, ℕ, suc, ◌+◌, ◌<◌, ◌≤◌, true, None, List, [], ◌∷◌, ◌++◌, length, get_or, set, map, take, refl, sym, ap, ◌∙◌, subst, arith, inl, inr}
+use Rattle.std.proofs.Common.{◌≡◌, ℕ, suc, ◌+◌, ◌<◌, ◌≤◌, true, None, List, [], ◌∷◌, ◌++◌, length, get_or, map, take, refl, sym, ap, ◌∙◌, subst, arith}
 use Rattle.std.specs.List.{All, AllZip, position}
-use Rattle.std.proofs.Math.ListN.{length-set}
 use Rattle.std.proofs.Math.Seq.{take-append_seam}
-use Rattle.std.proofs.lemmas.Bool.{cases_eq, cases_order, ltb-true}
-use Rattle.std.proofs.lemmas.List.{append_assoc, get_or_default, get_or_push, get_or-set_same, get_or-set_other, length-append, length-map}
+use Rattle.std.proofs.lemmas.Bool.{ltb-true}
+use Rattle.std.proofs.lemmas.List.{append_assoc, get_or_push, length-append, length-map}
 use Rattle.std.proofs.lemmas.List.Elements.{All-head, All-map, All-tail}
 use Rattle.std.proofs.lemmas.Slice.Zip.{AllZip-long, all_zipped_more}
 use Rattle.default_routes.specs.declared.stripping.Final.{Final}
@@ -19,46 +18,6 @@ pub record IsWorkedTo (target : ℕ) (start now : List Work) (k : ℕ) : Type 0 
   pub long : length now ≡ length start
   pub worked : (j : ℕ) (d : Work) → j < k → j < length start → IsWorked target (get_or start j d) (get_or now j d)
   pub left : (j : ℕ) (d : Work) → k ≤ j → get_or now j d ≡ get_or start j d
-
-pub none_worked : (target : ℕ) (start : List Work) → IsWorkedTo target start start 0
-none_worked target start = record { long = refl; worked = λ j d before. absurd (omega (arith, before)); left = λ j d from. refl }
-
--- one more
-pub worked_more : (target : ℕ) (start now new : List Work) (k : ℕ) (old w : Work) → IsWorkedTo target start now k → k < length now → old ≡ get_or now k old → new ≡ set now k w →
-    IsWorked target old w → IsWorkedTo target start new (k + 1)
-worked_more target start now new k old w so_far below read is done = subst (λ l. IsWorkedTo target start l (k + 1)) (sym is) (record {
-  long = length-set now k w ∙ so_far.long;
-  worked = λ j d before inside. elim (cases_eq j k) [
-    | inl here ↦
-        let first : get_or start j d ≡ old = ap (λ n. get_or start n d) here ∙ (sym (so_far.left k d (omega arith)) ∙ (get_or_default now k d old below ∙ sym read)) in
-        let last : get_or (set now k w) j d ≡ w = ap (λ n. get_or (set now k w) n d) here ∙ get_or-set_same now k w d below in
-        subst (IsWorked target (get_or start j d)) (sym last) (subst (λ x. IsWorked target x w) (sym first) done)
-    | inr other ↦
-        subst (IsWorked target (get_or start j d)) (sym (get_or-set_other now k j w d other)) (so_far.worked j d (omega (arith, before, other)) inside)
-  ];
-  left = λ j d from. get_or-set_other now k j w d (λ here. omega (arith, from, here)) ∙ so_far.left j d (omega (arith, from));
-})
-
--- original blocks that are left stand as they were
-plain_stays : (target : ℕ) (w : Work) → IsPlainWork w → IsWorked target w w
-plain_stays target (Plain t) plain = refl
-plain_stays target (Done f) plain = absurd plain
-plain_stays target Refused plain = absurd plain
-
--- so all are worked on, wherever a worker ends
-pub all_worked : (target : ℕ) (start now : List Work) (k : ℕ) → IsWorkedTo target start now k → All IsPlainWork start →
-    (j : ℕ) (d : Work) → j < length start → IsWorked target (get_or start j d) (get_or now j d)
-all_worked target start now k so_far ready j d inside = elim (cases_order j k) [
-  | inl same ↦ subst (IsWorked target (get_or start j d)) (sym (so_far.left j d (omega (arith, same)))) (plain_stays target (get_or start j d) (ready j d inside))
-  | inr (inl before) ↦ so_far.worked j d before inside
-  | inr (inr behind) ↦ subst (IsWorked target (get_or start j d)) (sym (so_far.left j d (omega (arith, behind)))) (plain_stays target (get_or start j d) (ready j d inside))
-]
-
--- the work at a place is ready
-pub ready_at : (target : ℕ) (start now : List Work) (k : ℕ) (old : Work) → IsWorkedTo target start now k → All IsPlainWork start → k < length now → old ≡ get_or now k old → IsPlainWork old
-ready_at target start now k old so_far ready below read =
-    let long = so_far.long in
-    subst IsPlainWork (sym (read ∙ so_far.left k old (omega arith))) (ready k old (omega (arith, below, long)))
 
 -- original blocks whose tables can be covered are ready
 pub all_ready : (blocks : List (List Mark)) (works : List Work) → works ≡ map Plain blocks → All AreCoverable blocks → All IsPlainWork works
@@ -111,9 +70,6 @@ pub record AreGiven (target : ℕ) (works rest : List Work) (finals : List Final
   pub whole : front ++ rest ≡ works
   pub gives : AllZip (GivesFinal target) front finals
   pub left : All IsLeft rest
-
-pub none_given : (target : ℕ) (works : List Work) → All IsLeft works → AreGiven target works works []
-none_given target works left = record { front = []; whole = refl; gives = tt; left = left }
 
 -- one more
 pub given_more : (target : ℕ) (works rest : List Work) (finals : List Final) (w : Work) (f : Final) → AreGiven target works (w ∷ rest) finals → GivesFinal target w f → AreGiven target works rest (finals ++ f ∷ [])
