@@ -1,7 +1,7 @@
 #!/usr/bin/env python3
 """Runs the gate, and tells what each crate's proof, tests and must-fail edits cost in processor seconds.
 
-    tools/gate_times.py [COMMAND ..]      from the top of the repository; without a command it is `rt ci --anew`
+    tools/gate_times.py [COMMAND ..]      from the top of the repository; without a command it is `rt ci`, of which nothing was kept
 
 It looks twice a second at the processes of the prover, and adds up what each had used when it was last seen, so that a figure
 is short by at most half a second a process. An edit is told by its place in the order in which `rt ci` tries a crate's edits,
@@ -45,6 +45,12 @@ def provers(gate):
         yield (pid, fields[19]), words[words.index("--crate-name") + 1], kind, folder, (int(fields[11]) + int(fields[12])) / TICK
 
 
+def from_nothing():
+    """The gate, from nothing: some kits keep what was proved, unless they are told otherwise."""
+    usage = subprocess.run(["rt", "help"], capture_output=True, text=True, check=False)
+    return ["rt", "ci", *(["--anew"] if "--anew" in usage.stdout + usage.stderr else [])]
+
+
 def edits_of(crate):
     folder = f"crates/{crate}/must-fail"
     return sorted(it for it in os.listdir(folder) if it.endswith(".edit")) if os.path.isdir(folder) else []
@@ -82,4 +88,4 @@ def main(command):
 
 
 if __name__ == "__main__":
-    sys.exit(main(sys.argv[1:] or ["rt", "ci", "--anew"]))
+    sys.exit(main(sys.argv[1:] or from_nothing()))
