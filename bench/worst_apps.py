@@ -10,7 +10,8 @@ size, and the factor by which the processor time grew. Without KINDs all are run
     kept_unloads     a million deliveries that no unload has handed back, and so many loads and unloads of an empty graph
     own_unloads      the same, where each of these applications has a packet, a run comes between, and all are unloaded from the first on
     kept_deliveries  one net to 16,383 vertices and so many packets: a run, and an unload
-    kept_by_turns    the same with two nets of one source, in turn, each to all vertices but one: no two packets have the same deliveries
+    kept_by_turns    the same with two nets of one source, in turn, each to all vertices but one
+    kept_by_keys     the same with one net, each of whose packets in a load has a key of its own
     long_pairs       so many loads and unloads of one net along a serpentine of live links through 64 by 64 chips
     long_nets        one load of so many such nets
     nets_in_turn     so many such nets in all, in loads and unloads of 64
@@ -27,11 +28,11 @@ FIRST = 256
 PACKETS = 65536
 
 
-def one_net(targets, packets):
-    """A net from the first vertex to all others."""
+def one_net(targets, packets, keys=1):
+    """A net from the first vertex to all others, and packets with its keys in turn."""
     vertices = [{"name": f"v{i}"} for i in range(targets + 1)]
-    net = {"name": "n", "source": "v0", "targets": [f"v{i + 1}" for i in range(targets)]}
-    return application(vertices, [net], [{"net": "n", "index": 0}] * packets)
+    net = {"name": "n", "source": "v0", "targets": [f"v{i + 1}" for i in range(targets)], "keys": keys}
+    return application(vertices, [net], [{"net": "n", "index": i % keys} for i in range(packets)])
 
 
 def kept(others):
@@ -70,6 +71,11 @@ def kept_by_turns(size):
     return by_loads(size, lambda packets: application(vertices, nets, [{"net": "ab"[i % 2], "index": 0} for i in range(packets)]))
 
 
+def kept_by_keys(size):
+    """No packet of a load goes where it is known to come from another with its key."""
+    return by_loads(size, lambda packets: one_net(16383, packets, packets))
+
+
 def long_pairs(size, nets=1):
     """The machine is that of the first job."""
     job = serpentine(nets, 1024)
@@ -101,6 +107,7 @@ KINDS = {
     "own_unloads": (own_unloads, FIRST, 21844),
     "kept_deliveries": (kept_deliveries, FIRST, 8 * PACKETS),
     "kept_by_turns": (kept_by_turns, FIRST, 8 * PACKETS),
+    "kept_by_keys": (kept_by_keys, FIRST, 7 * PACKETS),
     "long_pairs": (long_pairs, 64, 32766),
     "long_nets": (long_nets, 64, 4096),
     "nets_in_turn": (nets_in_turn, 128, 230000),

@@ -32,7 +32,9 @@ def unload(number):
 
 
 def job(vertices, nets=(), packets=0, machine=(), run=()):
-    """A job: names of vertices, or vertices; nets as (name, source, targets, more members); packets of the first net."""
+    """A job: names of vertices, or vertices; nets as (name, source, targets, more members); so many packets of the first net, or those
+    of a list, each a net and an index."""
+    sent = [(nets[0][0], 0) for _ in range(packets)] if isinstance(packets, int) else packets
     return {
         "version": 2,
         "machine": {"width": 1, "height": 1, **dict(machine)},
@@ -40,7 +42,7 @@ def job(vertices, nets=(), packets=0, machine=(), run=()):
             "vertices": [it if isinstance(it, dict) else {"name": it} for it in vertices],
             "nets": [{"name": name, "source": source, "targets": targets, **more} for name, source, targets, more in nets],
         },
-        "run": {"packets": [{"net": nets[0][0], "index": 0} for _ in range(packets)], **dict(run)},
+        "run": {"packets": [{"net": net, "index": index} for net, index in sent], **dict(run)},
     }
 
 
@@ -232,6 +234,16 @@ def run_cases():
         "five packets to three vertices, beside another application's two; a second run and a load between change neither",
         [load(1, fan), load(2, pair(2)), RUN, RUN, load(3, pair(4)), unload(3), unload(2), unload(1), RUN, unload(3), unload(3)],
         ["load 1 ok", "load 2 ok", "run", "run", "load 3 ok", "unload 3 waiting 7", "unload 2 got 2 dumped 0", "unload 1 got 15 dumped 0", "run", "unload 3 got 4 dumped 0", "unload 3 not loaded"],
+    )
+    # Of `m` and `n` each packet has two targets, of `o` one, and of `p`, which another vertex sends, three.
+    ends = [{"name": name, "at": [x, 0]} for name, x in (("a", 0), ("b", 0), ("c", 1), ("d", 2))]
+    nets = [("m", "a", ["b", "c"], {"keys": 4}), ("n", "a", ["c", "b"], {"keys": 2}), ("o", "a", ["d"], {}), ("p", "d", ["a", "b", "d"], {"keys": 3})]
+    sent = [("m", 0), ("m", 3), ("m", 0), ("o", 0), ("p", 2), ("m", 3), ("n", 1), ("o", 0), ("m", 0), ("n", 1), ("p", 0), ("p", 2)]
+    mixed = job(ends, nets, sent, {"width": 3}, {"queue": 1})
+    yield (
+        "packets whose keys come again after others, of nets to the same vertices and to others: 7 of two targets, 2 of one, 3 of three",
+        [load(1, mixed), load(2, mixed), RUN, unload(1), load(1, mixed), unload(1), RUN, unload(1), unload(2)],
+        ["load 1 ok", "load 2 ok", "run", "unload 1 got 25 dumped 0", "load 1 ok", "unload 1 waiting 24", "run", "unload 1 got 25 dumped 0", "unload 2 got 25 dumped 0"],
     )
 
 

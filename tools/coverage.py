@@ -1,16 +1,16 @@
 #!/usr/bin/env python3
 """Which functions of this repository's crates no example and no script of the gate enters.
 
-    python3 tools/coverage.py --build     makes out/spin_covered, and forgets what was entered
-    python3 tools/coverage.py             compares; the gate runs this when its scripts have run out/spin_covered
+    python3 tools/coverage.py --build     makes out/spin_covered and out/spin_tables_covered, and forgets what was entered
+    python3 tools/coverage.py             compares; the gate runs this when its scripts have run these programs
     python3 tools/coverage.py --list      prints the functions that were not entered
 
-out/spin_covered keeps its checks (tools/compile.py), and notes each function that it enters, as a byte in the file that SPIN_COVERED
-names in its environment; where none is named it notes nothing. What it notes is written into the module's text, at the beginning of
-each function, and stays where the function is compiled into another one. The gate sets SPIN_COVERED to out/covered, for all its runs
-of that program.
+Both programs keep their checks (tools/compile.py), and note each function that they enter, as a byte in a file in the folder that
+SPIN_COVERED names in their environment; where none is named they note nothing. What they note is written into the module's text, at the
+beginning of each function, and stays where the function is compiled into another one. The gate sets SPIN_COVERED to out, for all its
+runs.
 
-A function is one of the sources with a body, in a crate that the program stands on. Instances of one function count as one, and so do
+A function is one of the sources with a body, in a crate that a program stands on. Instances of one function count as one, and so do
 a type's impls of one trait. Laws, whose bodies are empty, don't count, nor do closures and what is derived. One that was not entered
 has to stand in tools/not_entered.txt, with a reason: a line has the function's name, or the beginning of names with `*` behind it, and
 behind the name the reason. A line there that no such function has is a fault too. Each fault is printed. The last line is
@@ -27,12 +27,14 @@ sys.path.insert(0, f"{ROOT}/tools")
 
 import compile as launcher  # noqa: E402
 
-PROGRAM, NAME = "spin_mesh", "spin_covered"
-ENTERED, NAMES, REASONS = f"{ROOT}/out/covered", f"{ROOT}/out/covered.names", f"{ROOT}/tools/not_entered.txt"
+# Each program with its name where it notes what it enters.
+PROGRAMS = {"spin_mesh": "spin_covered", "spin_tables": "spin_tables_covered"}
+REASONS = f"{ROOT}/tools/not_entered.txt"
 
 # The bytes of the file, mapped as the program begins; so they are there however it ends.
 RUNTIME = r"""
 extern char *getenv(const char *);
+extern int snprintf(char *, unsigned long, const char *, ...);
 extern int open(const char *, int, ...);
 extern int close(int);
 extern void *mmap(void *, unsigned long, int, int, int, long);
@@ -42,8 +44,9 @@ extern const unsigned long spin_covered_many;
 unsigned char *spin_covered = spin_covered_nowhere;
 
 __attribute__((constructor)) static void begin(void) {
-    const char *path = getenv("SPIN_COVERED");
-    int file = path ? open(path, 2) : -1;
+    const char *folder = getenv("SPIN_COVERED");
+    char path[4096];
+    int file = folder && snprintf(path, sizeof path, "%s/{name}.entered", folder) < sizeof path ? open(path, 2) : -1;
     if (file < 0) return;
     void *bytes = mmap(0, spin_covered_many, 3, 1, file, 0);
     close(file);
@@ -54,16 +57,16 @@ __attribute__((constructor)) static void begin(void) {
 Function = namedtuple("Function", "front type trait name")
 
 
-def crates():
+def crates(program):
     """The program's crate and those of this repository below it."""
-    return [PROGRAM] + [name for name, _, folder in launcher.libraries(ROOT, launcher.kit_of_path(), PROGRAM) if folder.startswith(f"{ROOT}/")]
+    return [program] + [name for name, _, folder in launcher.libraries(ROOT, launcher.kit_of_path(), program) if folder.startswith(f"{ROOT}/")]
 
 
 class Noting:
     """Puts into a module's text that it notes the functions that are entered, and keeps their names."""
 
-    def __init__(self):
-        self.names, self.crates = [], tuple(f'@"{name}::'.encode() for name in crates())
+    def __init__(self, program):
+        self.names, self.crates = [], tuple(f'@"{name}::'.encode() for name in crates(program))
 
     def __call__(self, lines):
         is_first = False
@@ -83,29 +86,33 @@ class Noting:
 
 
 def build():
-    noting = Noting()
-    launcher.main(ROOT, PROGRAM, NAME, launcher.More(os.path.realpath(__file__), noting, RUNTIME))
-    if noting.names:
-        with open(NAMES, "w", encoding="utf-8") as file:
-            file.writelines(f"{it}\n" for it in noting.names)
-    with open(ENTERED, "wb") as file:
-        file.write(bytes(len(names())))
+    for program, name in PROGRAMS.items():
+        noting = Noting(program)
+        launcher.main(ROOT, program, name, launcher.More(os.path.realpath(__file__), noting, RUNTIME.replace("{name}", name)))
+        if noting.names:
+            with open(f"{ROOT}/out/{name}.names", "w", encoding="utf-8") as file:
+                file.writelines(f"{it}\n" for it in noting.names)
+        with open(f"{ROOT}/out/{name}.entered", "wb") as file:
+            file.write(bytes(len(names(name))))
 
 
-def names():
-    with open(NAMES, encoding="utf-8") as file:
+def names(name):
+    with open(f"{ROOT}/out/{name}.names", encoding="utf-8") as file:
         return file.read().splitlines()
 
 
 def entered():
-    """The names of the module's functions that were entered."""
-    with open(ENTERED, "rb") as file:
-        return {name for name, byte in zip(names(), file.read()) if byte}
+    """The names of the modules' functions that were entered."""
+    found = set()
+    for name in PROGRAMS.values():
+        with open(f"{ROOT}/out/{name}.entered", "rb") as file:
+            found.update(it for it, byte in zip(names(name), file.read()) if byte)
+    return found
 
 
 def functions():
     """Each function of the sources that has a body."""
-    for crate in crates():
+    for crate in dict.fromkeys(it for program in PROGRAMS for it in crates(program)):
         for file in sorted(glob.glob(f"{ROOT}/crates/{crate}/src/**/*.rt", recursive=True)):
             parts = os.path.relpath(file, f"{ROOT}/crates/{crate}/src")[:-3].split("/")
             front = "::".join([crate, *(it for it in parts if it not in ("lib", "main", "mod"))])

@@ -610,6 +610,7 @@ class Dice(random.Random):
         packets = self.packets(nets)
         run = {"packets": packets, "queue": self.choice([1, 2, 16]) * max(1, len(packets)), "workers": self.choice([1, 1, 2, 3, 8, 64])}
         run["target"] = self.choice([0, 0, 0, 1, 5, 20, MOST_ROWS])
+        run["turns"], run["patience"] = self.choice([1, 2, 16, 64]), self.choice([1, 16, 255])
         return {"version": 3, "machine": machine, "graph": {"vertices": vertices, "nets": nets}, "run": run}
 
 

@@ -76,7 +76,9 @@ def main(words):
     elif words:
         sys.exit(__doc__)
     elif launcher.proved_sum(ROOT) != now:
-        sys.exit("proved: proved.sum is not that of these sources; where .ci/run has proved them: python3 tools/proved.py --write")
+        of_kit = launcher.text_of(f"{ROOT}/proved.sum").partition("\n")[2]
+        of = "of these sources" if of_kit in ("", kit_name()) else f"of these sources with this kit, but of a proof by {of_kit}"
+        sys.exit(f"proved: proved.sum is not {of}; where .ci/run has proved them: python3 tools/proved.py --write")
     return 0
 
 

@@ -53,8 +53,8 @@ def read(file):
         return data.read()
 
 
-# Of each program words to which it has an answer, without input, and the answer's status.
-TRIED = {"spin": (["gen", "0"], 0), "spin_tables": ([], 4)}
+# Of each program its crate; words to which it has an answer, without input; and the answer's status.
+PROGRAMS = {"spin": ("spin_mesh", ["gen", "0"], 0), "spin_tables": ("spin_tables", [], 4)}
 
 
 def program_here(name="spin"):
@@ -62,17 +62,14 @@ def program_here(name="spin"):
     made = proved.proved_program(name)
     if made:
         return made, "left out: rt ci compiled what it proved"
-    words, status = TRIED[name]
-    done = subprocess.run([f"{ROOT}/{name}", *words], env=plain(), stdin=subprocess.DEVNULL, stdout=subprocess.DEVNULL, check=False)
+    crate, words, status = PROGRAMS[name]
+    # (the launcher would do with a build of these sources by another toolchain)
+    proved.launcher.main(ROOT, crate, name)
+    done = subprocess.run([f"{ROOT}/out/{name}", *words], stdin=subprocess.DEVNULL, stdout=subprocess.DEVNULL, check=False)
     if done.returncode != status:
-        sys.exit(f"release: the launcher {name} gives no program")
+        sys.exit(f"release: {name} ends with status {done.returncode}, and not {status}")
     with open(f"{ROOT}/out/{name}.sum", encoding="utf-8") as kept:
         return f"{ROOT}/out/{name}", kept.read().splitlines()[-1].partition(" ")[2]
-
-
-def plain():
-    """The variables without that which asks for another program."""
-    return {name: value for name, value in os.environ.items() if name != "SPIN_CHECKS"}
 
 
 def built_from(checks):

@@ -3,7 +3,6 @@ from __future__ import annotations
 
 import json
 import shutil
-import subprocess
 from pathlib import Path
 from typing import Dict, Optional
 
@@ -29,18 +28,17 @@ def built_from(program: Path) -> Dict[str, str]:
         if kept.is_file():
             sources, *more = kept.read_text(encoding="utf-8").splitlines()
             checks = {"checks": it.partition(" ")[2] for it in more if it.startswith("checks ")}
-            return {"sources": sources, **checks, **toolchain()}
+            return {"sources": sources, **checks, **toolchain(kept.with_suffix(".here"))}
     return {}
 
 
-def toolchain() -> Dict[str, str]:
-    """The toolchain on the path, if there is one."""
-    tool = shutil.which("rt")
-    if tool is None:
+def toolchain(here: Path) -> Dict[str, str]:
+    """The toolchain that made the launcher's build, whose folder stands in a file beside the build. Another may be on the path by now."""
+    try:
+        folder = here.read_text(encoding="utf-8").rstrip("\n").partition(" ")[2]
+        return {"toolchain": (Path(folder) / "KIT-ID").read_text(encoding="utf-8").strip()}
+    except OSError:
         return {}
-    done = subprocess.run([tool, "version"], stdin=subprocess.DEVNULL, capture_output=True, text=True, check=False)
-    lines = done.stdout.split("\n")
-    return {"toolchain": lines[0]} if done.returncode == 0 and lines[0] else {}
 
 
 def version_text(program: Optional[str] = None) -> str:
