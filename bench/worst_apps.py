@@ -10,6 +10,7 @@ size, and the factor by which the processor time grew. Without KINDs all are run
     kept_unloads     a million deliveries that no unload has handed back, and so many loads and unloads of an empty graph
     own_unloads      the same, where each of these applications has a packet, a run comes between, and all are unloaded from the first on
     kept_deliveries  one net to 16,383 vertices and so many packets: a run, and an unload
+    kept_keys        the same, where each packet has a key of its own
     kept_by_turns    the same with two nets of one source, in turn, each to all vertices but one: no two packets have the same deliveries
     long_pairs       so many loads and unloads of one net along a serpentine of live links through 64 by 64 chips
     long_nets        one load of so many such nets
@@ -27,11 +28,11 @@ FIRST = 256
 PACKETS = 65536
 
 
-def one_net(targets, packets):
-    """A net from the first vertex to all others."""
+def one_net(targets, packets, keys=1):
+    """A net from the first vertex to all others, whose packets have its keys in turn."""
     vertices = [{"name": f"v{i}"} for i in range(targets + 1)]
-    net = {"name": "n", "source": "v0", "targets": [f"v{i + 1}" for i in range(targets)]}
-    return application(vertices, [net], [{"net": "n", "index": 0}] * packets)
+    net = {"name": "n", "source": "v0", "targets": [f"v{i + 1}" for i in range(targets)], "keys": keys}
+    return application(vertices, [net], [{"net": "n", "index": i % keys} for i in range(packets)])
 
 
 def kept(others):
@@ -60,6 +61,10 @@ def by_loads(size, job_of):
 
 def kept_deliveries(size):
     return by_loads(size, lambda packets: one_net(16383, packets))
+
+
+def kept_keys(size):
+    return by_loads(size, lambda packets: one_net(16383, packets, packets))
 
 
 def kept_by_turns(size):
@@ -100,6 +105,7 @@ KINDS = {
     "kept_unloads": (kept_unloads, FIRST, 32766),
     "own_unloads": (own_unloads, FIRST, 21844),
     "kept_deliveries": (kept_deliveries, FIRST, 8 * PACKETS),
+    "kept_keys": (kept_keys, FIRST, 519364),
     "kept_by_turns": (kept_by_turns, FIRST, 8 * PACKETS),
     "long_pairs": (long_pairs, 64, 32766),
     "long_nets": (long_nets, 64, 4096),
