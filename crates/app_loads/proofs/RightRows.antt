@@ -253,14 +253,14 @@ module _ (m : Description) (tables : List (List Entry)) (apps : List LoadedApp) 
     ]
 
     same_found : (es : List Entry) → ((e : Entry) → Contains es e → matches e key ≡ matches e other) → find (λ (e : Entry). matches e key) es ≡ find (λ (e : Entry). matches e other) es
-    same_found [] match = refl
-    same_found (e ∷ es) match =
-        ap (λ b. cond b (Some e) (find (λ (d : Entry). matches d key) es)) (match e (Contains-first e es))
-        ∙ ap (cond (matches e other) (Some e)) (same_found es (λ d has'. match d (Contains-later e es d has')))
+    same_found [] same = refl
+    same_found (e ∷ es) same =
+        ap (λ b. cond b (Some e) (find (λ (d : Entry). matches d key) es)) (same e (Contains-first e es))
+        ∙ ap (cond (matches e other) (Some e)) (same_found es (λ d has'. same d (Contains-later e es d has')))
 
     pub alike : length tables ≡ m.width * m.height → All (λ (l : List Entry). (port : Port) → lookup l key port ≡ lookup l other port) tables
     alike long = All-from_get_or (λ (l : List Entry). (port : Port) → lookup l key port ≡ lookup l other port) tables [] (λ i below port.
         let c : Chip = chip_of m i in
-        let inside : IsInside m c = chip_of-inside m i (omega (arith, below, long)) in
+        let inside : IsInside m c = chip_of-inside m i (subst (λ n. i < n) long below) in
         subst (λ j. lookup (get_or tables j []) key port ≡ lookup (get_or tables j []) other port) (index_of-chip_of m i)
         (ap (λ found. option_map_or (λ (e : Entry). e.route) found (default_route port)) (same_found (table_at m tables c) (same_match c inside))))
