@@ -107,7 +107,7 @@ KINDS = {
     "own_unloads": (own_unloads, FIRST, 21844),
     "kept_deliveries": (kept_deliveries, FIRST, 8 * PACKETS),
     "kept_by_turns": (kept_by_turns, FIRST, 8 * PACKETS),
-    "kept_by_keys": (kept_by_keys, FIRST, 7 * PACKETS),
+    "kept_by_keys": (kept_by_keys, FIRST, 519364),
     "long_pairs": (long_pairs, 64, 32766),
     "long_nets": (long_nets, 64, 4096),
     "nets_in_turn": (nets_in_turn, 128, 230000),

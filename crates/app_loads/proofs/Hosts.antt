@@ -10,9 +10,10 @@ use Rattle.app_loads.specs.declared.apps.Apps.TheInside.{Inside}
 use Rattle.app_loads.specs.Host.{Host}
 use Rattle.app_loads.specs.Applications.{AreApps}
 use Rattle.app_loads.specs.Inner.{mesh_in, host_of, IsHost}
-use Rattle.app_loads.specs.Running.{HasMovedMesh}
+use Rattle.app_loads.specs.Running.{AreAlikeInBlocks, HasMovedMesh}
 use Rattle.mesh_drain.specs.Draining.{MeetsSomeLedger, IsAfter, IsMoved, SendAlone}
 use Rattle.app_loads.proofs.Keeping.{apps_after, apps_kept}
+use Rattle.app_loads.proofs.OneBlock.{alike_in_blocks}
 use Rattle.mesh_drain.proofs.Moving.{after_none, after_one}
 
 mesh_is : (i : Inside) (m : State) → i.mesh ≡ Some m → (host_of i).mesh ≡ m
@@ -24,6 +25,9 @@ host_kept i m host e = subst MeetsSomeLedger (mesh_is i m e) (apps_kept (host_of
 
 pub known_in : (i : Inside) (m : State) → IsHost i → i.mesh ≡ Some m → IfSome i.senders (λ vertices. SendAlone vertices m)
 known_in i m host e = subst (λ (s : State). IfSome i.senders (λ vertices. SendAlone vertices s)) (mesh_is i m e) host.rest
+
+pub alike_in : (i : Inside) (m : State) → IsHost i → i.mesh ≡ Some m → AreAlikeInBlocks m.setup i.apps.items
+alike_in i m host e = subst (λ (s : State). AreAlikeInBlocks s.setup i.apps.items) (mesh_is i m e) (alike_in_blocks (host_of i) host.apps)
 
 after_in : (i : Inside) (m t : State) → i.mesh ≡ Some m → IsAfter m t → IsAfter (host_of i).mesh t
 after_in i m t e after = subst (λ x. IsAfter x t) (sym (mesh_is i m e)) after

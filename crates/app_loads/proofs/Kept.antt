@@ -1,29 +1,31 @@
 -- A mesh whose earlier deliveries are held apart, seen as one mesh.
 use Rattle.std.proofs.Common.{◌≡◌, ◌≢◌, Bool, ℕ, ◌+◌, ◌^◌, ◌<◌, List, [], ◌++◌, ◌∷◌, cond, drop, length, refl, sym, ap, ◌∙◌, subst, inl, inr, arith, true, Option, Result, Ok, Err, OnOk, Some, map}
-use Rattle.std.proofs.Common.{Less, Greater, nat_cmp}
+use Rattle.std.proofs.Common.{nat_cmp}
 use Rattle.std.specs.BTreeMap.{BTreeMap, Updates, get, is_at}
-use Rattle.std.specs.Cmp.{nat_cmp_is}
 use Rattle.std.specs.Map.{lookup}
 use Rattle.std.specs.Ordering.{is_eq}
-use Rattle.std.proofs.lemmas.Bool.{cases_Bool, cases_order, false≢true}
+use Rattle.std.proofs.lemmas.Bool.{cases_Bool, eq-eqb}
 use Rattle.std.proofs.lemmas.Option.{none-some, same_Some}
 use Rattle.std.specs.List.{Contains, filter, slice_get, slice_index_or, slice_set}
 use Rattle.std.proofs.lemmas.List.{append-nil, drop_at, map-append}
 use Rattle.std.proofs.lemmas.List.Sums.{count_by-le-length, length-filter}
 use Rattle.std.proofs.lemmas.List.Elements.{All-nil}
 use Rattle.spin_base.proofs.Members.{Among, among_contains, among_either, among_left, among_map, among_right, contains_among}
+use Rattle.spin_base.specs.declared.blocks.Block.{Block}
 use Rattle.spin_base.specs.declared.copies.Delivery.{Delivery}
 use Rattle.spin_base.specs.declared.copies.McCopy.{McCopy}
+use Rattle.machine_desc.specs.RightTables.{IsKeyOf}
 use Rattle.mesh_core.specs.Expected.{NothingWaits}
 use Rattle.mesh_core.specs.HasRun.{DropsNone}
 use Rattle.mesh_core.specs.Ledger.{all_hand_marks, core_marks, delivered_marks, dumped_marks, input_marks, marks_of, unsent_marks}
 use Rattle.mesh_core.specs.Queues.{drop_front}
 use Rattle.mesh_core.specs.State.{Setup, State, IsMesh}
 use Rattle.mesh_core.specs.Trail.{Mark, IsUnderWayAt, delivered}
-use Rattle.mesh_drain.specs.Draining.{BringsAlways, HasBrought, IsMoved, IsReachedDropless, MaySend, SendAlone, of_packet}
+use Rattle.mesh_drain.specs.Draining.{AreAlike, BringsAlways, HasBrought, IsMoved, IsReachedDropless, MaySend, SendAlone, of_packet}
 use Rattle.mesh_drain.proofs.Frame.{dumped_reached, kept_reached, setup_reached}
 use Rattle.app_loads.specs.declared.answers.UnloadErr.{UnloadErr}
 use Rattle.app_loads.specs.declared.answers.UnloadErr.TheVariants.{NotLoaded, Waiting, Memory}
+use Rattle.app_loads.specs.declared.known.KnownBlock.{KnownBlock}
 use Rattle.app_loads.specs.declared.loaded.LoadedApp.{LoadedApp}
 use Rattle.app_loads.specs.Earlier.{with_earlier}
 use Rattle.app_loads.specs.Joining.{CanSettle}
@@ -31,7 +33,7 @@ use Rattle.app_loads.specs.Leaving.{NoneUnderWay, WaitsIn}
 use Rattle.app_loads.specs.Removing.{IsWhyHere}
 use Rattle.app_loads.specs.declared.arrivals.Arrival.{Arrival}
 use Rattle.app_loads.specs.Groups.{deliveries_at, sent_of}
-use Rattle.app_loads.specs.Running.{AreKnown, Comes, HasBroughtMore, IsClean}
+use Rattle.app_loads.specs.Running.{AreAlikeInBlocks, AreKnown, Comes, HasBroughtMore, IsClean}
 use Rattle.app_loads.proofs.Earlier.{kept_without, reached_with}
 use Rattle.app_loads.proofs.LeftMesh.{mesh_with}
 
@@ -163,23 +165,24 @@ module _ (xs ys : List Delivery) (s t u : State) (clean : IsClean xs s) (reached
         always = subst (λ a. BringsAlways a v key has.come) setup has.always;
       }
 
--- ---- a packet with the key of the one before
+-- ---- a packet with a key of the same block
 
-module _ (k copy : McCopy) (key : k.key ≡ copy.key) where
+module _ (k copy : McCopy) where
   abbrev at : ℕ → Arrival → Delivery
   at n a = record { vertex = a.vertex; copy = record { packet = k.packet; key = n; payload = k.payload; hop = a.hop } }
 
-  same_places : (arrivals : List Arrival) → map (of_packet k) (deliveries_at arrivals (sent_of copy)) ≡ deliveries_at arrivals (sent_of k)
+  same_places : (arrivals : List Arrival) → map (of_packet copy.key k) (deliveries_at arrivals (sent_of copy)) ≡ deliveries_at arrivals (sent_of k)
   same_places [] = refl
-  same_places (a ∷ more) = ap (λ n. at n a ∷ map (of_packet k) (deliveries_at more (sent_of copy))) (sym key) ∙ ap (λ l. at k.key a ∷ l) (same_places more)
+  same_places (a ∷ more) =
+      ap (λ b. at (cond b k.key copy.key) a ∷ map (of_packet copy.key k) (deliveries_at more (sent_of copy))) (eq-eqb copy.key copy.key refl) ∙ ap (λ l. at k.key a ∷ l) (same_places more)
 
 -- where what came is the last group's, it is known where others come
-pub comes_again : (before after : List Delivery) (u : Setup) (v first : ℕ) (copy : McCopy) (arrivals : List Arrival) → HasBroughtMore before after u v copy.key → first ≡ length before →
-    drop first after ≡ deliveries_at arrivals (sent_of copy) → Comes u v arrivals copy.key
-comes_again before after u v first copy arrivals has long behind = λ s k rest may same here key.
+pub comes_again : (before after : List Delivery) (u : Setup) (v first : ℕ) (copy : McCopy) (arrivals : List Arrival) (block : Block) → HasBroughtMore before after u v copy.key →
+    first ≡ length before → drop first after ≡ deliveries_at arrivals (sent_of copy) → ((other : ℕ) → IsKeyOf block other → AreAlike u copy.key other) → Comes u v arrivals block
+comes_again before after u v first copy arrivals block has long behind alike = λ s k rest may same here key.
     let come : has.come ≡ deliveries_at arrivals (sent_of copy) = sym (drop_at before has.come first (sym long)) ∙ (ap (drop first) (sym has.is) ∙ behind) in
     subst (λ l. IsReachedDropless s (record s { unsent = slice_set s.unsent v rest; delivered = s.delivered ++ l }))
-    (ap (map (of_packet k)) come ∙ same_places k copy key arrivals) (has.always s k rest may same here key)
+    (ap (map (of_packet copy.key k)) come ∙ same_places k copy arrivals) (has.always s k rest may same here (alike k.key key))
 
 -- a list of unsent copies that has one has a first
 pub some_there : (q : List McCopy) (unsent : List (List McCopy)) (v : ℕ) → slice_get unsent v ≢ Some [] → slice_get unsent v ≡ Some q → 0 < length q
@@ -196,7 +199,7 @@ pub dropped : (s u : State) (v : ℕ) (k : McCopy) (rest : List McCopy) → slic
 dropped s u v k rest first is = is ∙ ap (λ q. record s { unsent = drop_front s.unsent v q }) first
 
 module _ (xs ys : List Delivery) (s u : State) (v : ℕ) (k : McCopy) (rest : List McCopy) (arrivals : List Arrival) (clean : IsClean xs s) (first : slice_get s.unsent v ≡ Some (k ∷ rest))
-    (comes : Comes s.setup v arrivals k.key) (put : ys ≡ xs ++ deliveries_at arrivals (sent_of k)) (is : u ≡ record s { unsent = slice_set s.unsent v rest }) where
+    (block : Block) (key : IsKeyOf block k.key) (comes : Comes s.setup v arrivals block) (put : ys ≡ xs ++ deliveries_at arrivals (sent_of k)) (is : u ≡ record s { unsent = slice_set s.unsent v rest }) where
   abbrev own : List Delivery
   own = deliveries_at arrivals (sent_of k)
 
@@ -210,7 +213,7 @@ module _ (xs ys : List Delivery) (s u : State) (v : ℕ) (k : McCopy) (rest : Li
       in
       subst (IsReachedDropless (with_earlier xs s))
       (ap (λ l. record s { unsent = slice_set s.unsent v rest; delivered = l }) all ∙ ap (with_earlier ys) (sym is))
-      (comes (with_earlier xs s) k rest may refl first refl)
+      (comes (with_earlier xs s) k rest may refl first key)
 
   pub again_clean : IsClean ys u
   again_clean = record {
@@ -224,35 +227,30 @@ module _ (xs ys : List Delivery) (s u : State) (v : ℕ) (k : McCopy) (rest : Li
 pub some_first : (q : Option (List McCopy)) (k : McCopy) (rest : List McCopy) → q ≡ Some (k ∷ rest) → q ≢ Some []
 some_first q k rest is none = let long = ap length (same_Some (k ∷ rest) [] (sym is ∙ none)) in absurd (omega (arith, long))
 
--- ---- keys of which it is known where they come
+-- ---- blocks of which it is known where their packets come
 
-pub comes_there : (u w : Setup) (v key : ℕ) (arrivals own : List Arrival) → w ≡ u → own ≡ arrivals → Comes u v arrivals key → Comes w v own key
-comes_there u w v key arrivals own setup is comes = subst (λ x. Comes x v own key) (sym setup) (subst (λ l. Comes u v l key) (sym is) comes)
+pub comes_there : (u w : Setup) (v : ℕ) (block : Block) (arrivals own : List Arrival) → w ≡ u → own ≡ arrivals → Comes u v arrivals block → Comes w v own block
+comes_there u w v block arrivals own setup is comes = subst (λ x. Comes x v own block) (sym setup) (subst (λ l. Comes u v l block) (sym is) comes)
 
-pub known_still : (u w : Setup) (v : ℕ) (known : BTreeMap ℕ (List Arrival)) → w ≡ u → AreKnown u v known → AreKnown w v known
-known_still u w v known setup all = subst (λ x. AreKnown x v known) (sym setup) all
+pub known_still : (u w : Setup) (v : ℕ) (apps : List LoadedApp) (known : BTreeMap ℕ KnownBlock) → w ≡ u → AreKnown u v apps known → AreKnown w v apps known
+known_still u w v apps known setup all = subst (λ x. AreKnown x v apps known) (sym setup) all
 
-pub none_known : (u : Setup) (v : ℕ) (known : BTreeMap ℕ (List Arrival)) → known.entries ≡ [] → AreKnown u v known
-none_known u v known none key arrivals at = absurd (none-some arrivals (sym (ap (lookup (is_at (nat_cmp key))) none) ∙ at))
-
-same_key : (a b : ℕ) → is_eq (nat_cmp a b) ≡ true → a ≡ b
-same_key a b is = elim (cases_order a b) [
-  | inl same ↦ same
-  | inr (inl less) ↦ absurd (false≢true (ap is_eq (nat_cmp_is a b Less less) ∙ is))
-  | inr (inr more) ↦ absurd (false≢true (ap is_eq (nat_cmp_is a b Greater more) ∙ is))
-]
+pub none_known : (u : Setup) (v : ℕ) (apps : List LoadedApp) (known : BTreeMap ℕ KnownBlock) → AreAlikeInBlocks u apps → known.entries ≡ [] → AreKnown u v apps known
+none_known u v apps known alike none = record { alike = alike; come = λ key it at. absurd (none-some it (sym (ap (lookup (is_at (nat_cmp key))) none) ∙ at)) }
 
 -- one more
-pub one_known : (u : Setup) (v key : ℕ) (own : List Arrival) (known new : BTreeMap ℕ (List Arrival)) → Updates nat_cmp known new key (Some own) → AreKnown u v known → Comes u v own key →
-    AreKnown u v new
-one_known u v key own known new updates all comes other arrivals at =
-    let found : cond (is_eq (nat_cmp key other)) (Some own) (get nat_cmp known other) ≡ Some arrivals = sym (updates.0 other) ∙ at in
-    elim (cases_Bool (is_eq (nat_cmp key other))) [
-      | inl yes' ↦
-          subst (λ n. Comes u v arrivals n) (same_key key other yes')
-          (subst (λ l. Comes u v l key) (same_Some own arrivals (sym (ap (λ b. cond b (Some own) (get nat_cmp known other)) yes') ∙ found)) comes)
-      | inr no' ↦ all other arrivals (sym (ap (λ b. cond b (Some own) (get nat_cmp known other)) no') ∙ found)
-    ]
+pub one_known : (u : Setup) (v : ℕ) (apps : List LoadedApp) (key : ℕ) (own : KnownBlock) (known new : BTreeMap ℕ KnownBlock) → Updates nat_cmp known new key (Some own) →
+    AreKnown u v apps known → Comes u v own.arrivals own.block → AreKnown u v apps new
+one_known u v apps key own known new updates all comes = record {
+  alike = all.alike;
+  come = λ other it at.
+      let found : cond (is_eq (nat_cmp key other)) (Some own) (get nat_cmp known other) ≡ Some it = sym (updates.0 other) ∙ at in
+      elim (cases_Bool (is_eq (nat_cmp key other))) [
+        | inl same ↦
+            subst (λ (x : KnownBlock). Comes u v x.arrivals x.block) (same_Some own it (sym (ap (λ b. cond b (Some own) (get nat_cmp known other)) same) ∙ found)) comes
+        | inr else' ↦ all.come other it (sym (ap (λ b. cond b (Some own) (get nat_cmp known other)) else') ∙ found)
+      ];
+}
 
 -- those that pass are no more
 pub few_own : (p : Delivery → Bool) (xs ys own late : List Delivery) → own ≡ filter p xs → late ≡ filter p ys → length xs + length ys < 2 ^ 64 → length own + length late < 2 ^ 64

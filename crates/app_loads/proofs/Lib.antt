@@ -21,6 +21,7 @@ mod LeftParts
 mod LoadedHost
 mod LoadedParts
 mod Numbers
+mod OneBlock
 pub mod OneClaim
 mod Others
 mod PacketLedger

@@ -1,10 +1,10 @@
--- Tables with the plain rows of all applications are right for their nets.
-use Rattle.std.proofs.Common.{◌≡◌, ℕ, zero, suc, ◌+◌, ◌-◌, ◌<◌, ◌≤◌, ◌==◌, leb, ltb, cond, bit_and, Bool, true, false, List, [], ◌∷◌, map, take, drop, get_or, sym, ap, ◌∙◌, subst, inl, inr, arith, Some, count_by, find}
+-- Tables with the plain rows of all applications are right for their nets, and give all keys of a net's block the same.
+use Rattle.std.proofs.Common.{◌≡◌, ℕ, zero, suc, ◌+◌, ◌-◌, ◌<◌, ◌≤◌, ◌==◌, leb, ltb, cond, bit_and, Bool, true, false, List, [], ◌∷◌, map, take, drop, get_or, length, ◌*◌, refl, sym, ap, ◌∙◌, subst, inl, inr, arith, Some, count_by, find}
 use Rattle.std.specs.Int.Bits.{and_zero_r}
 use Rattle.std.specs.Option.{option_map_or}
 use Rattle.std.specs.List.{slice_get, All, Contains}
 use Rattle.std.proofs.lemmas.Bool.{cases_Bool, eqb-true, eq-eqb, and_parts, false≢true, ltb-true, leb-true}
-use Rattle.std.proofs.lemmas.List.Elements.{All-contains}
+use Rattle.std.proofs.lemmas.List.Elements.{All-contains, All-from_get_or}
 use Rattle.std.proofs.lemmas.List.Sorted.{IsPermutation-sym, Contains-permutation}
 use Rattle.std.proofs.lemmas.Option.{slice_get-get_or, same_Some}
 use Rattle.mesh_core.proofs.Moves.{chip_of-index_of}
@@ -22,6 +22,7 @@ use Rattle.spin_base.specs.Outputs.{has, IsOutput}
 use Rattle.machine_desc.specs.Description.{Description}
 use Rattle.machine_desc.specs.Live.{index_of, chip_of, IsInside}
 use Rattle.machine_desc.proofs.Far.{index_below}
+use Rattle.machine_desc.proofs.Live.{chip_of-inside, index_of-chip_of}
 use Rattle.machine_desc.specs.RoutingTree.{IsRoutingTree}
 use Rattle.machine_desc.specs.declared.nets.NetPlan.{NetPlan}
 use Rattle.machine_desc.specs.NetsOn.{HaveDisjointBlocks}
@@ -31,7 +32,8 @@ use Rattle.range_store.specs.Regions.{in_range}
 use Rattle.tcam_find.specs.Memory.{unused}
 use Rattle.tern_word.specs.declared.tables.Row.{Row}
 use Rattle.tern_word.specs.Entries.{entry_of}
-use Rattle.net_tables.specs.PlainTable.{HasChip, IsPlainTable, row_of}
+use Rattle.tern_word.specs.SoundTable.{Original}
+use Rattle.net_tables.specs.PlainTable.{HasChip, IsOriginalOf, IsPlainTable, row_of}
 use Rattle.net_tables.proofs.Trees.{chips_inside, comes_in_tree}
 use Rattle.net_tables.proofs.Whole.{has_original, from_net}
 use Rattle.mesh_core.proofs.LedgerLaw.{one_net}
@@ -125,15 +127,13 @@ module _ (m : Description) (tables : List (List Entry)) (apps : List LoadedApp) 
       All-contains (λ (r : Range). (c : Chip) → IsInside m c → r.region ≡ place_of m (Rows c) → HasRows m (nets_of app) c (table_at m tables c) r) app.ranges range
       (All-contains (λ (a : LoadedApp). All (λ (r : Range). (c : Chip) → IsInside m c → r.region ≡ place_of m (Rows c) → HasRows m (nets_of a) c (table_at m tables c) r) a.ranges) apps app rows.rows in_apps) in_ranges
 
-  module _ (x : NetPlan) (in_x : Contains (all_nets apps) x) (c : Chip) (inside : IsInside m c) (on : HasChip m x c) (key : ℕ) (keyed : IsKeyOf x.block key) (o : Out) (valid : IsOutput o) where
+  module _ (x : NetPlan) (in_x : Contains (all_nets apps) x) (c : Chip) (inside : IsInside m c) (key : ℕ) (keyed : IsKeyOf x.block key) where
     abbrev T : List Entry
     T = table_at m tables c
 
-    abbrev w : Bool
-    w = is_wanted x.tree.edges x.targets c o
-
-    -- a row that matches is the net's
-    of_row : (app : LoadedApp) → Contains apps app → (r : List Row) → IsPlainTable m (nets_of app) c r → (row : Row) → Contains r row → matches (entry_of row) key ≡ true → has row.route o ≡ w
+    -- a row that matches is that of the net's original block
+    of_row : (app : LoadedApp) → Contains apps app → (r : List Row) → IsPlainTable m (nets_of app) c r → (row : Row) → Contains r row → matches (entry_of row) key ≡ true →
+        (o : Original) × IsOriginalOf m x c o × (row_of o ≡ row)
     of_row app in_apps r plain row in_r hit =
         let back = Contains-permutation r (map row_of plain.originals) row (IsPermutation-sym (map row_of plain.originals) r plain.one_row_each) in_r in
         let made = Contains-unmap row_of plain.originals row back in
@@ -147,9 +147,9 @@ module _ (m : Description) (tables : List (List Entry)) (apps : List LoadedApp) 
           matches = ap (λ (b : Block). bit_and key b.mask) (sym block_is) ∙ (eqb-true (bit_and key row.block.mask) row.block.key hit ∙ ap (λ (b : Block). b.key) block_is);
         } in
         let same : y ≡ x = one_net (all_nets apps) disjoint y x in_y in_x key y_key keyed in
-        ap (λ (z : Row). has z.route o) (sym made.2) ∙ (its.outputs o valid ∙ ap (λ (n : NetPlan). is_wanted n.tree.edges n.targets c o) same)
+        (made.0, subst (λ (n : NetPlan). IsOriginalOf m n c made.0) same its, made.2)
 
-    each : (e : Entry) → Contains T e → matches e key ≡ true → has e.route o ≡ w
+    each : (e : Entry) → Contains T e → matches e key ≡ true → (o : Original) × IsOriginalOf m x c o × (entry_of (row_of o) ≡ e)
     each e has' hit = elim (cases_Bool (is_taken (all_ranges apps) (place_of m (Rows c)) k)) [
       | inl taken ↦ (
           let owned = by_taken (all_ranges apps) (place_of m (Rows c)) k taken in
@@ -159,7 +159,8 @@ module _ (m : Description) (tables : List (List Entry)) (apps : List LoadedApp) 
           let r = rows_at f.0 in_apps owned.0 (among_contains owned.0 f.0.ranges f.2) c inside parts.0 in
           let there = part_at T owned.0.place owned.0.size k e parts.1 parts.2 at in
           let row = unmapped entry_of r.rows (k - owned.0.place) e (sym (ap (λ l. slice_get l (k - owned.0.place)) r.entries) ∙ there) in
-          ap (λ (z : Entry). has z.route o) (sym row.2) ∙ of_row f.0 in_apps r.rows r.plain row.0 (Contains-at r.rows (k - owned.0.place) row.0 row.1) (ap (λ (z : Entry). matches z key) row.2 ∙ hit)
+          let its = of_row f.0 in_apps r.rows r.plain row.0 (Contains-at r.rows (k - owned.0.place) row.0 row.1) (ap (λ (z : Entry). matches z key) row.2 ∙ hit) in
+          (its.0, its.1, ap entry_of its.2 ∙ row.2)
           )
       | inr free ↦ (
           let is_unused = rows.others c k inside (let l = rows.long c inside in let b = has'.1 in omega (arith, l, b)) free in
@@ -177,8 +178,20 @@ module _ (m : Description) (tables : List (List Entry)) (apps : List LoadedApp) 
         no_match : (n : ℕ) → matches unused n ≡ false
         no_match n = ap (λ z. z == 4294967295) (and_zero_r n)
 
+    -- so it matches the other keys of the net's block too
+    others : (other : ℕ) → IsKeyOf x.block other → (e : Entry) → Contains T e → matches e key ≡ true → matches e other ≡ true
+    others other its e has' hit =
+        let found = each e has' hit in
+        let keys = found.1.keys in
+        ap (λ (z : Entry). matches z other) (sym found.2)
+        ∙ eq-eqb (bit_and other found.0.block.mask) found.0.block.key (ap (λ (b : Block). bit_and other b.mask) keys ∙ (its.matches ∙ sym (ap (λ (b : Block). b.key) keys)))
+
+  module _ (x : NetPlan) (in_x : Contains (all_nets apps) x) (c : Chip) (inside : IsInside m c) (on : HasChip m x c) (key : ℕ) (keyed : IsKeyOf x.block key) (o : Out) (valid : IsOutput o) where
+    abbrev table : List Entry
+    table = table_at m tables c
+
     -- the net has a row
-    there_is : (e : Entry) × Contains T e × (matches e key ≡ true)
+    there_is : (e : Entry) × Contains table e × (matches e key ≡ true)
     there_is =
         let own = owner x in_x in
         let app : LoadedApp = own.app in
@@ -200,16 +213,19 @@ module _ (m : Description) (tables : List (List Entry)) (apps : List LoadedApp) 
         let row : Row = row_of mine.0 in
         let in_rows = Contains-permutation (map row_of r.plain.originals) r.rows row r.plain.one_row_each (Contains-map row_of r.plain.originals mine.0 mine.1) in
         let at_row = member_at r.rows row in_rows in
-        let at_part : slice_get (take range.size (drop range.place T)) in_rows.0 ≡ Some (entry_of row) = ap (λ l. slice_get l in_rows.0) r.entries ∙ slice_get-mapped entry_of r.rows in_rows.0 row at_row in
-        let at_table = of_part T range.place range.size in_rows.0 (entry_of row) at_part in
+        let at_part : slice_get (take range.size (drop range.place table)) in_rows.0 ≡ Some (entry_of row) = ap (λ l. slice_get l in_rows.0) r.entries ∙ slice_get-mapped entry_of r.rows in_rows.0 row at_row in
+        let at_table = of_part table range.place range.size in_rows.0 (entry_of row) at_part in
         let block_is : row.block ≡ x.block = mine.2.keys ∙ ap (λ (n : NetPlan). n.block) own.in_app.2 in (
           entry_of row,
-          Contains-at T (range.place + in_rows.0) (entry_of row) at_table,
+          Contains-at table (range.place + in_rows.0) (entry_of row) at_table,
           eq-eqb (bit_and key row.block.mask) row.block.key (ap (λ (b : Block). bit_and key b.mask) block_is ∙ (keyed.matches ∙ sym (ap (λ (b : Block). b.key) block_is))),
         )
 
-    pub routed_there : (port : Port) → has (lookup T key port) o ≡ w
-    routed_there port = let t = there_is in found key o w (default_route port) T each t.0 t.1 t.2
+    pub routed_there : (port : Port) → has (lookup table key port) o ≡ is_wanted x.tree.edges x.targets c o
+    routed_there port =
+        let t = there_is in
+        found key o (is_wanted x.tree.edges x.targets c o) (default_route port) table
+        (λ e has' hit. let its = each x in_x c inside key keyed e has' hit in ap (λ (z : Entry). has z.route o) (sym its.2) ∙ its.1.outputs o valid) t.0 t.1 t.2
 
   routes : (x : NetPlan) → Contains (all_nets apps) x → RoutesByTree m tables x
   routes x in_x c port key o comes keyed valid =
@@ -223,3 +239,28 @@ module _ (m : Description) (tables : List (List Entry)) (apps : List LoadedApp) 
 
   pub right_rows : AreRight m tables (all_nets apps)
   right_rows = All-each (RoutesByTree m tables) (all_nets apps) routes
+
+  -- ---- keys of one block
+
+  module _ (x : NetPlan) (in_x : Contains (all_nets apps) x) (key other : ℕ) (keyed : IsKeyOf x.block key) (its : IsKeyOf x.block other) where
+    same_match : (c : Chip) → IsInside m c → (e : Entry) → Contains (table_at m tables c) e → matches e key ≡ matches e other
+    same_match c inside e has' = elim (cases_Bool (matches e key)) [
+      | inl hit ↦ hit ∙ sym (others x in_x c inside key keyed other its e has' hit)
+      | inr miss ↦ elim (cases_Bool (matches e other)) [
+        | inl hit ↦ absurd (false≢true (sym miss ∙ others x in_x c inside other its key keyed e has' hit))
+        | inr also ↦ miss ∙ sym also
+      ]
+    ]
+
+    same_found : (es : List Entry) → ((e : Entry) → Contains es e → matches e key ≡ matches e other) → find (λ (e : Entry). matches e key) es ≡ find (λ (e : Entry). matches e other) es
+    same_found [] same = refl
+    same_found (e ∷ es) same =
+        ap (λ b. cond b (Some e) (find (λ (d : Entry). matches d key) es)) (same e (Contains-first e es))
+        ∙ ap (cond (matches e other) (Some e)) (same_found es (λ d has'. same d (Contains-later e es d has')))
+
+    pub alike : length tables ≡ m.width * m.height → All (λ (l : List Entry). (port : Port) → lookup l key port ≡ lookup l other port) tables
+    alike long = All-from_get_or (λ (l : List Entry). (port : Port) → lookup l key port ≡ lookup l other port) tables [] (λ i below port.
+        let c : Chip = chip_of m i in
+        let inside : IsInside m c = chip_of-inside m i (subst (λ n. i < n) long below) in
+        subst (λ j. lookup (get_or tables j []) key port ≡ lookup (get_or tables j []) other port) (index_of-chip_of m i)
+        (ap (λ found. option_map_or (λ (e : Entry). e.route) found (default_route port)) (same_found (table_at m tables c) (same_match c inside))))

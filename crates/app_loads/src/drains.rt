@@ -2,26 +2,25 @@
 ghost use Rattle.std.specs.Prelude.{◌≡◌, ◌≢◌, ◌<◌, ℕ, ◌∷◌, [], List, Some, true, IfOk, IfSome, OnOk, length, slice_get, slice_set};
 ghost use Rattle.spin_base.specs.declared.copies.McCopy.{McCopy as Copy};
 ghost use Rattle.mesh_core.specs.Expected.{IsAtRest};
-ghost use Rattle.mesh_core.specs.State.{Setup};
+ghost use Rattle.machine_desc.specs.RightTables.{IsKeyOf};
 ghost use Rattle.mesh_drain.specs.Draining.{IsMoved, IsReachedDropless, MeetsSomeLedger, SendAlone};
 ghost use Rattle.app_loads.specs.Applications.{AreApps};
 ghost use Rattle.app_loads.specs.Earlier.{with_earlier};
 ghost use Rattle.app_loads.specs.Grouping.{all_grouped};
 ghost use Rattle.app_loads.specs.Groups.{last_arrivals};
-ghost use Rattle.app_loads.specs.Running.{AreKnown, CanDrain, Comes, HasBroughtMore, HasMovedMesh, IsClean};
+ghost use Rattle.spin_base.specs.declared.blocks.Block.{Block as ABlock};
+ghost use Rattle.app_loads.specs.Running.{AreAlikeInBlocks, AreKnown, CanDrain, Comes, HasBroughtMore, HasMovedMesh, IsClean};
 
 use crate::apps::Apps;
-use crate::arrivals::Arrivals;
 use crate::groups::Groups;
+use crate::known::{Known, KnownBlock, block_of, has_key, known_of, remember, share_near};
+use crate::loaded::LoadedApp;
 use crate::meshes::{KeptMesh, keep, restore};
 use mesh_core::Mesh;
 use mesh_drain::{drain, drain_from, send_first};
-use spin_base::{McCopy, Memory, Seq};
+use spin_base::{Block, McCopy, Memory, Seq};
 use std::alloc::Global;
 use std::collections::BTreeMap;
-
-// By the keys of packets that a vertex sent in this drain: where each such packet comes.
-type Known = BTreeMap<u32, Arrivals>;
 
 impl Apps {
     /// Brings all packets to their targets, until nothing waits and nothing is unsent. No copy is dropped where nothing waited
@@ -40,7 +39,7 @@ impl Apps {
         let Some(mesh) = &mut self.mesh else {
             return Ok(());
         };
-        drain_known(alloc, mesh, &mut self.senders)
+        drain_known(alloc, mesh, &mut self.senders, &self.apps)
     }
 }
 
@@ -50,14 +49,15 @@ fn drain_known(
     alloc: Global,
     mesh: &mut KeptMesh,
     senders: &mut Option<Seq<usize>>,
+    apps: &[LoadedApp],
 ) -> Result<(), Memory>
-    requires { CanDrain mesh.old senders.old }
+    requires { CanDrain mesh.old senders.old apps.now }
     ensures at_rest { OnOk result (IsAtRest mesh.new) }
     ensures moved { IsMoved mesh.old mesh.new }
     ensures known { IfSome senders.new (λ vertices. SendAlone vertices mesh.new) }
 {
     match senders.take() {
-        Some(vertices) => drain_known_from(alloc, mesh, vertices.as_slice())?,
+        Some(vertices) => drain_known_from(alloc, mesh, vertices.as_slice(), apps)?,
         None => drain_whole(alloc, mesh)?,
     }
     *senders = Some(Seq::new(alloc));
@@ -76,15 +76,21 @@ fn drain_whole(alloc: Global, mesh: &mut KeptMesh) -> Result<(), Memory>
 
 // The same for a mesh on which no copy waits, and no vertex but these has packets unsent. Where none was dropped, each packet's
 // deliveries are held apart as soon as it has arrived: so no list of all deliveries is made.
-fn drain_known_from(alloc: Global, mesh: &mut KeptMesh, vertices: &[usize]) -> Result<(), Memory>
+fn drain_known_from(
+    alloc: Global,
+    mesh: &mut KeptMesh,
+    vertices: &[usize],
+    apps: &[LoadedApp],
+) -> Result<(), Memory>
     requires kept { MeetsSomeLedger mesh.old }
     requires alone { SendAlone vertices.now mesh.old }
+    requires alike { AreAlikeInBlocks mesh.old.setup apps.now }
     ensures at_rest { OnOk result (IsAtRest mesh.new) }
     ensures moved { IsMoved mesh.old mesh.new }
 {
     if mesh.mesh.dumped().is_empty() {
         keep(alloc, &mut mesh.mesh, &mut mesh.earlier)?;
-        send_each(alloc, &mut mesh.mesh, &mut mesh.earlier, vertices)
+        send_each(alloc, &mut mesh.mesh, &mut mesh.earlier, vertices, apps)
     } else {
         restore(alloc, &mut mesh.mesh, &mut mesh.earlier)?;
         drain_from(alloc, &mut mesh.mesh, vertices)
@@ -97,23 +103,32 @@ fn send_each(
     mesh: &mut Mesh,
     earlier: &mut Groups,
     vertices: &[usize],
+    apps: &[LoadedApp],
 ) -> Result<(), Memory>
     requires clean { IsClean (all_grouped earlier.old) mesh.old }
     requires alone { SendAlone vertices.now mesh.old }
+    requires alike { AreAlikeInBlocks mesh.old.setup apps.now }
     ensures at_rest { OnOk result (IsAtRest mesh.new) }
     ensures reached { IsReachedDropless (with_earlier (all_grouped earlier.old) mesh.old)
         (with_earlier (all_grouped earlier.new) mesh.new) }
 {
     for vertex in vertices {
-        send_all(alloc, mesh, earlier, *vertex as u32)?;
+        send_all(alloc, mesh, earlier, *vertex as u32, apps)?;
     }
     Ok(())
 }
 
 // A vertex sends all its packets, one after the other.
-fn send_all(alloc: Global, mesh: &mut Mesh, earlier: &mut Groups, vertex: u32) -> Result<(), Memory>
+fn send_all(
+    alloc: Global,
+    mesh: &mut Mesh,
+    earlier: &mut Groups,
+    vertex: u32,
+    apps: &[LoadedApp],
+) -> Result<(), Memory>
     requires clean { IsClean (all_grouped earlier.old) mesh.old }
     requires there { vertex < length mesh.old.setup.spots }
+    requires alike { AreAlikeInBlocks mesh.old.setup apps.now }
     ensures reached { IsReachedDropless (with_earlier (all_grouped earlier.old) mesh.old)
         (with_earlier (all_grouped earlier.new) mesh.new) }
     ensures clean { OnOk result (IsClean (all_grouped earlier.new) mesh.new) }
@@ -122,25 +137,26 @@ fn send_all(alloc: Global, mesh: &mut Mesh, earlier: &mut Groups, vertex: u32) -
     let mut known = BTreeMap::new(alloc);
     let mut last = None;
     'packets: while !mesh.unsent(vertex).is_empty() {
-        last = send_next(alloc, mesh, earlier, vertex, &mut known, last)?;
+        last = send_next(alloc, mesh, earlier, vertex, apps, &mut known, last)?;
     }
     Ok(())
 }
 
-// A vertex sends its first packet. Where it is known of its key where it comes, it is not brought there step by step. Answers the key
-// that comes where the packets of the last group came, if that is known.
+// A vertex sends its first packet. Where it is known of its net's block where it comes, it is not brought there step by step. Answers
+// the block whose packets come where those of the last group came, if that is known.
 fn send_next(
     alloc: Global,
     mesh: &mut Mesh,
     earlier: &mut Groups,
     vertex: u32,
+    apps: &[LoadedApp],
     known: &mut Known,
-    last: Option<u32>,
-) -> Result<Option<u32>, Memory>
+    last: Option<Block>,
+) -> Result<Option<Block>, Memory>
     requires clean { IsClean (all_grouped earlier.old) mesh.old }
     requires there { vertex < length mesh.old.setup.spots }
     requires some { slice_get mesh.old.unsent vertex ≢ Some [] }
-    requires known { AreKnown mesh.old.setup vertex known.old }
+    requires known { AreKnown mesh.old.setup vertex apps.now known.old }
     requires last { IfSome last (Comes mesh.old.setup vertex (last_arrivals earlier.old)) }
     ensures reached { IsReachedDropless (with_earlier (all_grouped earlier.old) mesh.old)
         (with_earlier (all_grouped earlier.new) mesh.new) }
@@ -148,7 +164,7 @@ fn send_next(
     ensures unsent { OnOk result ((copy : Copy) (rest : List Copy)
         → slice_get mesh.old.unsent vertex ≡ Some (copy ∷ rest) →
         mesh.new.unsent ≡ slice_set mesh.old.unsent vertex rest) }
-    ensures known { OnOk result (AreKnown mesh.new.setup vertex known.new) }
+    ensures known { OnOk result (AreKnown mesh.new.setup vertex apps.now known.new) }
     ensures last { IfOk result (λ now.
         IfSome now (Comes mesh.new.setup vertex (last_arrivals earlier.new))) }
 {
@@ -157,32 +173,33 @@ fn send_next(
         send_again(mesh, earlier, vertex, copy)?;
         return Ok(last);
     }
-    match known.get(&copy.key) {
-        Some(arrivals) => send_to(alloc, mesh, earlier, vertex, copy, arrivals),
-        None => send_new(alloc, mesh, earlier, vertex, copy, known),
+    match known_of(known, copy.key) {
+        Some(it) => send_to(alloc, mesh, earlier, vertex, copy, it),
+        None => send_new(alloc, mesh, earlier, vertex, copy, apps, known),
     }
 }
 
-// A vertex sends its first packet, of whose key nothing is known yet.
+// A vertex sends its first packet, of whose block nothing is known yet.
 fn send_new(
     alloc: Global,
     mesh: &mut Mesh,
     earlier: &mut Groups,
     vertex: u32,
     copy: McCopy,
+    apps: &[LoadedApp],
     known: &mut Known,
-) -> Result<Option<u32>, Memory>
+) -> Result<Option<Block>, Memory>
     requires clean { IsClean (all_grouped earlier.old) mesh.old }
     requires there { vertex < length mesh.old.setup.spots }
     requires first { (rest : List Copy) × (slice_get mesh.old.unsent vertex ≡ Some (copy ∷ rest)) }
-    requires known { AreKnown mesh.old.setup vertex known.old }
+    requires known { AreKnown mesh.old.setup vertex apps.now known.old }
     ensures reached { IsReachedDropless (with_earlier (all_grouped earlier.old) mesh.old)
         (with_earlier (all_grouped earlier.new) mesh.new) }
     ensures clean { OnOk result (IsClean (all_grouped earlier.new) mesh.new) }
     ensures unsent { OnOk result ((first : Copy) (rest : List Copy)
         → slice_get mesh.old.unsent vertex ≡ Some (first ∷ rest) →
         mesh.new.unsent ≡ slice_set mesh.old.unsent vertex rest) }
-    ensures known { OnOk result (AreKnown mesh.new.setup vertex known.new) }
+    ensures known { OnOk result (AreKnown mesh.new.setup vertex apps.now known.new) }
     ensures last { IfOk result (λ now.
         IfSome now (Comes mesh.new.setup vertex (last_arrivals earlier.new))) }
 {
@@ -190,37 +207,14 @@ fn send_new(
     send_one(alloc, mesh, earlier, vertex)?;
     share_near(earlier, known, copy.key);
     earlier.join();
-    if earlier.ends_with(copy, before) {
-        remember(earlier, known, copy.key)?;
-        Ok(Some(copy.key))
-    } else {
-        Ok(None)
+    if !earlier.ends_with(copy, before) {
+        return Ok(None);
     }
-}
-
-// The last group holds the list of the nearest key that is known, where both are the same: keys of one net are near each other.
-fn share_near(earlier: &mut Groups, known: &Known, key: u32)
-    ensures { earlier.new ≡ earlier.old }
-{
-    if let Some((_, arrivals)) = known.range(..key).next_back() {
-        if earlier.share(arrivals) {
-            return;
-        }
-    }
-    if let Some((_, arrivals)) = known.range(key..).next() {
-        earlier.share(arrivals);
-    }
-}
-
-// It is known of a key that it comes where the packets of the last group came.
-fn remember(earlier: &Groups, known: &mut Known, key: u32) -> Result<(), Memory>
-    ensures { OnOk result ((u : Setup) (v : ℕ) → AreKnown u v known.old →
-        Comes u v (last_arrivals earlier.now) key → AreKnown u v known.new) }
-{
-    if let Some(arrivals) = earlier.last_arrivals() {
-        known.insert(key, arrivals.share()?)?;
-    }
-    Ok(())
+    let Some(block) = block_of(apps, copy) else {
+        return Ok(None);
+    };
+    remember(earlier, known, block)?;
+    Ok(Some(block))
 }
 
 // The first copy that a vertex has not sent yet.
@@ -232,12 +226,12 @@ fn first_unsent(mesh: &Mesh, vertex: u32) -> McCopy
     mesh.unsent(vertex)[0]
 }
 
-// Whether the key is that of the last group.
-fn is_last(last: Option<u32>, key: u32) -> bool
-    ensures { result ≡ true → last ≡ Some key }
+// Whether the key is one of the last group's block.
+fn is_last(last: Option<Block>, key: u32) -> bool
+    ensures { result ≡ true → (block : ABlock) × (last ≡ Some block) × IsKeyOf block key }
 {
     match last {
-        Some(other) => other == key,
+        Some(block) => has_key(block, key),
         None => false,
     }
 }
@@ -252,7 +246,7 @@ fn send_again(
     requires clean { IsClean (all_grouped earlier.old) mesh.old }
     requires there { vertex < length mesh.old.setup.spots }
     requires first { (rest : List Copy) × (slice_get mesh.old.unsent vertex ≡ Some (copy ∷ rest)) }
-    requires comes { Comes mesh.old.setup vertex (last_arrivals earlier.old) copy.key }
+    requires comes { (block : ABlock) × IsKeyOf block copy.key × Comes mesh.old.setup vertex (last_arrivals earlier.old) block }
     ensures reached { IsReachedDropless (with_earlier (all_grouped earlier.old) mesh.old)
         (with_earlier (all_grouped earlier.new) mesh.new) }
     ensures clean { OnOk result (IsClean (all_grouped earlier.new) mesh.new) }
@@ -267,19 +261,20 @@ fn send_again(
     Ok(())
 }
 
-// A vertex sends its first packet, which comes to these places.
+// A vertex sends its first packet, with a key of this block, and comes to its places.
 fn send_to(
     alloc: Global,
     mesh: &mut Mesh,
     earlier: &mut Groups,
     vertex: u32,
     copy: McCopy,
-    arrivals: &Arrivals,
-) -> Result<Option<u32>, Memory>
+    to: &KnownBlock,
+) -> Result<Option<Block>, Memory>
     requires clean { IsClean (all_grouped earlier.old) mesh.old }
     requires there { vertex < length mesh.old.setup.spots }
     requires first { (rest : List Copy) × (slice_get mesh.old.unsent vertex ≡ Some (copy ∷ rest)) }
-    requires comes { Comes mesh.old.setup vertex arrivals.now copy.key }
+    requires key { IsKeyOf to.now.block copy.key }
+    requires comes { Comes mesh.old.setup vertex to.now.arrivals to.now.block }
     ensures reached { IsReachedDropless (with_earlier (all_grouped earlier.old) mesh.old)
         (with_earlier (all_grouped earlier.new) mesh.new) }
     ensures clean { OnOk result (IsClean (all_grouped earlier.new) mesh.new) }
@@ -290,9 +285,9 @@ fn send_to(
     ensures last { IfOk result (λ now.
         IfSome now (Comes mesh.new.setup vertex (last_arrivals earlier.new))) }
 {
-    earlier.put(alloc, copy, arrivals)?;
+    earlier.put(alloc, copy, &to.arrivals)?;
     mesh.drop_unsent(vertex);
-    Ok(Some(copy.key))
+    Ok(Some(to.block))
 }
 
 // A vertex sends its first packet, whose deliveries are held apart.

@@ -14,6 +14,7 @@ mod deliveries;
 mod drains;
 mod group;
 mod groups;
+mod known;
 pub mod laws;
 mod leaving;
 mod loaded;

@@ -1,11 +1,13 @@
--- A router looks at a copy's key and hop number alone: so another packet with the same key goes the same way.
-use Rattle.std.proofs.Common.{◌≡◌, ℕ, ◌+◌, ◌*◌, ◌<◌, ◌&&◌, Bool, true, false, nat_lt, if◌then◌else◌, List, [], ◌∷◌, ◌++◌, length, map, set, get_or, drop, refl, sym, ap, ◌∙◌, Option, None, Some, arith}
+-- A router looks at a copy's hop number and what its table gives the key alone: so a packet with a key alike goes the same way.
+use Rattle.std.proofs.Common.{◌≡◌, ℕ, cond, inl, inr, subst, suc, zero, ◌*◌, ◌<◌, ◌&&◌, ◌==◌, Bool, true, false, nat_lt, if◌then◌else◌, List, [], ◌∷◌, ◌++◌, length, map, set, get_or, drop, refl, sym, ap, ◌∙◌, Option, None, Some, arith}
 use Rattle.std.specs.Prelude.{unwrap_or}
-use Rattle.std.specs.List.{slice_get, All}
+use Rattle.std.specs.List.{slice_get, slice_index_or, All}
 use Rattle.std.specs.Option.{option_map}
+use Rattle.std.proofs.lemmas.Bool.{cases_Bool, eqb-true, eq-eqb}
 use Rattle.std.proofs.lemmas.List.{append_assoc, append-nil, drop_at, length-map, map-append, map-set}
 use Rattle.std.proofs.lemmas.List.Elements.{All-cons, All-head, All-tail, All-weaker}
 use Rattle.std.proofs.lemmas.Option.{slice_get-get_or, slice_get-map}
+use Rattle.spin_base.specs.declared.blocks.Entry.{Entry}
 use Rattle.spin_base.specs.declared.chips.Chip.{Chip}
 use Rattle.spin_base.specs.declared.chips.Spot.{Spot}
 use Rattle.spin_base.specs.declared.chips.Port.{Port}
@@ -16,23 +18,46 @@ use Rattle.spin_base.specs.declared.copies.Event.{Event}
 use Rattle.spin_base.specs.declared.copies.Event.TheVariants.{Inject, Take, Send, Dump, Collect}
 use Rattle.spin_base.specs.declared.copies.McCopy.{McCopy}
 use Rattle.spin_base.specs.declared.routes.Out.{Out}
-use Rattle.spin_base.specs.Hops.{onward}
+use Rattle.spin_base.specs.Hops.{last_hop, onward}
+use Rattle.spin_base.specs.Lookup.{lookup}
+use Rattle.spin_base.specs.Outputs.{outs_of}
 use Rattle.spin_base.proofs.Places.{All-at}
 use Rattle.machine_desc.specs.Live.{index_of, is_live_chip}
+use Rattle.machine_desc.specs.RightTables.{table_at}
 use Rattle.mesh_core.specs.Expected.{NothingWaits}
 use Rattle.mesh_core.specs.State.{Setup, State, Hand, IsMesh, Queue, behind, input, core, nowhere, queue_at}
 use Rattle.mesh_core.specs.Step.{after_event, after_events, after_serving, collect_of, has_room, has_room_behind, in_hand, outputs, outs_without, push_at, push_behind, send_of, serves, take_of}
 use Rattle.mesh_core.specs.HasRun.{DropsNone}
-use Rattle.mesh_core.proofs.Fixed.{by_send, by_take}
-use Rattle.mesh_drain.specs.Draining.{HasBrought, IsOnward, IsReachedDropless, IsReachedOnward, MaySend, of_packet}
+use Rattle.mesh_core.proofs.Fixed.{by_send, by_take, setup_after}
+use Rattle.mesh_drain.specs.Draining.{AreAlike, HasBrought, IsOnward, IsReachedDropless, IsReachedOnward, MaySend, of_packet}
 use Rattle.mesh_drain.proofs.Frame.{kept_reached, onward_drops_none, sent_dropless, setup_reached}
 use Rattle.mesh_drain.proofs.Packets.{after_inject}
 
--- ---- a mesh whose copies are all of one packet, but otherwise as they were
+-- ---- a mesh whose copies are all of one packet, with its key in place of an alike one, but otherwise as they were
 
-module _ (k : McCopy) where
+module _ (key : ℕ) (k : McCopy) where
+  abbrev renamed : ℕ → ℕ
+  renamed n = if n == key then k.key else n
+
   abbrev numbered : McCopy → McCopy
-  numbered x = record { packet = k.packet; key = x.key; payload = k.payload; hop = x.hop }
+  numbered x = record { packet = k.packet; key = renamed x.key; payload = k.payload; hop = x.hop }
+
+  in_each : (port : Port) (tables : List (List Entry)) (i : ℕ) → All (λ (table : List Entry). (at : Port) → lookup table key at ≡ lookup table k.key at) tables →
+      lookup (slice_index_or tables i []) key port ≡ lookup (slice_index_or tables i []) k.key port
+  in_each port [] i all = refl
+  in_each port (table ∷ tables) zero all = All-head (λ (l : List Entry). (at : Port) → lookup l key at ≡ lookup l k.key at) table tables all port
+  in_each port (table ∷ tables) (suc i) all = in_each port tables i (All-tail (λ (l : List Entry). (at : Port) → lookup l key at ≡ lookup l k.key at) table tables all)
+
+  -- a router gives the other key the same outputs
+  same_outputs : (u : Setup) → AreAlike u key k.key → (c : Chip) (port : Port) (x : McCopy) → outputs u c port (numbered x) ≡ outputs u c port x
+  same_outputs u alike c port x =
+      let table : List Entry = table_at u.machine u.tables c in
+      ap (λ route. if x.hop == last_hop then [] else outs_of route) (elim (cases_Bool (x.key == key)) [
+        | inl same ↦
+            ap (λ b. lookup table (cond b k.key x.key) port) same
+            ∙ (sym (in_each port u.tables (index_of u.machine c) alike) ∙ ap (λ n. lookup table n port) (sym (eqb-true x.key key same)))
+        | inr other ↦ ap (λ b. lookup table (cond b k.key x.key) port) other
+      ])
 
   abbrev held : Option Hand → Option Hand
   held h = option_map (λ (x : Hand). record { copy = numbered x.copy; port = x.port; outs = x.outs }) h
@@ -44,29 +69,32 @@ module _ (k : McCopy) where
   held_for x port [] = refl
   held_for x port (o ∷ os) = refl
 
-  module _ (unsent : List (List McCopy)) (dumped : List DumpRec) where
+  module _ (u : Setup) (agree : AreAlike u key k.key) (unsent : List (List McCopy)) (dumped : List DumpRec) where
     abbrev like : List Delivery → State → State
     like ds s = record { setup = s.setup; unsent = unsent; inputs = queues s.inputs; hands = map held s.hands; cores = queues s.cores; delivered = ds; dumped = dumped }
 
-    chosen : (ds : List Delivery) (s t u : State) (b : Bool) → t ≡ like ds u → unwrap_or (if b then Some t else None) (like ds s) ≡ like ds (unwrap_or (if b then Some u else None) s)
-    chosen ds s t u true is = is
-    chosen ds s t u false is = refl
+    chosen : (ds : List Delivery) (s t r : State) (b : Bool) → t ≡ like ds r → unwrap_or (if b then Some t else None) (like ds s) ≡ like ds (unwrap_or (if b then Some r else None) s)
+    chosen ds s t r true is = is
+    chosen ds s t r false is = refl
 
-    taken : (ds : List Delivery) (s : State) (c : Chip) (port : Port) (hand : Option (Option Hand)) (q : Option (List McCopy)) →
+    taken : (ds : List Delivery) (s : State) → s.setup ≡ u → (c : Chip) (port : Port) (hand : Option (Option Hand)) (q : Option (List McCopy)) →
         unwrap_or (take_of (like ds s) c port (option_map held hand) (option_map (map numbered) q)) (like ds s) ≡ like ds (unwrap_or (take_of s c port hand q) s)
-    taken ds s c port (Some None) (Some (x ∷ rest)) =
+    taken ds s its c port (Some None) (Some (x ∷ rest)) =
         let i : ℕ = queue_at s.setup.machine c port in
         let j : ℕ = index_of s.setup.machine c in
         let outs : List Out = outputs s.setup c port x in
         let made : List (List McCopy) → List (Option Hand) → State = λ inputs hands. record (like ds s) { inputs = inputs; hands = hands } in
-        chosen ds s (made (set (queues s.inputs) i (map numbered rest)) (set (map held s.hands) j (in_hand (numbered x) port outs)))
+        let other : List Out = outputs s.setup c port (numbered x) in
+        let same : other ≡ outs = same_outputs s.setup (subst (λ w. AreAlike w key k.key) (sym its) agree) c port x in
+        chosen ds s (made (set (queues s.inputs) i (map numbered rest)) (set (map held s.hands) j (in_hand (numbered x) port other)))
         (record s { inputs = set s.inputs i rest; hands = set s.hands j (in_hand x port outs) }) (is_live_chip s.setup.machine c)
-        (ap (λ l. made l (set (map held s.hands) j (in_hand (numbered x) port outs))) (sym (map-set (map numbered) s.inputs i rest))
-        ∙ ap (made (queues (set s.inputs i rest))) (ap (set (map held s.hands) j) (held_for x port outs) ∙ sym (map-set held s.hands j (in_hand x port outs))))
-    taken ds s c port (Some None) (Some []) = refl
-    taken ds s c port (Some None) None = refl
-    taken ds s c port (Some (Some h)) q = refl
-    taken ds s c port None q = refl
+        (ap (λ l. made l (set (map held s.hands) j (in_hand (numbered x) port other))) (sym (map-set (map numbered) s.inputs i rest))
+        ∙ ap (made (queues (set s.inputs i rest)))
+        (ap (λ os. set (map held s.hands) j (in_hand (numbered x) port os)) same ∙ (ap (set (map held s.hands) j) (held_for x port outs) ∙ sym (map-set held s.hands j (in_hand x port outs)))))
+    taken ds s its c port (Some None) (Some []) = refl
+    taken ds s its c port (Some None) None = refl
+    taken ds s its c port (Some (Some h)) q = refl
+    taken ds s its c port None q = refl
 
     room : (capacity : ℕ) (q : Option (List McCopy)) → has_room capacity (option_map (map numbered) q) ≡ has_room capacity q
     room capacity (Some l) = ap (λ n. nat_lt n capacity) (length-map l numbered)
@@ -107,11 +135,11 @@ module _ (k : McCopy) where
 
     -- what comes by events of packets under way
     abbrev Comes : State → State → (State → State) → Type 0
-    Comes s t after = (come : List Delivery) × (t.delivered ≡ s.delivered ++ come) × ((ds : List Delivery) → after (like ds s) ≡ like (ds ++ map (of_packet k) come) t)
+    Comes s t after = (come : List Delivery) × (t.delivered ≡ s.delivered ++ come) × ((ds : List Delivery) → after (like ds s) ≡ like (ds ++ map (of_packet key k) come) t)
 
     collected : (s : State) (v : ℕ) (q : Option (List McCopy)) → let t : State = unwrap_or (collect_of s v q) s in
         (come : List Delivery) × (t.delivered ≡ s.delivered ++ come) ×
-        ((ds : List Delivery) → unwrap_or (collect_of (like ds s) v (option_map (map numbered) q)) (like ds s) ≡ like (ds ++ map (of_packet k) come) t)
+        ((ds : List Delivery) → unwrap_or (collect_of (like ds s) v (option_map (map numbered) q)) (like ds s) ≡ like (ds ++ map (of_packet key k) come) t)
     collected s v (Some (x ∷ rest)) = (
       record { vertex = v; copy = x } ∷ [],
       refl,
@@ -123,17 +151,17 @@ module _ (k : McCopy) where
     none_comes : (s t : State) (after : State → State) → t.delivered ≡ s.delivered → ((ds : List Delivery) → after (like ds s) ≡ like ds t) → Comes s t after
     none_comes s t after same is = ([], same ∙ sym (append-nil s.delivered), λ ds. is ds ∙ ap (λ l. like l t) (sym (append-nil ds)))
 
-    by_event : (s : State) (e : Event) → IsOnward e → Comes s (after_event s e) (λ t. after_event t e)
-    by_event s (Inject v) on = absurd on
-    by_event s (Take c port) on =
+    by_event : (s : State) → s.setup ≡ u → (e : Event) → IsOnward e → Comes s (after_event s e) (λ t. after_event t e)
+    by_event s its (Inject v) on = absurd on
+    by_event s its (Take c port) on =
         let j : ℕ = index_of s.setup.machine c in
         let i : ℕ = queue_at s.setup.machine c port in
         none_comes s (after_event s (Take c port)) (λ t. after_event t (Take c port))
         (by_take (λ t. t.delivered ≡ s.delivered) s refl (λ l h. refl) c port (slice_get s.hands j) (slice_get s.inputs i))
         (λ ds. ap (λ h. unwrap_or (take_of (like ds s) c port h (slice_get (queues s.inputs) i)) (like ds s)) (slice_get-map held s.hands j)
         ∙ (ap (λ q. unwrap_or (take_of (like ds s) c port (option_map held (slice_get s.hands j)) q) (like ds s)) (slice_get-map (map numbered) s.inputs i)
-        ∙ taken ds s c port (slice_get s.hands j) (slice_get s.inputs i)))
-    by_event s (Send c o) on =
+        ∙ taken ds s its c port (slice_get s.hands j) (slice_get s.inputs i)))
+    by_event s its (Send c o) on =
         let j : ℕ = index_of s.setup.machine c in
         none_comes s (after_event s (Send c o)) (λ t. after_event t (Send c o))
         (by_send (λ t. t.delivered ≡ s.delivered) s refl (λ h b x. kept_behind (record s { hands = h }) b x) c o (slice_get s.hands j))
@@ -143,22 +171,22 @@ module _ (k : McCopy) where
         kept_behind t (input i) x = refl
         kept_behind t (core v) x = refl
         kept_behind t nowhere x = refl
-    by_event s (Dump c o) on = absurd on
-    by_event s (Collect v) on =
+    by_event s its (Dump c o) on = absurd on
+    by_event s its (Collect v) on =
         let made = collected s v (slice_get s.cores v) in
         (made.0, made.1, λ ds. ap (λ q. unwrap_or (collect_of (like ds s) v q) (like ds s)) (slice_get-map (map numbered) s.cores v) ∙ made.2 ds)
 
-    by_events : (s : State) (es : List Event) → All IsOnward es → Comes s (after_events s es) (λ t. after_events t es)
-    by_events s [] on = none_comes s s (λ t. t) refl (λ ds. refl)
-    by_events s (e ∷ es) on =
-        let first = by_event s e (All-head IsOnward e es on) in
-        let rest = by_events (after_event s e) es (All-tail IsOnward e es on) in (
+    by_events : (s : State) → s.setup ≡ u → (es : List Event) → All IsOnward es → Comes s (after_events s es) (λ t. after_events t es)
+    by_events s its [] on = none_comes s s (λ t. t) refl (λ ds. refl)
+    by_events s its (e ∷ es) on =
+        let first = by_event s its e (All-head IsOnward e es on) in
+        let rest = by_events (after_event s e) (setup_after s (e ∷ []) ∙ its) es (All-tail IsOnward e es on) in (
           first.0 ++ rest.0,
           rest.1 ∙ (ap (λ l. l ++ rest.0) first.1 ∙ append_assoc s.delivered first.0 rest.0),
           λ ds. ap (λ t. after_events t es) (first.2 ds)
-              ∙ (rest.2 (ds ++ map (of_packet k) first.0)
+              ∙ (rest.2 (ds ++ map (of_packet key k) first.0)
               ∙ ap (λ l. like l (after_events (after_event s e) es))
-              (append_assoc ds (map (of_packet k) first.0) (map (of_packet k) rest.0) ∙ ap (λ l. ds ++ l) (sym (map-append (of_packet k) first.0 rest.0)))),
+              (append_assoc ds (map (of_packet key k) first.0) (map (of_packet key k) rest.0) ∙ ap (λ l. ds ++ l) (sym (map-append (of_packet key k) first.0 rest.0)))),
         )
 
 -- ---- where nothing waits
@@ -178,13 +206,13 @@ all_mapped f d fixed (x ∷ xs) all =
     ap (λ y. y ∷ map f xs) (ap f is ∙ (fixed ∙ sym is)) ∙ ap (λ l. x ∷ l) (all_mapped f d fixed xs (All-tail (λ z. z ≡ d) x xs all))
 
 -- where nothing waits, and the setup is the same, so are the queues and hands
-record IsSameAtRest (k : McCopy) (s t : State) : Type 0 where
-  inputs : s.inputs ≡ queues k t.inputs
-  hands : s.hands ≡ map (held k) t.hands
-  cores : s.cores ≡ queues k t.cores
+record IsSameAtRest (key : ℕ) (k : McCopy) (s t : State) : Type 0 where
+  inputs : s.inputs ≡ queues key k t.inputs
+  hands : s.hands ≡ map (held key k) t.hands
+  cores : s.cores ≡ queues key k t.cores
 
-same_at_rest : (k : McCopy) (s t : State) → IsMesh s → IsMesh t → NothingWaits s → NothingWaits t → s.setup ≡ t.setup → IsSameAtRest k s t
-same_at_rest k s t mesh_s mesh_t quiet_s quiet_t same =
+same_at_rest : (key : ℕ) (k : McCopy) (s t : State) → IsMesh s → IsMesh t → NothingWaits s → NothingWaits t → s.setup ≡ t.setup → IsSameAtRest key k s t
+same_at_rest key k s t mesh_s mesh_t quiet_s quiet_t same =
     let chips = ap (λ (u : Setup). u.machine.width * u.machine.height) same in
     let spots = ap (λ (u : Setup). length u.spots) same in
     let is = mesh_s.input_lists in
@@ -195,12 +223,12 @@ same_at_rest k s t mesh_s mesh_t quiet_s quiet_t same =
     let ct = mesh_t.core_lists in
     record {
       inputs = all_same [] s.inputs t.inputs quiet_s.inputs_empty quiet_t.inputs_empty (is ∙ (ap (λ n. 7 * n) chips ∙ sym it)) ∙ sym
-          (all_mapped (map (numbered k)) [] refl t.inputs quiet_t.inputs_empty);
-      hands = all_same None s.hands t.hands quiet_s.hands_empty quiet_t.hands_empty (hs ∙ (chips ∙ sym ht)) ∙ sym (all_mapped (held k) None refl t.hands quiet_t.hands_empty);
-      cores = all_same [] s.cores t.cores quiet_s.cores_empty quiet_t.cores_empty (cs ∙ (spots ∙ sym ct)) ∙ sym (all_mapped (map (numbered k)) [] refl t.cores quiet_t.cores_empty);
+          (all_mapped (map (numbered key k)) [] refl t.inputs quiet_t.inputs_empty);
+      hands = all_same None s.hands t.hands quiet_s.hands_empty quiet_t.hands_empty (hs ∙ (chips ∙ sym ht)) ∙ sym (all_mapped (held key k) None refl t.hands quiet_t.hands_empty);
+      cores = all_same [] s.cores t.cores quiet_s.cores_empty quiet_t.cores_empty (cs ∙ (spots ∙ sym ct)) ∙ sym (all_mapped (map (numbered key k)) [] refl t.cores quiet_t.cores_empty);
     }
 
--- ---- another packet with the same key
+-- ---- another packet with a key alike
 
 module _ (s t : State) (v : ℕ) (k : McCopy) (rest : List McCopy) (may : MaySend s) (there : v < length s.setup.spots) (first : slice_get s.unsent v ≡ Some (k ∷ rest))
     (on : IsReachedOnward (after_event s (Inject v)) t) (quiet : NothingWaits t) where
@@ -224,6 +252,9 @@ module _ (s t : State) (v : ℕ) (k : McCopy) (rest : List McCopy) (may : MaySen
   begun : after_event s (Inject v) ≡ sent_from s.setup (set s.unsent v rest) s.inputs k s
   begun = after_inject s may.kept may.quiet v spot k rest stands first
 
+  begun_setup : (after_event s (Inject v)).setup ≡ s.setup
+  begun_setup = setup_after s (Inject v ∷ [])
+
   dropless : IsReachedDropless s t
   dropless = sent_dropless s t v on
 
@@ -237,12 +268,12 @@ module _ (s t : State) (v : ℕ) (k : McCopy) (rest : List McCopy) (may : MaySen
   is_come : (l : List Delivery) → (after_events (after_event s (Inject v)) on.events).delivered ≡ (after_event s (Inject v)).delivered ++ l → l ≡ come
   is_come l is = sym (ap (drop (length s.delivered)) (here l is) ∙ drop_at s.delivered l (length s.delivered) refl)
 
-  module _ (r : State) (x : McCopy) (left : List McCopy) (may_r : MaySend r) (same : r.setup ≡ s.setup) (first_r : slice_get r.unsent v ≡ Some (x ∷ left)) (key : x.key ≡ k.key) where
+  module _ (r : State) (x : McCopy) (left : List McCopy) (may_r : MaySend r) (same : r.setup ≡ s.setup) (first_r : slice_get r.unsent v ≡ Some (x ∷ left)) (agree : AreAlike s.setup k.key x.key) where
     abbrev unsent : List (List McCopy)
     unsent = set r.unsent v left
 
     abbrev alike : List Delivery → State → State
-    alike ds a = like x unsent r.dumped ds a
+    alike ds a = like k.key x s.setup agree unsent r.dumped ds a
 
     begun_r : after_event r (Inject v) ≡ sent_from r.setup unsent r.inputs x r
     begun_r = after_inject r may_r.kept may_r.quiet v spot x left (ap (λ (u : Setup). slice_get u.spots v) same ∙ stands) first_r
@@ -252,15 +283,15 @@ module _ (s t : State) (v : ℕ) (k : McCopy) (rest : List McCopy) (may : MaySen
         All-head (λ (y : McCopy). y.hop ≡ 0) x left (All-at (λ q. All (λ (y : McCopy). y.hop ≡ 0) q) r.unsent v (x ∷ left) may_r.kept.mesh.unsent_at_start first_r)
         ∙ sym (All-head (λ (y : McCopy). y.hop ≡ 0) k rest (All-at (λ q. All (λ (y : McCopy). y.hop ≡ 0) q) s.unsent v (k ∷ rest) may.kept.mesh.unsent_at_start first))
 
-    is_numbered : x ≡ numbered x k
+    is_numbered : x ≡ numbered k.key x k
     is_numbered =
-        ap (λ n. let y : McCopy = record { packet = x.packet; key = n; payload = x.payload; hop = x.hop } in y) key
-        ∙ ap (λ n. let y : McCopy = record { packet = x.packet; key = k.key; payload = x.payload; hop = n } in y) hop
+        ap (λ b. let y : McCopy = record { packet = x.packet; key = cond b x.key k.key; payload = x.payload; hop = x.hop } in y) (sym (eq-eqb k.key k.key refl))
+        ∙ ap (λ n. let y : McCopy = record { packet = x.packet; key = renamed k.key x k.key; payload = x.payload; hop = n } in y) hop
 
     -- after it was sent it stands where the first one stood
     begins : after_event r (Inject v) ≡ alike r.delivered (after_event s (Inject v))
     begins =
-        let at : IsSameAtRest x r s = same_at_rest x r s may_r.kept.mesh may.kept.mesh may_r.quiet may.quiet same in
+        let at : IsSameAtRest k.key x r s = same_at_rest k.key x r s may_r.kept.mesh may.kept.mesh may_r.quiet may.quiet same in
         let i : ℕ = queue_at s.setup.machine spot.chip Local in
         let made : Setup → List (List McCopy) → List (Option Hand) → List (List McCopy) → State =
         λ u inputs hands cores. record { setup = u; unsent = unsent; inputs = set inputs (queue_at u.machine spot.chip Local) (x ∷ []); hands = hands; cores = cores; delivered = r.delivered; dumped = r.dumped }
@@ -269,42 +300,42 @@ module _ (s t : State) (v : ℕ) (k : McCopy) (rest : List McCopy) (may : MaySen
         begun_r
         ∙ (ap (λ u. made u r.inputs r.hands r.cores) same
         ∙ (ap (λ l. made s.setup l r.hands r.cores) at.inputs
-        ∙ (ap (λ l. made s.setup (queues x s.inputs) l r.cores) at.hands
-        ∙ (ap (made s.setup (queues x s.inputs) (map (held x) s.hands)) at.cores
-        ∙ (ap with_inputs (ap (λ y. set (queues x s.inputs) i (y ∷ [])) is_numbered ∙ sym (map-set (map (numbered x)) s.inputs i (k ∷ [])))
+        ∙ (ap (λ l. made s.setup (queues k.key x s.inputs) l r.cores) at.hands
+        ∙ (ap (made s.setup (queues k.key x s.inputs) (map (held k.key x) s.hands)) at.cores
+        ∙ (ap with_inputs (ap (λ y. set (queues k.key x s.inputs) i (y ∷ [])) is_numbered ∙ sym (map-set (map (numbered k.key x)) s.inputs i (k ∷ [])))
         ∙ ap (alike r.delivered) (sym begun))))))
 
     -- at the end all is as before it was sent
     ends : (ds : List Delivery) → alike ds t ≡ record r { unsent = unsent; delivered = ds }
     ends ds =
         let setup : t.setup ≡ r.setup = setup_reached s t dropless ∙ sym same in
-        let at : IsSameAtRest x r t = same_at_rest x r t may_r.kept.mesh (kept_reached s t may.kept dropless).mesh may_r.quiet quiet (sym setup) in
+        let at : IsSameAtRest k.key x r t = same_at_rest k.key x r t may_r.kept.mesh (kept_reached s t may.kept dropless).mesh may_r.quiet quiet (sym setup) in
         let made : Setup → List (List McCopy) → List (Option Hand) → List (List McCopy) → State =
         λ u inputs hands cores. record { setup = u; unsent = unsent; inputs = inputs; hands = hands; cores = cores; delivered = ds; dumped = r.dumped }
         in
-        ap (λ u. made u (queues x t.inputs) (map (held x) t.hands) (queues x t.cores)) setup
-        ∙ (ap (λ l. made r.setup l (map (held x) t.hands) (queues x t.cores)) (sym at.inputs)
-        ∙ (ap (λ l. made r.setup r.inputs l (queues x t.cores)) (sym at.hands)
+        ap (λ u. made u (queues k.key x t.inputs) (map (held k.key x) t.hands) (queues k.key x t.cores)) setup
+        ∙ (ap (λ l. made r.setup l (map (held k.key x) t.hands) (queues k.key x t.cores)) (sym at.inputs)
+        ∙ (ap (λ l. made r.setup r.inputs l (queues k.key x t.cores)) (sym at.hands)
         ∙ ap (made r.setup r.inputs r.hands) (sym at.cores)))
 
-    always : IsReachedDropless r (record r { unsent = unsent; delivered = r.delivered ++ map (of_packet x) come })
+    always : IsReachedDropless r (record r { unsent = unsent; delivered = r.delivered ++ map (of_packet k.key x) come })
     always =
-        let comes = by_events x unsent r.dumped (after_event s (Inject v)) on.events on.onward in
+        let comes = by_events k.key x s.setup agree unsent r.dumped (after_event s (Inject v)) begun_setup on.events on.onward in
         record {
           events = Inject v ∷ on.events;
           dropless = All-cons DropsNone (Inject v) on.events tt (All-weaker IsOnward DropsNone onward_drops_none on.events on.onward);
           is = sym (ap (λ a. after_events a on.events) begins
               ∙ (comes.2 r.delivered
-              ∙ (ap (alike (r.delivered ++ map (of_packet x) comes.0)) (sym on.is)
-              ∙ (ap (λ l. alike (r.delivered ++ map (of_packet x) l) t) (is_come comes.0 comes.1)
-              ∙ ends (r.delivered ++ map (of_packet x) come)))));
+              ∙ (ap (alike (r.delivered ++ map (of_packet k.key x) comes.0)) (sym on.is)
+              ∙ (ap (λ l. alike (r.delivered ++ map (of_packet k.key x) l) t) (is_come comes.0 comes.1)
+              ∙ ends (r.delivered ++ map (of_packet k.key x) come)))));
         }
 
   pub brought : HasBrought s t v k.key
   brought =
-      let comes = by_events k [] [] (after_event s (Inject v)) on.events on.onward in
+      let comes = by_events k.key k s.setup (λ i d within port. refl) [] [] (after_event s (Inject v)) begun_setup on.events on.onward in
       record {
         come = come;
         is = here comes.0 comes.1 ∙ ap (λ l. s.delivered ++ l) (is_come comes.0 comes.1);
-        always = λ r x left may_r same first_r key. always r x left may_r same first_r key;
+        always = λ r x left may_r same first_r agree. always r x left may_r same first_r agree;
       }

@@ -1,9 +1,12 @@
 -- Meshes that can be drained, and what is reached by events (this project's own).
-use Rattle.std.specs.Prelude.{◌≡◌, ◌≢◌, ◌<◌, ◌≤◌, ℕ, List, [], ◌∷◌, ◌++◌, All, Contains, Some, length, map, slice_get, slice_set}
+use Rattle.std.specs.Prelude.{◌≡◌, ◌≢◌, ◌<◌, ◌≤◌, ◌==◌, if◌then◌else◌, ℕ, List, [], ◌∷◌, ◌++◌, All, Contains, Some, length, map, slice_get, slice_set}
+use Rattle.spin_base.specs.declared.blocks.Entry.{Entry}
+use Rattle.spin_base.specs.declared.chips.Port.{Port}
 use Rattle.spin_base.specs.declared.copies.Event.{Event}
 use Rattle.spin_base.specs.declared.copies.Delivery.{Delivery}
 use Rattle.spin_base.specs.declared.copies.McCopy.{McCopy}
 use Rattle.spin_base.specs.declared.copies.DumpRec.{DumpRec}
+use Rattle.spin_base.specs.Lookup.{lookup}
 use Rattle.machine_desc.specs.declared.nets.NetPlan.{NetPlan}
 use Rattle.machine_desc.specs.RightTables.{AreRight}
 use Rattle.spin_base.specs.declared.copies.Event.TheVariants.{Inject, Take, Send, Dump, Collect}
@@ -52,18 +55,26 @@ pub record IsReachedOnward (before after : State) : Type 0 where
   pub onward : All IsOnward events
   pub is : after ≡ after_events before events
 
--- the same delivery, but of this packet
-abbrev pub of_packet : McCopy → Delivery → Delivery
-of_packet k d = record { vertex = d.vertex; copy = record { packet = k.packet; key = d.copy.key; payload = k.payload; hop = d.copy.hop } }
+-- Two keys are alike where each router's table gives both the same, at each port.
+abbrev pub AreAlike : Setup → ℕ → ℕ → Type 0
+AreAlike u key other = All (λ (table : List Entry). (port : Port) → lookup table key port ≡ lookup table other port) u.tables
 
--- Whenever a vertex may send a packet with this key first, it is brought by events of which none drops a copy, and its deliveries are
--- these, but of its number and payload: a router looks at a copy's key and hop number alone.
+-- the same delivery, but of this packet, with the packet's key in place of that one
+abbrev pub of_packet : ℕ → McCopy → Delivery → Delivery
+of_packet key k d = record {
+  vertex = d.vertex;
+  copy = record { packet = k.packet; key = if d.copy.key == key then k.key else d.copy.key; payload = k.payload; hop = d.copy.hop };
+}
+
+-- Whenever a vertex may send a packet with a key alike to this one first, it is brought by events of which none drops a copy, and its
+-- deliveries are these, but of its number, key and payload: a router looks at nothing of a copy but its hop number and what its table
+-- gives the key.
 abbrev pub BringsAlways : Setup → ℕ → ℕ → List Delivery → Type 0
 BringsAlways u v key come =
-    (s : State) (k : McCopy) (rest : List McCopy) → MaySend s → s.setup ≡ u → slice_get s.unsent v ≡ Some (k ∷ rest) → k.key ≡ key →
-    IsReachedDropless s (record s { unsent = slice_set s.unsent v rest; delivered = s.delivered ++ map (of_packet k) come })
+    (s : State) (k : McCopy) (rest : List McCopy) → MaySend s → s.setup ≡ u → slice_get s.unsent v ≡ Some (k ∷ rest) → AreAlike u key k.key →
+    IsReachedDropless s (record s { unsent = slice_set s.unsent v rest; delivered = s.delivered ++ map (of_packet key k) come })
 
--- Deliveries have come, and so they come whenever the vertex sends a packet with this key.
+-- Deliveries have come, and so they come whenever the vertex sends a packet with a key alike to this one.
 pub record HasBrought (before after : State) (v key : ℕ) : Type 0 where
   pub come : List Delivery
   pub is : after.delivered ≡ before.delivered ++ come

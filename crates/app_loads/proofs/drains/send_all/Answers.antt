@@ -9,7 +9,7 @@ pub packets-init : goal.packets-init
 packets-init c = record {
   reached = reached_none (with_earlier (all_grouped c.args.earlier.now) c.args.mesh.now);
   clean = c.requires.clean;
-  known = none_known c.args.mesh.now.setup c.args.vertex c.new-known.result c.new-known.ensures.empty;
+  known = none_known c.args.mesh.now.setup c.args.vertex c.args.apps.now c.new-known.result c.requires.alike c.new-known.ensures.empty;
   last = tt;
   unsent = as_before c.args.mesh.now c.args.vertex;
 }

@@ -14,7 +14,7 @@ abbrev pub invariant-packets : goal.invariant-packets
 invariant-packets l = record {
   reached : IsReachedDropless (with_earlier (all_grouped l.fn.earlier) l.fn.mesh) (with_earlier (all_grouped l.earlier) l.mesh);
   clean : IsClean (all_grouped l.earlier) l.mesh;
-  known : AreKnown l.mesh.setup l.vertex l.known;
+  known : AreKnown l.mesh.setup l.vertex l.apps l.known;
   last : IfSome l.last (Comes l.mesh.setup l.vertex (last_arrivals l.earlier));
   unsent : (left : List McCopy) × (l.mesh.unsent ≡ slice_set l.fn.mesh.unsent l.vertex left);
 }

@@ -1,10 +1,11 @@
-use Rattle.std.proofs.Common.{arith}
-use Rattle.mesh_drain.proofs.Frame.{reached_none, reached_then}
+use Rattle.std.proofs.Common.{arith, subst, sym}
+use Rattle.mesh_drain.proofs.Frame.{reached_none, reached_then, setup_reached}
 use Rattle.mesh_drain.proofs.Packets.{few_spots}
 use Rattle.mesh_drain.proofs.Senders.{one_less_sender, rest_from, sender_there}
 use Rattle.mesh_drain.proofs.Turns.{was_there}
 use Rattle.app_loads.specs.Earlier.{with_earlier}
 use Rattle.app_loads.specs.Grouping.{all_grouped}
+use Rattle.app_loads.specs.Running.{AreAlikeInBlocks}
 use Rattle.app_loads.proofs.Kept.{alone_with}
 use Rattle.app_loads.proofs.drains.send_each.Goals as goal
 
@@ -25,6 +26,12 @@ pub send_all-requires-clause-there : goal.send_all-requires-clause-there
 send_all-requires-clause-there c =
     sender_there (with_earlier (all_grouped c.args.earlier.now) c.args.mesh.now) (with_earlier (all_grouped c.loop-vertex.earlier) c.loop-vertex.mesh) c.args.vertices.now c.loop-vertex.vertex-index _
     (alone_with (all_grouped c.args.earlier.now) c.args.mesh.now c.args.vertices.now c.requires.alone) c.loop-vertex.invariant.reached c.loop-vertex-test.true
+
+pub send_all-requires-clause-alike : goal.send_all-requires-clause-alike
+send_all-requires-clause-alike c =
+    subst (λ u. AreAlikeInBlocks u c.args.apps.now)
+    (sym (setup_reached (with_earlier (all_grouped c.args.earlier.now) c.args.mesh.now) (with_earlier (all_grouped c.loop-vertex.earlier) c.loop-vertex.mesh) c.loop-vertex.invariant.reached))
+    c.requires.alike
 
 pub loop-vertex-preserved : goal.loop-vertex-preserved
 loop-vertex-preserved c =

@@ -1,34 +1,44 @@
 use Rattle.std.proofs.Common.{◌∙◌, ap, drop, sym}
 use Rattle.mesh_drain.proofs.Frame.{setup_reached}
+use Rattle.spin_base.specs.declared.blocks.Block.{Block}
 use Rattle.app_loads.specs.Earlier.{with_earlier}
 use Rattle.app_loads.specs.Grouping.{all_grouped}
 use Rattle.app_loads.specs.Groups.{last_arrivals}
-use Rattle.app_loads.specs.Running.{AreKnown, Comes}
+use Rattle.app_loads.specs.Running.{AreKnown, Comes, IsBlockWith}
 use Rattle.app_loads.proofs.Kept.{comes_again, known_still, some_first}
 use Rattle.app_loads.proofs.drains.send_new.Goals as goal
-use Rattle.app_loads.proofs.drains.send_new.Goals.{After-ends_with}
+use Rattle.app_loads.proofs.drains.send_new.Goals.{After-ends_with, After-block_of}
 
 pub send_one-requires-clause-some : goal.send_one-requires-clause-some
 send_one-requires-clause-some c = some_first _ c.args.copy c.requires.first.0 c.requires.first.1
 
 -- what was known is known still
-still : (c : After-ends_with) → AreKnown c.send_one.new.mesh.setup c.args.vertex c.args.known.now
+still : (c : After-ends_with) → AreKnown c.send_one.new.mesh.setup c.args.vertex c.args.apps.now c.args.known.now
 still c =
-    known_still c.args.mesh.now.setup c.send_one.new.mesh.setup c.args.vertex c.args.known.now
+    known_still c.args.mesh.now.setup c.send_one.new.mesh.setup c.args.vertex c.args.apps.now c.args.known.now
     (setup_reached (with_earlier (all_grouped c.args.earlier.now) c.args.mesh.now) (with_earlier (all_grouped c.send_one.new.earlier) c.send_one.new.mesh) c.send_one.ensures.reached) c.requires.known
 
-pub returns-else-ends_with-clause-known : goal.returns-else-ends_with-clause-known
-returns-else-ends_with-clause-known c = still (goal.at.returns-else-ends_with-clause-known c).After-ends_with
-
-pub returns-in_ok-remember-clause-last : goal.returns-in_ok-remember-clause-last
-returns-in_ok-remember-clause-last c =
-    comes_again (all_grouped c.args.earlier.now) (all_grouped c.send_one.new.earlier) c.send_one.new.mesh.setup c.args.vertex c.len-before.result c.args.copy (last_arrivals c.join.new.self)
+-- others with keys of the block come where this packet came
+comes : (c : After-block_of) (block : Block) → IsBlockWith c.args.apps.now c.args.copy.key block → AreKnown c.send_one.new.mesh.setup c.args.vertex c.args.apps.now c.args.known.now →
+    Comes c.send_one.new.mesh.setup c.args.vertex (last_arrivals c.join.new.self) block
+comes c block with' known =
+    comes_again (all_grouped c.args.earlier.now) (all_grouped c.send_one.new.earlier) c.send_one.new.mesh.setup c.args.vertex c.len-before.result c.args.copy (last_arrivals c.join.new.self) block
     (c.in_ok-send_one.ensures.brought c.args.copy c.requires.first.0 c.requires.first.1) c.len-before.ensures
-    (ap (drop c.len-before.result) (sym (c.join.ensures ∙ ap all_grouped c.share_near.ensures)) ∙ c.ends_with.ensures c.if-ends_with.true)
+    (ap (drop c.len-before.result) (sym (c.join.ensures ∙ ap all_grouped c.share_near.ensures)) ∙ c.ends_with.ensures c.if-not-ends_with.false)
+    (λ other its. known.alike block c.args.copy.key other with' its)
 
-pub returns-in_ok-remember-clause-known : goal.returns-in_ok-remember-clause-known
-returns-in_ok-remember-clause-known c =
-    c.in_ok-remember.ensures c.send_one.new.mesh.setup c.args.vertex (still (goal.at.returns-in_ok-remember-clause-known c).After-ends_with)
-    (comes_again (all_grouped c.args.earlier.now) (all_grouped c.send_one.new.earlier) c.send_one.new.mesh.setup c.args.vertex c.len-before.result c.args.copy (last_arrivals c.join.new.self)
-    (c.in_ok-send_one.ensures.brought c.args.copy c.requires.first.0 c.requires.first.1) c.len-before.ensures
-    (ap (drop c.len-before.result) (sym (c.join.ensures ∙ ap all_grouped c.share_near.ensures)) ∙ c.ends_with.ensures c.if-ends_with.true))
+pub returns-then-not-ends_with-clause-known : goal.returns-then-not-ends_with-clause-known
+returns-then-not-ends_with-clause-known c = still (goal.at.returns-then-not-ends_with-clause-known c).After-ends_with
+
+pub returns-in_default-clause-known : goal.returns-in_default-clause-known
+returns-in_default-clause-known c = still (goal.at.returns-in_default-clause-known c).After-ends_with
+
+pub returns-clause-last : goal.returns-clause-last
+returns-clause-last c =
+    let known = still (goal.at.returns-clause-last c).After-ends_with in
+    comes (goal.at.returns-clause-last c).After-block_of c.in-Some.block c.in-Some.ensures known
+
+pub returns-clause-known : goal.returns-clause-known
+returns-clause-known c =
+    let known = still (goal.at.returns-clause-known c).After-ends_with in
+    c.in_ok-remember.ensures c.send_one.new.mesh.setup c.args.vertex c.args.apps.now known (comes (goal.at.returns-clause-known c).After-block_of c.in-Some.block c.in-Some.ensures known)

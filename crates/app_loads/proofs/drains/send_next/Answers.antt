@@ -8,14 +8,17 @@ use Rattle.app_loads.proofs.drains.send_next.Goals as goal
 
 pub send_again-requires-clause-comes : goal.send_again-requires-clause-comes
 send_again-requires-clause-comes c =
-    subst (λ k. IfSome k (Comes c.args.mesh.now.setup c.args.vertex (last_arrivals c.args.earlier.now))) (c.is_last.ensures c.if-is_last.true) c.requires.last
+    let is = c.is_last.ensures c.if-is_last.true in
+    (is.0, is.2, subst (λ k. IfSome k (Comes c.args.mesh.now.setup c.args.vertex (last_arrivals c.args.earlier.now))) is.1 c.requires.last)
 
 pub send_to-requires-clause-comes : goal.send_to-requires-clause-comes
-send_to-requires-clause-comes c = c.requires.known c.first_unsent-copy.result.key c.in-Some.arrivals.now (sym c.get.ensures.value ∙ ap option_copied c.in-Some.is)
+send_to-requires-clause-comes c =
+    let it = c.in-Some.ensures in
+    c.requires.known.come it.first c.in-Some.it.now it.is
 
 pub returns-then-is_last-clause-known : goal.returns-then-is_last-clause-known
-returns-then-is_last-clause-known c = known_still c.args.mesh.now.setup c.send_again.new.mesh.setup c.args.vertex c.args.known.now c.send_again.ensures.setup c.requires.known
+returns-then-is_last-clause-known c = known_still c.args.mesh.now.setup c.send_again.new.mesh.setup c.args.vertex c.args.apps.now c.args.known.now c.send_again.ensures.setup c.requires.known
 
 pub returns-in-Some-clause-known : goal.returns-in-Some-clause-known
 returns-in-Some-clause-known c =
-    ok_anyway c.send_to.result (known_still c.args.mesh.now.setup c.send_to.new.mesh.setup c.args.vertex c.args.known.now c.send_to.ensures.setup c.requires.known)
+    ok_anyway c.send_to.result (known_still c.args.mesh.now.setup c.send_to.new.mesh.setup c.args.vertex c.args.apps.now c.args.known.now c.send_to.ensures.setup c.requires.known)

@@ -1,4 +1,6 @@
-use Rattle.app_loads.proofs.Hosts.{apps_after_in, host_after, host_kept, host_moved, known_in}
+use Rattle.std.proofs.Common.{subst, sym}
+use Rattle.app_loads.specs.Running.{AreAlikeInBlocks}
+use Rattle.app_loads.proofs.Hosts.{alike_in, apps_after_in, host_after, host_kept, host_moved, known_in}
 use Rattle.mesh_drain.proofs.Moving.{after_moved}
 use Rattle.app_loads.proofs.apps.Apps.drain.Goals as goal
 
@@ -6,6 +8,7 @@ pub drain_known-requires : goal.drain_known-requires
 drain_known-requires c = record {
   kept = host_kept c.self.inside c.in-Some.mesh c.self.invariant c.in-Some.is;
   known = known_in c.self.inside c.in-Some.mesh c.self.invariant c.in-Some.is;
+  alike = subst (AreAlikeInBlocks c.in-Some.mesh.setup) (sym c.deref.ensures.value) (alike_in c.self.inside c.in-Some.mesh c.self.invariant c.in-Some.is);
 }
 
 pub invariant_of-self-2 : goal.invariant_of-self-2

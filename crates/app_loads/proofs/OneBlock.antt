@@ -1,0 +1,40 @@
+-- Keys of one block of an application are alike: each table gives all of them the same.
+use Rattle.std.proofs.Common.{◌≡◌, ℕ, zero, suc, List, [], ◌∷◌, length, refl, sym, subst, arith, Some}
+use Rattle.std.specs.List.{slice_get, Contains}
+use Rattle.std.proofs.lemmas.List.Elements.{All-contains}
+use Rattle.std.proofs.lemmas.Option.{same_Some}
+use Rattle.spin_base.proofs.Members.{Contains-at, among_contains, contains_among}
+use Rattle.spin_base.specs.declared.blocks.Block.{Block}
+use Rattle.machine_desc.specs.declared.nets.NetPlan.{NetPlan}
+use Rattle.machine_desc.specs.RightTables.{IsKeyOf}
+use Rattle.app_loads.specs.declared.loaded.LoadedApp.{LoadedApp}
+use Rattle.app_loads.specs.declared.plans.AppNet.{AppNet}
+use Rattle.app_loads.specs.Applications.{AreApps, IsLoadedOn}
+use Rattle.app_loads.specs.Host.{Host, all_nets, net_with, nets_of, nets_with}
+use Rattle.app_loads.specs.Running.{AreAlikeInBlocks}
+use Rattle.app_loads.proofs.AppNets.{member_at}
+use Rattle.app_loads.proofs.ClaimCases.{flat_among}
+use Rattle.app_loads.proofs.RightRows.{alike}
+
+-- the net that has a block
+net_at : (nets : List AppNet) (blocks : List Block) (i : ℕ) (block : Block) → length blocks ≡ length nets → slice_get blocks i ≡ Some block →
+    (x : NetPlan) × (slice_get (nets_with nets blocks) i ≡ Some x) × (x.block ≡ block)
+net_at [] [] i block long e = cc
+net_at [] (b ∷ bs) i block long e = absurd (omega (arith, long))
+net_at (n ∷ ns) [] i block long e = cc
+net_at (n ∷ ns) (b ∷ bs) zero block long e = (net_with n b, refl, same_Some b block e)
+net_at (n ∷ ns) (b ∷ bs) (suc i) block long e = net_at ns bs i block (omega (arith, long)) e
+
+module _ (h : Host) (apps : AreApps h) where
+  of_net : (app : LoadedApp) → Contains h.apps app → (block : Block) → Contains app.blocks block → (x : NetPlan) × Contains (all_nets h.apps) x × (x.block ≡ block)
+  of_net app in_apps block in_blocks =
+      let on = All-contains (IsLoadedOn h.mesh.setup.machine) h.apps app apps.loaded in_apps in
+      let found = net_at app.plan.nets app.blocks in_blocks.0 block on.blocks.all (member_at app.blocks block in_blocks) in
+      let own : Contains (nets_of app) found.0 = Contains-at (nets_of app) in_blocks.0 found.0 found.1 in
+      (found.0, among_contains found.0 (all_nets h.apps) (flat_among nets_of found.0 h.apps app (contains_among app h.apps in_apps) (contains_among found.0 (nets_of app) own)), found.2)
+
+  pub alike_in_blocks : AreAlikeInBlocks h.mesh.setup h.apps
+  alike_in_blocks block key other with' its =
+      let found = of_net with'.0 with'.1 block with'.2 in
+      alike h.mesh.setup.machine h.mesh.setup.tables h.apps apps.loaded apps.disjoint apps.rows found.0 found.1 key other
+      (subst (λ b. IsKeyOf b key) (sym found.2) with'.3) (subst (λ b. IsKeyOf b other) (sym found.2) its) apps.mesh.table_list
