@@ -17,4 +17,4 @@ pub use fields::{
 };
 pub use members::member;
 pub use parses::{ParseErr, parse};
-pub use paths::Path;
+pub use paths::{Path, item_path, member_path};
