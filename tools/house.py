@@ -26,7 +26,7 @@ MOST = {
     "conditions a function, in hundredths": 64,
     "conditions of one function": 5,
     "lines of proofs": 83292,
-    "lines of proofs longer than 200 characters": 1124,
+    "lines of proofs longer than 200 characters": 1070,
     "lines of proofs longer than 300 characters": 10,
     "lines of definitions": 13491,
     "lines of definitions that docs/definitions.md lists": 8547,
