@@ -1,14 +1,11 @@
 -- Powers of two by their ones, and the block of a key and a mask.
 use Rattle.std.proofs.Common.{◌≡◌, ℕ, zero, suc, ◌+◌, ◌-◌, ◌*◌, ◌/◌, ◌%◌, ◌^◌, ◌<◌, ◌≤◌, true, inl, inr, ap, sym, ◌∙◌, arith}
-use Rattle.std.specs.Prelude.{bit_and}
 use Rattle.std.specs.Int.{IsPowerOfTwo, is_power_of_two}
 use Rattle.std.specs.Int.RustNames.{count_ones}
 use Rattle.std.proofs.lemmas.Bool.{cases_lt, eqb-true}
 use Rattle.std.proofs.lemmas.Nat.{ones-le, ones_cat, zero_from_ones}
 use Rattle.std.proofs.lemmas.Grind.{pow_more}
-use Rattle.spin_base.specs.declared.blocks.Block.{Block}
-use Rattle.tern_word.proofs.BlockLaws.{same_block, exponent_le}
-use Rattle.job_readers.specs.Blocks.{mask_from, block_at}
+use Rattle.tern_word.proofs.BlockLaws.{exponent_le}
 
 -- a number with one 1 is a power of two
 power_from_ones : (d n : ℕ) → n < 2 ^ d → count_ones n ≡ 1 → IsPowerOfTwo n
@@ -35,10 +32,3 @@ fixed_for keys mask small power enough =
     let p = power_from_ones 33 (4294967296 - mask) (omega arith) (eqb-true _ _ power) in
     let within : 2 ^ p.0 ≤ 2 ^ 32 = omega (arith, p.1) in
     (p.0, exponent_le p.0 within, omega (arith, p.1), omega (arith, p.1))
-
--- a block is that of its key and mask
-pub block_is : (b : Block) → b ≡ block_at b.key b.mask
-unfolding block_at
-block_is b =
-    let mask : b.mask ≡ mask_from b.mask = omega (arith, b.small) in
-    same_block b _ (sym b.within ∙ ap (bit_and b.key) mask) mask

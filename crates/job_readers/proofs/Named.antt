@@ -6,6 +6,8 @@ use Rattle.std.proofs.lemmas.Bool.{true≢false}
 use Rattle.std.proofs.lemmas.Slice.Eq.{bytes_eq-Decides}
 use Rattle.serde_json.specs.Data.{Data}
 use Rattle.spin_base.proofs.Members.{Among, among_left, among_right, map_among}
+use Rattle.spin_base.specs.declared.blocks.Block.{Block}
+use Rattle.machine_desc.specs.declared.trees.Edge.{Edge}
 use Rattle.app_graph.specs.declared.graphs.Vertex.{Vertex}
 use Rattle.app_graph.specs.declared.graphs.Net.{Net}
 use Rattle.app_graph.specs.declared.graphs.Graph.{Graph}
@@ -17,7 +19,7 @@ use Rattle.job_text.specs.Reading.{◌▹◌}
 use Rattle.job_readers.specs.Items.{following_faults}
 use Rattle.job_readers.specs.Members.{list_member, list_member_faults}
 use Rattle.job_readers.specs.Places.{double_faults, name_place_in, new_name_faults}
-use Rattle.job_readers.specs.GraphPart.{graph_faults, graph_members, graph_members_faults, graph_value, name_faults, name_value, net_faults, net_names, net_value, nets_faults, nets_value}
+use Rattle.job_readers.specs.GraphPart.{graph_faults, graph_members, graph_members_faults, graph_value, devices_of, fixed_blocks_of, name_faults, name_value, net_faults, net_names, net_value, nets_faults, nets_value}
 use Rattle.job_readers.specs.GraphPart.{next_net_faults, next_vertex_faults, vertex_faults, vertex_names_of, vertex_value, vertices_faults, vertices_value}
 use Rattle.job_readers.specs.Named.{HasNamesApart}
 use Rattle.job_readers.proofs.NoFaults.{none_first, none_inside, none_second}
@@ -76,17 +78,25 @@ new_name before path d none =
     no_double (member_at path (codes "name")) (name_place_in before (text_value (member_of (codes "name") d)))
     (none_inside (text_faults (member_at path (codes "name")) (member_of (codes "name") d)) (double_faults (member_at path (codes "name")) (name_place_in before (text_value (member_of (codes "name") d)))) none)
 
+pub vertex_is_new : (version : ℕ) (names : List (List ℕ)) (devices : List Edge) (path : List ℕ) (d : Data) → vertex_faults version names devices path d ≡ [] →
+    name_place_in names (name_value d) ≡ None
+unfolding vertex_faults
+vertex_is_new version names devices path d none = new_name names path d (none_first _ _ (none_inside (object_faults path (Some d)) _ none))
+
+pub net_is_new : (version : ℕ) (vertices : List Vertex) (names : List (List ℕ)) (blocks : List Block) (path : List ℕ) (d : Data) → net_faults version vertices names blocks path d ≡ [] →
+    name_place_in names (name_value d) ≡ None
+unfolding net_faults
+net_is_new version vertices names blocks path d none = new_name names path d (none_first _ _ (none_inside (object_faults path (Some d)) _ none))
+
 vertex_tells : (version : ℕ) (before : List Vertex) (path : List ℕ) (d : Data) → next_vertex_faults version before path d ≡ [] →
     name_place_in (map (λ (v : Vertex). v.name) before) (vertex_value version d).name ≡ None
-unfolding vertex_faults vertex_value vertex_names_of
-vertex_tells version before path d none =
-    new_name (map (λ (v : Vertex). v.name) before) path d (none_first _ _ (none_inside (object_faults path (Some d)) _ none))
+unfolding vertex_value vertex_names_of
+vertex_tells version before path d none = vertex_is_new version (vertex_names_of before) (devices_of before) path d none
 
 net_tells : (version : ℕ) (vertices : List Vertex) (before : List Net) (path : List ℕ) (d : Data) → next_net_faults version vertices before path d ≡ [] →
     name_place_in (map (λ (n : Net). n.name) before) (net_value version vertices d).name ≡ None
-unfolding net_faults net_value net_names
-net_tells version vertices before path d none =
-    new_name (map (λ (n : Net). n.name) before) path d (none_first _ _ (none_inside (object_faults path (Some d)) _ none))
+unfolding net_value net_names
+net_tells version vertices before path d none = net_is_new version vertices (net_names before) (fixed_blocks_of before) path d none
 
 vertices_apart : (version : ℕ) (path : List ℕ) (d : Data) → vertices_faults version path d ≡ [] → AllPairs (λ (a : Vertex) b. a.name ≢ b.name) (vertices_value version d)
 unfolding vertices_faults vertices_value

@@ -79,20 +79,4 @@ module _ (names : List (List ℕ)) (s : List ℕ) (o : Option ℕ) (b : Bool) (a
   pub known_stays : b ≡ true → (q : List ℕ) → name_place_in names q ≡ name_place_in (names ++ s ∷ []) q
   known_stays yes_it_is = let j = some_is o (sym tested ∙ yes_it_is) in place_in-old names s j.0 (sym at ∙ j.1)
 
-  pub new_is_last : b ≡ false → (q : List ℕ) → cond (bytes_eq s q) (Some (length names)) (name_place_in names q) ≡ name_place_in (names ++ s ∷ []) q
-  new_is_last not_there = place_in-new names s (sym at ∙ none_is o (sym tested ∙ not_there))
-
--- the text is none of the names
-abbrev pub IsNoneOf : List (List ℕ) → List ℕ → Type 0
-IsNoneOf [] s = Unit {0}
-IsNoneOf (n ∷ names) s = (s ≡ n → ⊥) × IsNoneOf names s
-
-pub place_in-none : (names : List (List ℕ)) (s : List ℕ) → IsNoneOf names s → name_place_in names s ≡ None
-place_in-none [] s none = refl
-place_in-none (n ∷ names) s none =
-    elim (bytes_eq n s) as (λ b. bytes_eq n s ≡ b → (if b then Some 0 else option_map (λ i. i + 1) (name_place_in names s)) ≡ None) [
-      | true ↦ λ same. absurd (none.0 (sym ((bytes_eq-Decides n s).0 same)))
-      | false ↦ λ differs. ap (option_map (λ i. i + 1)) (place_in-none names s none.1)
-    ] refl
-
 pub ruleset bounds = (place_in-below)

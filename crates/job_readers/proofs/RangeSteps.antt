@@ -1,5 +1,5 @@
 -- Blocks that are ranges: when two share a key, and what their first keys by their last keys tell of one more.
-use Rattle.std.proofs.Common.{◌≡◌, ◌≢◌, ℕ, ◌+◌, ◌-◌, ◌/◌, ◌*◌, ◌%◌, ◌^◌, ◌<◌, ◌≤◌, ◌↔◌, List, [], ◌∷◌, ◌++◌, true, false, true≢false, Option, Some, None, IfSome, inl, inr, ap, sym, ◌∙◌, subst, arith, Less, Equal, Greater, nat_cmp}
+use Rattle.std.proofs.Common.{◌≡◌, ◌≢◌, ℕ, ◌+◌, ◌-◌, ◌/◌, ◌*◌, ◌%◌, ◌^◌, ◌<◌, ◌≤◌, ◌↔◌, List, [], ◌∷◌, ◌++◌, true, false, true≢false, Option, Some, None, inl, inr, ap, sym, ◌∙◌, subst, arith, Less, Equal, Greater, nat_cmp}
 use Rattle.std.specs.Prelude.{bit_and, Contains, nat_le}
 use Rattle.std.specs.List.{list_any}
 use Rattle.std.specs.Cmp.{nat_cmp_is}
@@ -13,7 +13,6 @@ use Rattle.spin_base.proofs.Members.{Contains-first}
 use Rattle.spin_base.proofs.Places.{All-each}
 use Rattle.spin_base.specs.declared.blocks.Block.{Block}
 use Rattle.tern_word.proofs.BlockLaws.{range_keys, key_small, meet_where_agree, agree_where_meet}
-use Rattle.app_graph.specs.ValidGraph.{IsFixedFor}
 use Rattle.job_readers.specs.Blocks.{IsRange, last_key_of, shares_key}
 use Rattle.job_readers.specs.FixedRanges.{AreRanges}
 
@@ -22,11 +21,6 @@ pub last_small : (b : Block) → last_key_of b < 2 ^ 32
 last_small b =
     let le : b.key ≤ b.mask = subst (λ k. k ≤ b.mask) b.within (and_le_r b.key b.mask) in
     omega (arith, le, b.small)
-
--- a block that is fixed for a net is a range
-pub range_of_fixed : (keys : ℕ) (o : Option Block) → IfSome o (IsFixedFor keys) → IfSome o IsRange
-range_of_fixed keys None fixed = tt
-range_of_fixed keys (Some b) fixed = (fixed.0, fixed.1, fixed.2)
 
 -- ---- what an order of numbers says
 

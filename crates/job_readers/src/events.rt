@@ -317,6 +317,10 @@ pub(crate) fn events(
     ensures valid { IfOk result (λ es. All (IsEventOf (length graph.now.vertices)) es) }
 {
     let items = long_list_of(alloc, run, path, "events", false)?;
+    // The names of vertices are for events alone.
+    if items.is_empty() {
+        return Ok(Seq::new(alloc));
+    }
     let path = Path::Member(path, "events");
     let names = names_of_vertices(alloc, graph.vertices.as_slice())?;
     let listed = Listed { vertices: &names };

@@ -146,7 +146,7 @@ fn each_vertex(
     for (i, item) in items.iter().enumerate() {
         let path = Path::Item(&*path, i as u64);
         let vertex = vertex(alloc, item, &path, version, &names, &devices)?;
-        names = names.with(said_name(item))?;
+        names = names.with_new(said_name(item))?;
         devices = devices.and(vertex.device)?;
         vertices.push(vertex)?;
     }
@@ -375,7 +375,7 @@ fn each_net(
             blocks: &blocks,
         };
         let net = net(alloc, item, &path, version, &before, among)?;
-        names = names.with(said_name(item))?;
+        names = names.with_new(said_name(item))?;
         blocks = blocks.and(net.fixed)?;
         nets.push(net)?;
     }

@@ -1,5 +1,5 @@
 // Names in the order of a list, looked up in a map.
-ghost use Rattle.std.specs.Prelude.{◌≡◌, ◌<◌, ◌≤◌, [], ◌∷◌, ◌++◌, length, option_map, unwrap_or, map, IfOk};
+ghost use Rattle.std.specs.Prelude.{◌≡◌, ◌<◌, ◌≤◌, [], ◌∷◌, ◌++◌, None, length, option_map, unwrap_or, map, IfOk};
 ghost use Rattle.serde_json.specs.View.{view};
 ghost use Rattle.job_text.specs.Reading.{GivesOrFaults, IsFirstFault};
 ghost use Rattle.job_text.specs.Fields.{text_value};
@@ -18,7 +18,7 @@ use std::hash::{FoldHasher, Hasher};
 use std::marker::Model;
 
 // So many slots there are for each name that is to come: most names then have one of their own.
-const SLOTS: usize = 4;
+const SLOTS: usize = 16;
 
 // A slot that no name has.
 const EMPTY: u32 = u32::MAX;
@@ -74,6 +74,28 @@ impl<'a> Names<'a> {
         ensures { IfOk result (λ names. names ≡ self.entry ++ name.now ∷ []) }
     {
         let known = self.place(name).is_some();
+        if known {
+            let Names {
+                mut said,
+                slots,
+                crowded,
+            } = self;
+            said.push(name)?;
+            return Ok(Names {
+                said,
+                slots,
+                crowded,
+            });
+        }
+        self.with_new(name)
+    }
+
+    // The names, and at the end one more that is none of them.
+    pub(crate) fn with_new(self, name: &'a str) -> Result<Names<'a>, Memory>
+        requires few { length self < 4294967295 }
+        requires new { name_place_in self name.now ≡ None }
+        ensures { IfOk result (λ names. names ≡ self.entry ++ name.now ∷ []) }
+    {
         let Names {
             mut said,
             mut slots,
@@ -81,13 +103,6 @@ impl<'a> Names<'a> {
         } = self;
         let count = said.len() as u32;
         said.push(name)?;
-        if known {
-            return Ok(Names {
-                said,
-                slots,
-                crowded,
-            });
-        }
         let slot = slot_of(name, slots.len());
         if slots[slot] == EMPTY {
             slots[slot] = count;

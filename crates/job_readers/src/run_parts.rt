@@ -144,6 +144,10 @@ fn packets(
     ensures few { IfOk result (λ ps. length ps ≤ 65536) }
 {
     let items = list_of(alloc, run, path, "packets", false, MOST_PACKETS)?;
+    // The names of nets are for packets alone.
+    if items.is_empty() {
+        return Ok(Seq::new(alloc));
+    }
     let path = Path::Member(path, "packets");
     let names = names_of_nets(alloc, graph.nets.as_slice())?;
     let senders = Senders {

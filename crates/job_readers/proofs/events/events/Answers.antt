@@ -1,7 +1,16 @@
-use Rattle.std.proofs.Common.{◌≡◌, ◌∙◌, ap}
+use Rattle.std.proofs.Common.{◌≡◌, ◌∙◌, map, refl, ap, sym, arith}
+use Rattle.std.proofs.lemmas.List.{nil_from_length}
+use Rattle.serde_json.specs.View.{view}
 use Rattle.job_readers.specs.GraphPart.{vertex_names_of}
+use Rattle.job_readers.specs.Items.{items_faults}
 use Rattle.job_readers.specs.RunPart.{events_faults, events_value}
 use Rattle.job_readers.proofs.events.events.Goals as goal
+
+pub returns-then-is_empty-clause-read : goal.returns-then-is_empty-clause-read
+unfolding events_faults events_value items_faults
+returns-then-is_empty-clause-read c =
+    let none = sym c.in_ok-items.ensures.1 ∙ ap (map view) (nil_from_length c.in_ok-items.items.now (grind (arith, c.is_empty.ensures, c.if-is_empty.true))) in
+    rw (c.in_ok-items.ensures.0, none, c.new.ensures) (refl, refl)
 
 pub returns-clause-read : goal.returns-clause-read
 unfolding events_faults events_value

@@ -7,7 +7,9 @@ use Rattle.app_graph.specs.ValidGraph.{IsValidNet, HasSendingSource}
 use Rattle.job_text.specs.Reading.{IsFirstFault}
 use Rattle.job_text.specs.Paths.{path_text, item_at}
 use Rattle.job_readers.specs.Items.{following_faults}
+use Rattle.job_readers.specs.Places.{name_place_in}
 use Rattle.job_readers.specs.GraphPart.{net_value, next_net_faults}
+use Rattle.job_readers.proofs.Named.{net_is_new}
 use Rattle.job_readers.proofs.ItemSteps.{values-more, values-all}
 use Rattle.job_readers.proofs.FollowingSteps.{following-more, following-fail, following-none}
 use Rattle.job_readers.proofs.GraphSteps.{next_net, net_name, net_names_more, blocks_more, apart_more}
@@ -23,6 +25,10 @@ returns-in_err-net-clause-read c =
     let same = next_net c.args.version c.args.among.now.vertices.now c.loop-i.names c.loop-i.blocks c.loop-i.nets (item_at (path_text c.args.path.now) c.loop-i.i) (view c.index-items-i.result) c.loop-i.invariant.called c.loop-i.invariant.held in
     let first = subst (IsFirstFault c.in_err-net.field-0.0) same c.in_err-net.ensures.read in
     rw (p.1, p.2) (following-fail view xs c.loop-i.i c.index-items-i.result (omega arith) c.index-items-i.is f value c.loop-i.nets (path_text c.args.path.now) (item_at (path_text c.args.path.now) c.loop-i.i) all refl c.in_err-net.field-0.0 first c.loop-i.invariant.left)
+
+pub with_new-requires-clause-new : goal.with_new-requires-clause-new
+with_new-requires-clause-new c = ap (name_place_in c.loop-i.names) c.said_name.ensures
+    ∙ net_is_new c.args.version c.args.among.now.vertices.now c.loop-i.names c.loop-i.blocks (item_at (path_text c.args.path.now) c.loop-i.i) (view c.index-items-i.result) c.in_ok-net.ensures.read.0
 
 pub loop-i-preserved : goal.loop-i-preserved
 loop-i-preserved c =

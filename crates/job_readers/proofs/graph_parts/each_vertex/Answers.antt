@@ -7,7 +7,9 @@ use Rattle.app_graph.specs.ValidGraph.{IsValidVertex}
 use Rattle.job_text.specs.Reading.{IsFirstFault}
 use Rattle.job_text.specs.Paths.{path_text, item_at}
 use Rattle.job_readers.specs.Items.{following_faults}
+use Rattle.job_readers.specs.Places.{name_place_in}
 use Rattle.job_readers.specs.GraphPart.{vertex_value, next_vertex_faults}
+use Rattle.job_readers.proofs.Named.{vertex_is_new}
 use Rattle.job_readers.proofs.ItemSteps.{values-more, values-all}
 use Rattle.job_readers.proofs.FollowingSteps.{following-more, following-fail, following-none}
 use Rattle.job_readers.proofs.GraphSteps.{next_vertex, vertex_name, names_more, devices_more, different_more}
@@ -23,6 +25,10 @@ returns-in_err-vertex-clause-read c =
     let same = next_vertex c.args.version c.loop-i.names c.loop-i.devices c.loop-i.vertices (item_at (path_text c.args.path.now) c.loop-i.i) (view c.index-items-i.result) c.loop-i.invariant.named c.loop-i.invariant.hung in
     let first = subst (IsFirstFault c.in_err-vertex.field-0.0) same c.in_err-vertex.ensures.read in
     rw (p.1, p.2) (following-fail view xs c.loop-i.i c.index-items-i.result (omega arith) c.index-items-i.is f value c.loop-i.vertices (path_text c.args.path.now) (item_at (path_text c.args.path.now) c.loop-i.i) all refl c.in_err-vertex.field-0.0 first c.loop-i.invariant.left)
+
+pub with_new-requires-clause-new : goal.with_new-requires-clause-new
+with_new-requires-clause-new c = ap (name_place_in c.loop-i.names) c.said_name.ensures
+    ∙ vertex_is_new c.args.version c.loop-i.names c.loop-i.devices (item_at (path_text c.args.path.now) c.loop-i.i) (view c.index-items-i.result) c.in_ok-vertex.ensures.read.0
 
 pub loop-i-preserved : goal.loop-i-preserved
 loop-i-preserved c =

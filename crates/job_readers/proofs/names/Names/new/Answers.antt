@@ -9,7 +9,7 @@ use Rattle.job_readers.proofs.names.Names.new.Goals as goal
 
 pub invariant_of-result : goal.invariant_of-result
 invariant_of-result c =
-    let made : c.in_ok-vec.field-0.items ≡ replicate (4 * c.args.count + 1) 4294967295 = c.in_ok-vec.ensures.items_if_clones_equal (λ y h. search rules) in
+    let made : c.in_ok-vec.field-0.items ≡ replicate (16 * c.args.count + 1) 4294967295 = c.in_ok-vec.ensures.items_if_clones_equal (λ y h. search rules) in
     subst (λ l. AreSlots (map (λ n. n.now) l) c.in_ok-vec.field-0.items (told_later (record { said = c.new.result; slots = c.in_ok-vec.field-0; crowded = c.new-2.result }))) (sym c.new.ensures.items)
-    (none_in c.in_ok-vec.field-0.items (4 * c.args.count + 1) _ made (omega arith)
+    (none_in c.in_ok-vec.field-0.items (16 * c.args.count + 1) _ made (omega arith)
     (λ q. ap (lookup (is_at (λ k. slice_cmp nat_cmp q k.now))) c.new-2.ensures.empty))

@@ -1,10 +1,9 @@
-use Rattle.std.proofs.Common.{◌≡◌, ◌≢◌, [], ◌∷◌, ◌++◌, None, length, map, get_or, sym, ap, ◌∙◌, subst, arith}
-use Rattle.std.proofs.lemmas.List.{map_push, length-map, get_or_read}
-use Rattle.std.proofs.lemmas.Map.Text.{btree_map_updates_str}
+use Rattle.std.proofs.Common.{◌≡◌, [], ◌∷◌, ◌++◌, map, sym, subst, ◌∙◌}
+use Rattle.std.proofs.lemmas.List.{map_push}
 use Rattle.job_readers.specs.Places.{name_place_in}
-use Rattle.job_readers.specs.Indexed.{AreSlots, in_slot, slot_for, said_of, told_later}
+use Rattle.job_readers.specs.Indexed.{AreSlots, said_of, told_later}
 use Rattle.job_readers.proofs.PlaceSteps.{known_stays, none_is}
-use Rattle.job_readers.proofs.SlotSteps.{known_in, first_in, later_in}
+use Rattle.job_readers.proofs.SlotSteps.{known_in}
 use Rattle.job_readers.proofs.names.Names.with.Goals as goal
 
 pub invariant_of-result : goal.invariant_of-result
@@ -18,37 +17,5 @@ invariant_of-result c =
     (known_in names s c.self.inside.slots.items (told_later c.self.inside) c.self.invariant (rw c.self.view_is c.requires)
     (known_stays names s c.place.result c.is_some-known.result at c.is_some-known.ensures c.if-known.true))
 
-pub invariant_of-result-then-index : goal.invariant_of-result-then-index
-invariant_of-result-then-index c =
-    let names = said_of c.self.inside in
-    let slots = c.self.inside.slots.items in
-    let s = c.args.name.now in
-    let place_is : c.place.result ≡ name_place_in names s = cc in
-    let absent : name_place_in names s ≡ None = sym place_is ∙ none_is c.place.result (sym c.is_some-known.ensures ∙ c.if-known.false) in
-    let more : map (λ n. n.now) c.push.new.self.items ≡ names ++ s ∷ [] =
-    rw c.in_ok-push.ensures.items (map_push _ c.self.inside.said.items c.args.name) in
-    let count : c.len-count.result ≡ length names =
-    omega (arith, length-map c.self.inside.said.items (λ n. n.now), c.self.inside.said.ok.0) in
-    let at : c.slot_of-slot.result ≡ slot_for (length slots) s = c.slot_of-slot.ensures.slot ∙ ap (λ n. slot_for n s) (omega (arith, c.len.ensures, c.self.inside.slots.ok.0)) in
-    let empty : in_slot slots s ≡ 4294967295 =
-    ap (λ i. get_or slots i 0) (sym at) ∙ sym (get_or_read slots _ _ (omega (arith, c.slot_of-slot.ensures.within, c.len.ensures, c.self.inside.slots.ok.0)) c.index.ensures 0) ∙ c.if-index.true in
-    rw (more, count, at)
-    (first_in names s absent (rw c.self.view_is c.requires) slots (told_later c.self.inside) c.self.invariant empty)
-
-pub invariant_of-result-2 : goal.invariant_of-result-2
-invariant_of-result-2 c =
-    let names = said_of c.self.inside in
-    let slots = c.self.inside.slots.items in
-    let s = c.args.name.now in
-    let place_is : c.place.result ≡ name_place_in names s = cc in
-    let absent : name_place_in names s ≡ None = sym place_is ∙ none_is c.place.result (sym c.is_some-known.ensures ∙ c.if-known.false) in
-    let more : map (λ n. n.now) c.push.new.self.items ≡ names ++ s ∷ [] =
-    rw c.in_ok-push.ensures.items (map_push _ c.self.inside.said.items c.args.name) in
-    let count : c.len-count.result ≡ length names =
-    omega (arith, length-map c.self.inside.said.items (λ n. n.now), c.self.inside.said.ok.0) in
-    let at : c.slot_of-slot.result ≡ slot_for (length slots) s = c.slot_of-slot.ensures.slot ∙ ap (λ n. slot_for n s) (omega (arith, c.len.ensures, c.self.inside.slots.ok.0)) in
-    let taken : in_slot slots s ≢ 4294967295 =
-    λ empty. c.if-index.false (get_or_read slots _ _ (omega (arith, c.slot_of-slot.ensures.within, c.len.ensures, c.self.inside.slots.ok.0)) c.index.ensures 0 ∙ ap (λ i. get_or slots i 0) at ∙ empty) in
-    rw more
-    (later_in names s absent (rw c.self.view_is c.requires) slots (told_later c.self.inside) c.self.invariant
-    _ taken (λ q. rw (← count) (btree_map_updates_str s c.self.inside.crowded c.insert.new.self _ c.in_ok-insert.ensures.updates q)))
+pub with_new-requires-clause-new : goal.with_new-requires-clause-new
+with_new-requires-clause-new c = sym c.place.ensures ∙ none_is c.place.result (sym c.is_some-known.ensures ∙ c.if-known.false)
