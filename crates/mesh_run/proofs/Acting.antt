@@ -1,5 +1,6 @@
 -- What one turn of the actor at a place does to a share, and turns one after the other.
-use Rattle.std.proofs.Common.{◌≡◌, ◌≢◌, ◌⊎◌, ℕ, zero, suc, ◌+◌, ◌*◌, ◌/◌, ◌%◌, ◌<◌, ◌≤◌, Bool, true, false, List, [], ◌∷◌, ◌++◌, length, take, drop, Option, None, Some, refl, sym, ap, ◌∙◌, subst, arith, inl, inr}
+use Rattle.std.proofs.Common.{◌≡◌, ◌≢◌, ◌⊎◌, ℕ, zero, suc, ◌+◌, ◌*◌, ◌/◌, ◌%◌, ◌<◌, ◌≤◌, Bool, true, false, List, [], ◌∷◌}
+use Rattle.std.proofs.Common.{◌++◌, length, take, drop, Option, None, Some, refl, sym, ap, ◌∙◌, subst, arith, inl, inr}
 use Rattle.std.specs.List.{All, slice_get, slice_index_or}
 use Rattle.std.proofs.lemmas.List.{length-take, length-drop}
 use Rattle.std.proofs.lemmas.List.Elements.{All-append, All-nil, All-weaker}
@@ -13,15 +14,11 @@ use Rattle.spin_base.specs.declared.routes.Out.TheVariants.{Link, Core}
 use Rattle.spin_base.specs.Links.{port_number}
 use Rattle.spin_base.specs.Outputs.{out_number, IsOutput}
 use Rattle.machine_desc.specs.Live.{chip_of, index_of, is_live_chip}
-use Rattle.machine_desc.proofs.Far.{live_inside}
-use Rattle.machine_desc.proofs.Live.{index_of-chip_of}
+use Rattle.machine_desc.proofs.{Far.live_inside, Live.index_of-chip_of}
 use Rattle.link_queue.specs.declared.links.Link.{Link as QueueLink}
-use Rattle.chip_node.specs.declared.holdings.Holdings.{Holdings}
-use Rattle.chip_node.specs.declared.holdings.Turn.{Turn}
+use Rattle.chip_node.specs.declared.holdings.{Holdings.Holdings, Turn.Turn}
 use Rattle.chip_node.specs.declared.holdings.Turn.TheVariants.{Moved, Nothing, Waits}
-use Rattle.chip_node.specs.declared.nodes.Behind.{Behind}
-use Rattle.chip_node.specs.declared.nodes.CoreBank.{CoreBank}
-use Rattle.chip_node.specs.declared.nodes.RouterNode.{RouterNode}
+use Rattle.chip_node.specs.declared.nodes.{Behind.Behind, CoreBank.CoreBank, RouterNode.RouterNode}
 use Rattle.chip_node.specs.Acting.{place_in, BankActs, IsReadyBank, IsReadyRouter, RouterActs}
 use Rattle.chip_node.specs.Acting.{place_at_router}
 use Rattle.chip_node.specs.Going.{AreEndsOf, Goes, HoldsSender, Stays}
@@ -29,8 +26,7 @@ use Rattle.chip_node.specs.Items.{Item, injection_place, port_place}
 use Rattle.chip_node.proofs.Flows.{goes_none, goes_on, holds_sender_on}
 use Rattle.chip_node.proofs.Stays.{stays_same}
 use Rattle.mesh_core.specs.State.{Setup}
-use Rattle.mesh_run.specs.declared.floors.Floor.{Floor}
-use Rattle.mesh_run.specs.declared.shares.Share.{Share}
+use Rattle.mesh_run.specs.declared.{floors.Floor.Floor, shares.Share.Share}
 use Rattle.mesh_run.specs.Floors.{grid_size, IsBankOf, IsFloorOf}
 use Rattle.mesh_run.specs.Played.{place_behind, port_count, IsLiveIndex}
 use Rattle.mesh_run.specs.Shares.{actor_of, bank_place, router_place, ActsAt, AreOf, DoesAt, IsInRun, IsNoted, IsShareOf, MovesAt, PlaysOne, PlaysRound, PlaysTurns, SharePlays}
@@ -81,11 +77,9 @@ module _ (u : Setup) (f : Floor) where
 
   router_outputs : (i : ℕ) (r : RouterNode) → IsFloorOf u f → i < grid_size u → IsFloorRouter u f i r → length r.behind.now ≡ 24
   router_outputs i r of below is =
-      let all = ap length is.3 in
       let taken = length-take 24 (drop (24 * i) f.behind.items) in
       let dropped = length-drop (24 * i) f.behind.items in
-      let long = of.behind_long in
-      omega (arith, all, taken, dropped, long, below)
+      omega (arith, ap length is.3, taken, dropped, of.behind_long, below)
 
   pub router_of : (i : ℕ) (r : RouterNode) → IsFloorOf u f → i < grid_size u → is_live_chip u.machine (chip_of u.machine i) ≡ true → IsFloorRouter u f i r → IsRouterOf u i r
   router_of i r of below live is = record {
@@ -145,14 +139,14 @@ module _ (u : Setup) (f : Floor) where
           vertices = All-each (λ v. (v < length s.hold.unsent.items) × (b.cores + v < length s.hold.ends.items)) b.vertices.items (λ v has.
               let on = bank.vertices v has in
               let below = slice_get_within u.spots v on.spot on.stands in
-              let unsent_long = share.unsent_long in
-              let ends_long = share.ends_long in
-              let cores = bank.cores in
-              (omega (arith, below, unsent_long), omega (arith, below, ends_long, cores)));
+              (omega (arith, below, share.unsent_long), omega (arith, below, share.ends_long, bank.cores)));
           ends = share.ends;
         }
 
 module _ (u : Setup) (links : List QueueLink) (s : Share) where
+  was_in : (t : Share) → t.from ≡ s.from → t.to ≡ s.to → {a : ℕ} → IsInRun t.from t.to a → IsInRun s.from s.to a
+  was_in t from to {a} is = record { above = subst (λ n. n ≤ a) from is.above; below = subst (λ n. a < n) to is.below }
+
   -- a share is one of its mesh after what was done
   pub share_on : (cap patience : ℕ) (t : Share) (items : List Item) → t.from ≡ s.from → t.to ≡ s.to → Goes cap patience s.hold items t.hold → AreEndsOf links t.hold.ends.items →
       IsShareOf u links s → IsShareOf u links t
@@ -160,26 +154,20 @@ module _ (u : Setup) (links : List QueueLink) (s : Share) where
     ends_long = goes.ends_long ∙ share.ends_long;
     unsent_long = goes.unsent_long ∙ share.unsent_long;
     within = subst (λ n. n ≤ 2 * grid_size u) (sym to) share.within;
-    routers = λ i o q live within behind. holds_sender_on cap patience s.hold t.hold items q goes (share.routers i o q live (was_in within) behind);
-    banks = λ i live within. holds_sender_on cap patience s.hold t.hold items (injection_place i) goes (share.banks i live (was_in within));
+    routers = λ i o q live within behind. holds_sender_on cap patience s.hold t.hold items q goes (share.routers i o q live (was_in t from to within) behind);
+    banks = λ i live within. holds_sender_on cap patience s.hold t.hold items (injection_place i) goes (share.banks i live (was_in t from to within));
     ends = ends;
   }
-    where
-      was_in : {a : ℕ} → IsInRun t.from t.to a → IsInRun s.from s.to a
-      was_in {a} is = record { above = subst (λ n. n ≤ a) from is.above; below = subst (λ n. a < n) to is.below }
 
   pub share_same : (t : Share) → t.from ≡ s.from → t.to ≡ s.to → t.hold ≡ s.hold → IsShareOf u links s → IsShareOf u links t
   share_same t from to hold share = record {
     ends_long = subst (λ (h : Holdings). length h.ends.items ≡ port_count u + length u.spots) (sym hold) share.ends_long;
     unsent_long = subst (λ (h : Holdings). length h.unsent.items ≡ length u.spots) (sym hold) share.unsent_long;
     within = subst (λ n. n ≤ 2 * grid_size u) (sym to) share.within;
-    routers = λ i o q live within behind. subst (λ (h : Holdings). HoldsSender h.ends.items q) (sym hold) (share.routers i o q live (was_in within) behind);
-    banks = λ i live within. subst (λ (h : Holdings). HoldsSender h.ends.items (injection_place i)) (sym hold) (share.banks i live (was_in within));
+    routers = λ i o q live within behind. subst (λ (h : Holdings). HoldsSender h.ends.items q) (sym hold) (share.routers i o q live (was_in t from to within) behind);
+    banks = λ i live within. subst (λ (h : Holdings). HoldsSender h.ends.items (injection_place i)) (sym hold) (share.banks i live (was_in t from to within));
     ends = subst (λ (h : Holdings). AreEndsOf links h.ends.items) (sym hold) share.ends;
   }
-    where
-      was_in : {a : ℕ} → IsInRun t.from t.to a → IsInRun s.from s.to a
-      was_in {a} is = record { above = subst (λ n. n ≤ a) from is.above; below = subst (λ n. a < n) to is.below }
 
 -- ---- what a turn does
 

@@ -51,7 +51,8 @@ module _ (w : Whole) where
   -- each queue of that mesh is what the round makes of it
   pub queue_there : (q : ℕ) → q < port_count w.m.setup + length w.m.setup.spots → AfterRound w q (get_or (after_inputs.0 ++ after_cores.0) q [])
   queue_there q below = elim (cases_lt q (port_count w.m.setup)) [
-    | inl less ↦ subst (λ (x : List McCopy). AfterRound w q x) (sym (get_or_append_left after_inputs.0 after_cores.0 [] q (let long = after_inputs.1 in omega (arith, less, long)))) (after_inputs.2 q [] less)
+    | inl less ↦ subst (λ (x : List McCopy). AfterRound w q x) (sym (get_or_append_left after_inputs.0 after_cores.0 [] q (let long = after_inputs.1 in omega (arith, less, long))))
+        (after_inputs.2 q [] less)
     | inr more ↦
         let long = after_inputs.1 in
         let v = q - length after_inputs.0 in
@@ -66,9 +67,8 @@ module _ (w : Whole) where
     | inl less ↦ (after_unsent.2 v [] less).sent
     | inr more ↦
         let before = w.is_mesh.unsent_lists in
-        let after = after_unsent.1 in
         get_or_past w.m.unsent v [] (omega (arith, more, before)) ∙ sym (ap (λ (l : List McCopy). l ++ get_or after_unsent.0 v []) (none_sent w.m.setup v more (joined (parts w)) (whole_turns w).each)
-        ∙ get_or_past after_unsent.0 v [] (omega (arith, more, after)))
+        ∙ get_or_past after_unsent.0 v [] (omega (arith, more, after_unsent.1)))
   ]
 
   pub whole_played : IsPlayedBy w.patience w.turns (joined (parts w)) w.m mesh

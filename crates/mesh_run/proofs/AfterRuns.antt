@@ -4,8 +4,7 @@ use Rattle.std.specs.List.{slice_get}
 use Rattle.std.proofs.lemmas.Option.{get_or_from_slice_get, slice_get_within}
 use Rattle.spin_base.proofs.Places.{slice_get_there}
 use Rattle.mesh_run.specs.declared.shares.Share.{Share}
-use Rattle.mesh_run.specs.Shares.{PlaysRound}
-use Rattle.mesh_run.specs.Split.{AreShared}
+use Rattle.mesh_run.specs.{Shares.PlaysRound, Split.AreShared}
 use Rattle.mesh_run.proofs.WholeRound.{Whole, dealt_long}
 
 same_unsent_long : (s t : Share) → t.hold.unsent ≡ s.hold.unsent → length t.hold.unsent.items ≡ length s.hold.unsent.items
@@ -30,11 +29,10 @@ module _ (w : Whole) where
       let long = all_long in
       let as_dealt = dealt_long w in
       let as_played = w.played_long in
-      let as_collected = w.collects.collects.same.0 in
       let s = slice_get_there w.r.shares.items k (omega (arith, below, long)) in
       let d = slice_get_there w.dealt k (omega (arith, below, long, as_dealt)) in
       let p = slice_get_there w.played k (omega (arith, below, long, as_dealt, as_played)) in
-      let c = slice_get_there w.collected k (omega (arith, below, long, as_dealt, as_played, as_collected)) in
+      let c = slice_get_there w.collected k (omega (arith, below, long, as_dealt, as_played, w.collects.collects.same.0)) in
       let first = w.deals.same.1 k s.0 d.0 s.1 d.1 in
       let third = w.collects.collects.same.1 k p.0 c.0 p.1 c.1 in
       let fourth = w.clears.1 k c.0 t c.1 at in

@@ -4,11 +4,8 @@ use Rattle.std.specs.List.{slice_get}
 use Rattle.std.proofs.lemmas.Bool.{cases_eq, cases_lt}
 use Rattle.std.proofs.lemmas.Option.{slice_get_within}
 use Rattle.chip_node.specs.declared.ends.End.TheVariants.{Away}
-use Rattle.mesh_run.specs.declared.homes.Cut.{Cut}
-use Rattle.mesh_run.specs.declared.homes.Home.{Home}
-use Rattle.mesh_run.specs.declared.shares.Share.{Share}
-use Rattle.mesh_run.specs.Crossing.{IsUncut}
-use Rattle.mesh_run.specs.Played.{vertex_place}
+use Rattle.mesh_run.specs.declared.{homes.Cut.Cut, homes.Home.Home, shares.Share.Share}
+use Rattle.mesh_run.specs.{Crossing.IsUncut, Played.vertex_place}
 use Rattle.mesh_run.specs.Split.{end_at, unsent_in, HoldLanes, HoldUnsent}
 use Rattle.mesh_run.proofs.AfterMesh.{after_unsent, mesh, queue_there}
 use Rattle.mesh_run.proofs.EachQueue.{cleared_end, elsewhere}
@@ -33,9 +30,7 @@ module _ (w : Whole) where
 
   away_after : (q : ℕ) (h : Home) (s : ℕ) → slice_get w.r.layout.now.homes.items q ≡ Some h → s < length w.cleared → (s ≢ h.sender) ⊎ (h.sender ≢ h.receiver) → end_at w.cleared s q ≡ Some Away
   away_after q h s at inside other =
-      let long = cleared_long in
-      let as_dealt = dealt_long w in
-      let was = w.roomy.raised.lanes.away q h s at (omega (arith, inside, long, as_dealt)) other in
+      let was = w.roomy.raised.lanes.away q h s at (omega (arith, inside, cleared_long, dealt_long w)) other in
       elim (cases_eq h.sender h.receiver) [
         | inl same ↦ stays_away s q (uncut w q h at same s) was
         | inr two ↦
@@ -54,7 +49,8 @@ module _ (w : Whole) where
 
   pub whole_lanes : HoldLanes ((mesh w).inputs ++ (mesh w).cores) w.r.layout.now.homes.items w.cleared
   whole_lanes = record {
-    lanes = λ q h at same. (queue_there w q (let below = slice_get_within w.r.layout.now.homes.items q h at in let long = w.roomy.raised.shared.homes_are.long in omega (arith, below, long))).lane h at same;
+    lanes = λ q h at same.
+        (queue_there w q (let below = slice_get_within w.r.layout.now.homes.items q h at in let long = w.roomy.raised.shared.homes_are.long in omega (arith, below, long))).lane h at same;
     away = away_after;
   }
 

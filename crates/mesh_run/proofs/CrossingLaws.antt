@@ -5,18 +5,65 @@ use Rattle.std.proofs.lemmas.Bool.{cases_eq}
 use Rattle.std.proofs.lemmas.Option.{get_or_from_slice_get, none-some, same_Some, slice_get_within}
 use Rattle.std.proofs.lemmas.List.{length-map, length-set, map-set, same_lists}
 use Rattle.spin_base.proofs.Places.{slice_get_there, slice_get-mapped, slice_get-set_same, slice_get-set_other, set-slice_get}
-use Rattle.link_queue.specs.declared.links.LinkEnds.{LinkEnds}
-use Rattle.link_queue.specs.declared.links.Tx.{Tx}
-use Rattle.link_queue.specs.declared.links.Rx.{Rx}
+use Rattle.link_queue.specs.declared.links.{LinkEnds.LinkEnds, Tx.Tx, Rx.Rx}
 use Rattle.chip_node.specs.declared.ends.End.{End}
 use Rattle.chip_node.specs.declared.ends.End.TheVariants.{Away, Sends, Takes}
-use Rattle.mesh_run.specs.declared.homes.Cut.{Cut}
-use Rattle.mesh_run.specs.declared.shares.Share.{Share}
-use Rattle.mesh_run.specs.declared.standing.Standing.{Standing}
+use Rattle.mesh_run.specs.declared.{homes.Cut.Cut, shares.Share.Share, standing.Standing.Standing}
 use Rattle.mesh_run.specs.Crossing.{AreCuts, AreLaid, AreSameButEnds, Deals, HoldsCollected, HoldsNoEnds, IsLaid, IsOfCut, PutsEnd, SameButEnds}
 use Rattle.mesh_run.specs.Split.{end_at, end_in}
 use Rattle.mesh_run.specs.Standing.{HoldsAll}
 use Rattle.mesh_run.proofs.Holding.{only_ends}
+
+-- ---- lists of which each item is as the one at its place
+
+abbrev pub AreEach : {X : Type 0} → (X → X → Type 0) → List X → List X → Type 0
+AreEach {X} R before after = (length after ≡ length before) × ((k : ℕ) (s t : X) → slice_get before k ≡ Some s → slice_get after k ≡ Some t → R s t)
+
+pub each_self : {X : Type 0} (R : X → X → Type 0) → ((x : X) → R x x) → (xs : List X) → AreEach R xs xs
+each_self R self xs = (refl, λ k s t at also. subst (R s) (same_Some s t (sym at ∙ also)) (self s))
+
+pub each_on : {X : Type 0} (R : X → X → Type 0) → ((x y z : X) → R x y → R y z → R x z) → (a b c : List X) → AreEach R a b → AreEach R b c → AreEach R a c
+each_on R on a b c first second = (
+  second.0 ∙ first.0,
+  λ k x z at also.
+      let y = slice_get_there b k (omega (arith, slice_get_within a k x at, first.0)) in
+      on x y.0 z (first.1 k x y.0 at y.1) (second.1 k y.0 z y.1 also),
+)
+
+-- one item is another
+pub each_set : {X : Type 0} (R : X → X → Type 0) → ((x : X) → R x x) → (xs : List X) (i : ℕ) (s t : X) → slice_get xs i ≡ Some s → R s t → AreEach R xs (set xs i t)
+each_set {X} R self xs i s t stands new = (
+  length-set xs i t,
+  λ k x y at also. elim (cases_eq k i) [
+    | inl here ↦
+        let is_x : s ≡ x = same_Some s x (sym stands ∙ (ap (slice_get xs) (sym here) ∙ at)) in
+        let is_y : t ≡ y = same_Some t y (sym (slice_get-set_same xs i s t stands) ∙ (ap (slice_get (set xs i t)) (sym here) ∙ also)) in
+        subst (λ (z : X). R x z) is_y (subst (λ (z : X). R z t) is_x new)
+    | inr other ↦ subst (R x) (same_Some x y (sym at ∙ (sym (slice_get-set_other xs i k t other) ∙ also))) (self x)
+  ],
+)
+
+-- ---- all but ends is the same
+
+pub ends_self : (s : Share) → SameButEnds s s
+ends_self s = record { from = refl; to = refl; moved = refl; ends_long = refl; unsent = refl; dumps = refl; deliveries = refl }
+
+ends_on : (x y z : Share) → SameButEnds x y → SameButEnds y z → SameButEnds x z
+ends_on x y z p q = record {
+  from = q.from ∙ p.from;
+  to = q.to ∙ p.to;
+  moved = q.moved ∙ p.moved;
+  ends_long = q.ends_long ∙ p.ends_long;
+  unsent = q.unsent ∙ p.unsent;
+  dumps = q.dumps ∙ p.dumps;
+  deliveries = q.deliveries ∙ p.deliveries;
+}
+
+pub same_self : (shares : List Share) → AreSameButEnds shares shares
+same_self shares = each_self SameButEnds ends_self shares
+
+pub same_on : (a b c : List Share) → AreSameButEnds a b → AreSameButEnds b c → AreSameButEnds a c
+same_on a b c first second = each_on SameButEnds ends_on a b c first second
 
 -- ---- one end of one share
 
@@ -53,30 +100,19 @@ end_inside shares s q e share is read =
     subst (λ (x : Share). q < length x.hold.ends.items) (sym same) (slice_get_within at.share.hold.ends.items q e at.holds)
 
 -- one end of a share is another
-pub end_set : (before after : List Share) (share queue : ℕ) (s t : Share) (old end : End) → slice_get before share ≡ Some s → slice_get s.hold.ends.items queue ≡ Some old → after ≡ set before share t →
-    t.from ≡ s.from → t.to ≡ s.to → t.moved ≡ s.moved → t.hold.unsent ≡ s.hold.unsent → t.hold.dumps ≡ s.hold.dumps → t.hold.deliveries ≡ s.hold.deliveries →
+pub end_set : (before after : List Share) (share queue : ℕ) (s t : Share) (old end : End) → slice_get before share ≡ Some s → slice_get s.hold.ends.items queue ≡ Some old →
+    after ≡ set before share t → t.from ≡ s.from → t.to ≡ s.to → t.moved ≡ s.moved → t.hold.unsent ≡ s.hold.unsent → t.hold.dumps ≡ s.hold.dumps → t.hold.deliveries ≡ s.hold.deliveries →
     t.hold.ends.items ≡ set s.hold.ends.items queue end → PutsEnd share queue end before after
 end_set before after share queue s t old end stands holds is from to moved unsent dumps deliveries ends = subst (PutsEnd share queue end before) (sym is) (record {
-  same = (
-    length-set before share t,
-    λ k x y at also. elim (cases_eq k share) [
-      | inl here ↦
-          let is_x : s ≡ x = same_Some s x (sym stands ∙ (ap (slice_get before) (sym here) ∙ at)) in
-          let is_y : t ≡ y = same_Some t y (sym (slice_get-set_same before share s t stands) ∙ (ap (slice_get (set before share t)) (sym here) ∙ also)) in
-          subst (λ (z : Share). SameButEnds x z) is_y (subst (λ (z : Share). SameButEnds z t) is_x (record {
-            from = from;
-            to = to;
-            moved = moved;
-            ends_long = ap length ends ∙ length-set s.hold.ends.items queue end;
-            unsent = unsent;
-            dumps = dumps;
-            deliveries = deliveries;
-          }))
-      | inr other ↦
-          let is_y : x ≡ y = same_Some x y (sym at ∙ (sym (slice_get-set_other before share k t other) ∙ also)) in
-          subst (SameButEnds x) is_y (record { from = refl; to = refl; moved = refl; ends_long = refl; unsent = refl; dumps = refl; deliveries = refl })
-    ],
-  );
+  same = each_set SameButEnds ends_self before share s t stands (record {
+    from = from;
+    to = to;
+    moved = moved;
+    ends_long = ap length ends ∙ length-set s.hold.ends.items queue end;
+    unsent = unsent;
+    dumps = dumps;
+    deliveries = deliveries;
+  });
   here = ap (λ (o : Option Share). end_in o queue) (slice_get-set_same before share s t stands) ∙ (ap (λ l. slice_get l queue) ends ∙ slice_get-set_same s.hold.ends.items queue old end holds);
   others = λ k q differs. elim (cases_eq k share) [
     | inl here ↦
@@ -89,46 +125,19 @@ end_set before after share queue s t old end stands holds is from to moved unsen
   ];
 })
 
--- ---- all but ends is the same
-
-pub same_self : (shares : List Share) → AreSameButEnds shares shares
-same_self shares = (refl, λ k s t at also. subst (SameButEnds s) (same_Some s t (sym at ∙ also)) (record { from = refl; to = refl; moved = refl; ends_long = refl; unsent = refl; dumps = refl; deliveries = refl }))
-
-pub same_on : (a b c : List Share) → AreSameButEnds a b → AreSameButEnds b c → AreSameButEnds a c
-same_on a b c first second = (
-  second.0 ∙ first.0,
-  λ k x z at also.
-      let within = slice_get_within a k x at in
-      let long = first.0 in
-      let y = slice_get_there b k (omega (arith, within, long)) in
-      let p = first.1 k x y.0 at y.1 in
-      let q = second.1 k y.0 z y.1 also in
-      record {
-        from = q.from ∙ p.from;
-        to = q.to ∙ p.to;
-        moved = q.moved ∙ p.moved;
-        ends_long = q.ends_long ∙ p.ends_long;
-        unsent = q.unsent ∙ p.unsent;
-        dumps = q.dumps ∙ p.dumps;
-        deliveries = q.deliveries ∙ p.deliveries;
-      },
-)
-
 -- an end's place stays
 pub end_still : (a b : List Share) (s q : ℕ) (e : End) → AreSameButEnds a b → end_at a s q ≡ Some e → (f : End) × (end_at b s q ≡ Some f)
 end_still a b s q e same is =
     let at = end_there a s q e is in
-    let within = slice_get_within a s at.share at.stands in
-    let long = same.0 in
-    let y = slice_get_there b s (omega (arith, within, long)) in
+    let y = slice_get_there b s (omega (arith, slice_get_within a s at.share at.stands, same.0)) in
     let ends = (same.1 s at.share y.0 at.stands y.1).ends_long in
-    let inside = slice_get_within at.share.hold.ends.items q e at.holds in
-    let f = slice_get_there y.0.hold.ends.items q (omega (arith, ends, inside)) in
+    let f = slice_get_there y.0.hold.ends.items q (omega (arith, ends, slice_get_within at.share.hold.ends.items q e at.holds)) in
     (f.0, ap (λ (o : Option Share). end_in o q) y.1 ∙ f.1)
 
 -- ---- both ends of a cut's link
 
-pub puts_two : (cuts : List Cut) (start before mid after : List Share) (n : ℕ) (c : Cut) (first second : End) → AreCuts cuts start → slice_get cuts n ≡ Some c → PutsEnd c.sender c.queue first before mid → PutsEnd c.receiver c.queue second mid after →
+pub puts_two : (cuts : List Cut) (start before mid after : List Share) (n : ℕ) (c : Cut) (first second : End) → AreCuts cuts start → slice_get cuts n ≡ Some c →
+    PutsEnd c.sender c.queue first before mid → PutsEnd c.receiver c.queue second mid after →
     (end_at after c.sender c.queue ≡ Some first) × (end_at after c.receiver c.queue ≡ Some second) × ((s q : ℕ) → (IsOfCut c s q → ⊥) → end_at after s q ≡ end_at before s q)
 puts_two cuts start before mid after n c first second are at one two = (
   two.others c.sender c.queue (λ same. are.two n c at same.0) ∙ one.here,
@@ -139,14 +148,9 @@ puts_two cuts start before mid after n c first second are at one two = (
 -- an end of one cut's link is none of another's
 pub apart : (cuts : List Cut) (start : List Share) (k l s : ℕ) (a b : Cut) → AreCuts cuts start → slice_get cuts k ≡ Some a → slice_get cuts l ≡ Some b → l < k → IsOfCut a s b.queue → ⊥
 apart cuts start k l s a b are at_k at_l less of =
-    let same = are.apart l k b a at_l at_k of.0 in
-    omega (arith, same, less)
+    omega (arith, are.apart l k b a at_l at_k of.0, less)
 
 -- ---- dealing
-
--- no end of the first cuts' links is held there
-IsUncutTo : List Cut → ℕ → ℕ → ℕ → Type 0
-IsUncutTo cuts n s q = (l : ℕ) (c : Cut) → l < n → slice_get cuts l ≡ Some c → IsOfCut c s q → ⊥
 
 pub record DealtTo (cuts : List Cut) (start : Standing) (before : List Share) (n : ℕ) (standing : Standing) (now : List Share) : Type 0 where
   pub ends : List LinkEnds
@@ -180,13 +184,15 @@ dealt_none cuts start before ends holds long = record {
 }
 
 -- the link at the next place
-pub next_link : (cuts : List Cut) (start standing : Standing) (before now : List Share) (n : ℕ) → DealtTo cuts start before n standing now → n < length cuts → (e : LinkEnds) × (slice_get standing.txs.items n ≡ Some (Some e.tx)) × (slice_get standing.rxs.items n ≡ Some (Some e.rx))
+pub next_link : (cuts : List Cut) (start standing : Standing) (before now : List Share) (n : ℕ) → DealtTo cuts start before n standing now → n < length cuts →
+    (e : LinkEnds) × (slice_get standing.txs.items n ≡ Some (Some e.tx)) × (slice_get standing.rxs.items n ≡ Some (Some e.rx))
 next_link cuts start standing before now n so_far below =
     let long = so_far.long in
     let e = slice_get_there so_far.ends n (omega (arith, long, below)) in
     (e.0, so_far.txs n e.0 (omega arith) e.1, so_far.rxs n e.0 (omega arith) e.1)
 
-pub dealt_more : (cuts : List Cut) (start standing after : Standing) (before now mid new : List Share) (n : ℕ) (c : Cut) (tx : Tx) (rx : Rx) → AreCuts cuts before → DealtTo cuts start before n standing now → slice_get cuts n ≡ Some c →
+pub dealt_more : (cuts : List Cut) (start standing after : Standing) (before now mid new : List Share) (n : ℕ) (c : Cut) (tx : Tx) (rx : Rx) → AreCuts cuts before →
+    DealtTo cuts start before n standing now → slice_get cuts n ≡ Some c →
     slice_get standing.txs.items n ≡ Some (Some tx) → slice_get standing.rxs.items n ≡ Some (Some rx) → after.links ≡ standing.links → after.rooms ≡ standing.rooms →
     after.txs.items ≡ set standing.txs.items n None → after.rxs.items ≡ set standing.rxs.items n None →
     PutsEnd c.sender c.queue (Sends (record { link = n; tx = tx })) now mid → PutsEnd c.receiver c.queue (Takes (record { link = n; rx = rx })) mid new → DealtTo cuts start before (n + 1) after new
@@ -209,8 +215,10 @@ dealt_more cuts start standing after before now mid new n c tx rx are so_far at 
             let here_e : slice_get so_far.ends n ≡ Some e = ap (slice_get so_far.ends) (sym here) ∙ there in
             let is_tx : tx ≡ e.tx = same_Some tx e.tx (same_Some (Some tx) (Some e.tx) (sym tx_is ∙ so_far.txs n e (omega arith) here_e)) in
             let is_rx : rx ≡ e.rx = same_Some rx e.rx (same_Some (Some rx) (Some e.rx) (sym rx_is ∙ so_far.rxs n e (omega arith) here_e)) in (
-              ap (λ (x : Cut). end_at new x.sender x.queue) (sym is_c) ∙ (both.0 ∙ (ap (λ (x : Tx). Some (Sends (record { link = n; tx = x }))) is_tx ∙ ap (λ (k : ℕ). Some (Sends (record { link = k; tx = e.tx }))) (sym here))),
-              ap (λ (x : Cut). end_at new x.receiver x.queue) (sym is_c) ∙ (both.1 ∙ (ap (λ (x : Rx). Some (Takes (record { link = n; rx = x }))) is_rx ∙ ap (λ (k : ℕ). Some (Takes (record { link = k; rx = e.rx }))) (sym here))),
+              ap (λ (x : Cut). end_at new x.sender x.queue) (sym is_c)
+                  ∙ (both.0 ∙ (ap (λ (x : Tx). Some (Sends (record { link = n; tx = x }))) is_tx ∙ ap (λ (k : ℕ). Some (Sends (record { link = k; tx = e.tx }))) (sym here))),
+              ap (λ (x : Cut). end_at new x.receiver x.queue) (sym is_c)
+                  ∙ (both.1 ∙ (ap (λ (x : Rx). Some (Takes (record { link = n; rx = x }))) is_rx ∙ ap (λ (k : ℕ). Some (Takes (record { link = k; rx = e.rx }))) (sym here))),
             )
         | inr other ↦
             let before_n : l < n = omega (arith, less, other) in
@@ -222,20 +230,22 @@ dealt_more cuts start standing after before now mid new n c tx rx are so_far at 
       others = λ s q uncut. both.2 s q (uncut n c (omega arith) at) ∙ so_far.others s q (λ l d less. uncut l d (omega (arith, less)));
     }
 
-pub dealt_all : (cuts : List Cut) (start standing : Standing) (before now : List Share) (n : ℕ) (ends : List LinkEnds) → DealtTo cuts start before n standing now → length cuts ≤ n → HoldsAll ends start → Deals ends cuts before now × HoldsNoEnds ends standing
-dealt_all cuts start standing before now n ends so_far past holds = subst (λ (l : List LinkEnds). Deals l cuts before now × HoldsNoEnds l standing) (only_ends so_far.ends ends start so_far.held holds) (
-  record {
-    same = so_far.same;
-    dealt = λ l c e at there. let within = slice_get_within cuts l c at in so_far.dealt l c e (omega (arith, within, past)) at there;
-    others = λ s q uncut. so_far.others s q (λ l c less. uncut l c);
-  },
-  record {
-    links = sym so_far.held.links ∙ ap (λ v. v.items) (sym so_far.links);
-    rooms = sym so_far.held.rooms ∙ ap (λ v. v.items) (sym so_far.rooms);
-    txs_long = so_far.txs_long;
-    rxs_long = so_far.rxs_long;
-  },
-)
+pub dealt_all : (cuts : List Cut) (start standing : Standing) (before now : List Share) (n : ℕ) (ends : List LinkEnds) → DealtTo cuts start before n standing now → length cuts ≤ n →
+    HoldsAll ends start → Deals ends cuts before now × HoldsNoEnds ends standing
+dealt_all cuts start standing before now n ends so_far past holds = subst (λ (l : List LinkEnds). Deals l cuts before now × HoldsNoEnds l standing)
+    (only_ends so_far.ends ends start so_far.held holds) (
+      record {
+        same = so_far.same;
+        dealt = λ l c e at there. let within = slice_get_within cuts l c at in so_far.dealt l c e (omega (arith, within, past)) at there;
+        others = λ s q uncut. so_far.others s q (λ l c less. uncut l c);
+      },
+      record {
+        links = sym so_far.held.links ∙ ap (λ v. v.items) (sym so_far.links);
+        rooms = sym so_far.held.rooms ∙ ap (λ v. v.items) (sym so_far.rooms);
+        txs_long = so_far.txs_long;
+        rxs_long = so_far.rxs_long;
+      },
+    )
 
 -- ---- collecting
 
@@ -256,7 +266,8 @@ pub record CollectedTo (cuts : List Cut) (start : Standing) (before : List Share
   pub gone : (l : ℕ) (c : Cut) → l < n → slice_get cuts l ≡ Some c → (end_at now c.sender c.queue ≡ Some Away) × (end_at now c.receiver c.queue ≡ Some Away)
   pub others : (s q : ℕ) → ((l : ℕ) (c : Cut) → l < n → slice_get cuts l ≡ Some c → IsOfCut c s q → ⊥) → end_at now s q ≡ end_at before s q
 
-pub collected_none : (cuts : List Cut) (start : Standing) (before : List Share) (ends : List LinkEnds) → HoldsNoEnds ends start → length ends ≡ length cuts → CollectedTo cuts start before 0 start before
+pub collected_none : (cuts : List Cut) (start : Standing) (before : List Share) (ends : List LinkEnds) → HoldsNoEnds ends start → length ends ≡ length cuts →
+    CollectedTo cuts start before 0 start before
 collected_none cuts start before ends holds long = record {
   ends = ends;
   long = long;
@@ -275,8 +286,10 @@ collected_none cuts start before ends holds long = record {
 }
 
 -- the ends of the next cut's link lie where they were laid
-pub next_laid : (cuts : List Cut) (start standing : Standing) (before now : List Share) (n : ℕ) (c : Cut) → CollectedTo cuts start before n standing now → AreCuts cuts before → AreLaid start.links.items before cuts → slice_get cuts n ≡ Some c →
-    (laid : IsLaid start.links.items before n c) × (end_at now c.sender c.queue ≡ Some (Sends (record { link = n; tx = laid.tx }))) × (end_at now c.receiver c.queue ≡ Some (Takes (record { link = n; rx = laid.rx })))
+pub next_laid : (cuts : List Cut) (start standing : Standing) (before now : List Share) (n : ℕ) (c : Cut) → CollectedTo cuts start before n standing now → AreCuts cuts before →
+    AreLaid start.links.items before cuts → slice_get cuts n ≡ Some c →
+    (laid : IsLaid start.links.items before n c) × (end_at now c.sender c.queue ≡ Some (Sends (record { link = n; tx = laid.tx })))
+    × (end_at now c.receiver c.queue ≡ Some (Takes (record { link = n; rx = laid.rx })))
 next_laid cuts start standing before now n c so_far are laid at =
     let here = laid n c at in (
       here,
@@ -290,7 +303,8 @@ next_laid cuts start standing before now n c so_far are laid at =
 same_but : {X : Type 0} (f : LinkEnds → X) (ends : List LinkEnds) (n : ℕ) (old new : LinkEnds) → slice_get ends n ≡ Some old → f new ≡ f old → map f (set ends n new) ≡ map f ends
 same_but f ends n old new at same = map-set f ends n new ∙ (ap (set (map f ends) n) same ∙ set-slice_get (map f ends) n (f old) (slice_get-mapped f ends n old at))
 
-pub collected_more : (cuts : List Cut) (start standing after : Standing) (before now mid new : List Share) (n : ℕ) (c : Cut) (tx : Tx) (rx : Rx) → AreCuts cuts before → CollectedTo cuts start before n standing now → slice_get cuts n ≡ Some c →
+pub collected_more : (cuts : List Cut) (start standing after : Standing) (before now mid new : List Share) (n : ℕ) (c : Cut) (tx : Tx) (rx : Rx) → AreCuts cuts before →
+    CollectedTo cuts start before n standing now → slice_get cuts n ≡ Some c →
     end_at before c.sender c.queue ≡ Some (Sends (record { link = n; tx = tx })) → end_at before c.receiver c.queue ≡ Some (Takes (record { link = n; rx = rx })) →
     after.links ≡ standing.links → after.rooms ≡ standing.rooms → after.txs.items ≡ set standing.txs.items n (Some tx) → after.rxs.items ≡ set standing.rxs.items n (Some rx) →
     PutsEnd c.sender c.queue Away now mid → PutsEnd c.receiver c.queue Away mid new → CollectedTo cuts start before (n + 1) after new
@@ -332,8 +346,10 @@ collected_more cuts start standing after before now mid new n c tx rx are so_far
         | inl here ↦
             let is_c : c ≡ d = same_Some c d (sym at ∙ (ap (slice_get cuts) (sym here) ∙ at_l)) in
             let is_e : e_new ≡ e = same_Some e_new e (sym new_at ∙ (ap (slice_get (set so_far.ends n e_new)) (sym here) ∙ there)) in (
-              ap (λ (x : Cut). end_at before x.sender x.queue) (sym is_c) ∙ (sends ∙ (ap (λ (x : LinkEnds). Some (Sends (record { link = n; tx = x.tx }))) is_e ∙ ap (λ (k : ℕ). Some (Sends (record { link = k; tx = e.tx }))) (sym here))),
-              ap (λ (x : Cut). end_at before x.receiver x.queue) (sym is_c) ∙ (takes ∙ (ap (λ (x : LinkEnds). Some (Takes (record { link = n; rx = x.rx }))) is_e ∙ ap (λ (k : ℕ). Some (Takes (record { link = k; rx = e.rx }))) (sym here))),
+              ap (λ (x : Cut). end_at before x.sender x.queue) (sym is_c)
+                  ∙ (sends ∙ (ap (λ (x : LinkEnds). Some (Sends (record { link = n; tx = x.tx }))) is_e ∙ ap (λ (k : ℕ). Some (Sends (record { link = k; tx = e.tx }))) (sym here))),
+              ap (λ (x : Cut). end_at before x.receiver x.queue) (sym is_c)
+                  ∙ (takes ∙ (ap (λ (x : LinkEnds). Some (Takes (record { link = n; rx = x.rx }))) is_e ∙ ap (λ (k : ℕ). Some (Takes (record { link = k; rx = e.rx }))) (sym here))),
             )
         | inr other ↦ so_far.dealt l d e (omega (arith, less, other)) at_l (sym (slice_get-set_other so_far.ends n l e_new other) ∙ there)
       ];
@@ -352,8 +368,8 @@ collected_more cuts start standing after before now mid new n c tx rx are so_far
     }
 
 -- all ends are there
-all_there : {X : Type 0} (end : LinkEnds → X) (ends : List LinkEnds) (slots : List (Option X)) → length slots ≡ length ends → ((k : ℕ) (e : LinkEnds) → slice_get ends k ≡ Some e → slice_get slots k ≡ Some (Some (end e))) →
-    slots ≡ map (λ (e : LinkEnds). Some (end e)) ends
+all_there : {X : Type 0} (end : LinkEnds → X) (ends : List LinkEnds) (slots : List (Option X)) → length slots ≡ length ends →
+    ((k : ℕ) (e : LinkEnds) → slice_get ends k ≡ Some e → slice_get slots k ≡ Some (Some (end e))) → slots ≡ map (λ (e : LinkEnds). Some (end e)) ends
 all_there end ends slots long each =
     let mapped = length-map ends (λ (e : LinkEnds). Some (end e)) in
     same_lists slots (map (λ (e : LinkEnds). Some (end e)) ends) (long ∙ sym mapped) (λ k d below.
@@ -361,16 +377,18 @@ all_there end ends slots long each =
     get_or_from_slice_get slots k (Some (end e.0)) d (each k e.0 e.1)
     ∙ sym (get_or_from_slice_get (map (λ (x : LinkEnds). Some (end x)) ends) k (Some (end e.0)) d (slice_get-mapped (λ (x : LinkEnds). Some (end x)) ends k e.0 e.1)))
 
-pub collected_all : (cuts : List Cut) (start standing : Standing) (before now : List Share) (n : ℕ) (old : List LinkEnds) → CollectedTo cuts start before n standing now → length cuts ≤ n → HoldsNoEnds old start → length old ≡ length cuts →
-    HoldsCollected old cuts before standing now
+pub collected_all : (cuts : List Cut) (start standing : Standing) (before now : List Share) (n : ℕ) (old : List LinkEnds) → CollectedTo cuts start before n standing now → length cuts ≤ n →
+    HoldsNoEnds old start → length old ≡ length cuts → HoldsCollected old cuts before standing now
 collected_all cuts start standing before now n old so_far past holds long =
     let many = so_far.long in
     record {
       ends = so_far.ends;
       holds = record {
         links = ap (λ v. v.items) so_far.links ∙ sym so_far.links_are;
-        txs = all_there (λ (e : LinkEnds). e.tx) so_far.ends standing.txs.items so_far.txs_long (λ k e at. let within = slice_get_within so_far.ends k e at in so_far.txs k e (omega (arith, within, many, past)) at);
-        rxs = all_there (λ (e : LinkEnds). e.rx) so_far.ends standing.rxs.items so_far.rxs_long (λ k e at. let within = slice_get_within so_far.ends k e at in so_far.rxs k e (omega (arith, within, many, past)) at);
+        txs = all_there (λ (e : LinkEnds). e.tx) so_far.ends standing.txs.items so_far.txs_long
+            (λ k e at. let within = slice_get_within so_far.ends k e at in so_far.txs k e (omega (arith, within, many, past)) at);
+        rxs = all_there (λ (e : LinkEnds). e.rx) so_far.ends standing.rxs.items so_far.rxs_long
+            (λ k e at. let within = slice_get_within so_far.ends k e at in so_far.rxs k e (omega (arith, within, many, past)) at);
         rooms = ap (λ v. v.items) so_far.rooms ∙ sym so_far.rooms_are;
       };
       long = many ∙ sym long;

@@ -2,22 +2,16 @@
 use Rattle.std.proofs.Common.{◌≡◌, ℕ, ◌<◌, Bool, true, false, length, Option, Some, None, refl, ap, sym, ◌∙◌, arith}
 use Rattle.std.specs.List.{slice_get}
 use Rattle.std.proofs.lemmas.Option.{slice_get_within, none-some, same_Some}
-use Rattle.spin_base.specs.declared.chips.Chip.{Chip}
-use Rattle.spin_base.specs.declared.chips.Spot.{Spot}
-use Rattle.spin_base.specs.declared.chips.Dir.{Dir}
-use Rattle.spin_base.specs.declared.chips.Port.{Port}
+use Rattle.spin_base.specs.declared.chips.{Chip.Chip, Spot.Spot, Dir.Dir, Port.Port}
 use Rattle.spin_base.specs.declared.chips.Port.TheVariants.{Link as ByLink, Local}
 use Rattle.spin_base.specs.declared.routes.Out.{Out}
 use Rattle.spin_base.specs.declared.routes.Out.TheVariants.{Link, Core}
-use Rattle.spin_base.specs.Links.{opposite_of}
-use Rattle.spin_base.specs.Outputs.{out_of}
+use Rattle.spin_base.specs.{Links.opposite_of, Outputs.out_of}
 use Rattle.spin_base.proofs.Equality.{link_is_not_local}
 use Rattle.machine_desc.specs.Live.{far_of, is_live_link, IsInside}
 use Rattle.machine_desc.proofs.Far.{far_inside, far_back, live_ends, opposite_of-opposite}
 use Rattle.mesh_core.specs.State.{Setup, behind_link, core_queue_of, queue_at, vertex_behind}
-use Rattle.mesh_core.proofs.Changes.{queue_at-below}
-use Rattle.mesh_core.proofs.Keeping.{same_queue}
-use Rattle.mesh_core.proofs.Ways.{vertex_behind_stands}
+use Rattle.mesh_core.proofs.{Changes.queue_at-below, Keeping.same_queue, Ways.vertex_behind_stands}
 use Rattle.mesh_run.specs.Played.{queue_place_of, place_behind, vertex_place}
 
 -- Where an output leads: by a link to the port at the far end, or to a vertex on a spot of the chip.
@@ -59,8 +53,7 @@ on_one_chip u v w s t a b at also here there same =
 pub one_output : (u : Setup) (a c : Chip) (o q : Out) (p : ℕ) → IsInside u.machine a → IsInside u.machine c → LeadsTo u a o p → LeadsTo u c q p → (a ≡ c) × (o ≡ q)
 one_output u a c o q p in_a in_c (by_link d e out far at) (by_link g h also far' is) =
     let in_e = far_inside u.machine a e d in_a far in
-    let in_h = far_inside u.machine c h g in_c far' in
-    let one = same_queue u.machine e h (ByLink (opposite_of d)) (ByLink (opposite_of g)) in_e in_h (sym at ∙ is) in
+    let one = same_queue u.machine e h (ByLink (opposite_of d)) (ByLink (opposite_of g)) in_e (far_inside u.machine c h g in_c far') (sym at ∙ is) in
     let back : opposite_of d ≡ opposite_of g = same_dir (opposite_of d) (opposite_of g) one.1 in
     let link : d ≡ g = sym (opposite_of-opposite d) ∙ (ap opposite_of back ∙ opposite_of-opposite g) in
     let to_a : far_of u.machine e (opposite_of d) ≡ Some a = far_back u.machine a e d in_a far in

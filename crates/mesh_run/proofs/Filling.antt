@@ -5,15 +5,9 @@ use Rattle.std.proofs.lemmas.Bool.{cases_eq, cond_both}
 use Rattle.std.proofs.lemmas.List.{length-append, map-append}
 use Rattle.std.proofs.lemmas.List.Elements.{All-head, All-tail}
 use Rattle.spin_base.proofs.Counts.{count_by-append, count_by-map}
-use Rattle.spin_base.proofs.Equality.{out_eq_same}
-use Rattle.spin_base.proofs.Once.{outs_once}
-use Rattle.spin_base.specs.declared.chips.Chip.{Chip}
-use Rattle.spin_base.specs.declared.chips.Port.{Port}
-use Rattle.spin_base.specs.declared.routes.Out.{Out}
-use Rattle.spin_base.specs.declared.copies.McCopy.{McCopy}
-use Rattle.spin_base.specs.Equality.{out_eq}
-use Rattle.spin_base.specs.Hops.{last_hop}
-use Rattle.spin_base.specs.Lookup.{lookup}
+use Rattle.spin_base.proofs.{Equality.out_eq_same, Once.outs_once}
+use Rattle.spin_base.specs.declared.{chips.Chip.Chip, chips.Port.Port, routes.Out.Out, copies.McCopy.McCopy}
+use Rattle.spin_base.specs.{Equality.out_eq, Hops.last_hop, Lookup.lookup}
 use Rattle.spin_base.specs.Outputs.{has, outs_of, IsOutput}
 use Rattle.machine_desc.specs.Live.{chip_of, index_of}
 use Rattle.machine_desc.specs.RightTables.{table_at}
@@ -21,8 +15,7 @@ use Rattle.machine_desc.proofs.Far.{live_inside}
 use Rattle.chip_node.specs.declared.ends.Served.{Served}
 use Rattle.chip_node.specs.declared.ends.Served.TheVariants.{Sent, Dumped}
 use Rattle.chip_node.specs.Items.{Item, Service, took, served, sent, got, brought, entered, entered_by, injection_place, sending_of, service_of, services, takings}
-use Rattle.mesh_core.specs.State.{Setup}
-use Rattle.mesh_core.specs.Step.{outputs}
+use Rattle.mesh_core.specs.{State.Setup, Step.outputs}
 use Rattle.mesh_run.specs.Played.{owed_on, place_behind, AreTurns, IsDoneOn, IsLiveIndex}
 use Rattle.mesh_run.proofs.Apart.{elsewhere, here, no_injection, not_there, one_output}
 
@@ -68,8 +61,7 @@ module _ (u : Setup) where
   pub few_injected : (turns i : ℕ) (items : List Item) → AreTurns u turns items → IsLiveIndex u i → length (entered (injection_place i) items) ≤ turns
   few_injected turns i items h live =
       let fewer_than = fewer (entered_by (injection_place i)) (sending_of i) (sent_there i live) items h.each in
-      let few = h.sends i in
-      omega (arith, fewer_than, few)
+      omega (arith, fewer_than, h.sends i)
 
   -- ---- a queue behind an output
 
@@ -100,9 +92,7 @@ module _ (u : Setup) where
       let first = map {B = Out × McCopy} (λ p. (p, t.1)) (outputs u c t.0 t.1) in
       let both = count_by-append (by o) first (owed_on u c taken) in
       let mapped = count_by-map {B = Out × McCopy} (by o) (λ p. (p, t.1)) (outputs u c t.0 t.1) in
-      let one = few_outputs c o t.0 t.1 output in
-      let rest = few_owed c o output taken in
-      omega (arith, both, mapped, one, rest)
+      omega (arith, both, mapped, few_outputs c o t.0 t.1 output, few_owed c o output taken)
 
   -- what one item brings to the queue behind an output, its router served there
   served_there : (i : ℕ) (o : Out) (q : ℕ) → IsLiveIndex u i → place_behind u (chip_of u.machine i) o ≡ Some q → (x : Item) → IsDoneOn u x →
@@ -112,14 +102,14 @@ module _ (u : Setup) where
   served_there i o q live behind (served j c (Some p) s) done = elim (cases_eq p q) [
     | inl same ↦
         let place : place_behind u (chip_of u.machine j) s.out ≡ Some q = ap (λ (e : Chip). place_behind u e s.out) (sym done.1) ∙ (sym done.2 ∙ ap Some same) in
-        let one = one_output u (chip_of u.machine j) (chip_of u.machine i) s.out o q (live_inside u.machine (chip_of u.machine j) done.0.live) (live_inside u.machine (chip_of u.machine i) live.live) place behind in
+        let one = one_output u (chip_of u.machine j) (chip_of u.machine i) s.out o q (live_inside u.machine (chip_of u.machine j) done.0.live)
+        (live_inside u.machine (chip_of u.machine i) live.live) place behind in
         let index : j ≡ i = sym done.0.is ∙ (ap (index_of u.machine) one.0 ∙ live.is) in
         let service : service_of i (served j c (Some p) s) ≡ s ∷ [] = here j i (s ∷ []) index in
         let counted : count_by (by o) (map told (s ∷ [])) ≡ 1 = ap (λ (b : Bool). 0 + one_if b) (subst (λ (e : Out). out_eq o e ≡ true) (sym one.1) (out_eq_same o)) in
         let all = ap (λ (l : List Service). count_by (by o) (map told l)) service in
         let brings = ap length (here p q (brought s s.fate) same) in
-        let few = few_brought s s.fate in
-        omega (arith, counted, all, brings, few)
+        omega (arith, counted, all, brings, few_brought s s.fate)
     | inr other ↦ let none = ap length (elsewhere p q (brought s s.fate) other) in omega (arith, none)
   ]
   served_there i o q live behind (sent j v k) done =
@@ -145,11 +135,9 @@ module _ (u : Setup) where
   pub few_behind : (turns i : ℕ) (o : Out) (q : ℕ) (items : List Item) → AreTurns u turns items → IsLiveIndex u i → IsOutput o → place_behind u (chip_of u.machine i) o ≡ Some q →
       length (entered q items) ≤ turns
   few_behind turns i o q items h live output behind =
-      let most = counted i o q live behind items h.each in
       let owed = ap (count_by (by o)) (h.each_once i) in
       let few = few_owed (chip_of u.machine i) o output (takings i items) in
-      let turns_few = h.takes i in
-      omega (arith, most, owed, few, turns_few)
+      omega (arith, counted i o q live behind items h.each, owed, few, h.takes i)
 
   -- ---- any queue
 

@@ -2,29 +2,26 @@
 use Rattle.std.proofs.Common.{◌≡◌, ℕ, suc, zero, ◌+◌, ◌-◌, ◌<◌, ◌≤◌, List, [], ◌∷◌, ◌++◌, length, map, take, get_or, set, Option, Some, refl, sym, ap, ◌∙◌, subst, arith, inl, inr}
 use Rattle.std.proofs.lemmas.Option.{same_Some}
 use Rattle.std.specs.List.{All}
-use Rattle.std.proofs.Math.ListN.{length-set}
-use Rattle.std.proofs.lemmas.Bool.{cases_eq}
+use Rattle.std.proofs.{Math.ListN.length-set, lemmas.Bool.cases_eq}
 use Rattle.std.proofs.lemmas.List.{map-append, length-map, take_all, take_more, same_from_push, get_or-set_same, get_or-set_other}
 use Rattle.spin_base.specs.declared.copies.McCopy.{McCopy}
-use Rattle.link_queue.specs.declared.links.LinkEnds.{LinkEnds}
-use Rattle.link_queue.specs.declared.links.Tx.{Tx}
-use Rattle.link_queue.specs.declared.links.Rx.{Rx}
+use Rattle.link_queue.specs.declared.links.{LinkEnds.LinkEnds, Tx.Tx, Rx.Rx}
 use Rattle.mesh_run.specs.declared.standing.Standing.{Standing}
 use Rattle.mesh_run.specs.Standing.{HoldsAll}
 use Rattle.mesh_run.specs.Queues.{AreEnds, IsDown, DownTo}
 
 -- ---- the list is the only one
 
-first_same : {X : Type 0} (x y : X) (xs ys : List X) → x ∷ xs ≡ y ∷ ys → x ≡ y
+pub first_same : {X : Type 0} (x y : X) (xs ys : List X) → x ∷ xs ≡ y ∷ ys → x ≡ y
 first_same x y xs ys e = cc
 
-rest_same : {X : Type 0} (x y : X) (xs ys : List X) → x ∷ xs ≡ y ∷ ys → xs ≡ ys
+pub rest_same : {X : Type 0} (x y : X) (xs ys : List X) → x ∷ xs ≡ y ∷ ys → xs ≡ ys
 rest_same x y xs ys e = cc
 
 equal_ends : (e f : LinkEnds) → e.link ≡ f.link → e.tx ≡ f.tx → e.rx ≡ f.rx → e.room ≡ f.room → e ≡ f
 equal_ends e f links txs rxs rooms = λ i. record { link = links i; tx = txs i; rx = rxs i; room = rooms i }
 
-both_same : {X : Type 0} (x y : X) (xs ys : List X) → x ≡ y → xs ≡ ys → x ∷ xs ≡ y ∷ ys
+pub both_same : {X : Type 0} (x y : X) (xs ys : List X) → x ≡ y → xs ≡ ys → x ∷ xs ≡ y ∷ ys
 both_same x y xs ys first rest = cc
 
 none_is_some : {X : Type 0} (x : X) (xs : List X) → [] ≡ x ∷ xs → ⊥

@@ -9,15 +9,13 @@ use Rattle.spin_base.specs.declared.copies.McCopy.{McCopy}
 use Rattle.link_queue.specs.declared.links.LinkEnds.{LinkEnds}
 use Rattle.link_queue.specs.Ends.{sending}
 use Rattle.mesh_core.specs.State.{IsMesh, State}
-use Rattle.mesh_run.specs.declared.homes.Cut.{Cut}
-use Rattle.mesh_run.specs.declared.homes.Home.{Home}
-use Rattle.mesh_run.specs.declared.raised.RaisedMesh.{RaisedMesh}
+use Rattle.mesh_run.specs.declared.{homes.Cut.Cut, homes.Home.Home, raised.RaisedMesh.RaisedMesh}
 use Rattle.mesh_run.specs.Played.{port_count}
 use Rattle.mesh_run.specs.Queues.{AreEnds, AreUp, DownTo, IsDown, IsUp}
-use Rattle.mesh_run.specs.Raised.{IsRaisedFrom}
-use Rattle.mesh_run.specs.Split.{cut_queues}
+use Rattle.mesh_run.specs.{Raised.IsRaisedFrom, Split.cut_queues}
 use Rattle.mesh_run.specs.Splitting.{FitHomes, HoldVertices, MovesOut, SameButCopies, SetsQueue}
-use Rattle.mesh_run.proofs.SplitLaws.{same_state, state_on}
+use Rattle.mesh_run.proofs.Holding.{both_same, first_same, rest_same}
+use Rattle.mesh_run.proofs.SplitLaws.{default_at, same_state, state_on}
 
 -- ---- what the calls ask for
 
@@ -26,14 +24,12 @@ pub fits_raised : (m : State) (more : ℕ) (r : RaisedMesh) → IsMesh m → IsR
 fits_raised m more r mesh raised =
     let shared = raised.shared in
     let long = shared.homes_are.long in
-    let inputs = mesh.input_lists in
     let cores = mesh.core_lists in
     let unsent = mesh.unsent_lists in
-    let inputs_long = raised.inputs_long in
     let cores_long = raised.cores_long in
     let unsent_long = raised.unsent_long in
     record {
-      long = omega (arith, long, inputs, cores, inputs_long, cores_long);
+      long = omega (arith, long, mesh.input_lists, cores, raised.inputs_long, cores_long);
       vertices = omega (arith, cores, unsent, cores_long, unsent_long);
       senders = λ i d below. (both i d below).0;
       receivers = λ i d below. (both i d below).1;
@@ -43,7 +39,8 @@ fits_raised m more r mesh raised =
           omega (arith, here, unsent, unsent_long);
     }
   where
-    both : (i : ℕ) (d : Home) → i < length r.layout.now.homes.items → ((get_or r.layout.now.homes.items i d).sender < length r.shares.items) × ((get_or r.layout.now.homes.items i d).receiver < length r.shares.items)
+    both : (i : ℕ) (d : Home) → i < length r.layout.now.homes.items →
+        ((get_or r.layout.now.homes.items i d).sender < length r.shares.items) × ((get_or r.layout.now.homes.items i d).receiver < length r.shares.items)
     both i d below =
         raised.shared.homes_are.below i (get_or r.layout.now.homes.items i d) (length r.shares.items) (slice_get-get_or r.layout.now.homes.items i d below)
         (λ a k at. subst (λ (n : ℕ). k < n) (sym raised.shared.long) (raised.shared.numbers.below a k at))
@@ -54,10 +51,8 @@ all_are_ends cap more queues ends up = λ i e below. let long = up.long in (up.e
 
 pub no_more_links : (m : State) (more : ℕ) (r : RaisedMesh) → (raised : IsRaisedFrom m more r) → length raised.ends ≤ length r.crossing.items
 no_more_links m more r raised =
-    let long = raised.up.long in
     let mapped = length-map r.layout.now.cuts.items (λ (c : Cut). get_or (m.inputs ++ m.cores) c.queue []) in
-    let crossing = raised.crossing in
-    omega (arith, long, mapped, crossing)
+    omega (arith, raised.up.long, mapped, raised.crossing)
 
 -- ---- a link that is down
 
@@ -70,8 +65,8 @@ pub same_queue : (cap more : ℕ) (queue after : List McCopy) (e : LinkEnds) →
 same_queue cap more queue after e up down =
     ap (λ l. l ++ after) (sym up.rx_new.took) ∙ (sym down.all ∙ (ap (λ l. l ++ (sending e.tx).sent) up.tx_new.first ∙ (ap (λ l. queue ++ l) up.tx_new.sent ∙ none_behind queue)))
 
-pub down_at : (m : State) (more : ℕ) (r : RaisedMesh) (down : List (List McCopy)) → (raised : IsRaisedFrom m more r) → DownTo raised.ends down → (l : ℕ) (c : Cut) → slice_get r.layout.now.cuts.items l ≡ Some c →
-    get_or down l [] ≡ get_or (m.inputs ++ m.cores) c.queue []
+pub down_at : (m : State) (more : ℕ) (r : RaisedMesh) (down : List (List McCopy)) → (raised : IsRaisedFrom m more r) → DownTo raised.ends down → (l : ℕ) (c : Cut) →
+    slice_get r.layout.now.cuts.items l ≡ Some c → get_or down l [] ≡ get_or (m.inputs ++ m.cores) c.queue []
 down_at m more r down raised are l c at =
     let queues : List (List McCopy) = cut_queues (m.inputs ++ m.cores) r.layout.now.cuts.items in
     let below = slice_get_within r.layout.now.cuts.items l c at in
@@ -79,8 +74,10 @@ down_at m more r down raised are l c at =
     let long = raised.up.long in
     let e = slice_get_there raised.ends l (omega (arith, below, mapped, long)) in
     let queue : get_or queues l [] ≡ get_or (m.inputs ++ m.cores) c.queue [] =
-    get_or-map (λ (d : Cut). get_or (m.inputs ++ m.cores) d.queue []) r.layout.now.cuts.items l c [] below ∙ ap (λ (d : Cut). get_or (m.inputs ++ m.cores) d.queue []) (get_or_from_slice_get r.layout.now.cuts.items l c c at) in
-    same_queue m.setup.capacity more (get_or queues l []) (get_or down l []) (get_or raised.ends l e.0) (raised.up.each l [] e.0 (omega (arith, below, mapped))) (are l e.0 [] (omega (arith, below, mapped, long))) ∙ queue
+    get_or-map (λ (d : Cut). get_or (m.inputs ++ m.cores) d.queue []) r.layout.now.cuts.items l c [] below
+    ∙ ap (λ (d : Cut). get_or (m.inputs ++ m.cores) d.queue []) (get_or_from_slice_get r.layout.now.cuts.items l c c at) in
+    same_queue m.setup.capacity more (get_or queues l []) (get_or down l []) (get_or raised.ends l e.0) (raised.up.each l [] e.0 (omega (arith, below, mapped)))
+    (are l e.0 [] (omega (arith, below, mapped, long))) ∙ queue
 
 -- ---- links' queues put back one after the other
 
@@ -107,8 +104,10 @@ cuts_none mid cuts down = record {
 abbrev pub AreOfOneCut : List Cut → Type 0
 AreOfOneCut cuts = (k l : ℕ) (a b : Cut) → slice_get cuts k ≡ Some a → slice_get cuts l ≡ Some b → a.queue ≡ b.queue → k ≡ l
 
-pub cuts_more : (mid : State) (cuts : List Cut) (down : List (List McCopy)) (n : ℕ) (now next : State) (left new : List (List McCopy)) (c : Cut) (copies gone : List McCopy) → AreOfOneCut cuts → QueuesBackTo mid cuts down n now left →
-    slice_get cuts n ≡ Some c → c.queue < length now.inputs + length now.cores → copies ≡ get_or left n [] → SetsQueue c.queue copies now next → new ≡ set left n gone → QueuesBackTo mid cuts down (n + 1) next new
+pub cuts_more : (mid : State) (cuts : List Cut) (down : List (List McCopy)) (n : ℕ) (now next : State) (left new : List (List McCopy)) (c : Cut) (copies gone : List McCopy) →
+    AreOfOneCut cuts → QueuesBackTo mid cuts down n now left →
+    slice_get cuts n ≡ Some c → c.queue < length now.inputs + length now.cores → copies ≡ get_or left n [] → SetsQueue c.queue copies now next → new ≡ set left n gone →
+    QueuesBackTo mid cuts down (n + 1) next new
 cuts_more mid cuts down n now next left new c copies gone apart so_far at below read sets is = record {
   same = state_on mid now next so_far.same sets.same;
   unsent = sets.unsent ∙ so_far.unsent;
@@ -131,16 +130,13 @@ pub cut_at : (cuts : List Cut) (n : ℕ) (c : Cut) → n < length cuts → c ≡
 cut_at cuts n c below read = slice_get-get_or cuts n c below ∙ ap Some (sym read)
 
 -- the queue of the next cut is there
-pub cut_inside : (m : State) (more n : ℕ) (r : RaisedMesh) (mid now : State) (down left : List (List McCopy)) (c : Cut) → IsMesh m → IsRaisedFrom m more r → SameButCopies r.parts mid → QueuesBackTo mid r.layout.now.cuts.items down n now left →
-    slice_get r.layout.now.cuts.items n ≡ Some c → c.queue < length now.inputs + length now.cores
+pub cut_inside : (m : State) (more n : ℕ) (r : RaisedMesh) (mid now : State) (down left : List (List McCopy)) (c : Cut) → IsMesh m → IsRaisedFrom m more r → SameButCopies r.parts mid →
+    QueuesBackTo mid r.layout.now.cuts.items down n now left → slice_get r.layout.now.cuts.items n ≡ Some c → c.queue < length now.inputs + length now.cores
 cut_inside m more n r mid now down left c mesh raised same so_far at =
     let below = slice_get_within r.layout.now.homes.items c.queue (record { sender = c.sender; receiver = c.receiver }) (raised.shared.cut n c at).0 in
-    let homes = raised.shared.homes_are.long in
-    let ports = mesh.input_lists in
-    let spots = mesh.core_lists in
     let inputs : length now.inputs ≡ length m.inputs = so_far.same.inputs_long ∙ (same.inputs_long ∙ raised.inputs_long) in
     let cores : length now.cores ≡ length m.cores = so_far.same.cores_long ∙ (same.cores_long ∙ raised.cores_long) in
-    omega (arith, below, homes, ports, spots, inputs, cores)
+    omega (arith, below, raised.shared.homes_are.long, mesh.input_lists, mesh.core_lists, inputs, cores)
 
 -- ---- the whole mesh
 
@@ -152,15 +148,6 @@ two_lists (x ∷ a) [] b d e long = absurd (omega (arith, long))
 two_lists (x ∷ a) (y ∷ c) b d e long =
     let rest = two_lists a c b d (rest_same x y (a ++ b) (c ++ d) e) (omega (arith, long)) in
     (both_same x y a c (first_same x y (a ++ b) (c ++ d) e) rest.0, rest.1)
-  where
-    first_same : {X : Type 0} (x y : X) (xs ys : List X) → x ∷ xs ≡ y ∷ ys → x ≡ y
-    first_same x y xs ys e = cc
-
-    rest_same : {X : Type 0} (x y : X) (xs ys : List X) → x ∷ xs ≡ y ∷ ys → xs ≡ ys
-    rest_same x y xs ys e = cc
-
-    both_same : {X : Type 0} (x y : X) (xs ys : List X) → x ≡ y → xs ≡ ys → x ∷ xs ≡ y ∷ ys
-    both_same x y xs ys first rest = cc
 
 equal_states : (s t : State) → s.setup ≡ t.setup → s.unsent ≡ t.unsent → s.inputs ≡ t.inputs → s.hands ≡ t.hands → s.cores ≡ t.cores → s.delivered ≡ t.delivered → s.dumped ≡ t.dumped → s ≡ t
 equal_states s t setup unsent inputs hands cores delivered dumped = λ i. record {
@@ -174,9 +161,10 @@ equal_states s t setup unsent inputs hands cores delivered dumped = λ i. record
 }
 
 -- all that was split stands again where it stood
-pub lowered : (m : State) (more n : ℕ) (r : RaisedMesh) (mid now back : State) (down left : List (List McCopy)) → IsMesh m → (raised : IsRaisedFrom m more r) → MovesOut r.layout.now.homes.items r.shares.items r.parts mid → DownTo raised.ends down →
-    QueuesBackTo mid r.layout.now.cuts.items down n now left → length r.layout.now.cuts.items ≤ n →
-    back.setup ≡ now.setup → back.unsent ≡ now.unsent → back.inputs ≡ now.inputs → back.hands ≡ now.hands → back.cores ≡ now.cores → back.delivered ≡ r.logs.delivered.items → back.dumped ≡ r.logs.dumped.items → back ≡ m
+pub lowered : (m : State) (more n : ℕ) (r : RaisedMesh) (mid now back : State) (down left : List (List McCopy)) → IsMesh m → (raised : IsRaisedFrom m more r) →
+    MovesOut r.layout.now.homes.items r.shares.items r.parts mid → DownTo raised.ends down → QueuesBackTo mid r.layout.now.cuts.items down n now left → length r.layout.now.cuts.items ≤ n →
+    back.setup ≡ now.setup → back.unsent ≡ now.unsent → back.inputs ≡ now.inputs → back.hands ≡ now.hands → back.cores ≡ now.cores → back.delivered ≡ r.logs.delivered.items →
+    back.dumped ≡ r.logs.dumped.items → back ≡ m
 lowered m more n r mid now back down left mesh raised moves are so_far past setup unsent inputs hands cores delivered dumped =
     equal_states back m
     (setup ∙ (so_far.same.setup ∙ (moves.same.setup ∙ raised.setup)))
@@ -202,7 +190,8 @@ lowered m more n r mid now back down left mesh raised moves are so_far past setu
     uncut : (q : ℕ) (h : Home) → slice_get r.layout.now.homes.items q ≡ Some h → h.sender ≡ h.receiver → (l : ℕ) (c : Cut) → slice_get r.layout.now.cuts.items l ≡ Some c → c.queue ≢ q
     uncut q h at one l c stands here =
         let cut = raised.shared.cut l c stands in
-        let is : h ≡ record { sender = c.sender; receiver = c.receiver } = same_Some h (record { sender = c.sender; receiver = c.receiver }) (sym at ∙ (ap (slice_get r.layout.now.homes.items) (sym here) ∙ cut.0)) in
+        let is : h ≡ record { sender = c.sender; receiver = c.receiver } = same_Some h (record { sender = c.sender; receiver = c.receiver })
+        (sym at ∙ (ap (slice_get r.layout.now.homes.items) (sym here) ∙ cut.0)) in
         cut.1 (subst (λ (x : Home). x.sender ≡ x.receiver) is one)
 
     each : (q : ℕ) (h : Home) → slice_get r.layout.now.homes.items q ≡ Some h → get_or (now.inputs ++ now.cores) q [] ≡ get_or (m.inputs ++ m.cores) q []
@@ -215,9 +204,6 @@ lowered m more n r mid now back down left mesh raised moves are so_far past setu
           subst (λ (k : ℕ). get_or (now.inputs ++ now.cores) k [] ≡ get_or (m.inputs ++ m.cores) k []) cut.3 here
     ]
 
-    default : (xs : List (List McCopy)) (v : ℕ) (d : List McCopy) → v < length xs → get_or xs v d ≡ get_or xs v []
-    default xs v d below = let x = slice_get_there xs v below in get_or_from_slice_get xs v x.0 d x.1 ∙ sym (get_or_from_slice_get xs v x.0 [] x.1)
-
     joined : now.inputs ++ now.cores ≡ m.inputs ++ m.cores
     joined =
         let long_now : length (now.inputs ++ now.cores) ≡ length now.inputs + length now.cores = length-append now.inputs now.cores in
@@ -225,11 +211,9 @@ lowered m more n r mid now back down left mesh raised moves are so_far past setu
         let a = inputs_long in
         let b = cores_long in
         let homes = raised.shared.homes_are.long in
-        let ports = mesh.input_lists in
-        let spots = mesh.core_lists in
         same_lists (now.inputs ++ now.cores) (m.inputs ++ m.cores) (omega (arith, long_now, long_m, a, b)) (λ q d below.
-        let h = slice_get_there r.layout.now.homes.items q (omega (arith, below, long_now, a, b, homes, ports, spots)) in
-        default (now.inputs ++ now.cores) q d below ∙ (each q h.0 h.1 ∙ sym (default (m.inputs ++ m.cores) q d (omega (arith, below, long_now, long_m, a, b)))))
+        let h = slice_get_there r.layout.now.homes.items q (omega (arith, below, long_now, a, b, homes, mesh.input_lists, mesh.core_lists)) in
+        default_at (now.inputs ++ now.cores) q d below ∙ (each q h.0 h.1 ∙ sym (default_at (m.inputs ++ m.cores) q d (omega (arith, below, long_now, long_m, a, b)))))
 
     halves : (now.inputs ≡ m.inputs) × (now.cores ≡ m.cores)
     halves = two_lists now.inputs m.inputs now.cores m.cores joined inputs_long

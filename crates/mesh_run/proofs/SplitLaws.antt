@@ -3,7 +3,8 @@ use Rattle.std.proofs.Common.{◌≡◌, ◌≢◌, ◌⊎◌, ℕ, ◌+◌, ◌
 use Rattle.std.specs.List.{All, slice_get}
 use Rattle.std.proofs.lemmas.Bool.{cases_eq, cases_lt}
 use Rattle.std.proofs.lemmas.Option.{get_or_from_slice_get, none-some, same_Some, slice_get_within, slice_get-get_or}
-use Rattle.std.proofs.lemmas.List.{get_or_append_left, get_or-append_right, get_or-replicate, get_or_past, get_or-set_other, get_or-set_same, length-set, length-replicate, length_push, same_lists, set-append_left, set-append_right}
+use Rattle.std.proofs.lemmas.List.{get_or_append_left, get_or-append_right, get_or-replicate, get_or_past, get_or-set_other, get_or-set_same}
+use Rattle.std.proofs.lemmas.List.{length-set, length-replicate, length_push, same_lists, set-append_left, set-append_right}
 use Rattle.std.proofs.lemmas.List.Elements.{All-nil, All-push}
 use Rattle.spin_base.specs.WithRoom.{WithRoom}
 use Rattle.spin_base.specs.declared.copies.McCopy.{McCopy}
@@ -11,19 +12,16 @@ use Rattle.spin_base.proofs.Places.{All-at, slice_get_there, slice_get-push_case
 use Rattle.chip_node.specs.declared.ends.End.{End}
 use Rattle.chip_node.specs.declared.ends.End.TheVariants.{Away, Own}
 use Rattle.mesh_core.specs.State.{State}
-use Rattle.mesh_run.specs.declared.homes.Home.{Home}
-use Rattle.mesh_run.specs.declared.shares.Share.{Share}
+use Rattle.mesh_run.specs.declared.{homes.Home.Home, shares.Share.Share}
 use Rattle.mesh_run.specs.Crossing.{AreSameButEnds, PutsEnd}
 use Rattle.mesh_run.specs.Homes.{run_start}
 use Rattle.mesh_run.specs.Split.{end_at, end_in, unsent_at, unsent_in}
-use Rattle.mesh_run.specs.Splitting.{AreSameButUnsent, AreSameHolds, FitHomes, HoldNothing, IsEmptyHand, MayPutLane, MayTakeLane, MovesIn, MovesOut, PutsUnsent, SameButCopies, SameButUnsent, SetsQueue, SetsUnsent}
-use Rattle.mesh_run.proofs.CrossingLaws.{same_on, same_self}
+use Rattle.mesh_run.specs.Splitting.{AreSameButUnsent, AreSameHolds, FitHomes, HoldNothing, IsEmptyHand, MayPutLane, MayTakeLane}
+use Rattle.mesh_run.specs.Splitting.{MovesIn, MovesOut, PutsUnsent, SameButCopies, SameButUnsent, SetsQueue, SetsUnsent}
+use Rattle.mesh_run.proofs.CrossingLaws.{each_on, each_self, each_set, same_on, same_self}
 use Rattle.mesh_run.proofs.HomeLaws.{start_more}
 
 -- ---- one queue of a mesh
-
-pub queues_of : State → List (List McCopy)
-queues_of m = m.inputs ++ m.cores
 
 pub same_state : (m : State) → SameButCopies m m
 same_state m = record { setup = refl; hands = refl; inputs_long = refl; cores_long = refl; unsent_long = refl; delivered = refl; dumped = refl }
@@ -39,8 +37,8 @@ state_on a b c p q = record {
   dumped = q.dumped ∙ p.dumped;
 }
 
-pub sets_input : (m n : State) (place : ℕ) (q : List McCopy) → place < length m.inputs → n.inputs ≡ set m.inputs place q → n.cores ≡ m.cores → n.unsent ≡ m.unsent → n.setup ≡ m.setup → n.hands ≡ m.hands →
-    n.delivered ≡ m.delivered → n.dumped ≡ m.dumped → SetsQueue place q m n
+pub sets_input : (m n : State) (place : ℕ) (q : List McCopy) → place < length m.inputs → n.inputs ≡ set m.inputs place q → n.cores ≡ m.cores → n.unsent ≡ m.unsent → n.setup ≡ m.setup →
+    n.hands ≡ m.hands → n.delivered ≡ m.delivered → n.dumped ≡ m.dumped → SetsQueue place q m n
 sets_input m n place q below inputs cores unsent setup hands delivered dumped = record {
   same = record {
     setup = setup;
@@ -55,8 +53,8 @@ sets_input m n place q below inputs cores unsent setup hands delivered dumped = 
   queues = ap (λ l. l ++ n.cores) inputs ∙ (ap (λ l. set m.inputs place q ++ l) cores ∙ sym (set-append_left m.inputs m.cores place q below));
 }
 
-pub sets_core : (m n : State) (place : ℕ) (q : List McCopy) → length m.inputs ≤ place → n.cores ≡ set m.cores (place - length m.inputs) q → n.inputs ≡ m.inputs → n.unsent ≡ m.unsent → n.setup ≡ m.setup → n.hands ≡ m.hands →
-    n.delivered ≡ m.delivered → n.dumped ≡ m.dumped → SetsQueue place q m n
+pub sets_core : (m n : State) (place : ℕ) (q : List McCopy) → length m.inputs ≤ place → n.cores ≡ set m.cores (place - length m.inputs) q → n.inputs ≡ m.inputs → n.unsent ≡ m.unsent →
+    n.setup ≡ m.setup → n.hands ≡ m.hands → n.delivered ≡ m.delivered → n.dumped ≡ m.dumped → SetsQueue place q m n
 sets_core m n place q past cores inputs unsent setup hands delivered dumped = record {
   same = record {
     setup = setup;
@@ -77,8 +75,8 @@ read_input m place q below read = read ∙ sym (get_or_append_left m.inputs m.co
 pub read_core : (m : State) (place : ℕ) (q : List McCopy) → length m.inputs ≤ place → q ≡ get_or m.cores (place - length m.inputs) [] → q ≡ get_or (m.inputs ++ m.cores) place []
 read_core m place q past read = read ∙ sym (get_or-append_right m.inputs m.cores (length m.inputs) place [] refl past)
 
-pub sets_unsent : (m n : State) (vertex : ℕ) (q : List McCopy) → n.unsent ≡ set m.unsent vertex q → n.inputs ≡ m.inputs → n.cores ≡ m.cores → n.setup ≡ m.setup → n.hands ≡ m.hands → n.delivered ≡ m.delivered → n.dumped ≡ m.dumped →
-    SetsUnsent vertex q m n
+pub sets_unsent : (m n : State) (vertex : ℕ) (q : List McCopy) → n.unsent ≡ set m.unsent vertex q → n.inputs ≡ m.inputs → n.cores ≡ m.cores → n.setup ≡ m.setup → n.hands ≡ m.hands →
+    n.delivered ≡ m.delivered → n.dumped ≡ m.dumped → SetsUnsent vertex q m n
 sets_unsent m n vertex q unsent inputs cores setup hands delivered dumped = record {
   same = record {
     setup = setup;
@@ -96,30 +94,27 @@ sets_unsent m n vertex q unsent inputs cores setup hands delivered dumped = reco
 
 -- ---- unsent copies of one vertex in a share
 
-pub unsent_set : (before after : List Share) (share vertex : ℕ) (s t : Share) (copies : List McCopy) → slice_get before share ≡ Some s → vertex < length s.hold.unsent.items → after ≡ set before share t →
-    t.from ≡ s.from → t.to ≡ s.to → t.hold.ends ≡ s.hold.ends → t.hold.dumps ≡ s.hold.dumps → t.hold.deliveries ≡ s.hold.deliveries →
+vertices_self : (s : Share) → SameButUnsent s s
+vertices_self s = record { from = refl; to = refl; ends = refl; unsent_long = refl; dumps = refl; deliveries = refl }
+
+vertices_on : (x y z : Share) → SameButUnsent x y → SameButUnsent y z → SameButUnsent x z
+vertices_on x y z p q =
+    record { from = q.from ∙ p.from; to = q.to ∙ p.to; ends = q.ends ∙ p.ends; unsent_long = q.unsent_long ∙ p.unsent_long; dumps = q.dumps ∙ p.dumps; deliveries = q.deliveries ∙ p.deliveries }
+
+pub unsent_set : (before after : List Share) (share vertex : ℕ) (s t : Share) (copies : List McCopy) → slice_get before share ≡ Some s → vertex < length s.hold.unsent.items →
+    after ≡ set before share t → t.from ≡ s.from → t.to ≡ s.to → t.hold.ends ≡ s.hold.ends → t.hold.dumps ≡ s.hold.dumps → t.hold.deliveries ≡ s.hold.deliveries →
     t.hold.unsent.items ≡ set s.hold.unsent.items vertex copies → PutsUnsent share vertex copies before after
 unsent_set before after share vertex s t copies stands below is from to ends dumps deliveries unsent = subst (PutsUnsent share vertex copies before) (sym is) (record {
-  same = (
-    length-set before share t,
-    λ k x y at also. elim (cases_eq k share) [
-      | inl here ↦
-          let is_x : s ≡ x = same_Some s x (sym stands ∙ (ap (slice_get before) (sym here) ∙ at)) in
-          let is_y : t ≡ y = same_Some t y (sym (slice_get-set_same before share s t stands) ∙ (ap (slice_get (set before share t)) (sym here) ∙ also)) in
-          subst (λ (z : Share). SameButUnsent x z) is_y (subst (λ (z : Share). SameButUnsent z t) is_x (record {
-            from = from;
-            to = to;
-            ends = ends;
-            unsent_long = ap length unsent ∙ length-set s.hold.unsent.items vertex copies;
-            dumps = dumps;
-            deliveries = deliveries;
-          }))
-      | inr other ↦
-          let is_y : x ≡ y = same_Some x y (sym at ∙ (sym (slice_get-set_other before share k t other) ∙ also)) in
-          subst (SameButUnsent x) is_y (record { from = refl; to = refl; ends = refl; unsent_long = refl; dumps = refl; deliveries = refl })
-    ],
-  );
-  here = ap (λ (o : Option Share). unsent_in o vertex) (slice_get-set_same before share s t stands) ∙ (ap (λ l. get_or l vertex []) unsent ∙ get_or-set_same s.hold.unsent.items vertex copies [] below);
+  same = each_set SameButUnsent vertices_self before share s t stands (record {
+    from = from;
+    to = to;
+    ends = ends;
+    unsent_long = ap length unsent ∙ length-set s.hold.unsent.items vertex copies;
+    dumps = dumps;
+    deliveries = deliveries;
+  });
+  here = ap (λ (o : Option Share). unsent_in o vertex) (slice_get-set_same before share s t stands)
+      ∙ (ap (λ l. get_or l vertex []) unsent ∙ get_or-set_same s.hold.unsent.items vertex copies [] below);
   others = λ k v differs. elim (cases_eq k share) [
     | inl here ↦
         ap (λ (j : ℕ). unsent_at (set before share t) j v) here
@@ -131,55 +126,26 @@ unsent_set before after share vertex s t copies stands below is from to ends dum
   ];
 })
 
-pub unsent_read : (shares : List Share) (share vertex : ℕ) (s : Share) (copies : List McCopy) → slice_get shares share ≡ Some s → copies ≡ get_or s.hold.unsent.items vertex [] → copies ≡ unsent_at shares share vertex
-unsent_read shares share vertex s copies stands read = read ∙ ap (λ (o : Option Share). unsent_in o vertex) (sym stands)
-
 pub unsent_self : (shares : List Share) → AreSameButUnsent shares shares
-unsent_self shares = (refl, λ k s t at also. subst (SameButUnsent s) (same_Some s t (sym at ∙ also)) (record { from = refl; to = refl; ends = refl; unsent_long = refl; dumps = refl; deliveries = refl }))
+unsent_self shares = each_self SameButUnsent vertices_self shares
 
 pub unsent_on : (a b c : List Share) → AreSameButUnsent a b → AreSameButUnsent b c → AreSameButUnsent a c
-unsent_on a b c first second = (
-  second.0 ∙ first.0,
-  λ k x z at also.
-      let within = slice_get_within a k x at in
-      let long = first.0 in
-      let y = slice_get_there b k (omega (arith, within, long)) in
-      let p = first.1 k x y.0 at y.1 in
-      let q = second.1 k y.0 z y.1 also in
-      record { from = q.from ∙ p.from; to = q.to ∙ p.to; ends = q.ends ∙ p.ends; unsent_long = q.unsent_long ∙ p.unsent_long; dumps = q.dumps ∙ p.dumps; deliveries = q.deliveries ∙ p.deliveries },
-)
+unsent_on a b c first second = each_on SameButUnsent vertices_on a b c first second
+
+abbrev SameHold : Share → Share → Type 0
+SameHold s t = (t.from ≡ s.from) × (t.to ≡ s.to) × (t.hold ≡ s.hold)
+
+hold_self : (s : Share) → SameHold s s
+hold_self s = (refl, refl, refl)
 
 pub holds_self : (shares : List Share) → AreSameHolds shares shares
-holds_self shares = (refl, λ k s t at also. let is : s ≡ t = same_Some s t (sym at ∙ also) in (ap (λ (x : Share). x.from) (sym is), ap (λ (x : Share). x.to) (sym is), ap (λ (x : Share). x.hold) (sym is)))
+holds_self shares = each_self SameHold hold_self shares
 
 pub holds_on : (a b c : List Share) → AreSameHolds a b → AreSameHolds b c → AreSameHolds a c
-holds_on a b c first second = (
-  second.0 ∙ first.0,
-  λ k x z at also.
-      let within = slice_get_within a k x at in
-      let long = first.0 in
-      let y = slice_get_there b k (omega (arith, within, long)) in
-      let p = first.1 k x y.0 at y.1 in
-      let q = second.1 k y.0 z y.1 also in
-      (q.0 ∙ p.0, q.1 ∙ p.1, q.2 ∙ p.2),
-)
+holds_on a b c first second = each_on SameHold (λ x y z p q. (q.0 ∙ p.0, q.1 ∙ p.1, q.2 ∙ p.2)) a b c first second
 
 pub holds_set : (shares : List Share) (share : ℕ) (s t : Share) → slice_get shares share ≡ Some s → t.from ≡ s.from → t.to ≡ s.to → t.hold ≡ s.hold → AreSameHolds shares (set shares share t)
-holds_set shares share s t stands from to hold = (
-  length-set shares share t,
-  λ k x y at also. elim (cases_eq k share) [
-    | inl here ↦
-        let is_x : s ≡ x = same_Some s x (sym stands ∙ (ap (slice_get shares) (sym here) ∙ at)) in
-        let is_y : t ≡ y = same_Some t y (sym (slice_get-set_same shares share s t stands) ∙ (ap (slice_get (set shares share t)) (sym here) ∙ also)) in (
-          ap (λ (z : Share). z.from) (sym is_y) ∙ (from ∙ ap (λ (z : Share). z.from) is_x),
-          ap (λ (z : Share). z.to) (sym is_y) ∙ (to ∙ ap (λ (z : Share). z.to) is_x),
-          ap (λ (z : Share). z.hold) (sym is_y) ∙ (hold ∙ ap (λ (z : Share). z.hold) is_x),
-        )
-    | inr other ↦
-        let is : x ≡ y = same_Some x y (sym at ∙ (sym (slice_get-set_other shares share k t other) ∙ also)) in
-        (ap (λ (z : Share). z.from) (sym is), ap (λ (z : Share). z.to) (sym is), ap (λ (z : Share). z.hold) (sym is))
-  ],
-)
+holds_set shares share s t stands from to hold = each_set SameHold hold_self shares share s t stands (from, to, hold)
 
 -- ---- moving in
 
@@ -189,7 +155,8 @@ pub record LanesTo (m : State) (homes : List Home) (start : List Share) (n : ℕ
   pub unsent : now.unsent ≡ m.unsent
   pub left : (q : ℕ) → n ≤ q → get_or (now.inputs ++ now.cores) q [] ≡ get_or (m.inputs ++ m.cores) q []
   pub shares_same : AreSameButEnds start shares
-  pub lanes : (q : ℕ) (h : Home) → q < n → slice_get homes q ≡ Some h → h.sender ≡ h.receiver → (a : WithRoom McCopy) × (end_at shares h.sender q ≡ Some (Own a)) × (a.items ≡ get_or (m.inputs ++ m.cores) q [])
+  pub lanes : (q : ℕ) (h : Home) → q < n → slice_get homes q ≡ Some h → h.sender ≡ h.receiver →
+      (a : WithRoom McCopy) × (end_at shares h.sender q ≡ Some (Own a)) × (a.items ≡ get_or (m.inputs ++ m.cores) q [])
   pub others : (s q : ℕ) → ((h : Home) → q < n → slice_get homes q ≡ Some h → h.sender ≡ h.receiver → s ≡ h.sender → ⊥) → end_at shares s q ≡ end_at start s q
 
 pub lanes_none : (m : State) (homes : List Home) (start : List Share) → LanesTo m homes start 0 m start
@@ -203,7 +170,8 @@ lanes_none m homes start = record {
 }
 
 -- the queue at the next place
-pub lanes_more : (m : State) (homes : List Home) (start : List Share) (n : ℕ) (now next : State) (shares new : List Share) (home : Home) (copies gone : List McCopy) → LanesTo m homes start n now shares → slice_get homes n ≡ Some home →
+pub lanes_more : (m : State) (homes : List Home) (start : List Share) (n : ℕ) (now next : State) (shares new : List Share) (home : Home) (copies gone : List McCopy) →
+    LanesTo m homes start n now shares → slice_get homes n ≡ Some home →
     copies ≡ get_or (now.inputs ++ now.cores) n [] → SetsQueue n gone now next → MayPutLane home n copies shares new → LanesTo m homes start (n + 1) next new
 lanes_more m homes start n now next shares new home copies gone so_far at read sets (inl apart) = record {
   same = state_on m now next so_far.same sets.same;
@@ -256,8 +224,10 @@ vertices_to_none ports m now homes start same unsent = record {
   others = λ s v not. refl;
 }
 
-pub vertices_to_more : (ports : ℕ) (m : State) (homes : List Home) (start : List Share) (n : ℕ) (now next : State) (shares new : List Share) (home : Home) (copies gone : List McCopy) → VerticesTo ports m homes start n now shares →
-    slice_get homes (ports + n) ≡ Some home → copies ≡ get_or now.unsent n [] → SameButCopies now next → next.unsent ≡ set now.unsent n gone → PutsUnsent home.receiver n copies shares new → VerticesTo ports m homes start (n + 1) next new
+pub vertices_to_more : (ports : ℕ) (m : State) (homes : List Home) (start : List Share) (n : ℕ) (now next : State) (shares new : List Share) (home : Home) (copies gone : List McCopy) →
+    VerticesTo ports m homes start n now shares →
+    slice_get homes (ports + n) ≡ Some home → copies ≡ get_or now.unsent n [] → SameButCopies now next → next.unsent ≡ set now.unsent n gone → PutsUnsent home.receiver n copies shares new →
+    VerticesTo ports m homes start (n + 1) next new
 vertices_to_more ports m homes start n now next shares new home copies gone so_far at read same unsent put = record {
   same = state_on m now next so_far.same same;
   left = λ v from. ap (λ l. get_or l v []) unsent ∙ (get_or-set_other now.unsent n v gone [] (λ e. omega (arith, e, from)) ∙ so_far.left v (omega (arith, from)));
@@ -265,7 +235,8 @@ vertices_to_more ports m homes start n now next shares new home copies gone so_f
   here = λ v h less at_v. elim (cases_eq v n) [
     | inl here ↦
         let is : home ≡ h = same_Some home h (sym at ∙ (ap (λ (j : ℕ). slice_get homes (ports + j)) (sym here) ∙ at_v)) in
-        ap (λ (j : ℕ). unsent_at new h.receiver j) here ∙ (ap (λ (x : Home). unsent_at new x.receiver n) (sym is) ∙ (put.here ∙ (read ∙ (so_far.left n (omega arith) ∙ ap (λ (j : ℕ). get_or m.unsent j []) (sym here)))))
+        ap (λ (j : ℕ). unsent_at new h.receiver j) here
+        ∙ (ap (λ (x : Home). unsent_at new x.receiver n) (sym is) ∙ (put.here ∙ (read ∙ (so_far.left n (omega arith) ∙ ap (λ (j : ℕ). get_or m.unsent j []) (sym here)))))
     | inr other ↦ put.others h.receiver v (λ e. other e.1) ∙ so_far.here v h (omega (arith, less, other)) at_v
   ];
   others = λ s v not. put.others s v (λ e. not home (omega (arith, e.1)) (ap (λ (j : ℕ). slice_get homes (ports + j)) e.1 ∙ at) e.0) ∙ so_far.others s v (λ h less. not h (omega (arith, less)));
@@ -314,22 +285,42 @@ vertex_home m homes shares ports v fits is below =
     ap (λ (p : ℕ). slice_get homes (p + v)) (sym is) ∙ slice_get-get_or homes (ports + v) (record { sender = 0; receiver = 0 }) (home_inside m homes shares ports v fits is below)
 
 -- the share of its receiver is there
-pub receiver_there : (m : State) (homes : List Home) (start second now : List Share) (ports v : ℕ) → FitHomes m homes start → AreSameButEnds start second → AreSameButUnsent second now → ports ≡ length m.inputs → v < length m.unsent →
-    (get_or homes (ports + v) (record { sender = 0; receiver = 0 })).receiver < length now
+pub receiver_there : (m : State) (homes : List Home) (start second now : List Share) (ports v : ℕ) → FitHomes m homes start → AreSameButEnds start second → AreSameButUnsent second now →
+    ports ≡ length m.inputs → v < length m.unsent → (get_or homes (ports + v) (record { sender = 0; receiver = 0 })).receiver < length now
 receiver_there m homes start second now ports v fits ends unsent is below =
     subst (λ (k : ℕ). (get_or homes (ports + v) (record { sender = 0; receiver = 0 })).receiver < k) (sym (unsent.0 ∙ ends.0))
     (fits.receivers (ports + v) (record { sender = 0; receiver = 0 }) (home_inside m homes start ports v fits is below))
 
 -- a share has a place for each vertex
-pub unsent_wide : (m : State) (homes : List Home) (start second now : List Share) (k : ℕ) (t : Share) → FitHomes m homes start → AreSameButEnds start second → AreSameButUnsent second now → slice_get now k ≡ Some t →
-    length t.hold.unsent.items ≡ length m.unsent
+pub unsent_wide : (m : State) (homes : List Home) (start second now : List Share) (k : ℕ) (t : Share) → FitHomes m homes start → AreSameButEnds start second → AreSameButUnsent second now →
+    slice_get now k ≡ Some t → length t.hold.unsent.items ≡ length m.unsent
 unsent_wide m homes start second now k t fits ends unsent at =
     let within = slice_get_within now k t at in
     let long_b = unsent.0 in
-    let long_c = ends.0 in
-    let s = slice_get_there start k (omega (arith, within, long_b, long_c)) in
+    let s = slice_get_there start k (omega (arith, within, long_b, ends.0)) in
     let x = slice_get_there second k (omega (arith, within, long_b)) in
-    (unsent.1 k x.0 t x.1 at).unsent_long ∙ (ap (λ e. length e.items) (ends.1 k s.0 x.0 s.1 x.1).unsent ∙ All-at (λ (y : Share). length y.hold.unsent.items ≡ length m.unsent) start k s.0 fits.unsent_long s.1)
+    (unsent.1 k x.0 t x.1 at).unsent_long ∙ (ap (λ e. length e.items) (ends.1 k s.0 x.0 s.1 x.1).unsent
+    ∙ All-at (λ (y : Share). length y.hold.unsent.items ≡ length m.unsent) start k s.0 fits.unsent_long s.1)
+
+-- where the same is unsent in each share, it is at each place
+by_unsent : (a b : List Share) (s v : ℕ) → length b ≡ length a → ((k : ℕ) (x y : Share) → slice_get a k ≡ Some x → slice_get b k ≡ Some y → y.hold.unsent ≡ x.hold.unsent) →
+    unsent_at b s v ≡ unsent_at a s v
+by_unsent a b s v long each = by (slice_get b s) refl
+  where
+    by : (o : Option Share) → slice_get b s ≡ o → unsent_at b s v ≡ unsent_at a s v
+    by (Some y) at =
+        let x = slice_get_there a s (omega (arith, slice_get_within b s y at, long)) in
+        ap (λ (z : Option Share). unsent_in z v) at ∙ (ap (λ e. get_or e.items v []) (each s x.0 y x.1 at) ∙ ap (λ (z : Option Share). unsent_in z v) (sym x.1))
+    by None at = none_too (slice_get a s) refl
+      where
+        none_too : (o : Option Share) → slice_get a s ≡ o → unsent_at b s v ≡ unsent_at a s v
+        none_too None also = ap (λ (z : Option Share). unsent_in z v) (at ∙ sym also)
+        none_too (Some x) also =
+            let y = slice_get_there b s (omega (arith, slice_get_within a s x also, long)) in
+            absurd (none-some y.0 (sym at ∙ y.1))
+
+pub default_at : (xs : List (List McCopy)) (v : ℕ) (d : List McCopy) → v < length xs → get_or xs v d ≡ get_or xs v []
+default_at xs v d below = let x = slice_get_there xs v below in get_or_from_slice_get xs v x.0 d x.1 ∙ sym (get_or_from_slice_get xs v x.0 [] x.1)
 
 -- a share with the same actors, logs and places
 record Parts (s t : Share) : Type 0 where
@@ -341,7 +332,8 @@ record Parts (s t : Share) : Type 0 where
   deliveries : t.hold.deliveries ≡ s.hold.deliveries
 
 -- all that moved in
-pub moved_in : (m mid left : State) (homes : List Home) (runs : List ℕ) (queues vertices n k : ℕ) (start second third after : List Share) → HoldNothing runs queues vertices start → FitHomes m homes start → length homes ≤ n → length m.unsent ≤ k →
+pub moved_in : (m mid left : State) (homes : List Home) (runs : List ℕ) (queues vertices n k : ℕ) (start second third after : List Share) → HoldNothing runs queues vertices start →
+    FitHomes m homes start → length homes ≤ n → length m.unsent ≤ k →
     LanesTo m homes start n mid second → VerticesTo (length m.inputs) m homes second k left third → AreSameHolds third after → MovesIn m homes start left after
 moved_in m mid left homes runs queues vertices n k start second third after nothing fits past past_k lanes unsent same = record {
   same = unsent.same;
@@ -355,8 +347,7 @@ moved_in m mid left homes runs queues vertices n k start second third after noth
   no_logs = λ j d below. no_logs j (get_or after j d) (slice_get-get_or after j d below);
   lanes = record {
     lanes = λ q h at one.
-        let inside = slice_get_within homes q h at in
-        let was = lanes.lanes q h (omega (arith, inside, past)) at one in
+        let was = lanes.lanes q h (omega (arith, slice_get_within homes q h at, past)) at one in
         (was.0, ends_still h.sender q ∙ was.1, was.2);
     away = λ q h s at below other.
         let inside = slice_get_within homes q h at in
@@ -369,10 +360,12 @@ moved_in m mid left homes runs queues vertices n k start second third after noth
     here = λ v h at. unsent_still h.receiver v ∙ elim (cases_lt v k) [
       | inl less ↦ unsent.here v h less at
       | inr more ↦
-          unsent.others h.receiver v (λ g less. absurd (omega (arith, less, more))) ∙ (unsent_before h.receiver v ∙ (no_unsent runs queues vertices start h.receiver v nothing ∙ sym (get_or_past m.unsent v [] (omega (arith, more, past_k)))))
+          unsent.others h.receiver v (λ g less. absurd (omega (arith, less, more)))
+          ∙ (unsent_before h.receiver v ∙ (no_unsent runs queues vertices start h.receiver v nothing ∙ sym (get_or_past m.unsent v [] (omega (arith, more, past_k)))))
     ];
     nowhere_else = λ v h s at differs.
-        unsent_still s v ∙ (unsent.others s v (λ g less at_g here. differs (here ∙ ap (λ (x : Home). x.receiver) (same_Some g h (sym at_g ∙ at)))) ∙ (unsent_before s v ∙ no_unsent runs queues vertices start s v nothing));
+        unsent_still s v ∙ (unsent.others s v (λ g less at_g here. differs (here ∙ ap (λ (x : Home). x.receiver) (same_Some g h (sym at_g ∙ at))))
+        ∙ (unsent_before s v ∙ no_unsent runs queues vertices start s v nothing));
   };
 }
   where
@@ -380,9 +373,8 @@ moved_in m mid left homes runs queues vertices n k start second third after noth
     all j s t at also =
         let within = slice_get_within start j s at in
         let long_c = lanes.shares_same.0 in
-        let long_b = unsent.shares_same.0 in
         let x = slice_get_there second j (omega (arith, within, long_c)) in
-        let y = slice_get_there third j (omega (arith, within, long_c, long_b)) in
+        let y = slice_get_there third j (omega (arith, within, long_c, unsent.shares_same.0)) in
         let p = lanes.shares_same.1 j s x.0 at x.1 in
         let q = unsent.shares_same.1 j x.0 y.0 x.1 y.1 in
         let r = same.1 j y.0 t y.1 also in
@@ -397,11 +389,7 @@ moved_in m mid left homes runs queues vertices n k start second third after noth
 
     no_logs : (j : ℕ) (t : Share) → slice_get after j ≡ Some t → (t.hold.dumps.items ≡ []) × (t.hold.deliveries.items ≡ [])
     no_logs j t also =
-        let within = slice_get_within after j t also in
-        let long_a = same.0 in
-        let long_b = unsent.shares_same.0 in
-        let long_c = lanes.shares_same.0 in
-        let s = slice_get_there start j (omega (arith, within, long_a, long_b, long_c)) in
+        let s = slice_get_there start j (omega (arith, slice_get_within after j t also, same.0, unsent.shares_same.0, lanes.shares_same.0)) in
         let hand = All-at (λ (x : Share). IsEmptyHand queues vertices x.hold) start j s.0 nothing.hands s.1 in
         let p = all j s.0 t s.1 also in
         (ap (λ l. l.items) p.dumps ∙ hand.dumps, ap (λ l. l.items) p.deliveries ∙ hand.deliveries)
@@ -411,33 +399,14 @@ moved_in m mid left homes runs queues vertices n k start second third after noth
       where
         by : (o : Option Share) → slice_get b s ≡ o → end_at b s q ≡ end_at a s q
         by (Some y) at =
-            let within = slice_get_within b s y at in
-            let x = slice_get_there a s (omega (arith, within, long)) in
+            let x = slice_get_there a s (omega (arith, slice_get_within b s y at, long)) in
             ap (λ (z : Option Share). end_in z q) at ∙ (ap (λ e. slice_get e.items q) (each s x.0 y x.1 at) ∙ ap (λ (z : Option Share). end_in z q) (sym x.1))
         by None at = none_too (slice_get a s) refl
           where
             none_too : (o : Option Share) → slice_get a s ≡ o → end_at b s q ≡ end_at a s q
             none_too None also = ap (λ (z : Option Share). end_in z q) (at ∙ sym also)
             none_too (Some x) also =
-                let within = slice_get_within a s x also in
-                let y = slice_get_there b s (omega (arith, within, long)) in
-                absurd (none-some y.0 (sym at ∙ y.1))
-
-    by_unsent : (a b : List Share) (s v : ℕ) → length b ≡ length a → ((k : ℕ) (x y : Share) → slice_get a k ≡ Some x → slice_get b k ≡ Some y → y.hold.unsent ≡ x.hold.unsent) → unsent_at b s v ≡ unsent_at a s v
-    by_unsent a b s v long each = by (slice_get b s) refl
-      where
-        by : (o : Option Share) → slice_get b s ≡ o → unsent_at b s v ≡ unsent_at a s v
-        by (Some y) at =
-            let within = slice_get_within b s y at in
-            let x = slice_get_there a s (omega (arith, within, long)) in
-            ap (λ (z : Option Share). unsent_in z v) at ∙ (ap (λ e. get_or e.items v []) (each s x.0 y x.1 at) ∙ ap (λ (z : Option Share). unsent_in z v) (sym x.1))
-        by None at = none_too (slice_get a s) refl
-          where
-            none_too : (o : Option Share) → slice_get a s ≡ o → unsent_at b s v ≡ unsent_at a s v
-            none_too None also = ap (λ (z : Option Share). unsent_in z v) (at ∙ sym also)
-            none_too (Some x) also =
-                let within = slice_get_within a s x also in
-                let y = slice_get_there b s (omega (arith, within, long)) in
+                let y = slice_get_there b s (omega (arith, slice_get_within a s x also, long)) in
                 absurd (none-some y.0 (sym at ∙ y.1))
 
     ends_still : (s q : ℕ) → end_at after s q ≡ end_at second s q
@@ -460,16 +429,16 @@ moved_in m mid left homes runs queues vertices n k start second third after noth
         let x = slice_get_there start s below in
         let hand = All-at (λ (k : Share). IsEmptyHand queues vertices k.hold) start s x.0 nothing.hands x.1 in
         let long : length x.0.hold.ends.items ≡ length homes = All-at (λ (k : Share). length k.hold.ends.items ≡ length homes) start s x.0 fits.ends_long x.1 in
-        let empty = ap length hand.ends in
         let many : length (replicate queues Away) ≡ queues = length-replicate queues Away in
-        no_end runs queues vertices start s q nothing below (omega (arith, inside, long, empty, many))
+        no_end runs queues vertices start s q nothing below (omega (arith, inside, long, ap length hand.ends, many))
 
 -- ---- moving out
 
 pub record OutTo (left : State) (homes : List Home) (start : List Share) (n : ℕ) (now : State) (shares : List Share) : Type 0 where
   pub same : SameButCopies left now
   pub unsent : now.unsent ≡ left.unsent
-  pub lanes : (q : ℕ) (h : Home) (a : WithRoom McCopy) → q < n → slice_get homes q ≡ Some h → h.sender ≡ h.receiver → end_at start h.sender q ≡ Some (Own a) → get_or (now.inputs ++ now.cores) q [] ≡ a.items
+  pub lanes : (q : ℕ) (h : Home) (a : WithRoom McCopy) → q < n → slice_get homes q ≡ Some h → h.sender ≡ h.receiver → end_at start h.sender q ≡ Some (Own a) →
+      get_or (now.inputs ++ now.cores) q [] ≡ a.items
   pub others : (q : ℕ) (h : Home) → slice_get homes q ≡ Some h → h.sender ≢ h.receiver → get_or (now.inputs ++ now.cores) q [] ≡ get_or (left.inputs ++ left.cores) q []
   pub ends : (s q : ℕ) → n ≤ q → end_at shares s q ≡ end_at start s q
   pub shares_same : AreSameButEnds start shares
@@ -485,8 +454,8 @@ out_none left homes start = record {
 }
 
 -- a queue between two shares stays
-pub out_apart : (left : State) (homes : List Home) (start : List Share) (n : ℕ) (now : State) (shares : List Share) (home : Home) → OutTo left homes start n now shares → slice_get homes n ≡ Some home → home.sender ≢ home.receiver →
-    OutTo left homes start (n + 1) now shares
+pub out_apart : (left : State) (homes : List Home) (start : List Share) (n : ℕ) (now : State) (shares : List Share) (home : Home) → OutTo left homes start n now shares →
+    slice_get homes n ≡ Some home → home.sender ≢ home.receiver → OutTo left homes start (n + 1) now shares
 out_apart left homes start n now shares home so_far at apart = record {
   same = so_far.same;
   unsent = so_far.unsent;
@@ -502,9 +471,10 @@ out_apart left homes start n now shares home so_far at apart = record {
 }
 
 -- a lane moves out
-pub out_lane : (left : State) (homes : List Home) (start : List Share) (n : ℕ) (now next : State) (shares new : List Share) (home : Home) (end : End) (copies : List McCopy) → OutTo left homes start n now shares → slice_get homes n ≡ Some home →
-    home.sender ≡ home.receiver → n < length (now.inputs ++ now.cores) → end_at shares home.sender n ≡ Some end → PutsEnd home.sender n Away shares new → ((a : WithRoom McCopy) → end ≡ Own a → copies ≡ a.items) → SetsQueue n copies now next →
-    OutTo left homes start (n + 1) next new
+pub out_lane : (left : State) (homes : List Home) (start : List Share) (n : ℕ) (now next : State) (shares new : List Share) (home : Home) (end : End) (copies : List McCopy) →
+    OutTo left homes start n now shares → slice_get homes n ≡ Some home →
+    home.sender ≡ home.receiver → n < length (now.inputs ++ now.cores) → end_at shares home.sender n ≡ Some end → PutsEnd home.sender n Away shares new →
+    ((a : WithRoom McCopy) → end ≡ Own a → copies ≡ a.items) → SetsQueue n copies now next → OutTo left homes start (n + 1) next new
 out_lane left homes start n now next shares new home end copies so_far at together below stood put is sets = record {
   same = state_on left now next so_far.same sets.same;
   unsent = sets.unsent ∙ so_far.unsent;
@@ -525,8 +495,8 @@ out_lane left homes start n now next shares new home end copies so_far at togeth
 }
 
 -- a queue stays, or moves out
-pub out_more : (left : State) (homes : List Home) (start : List Share) (n : ℕ) (now next : State) (shares new : List Share) (home : Home) → OutTo left homes start n now shares → slice_get homes n ≡ Some home → n < length now.inputs + length now.cores →
-    MayTakeLane home n now shares next new → OutTo left homes start (n + 1) next new
+pub out_more : (left : State) (homes : List Home) (start : List Share) (n : ℕ) (now next : State) (shares new : List Share) (home : Home) → OutTo left homes start n now shares →
+    slice_get homes n ≡ Some home → n < length now.inputs + length now.cores → MayTakeLane home n now shares next new → OutTo left homes start (n + 1) next new
 out_more left homes start n now next shares new home so_far at below (inl apart) =
     subst (λ (m : State). OutTo left homes start (n + 1) m new) (sym apart.1)
     (subst (λ (l : List Share). OutTo left homes start (n + 1) now l) (sym apart.2) (out_apart left homes start n now shares home so_far at apart.0))
@@ -552,9 +522,10 @@ unsent_out_none ports mid homes start = record {
   shares_same = unsent_self start;
 }
 
-pub unsent_out_more : (ports : ℕ) (mid : State) (homes : List Home) (start : List Share) (n : ℕ) (now next : State) (shares new : List Share) (home : Home) (copies gone : List McCopy) → UnsentOutTo ports mid homes start n now shares →
-    slice_get homes (ports + n) ≡ Some home → n < length now.unsent → copies ≡ unsent_at shares home.receiver n → PutsUnsent home.receiver n gone shares new → SameButCopies now next → next.inputs ≡ now.inputs → next.cores ≡ now.cores →
-    next.unsent ≡ set now.unsent n copies → UnsentOutTo ports mid homes start (n + 1) next new
+pub unsent_out_more : (ports : ℕ) (mid : State) (homes : List Home) (start : List Share) (n : ℕ) (now next : State) (shares new : List Share) (home : Home) (copies gone : List McCopy) →
+    UnsentOutTo ports mid homes start n now shares →
+    slice_get homes (ports + n) ≡ Some home → n < length now.unsent → copies ≡ unsent_at shares home.receiver n → PutsUnsent home.receiver n gone shares new → SameButCopies now next →
+    next.inputs ≡ now.inputs → next.cores ≡ now.cores → next.unsent ≡ set now.unsent n copies → UnsentOutTo ports mid homes start (n + 1) next new
 unsent_out_more ports mid homes start n now next shares new home copies gone so_far at below read put same inputs cores unsent = record {
   same = state_on mid now next so_far.same same;
   inputs = inputs ∙ so_far.inputs;
@@ -570,52 +541,30 @@ unsent_out_more ports mid homes start n now next shares new home copies gone so_
   shares_same = unsent_on start shares new so_far.shares_same put.same;
 }
 
-pub moved_out : (left mid m : State) (homes : List Home) (n k : ℕ) (start second third : List Share) → FitHomes left homes start → length homes ≤ n → length left.unsent ≤ k → OutTo left homes start n mid second →
-    UnsentOutTo (length left.inputs) mid homes second k m third → MovesOut homes start left m
+pub moved_out : (left mid m : State) (homes : List Home) (n k : ℕ) (start second third : List Share) → FitHomes left homes start → length homes ≤ n → length left.unsent ≤ k →
+    OutTo left homes start n mid second → UnsentOutTo (length left.inputs) mid homes second k m third → MovesOut homes start left m
 moved_out left mid m homes n k start second third fits past past_k lanes unsent = record {
   same = state_on left mid m lanes.same unsent.same;
   lanes = λ queues q h held at one.
-      let inside = slice_get_within homes q h at in
       let lane = held.lanes q h at one in
-      queues_still q ∙ (lanes.lanes q h lane.0 (omega (arith, inside, past)) at one lane.1 ∙ lane.2);
+      queues_still q ∙ (lanes.lanes q h lane.0 (omega (arith, slice_get_within homes q h at, past)) at one lane.1 ∙ lane.2);
   others = λ q h at apart. queues_still q ∙ lanes.others q h at apart;
   vertices = λ sent long held.
       let m_long = unsent.same.unsent_long ∙ lanes.same.unsent_long in
       same_lists m.unsent sent (m_long ∙ sym long) (λ v d below.
-      let many = fits.long in
-      let few = fits.vertices in
-      let h = slice_get_there homes (length left.inputs + v) (omega (arith, below, m_long, many, few)) in
-      default m.unsent v d below ∙ (unsent.done v h.0 (omega (arith, below, m_long, past_k)) h.1
+      let h = slice_get_there homes (length left.inputs + v) (omega (arith, below, m_long, fits.long, fits.vertices)) in
+      default_at m.unsent v d below ∙ (unsent.done v h.0 (omega (arith, below, m_long, past_k)) h.1
       ∙ (unsent_before h.0.receiver v ∙ (held.here v h.0 h.1 ∙ default_back sent v d (omega (arith, below, m_long, long))))));
 }
   where
-    default : (xs : List (List McCopy)) (v : ℕ) (d : List McCopy) → v < length xs → get_or xs v d ≡ get_or xs v []
-    default xs v d below = let x = slice_get_there xs v below in get_or_from_slice_get xs v x.0 d x.1 ∙ sym (get_or_from_slice_get xs v x.0 [] x.1)
-
     default_back : (xs : List (List McCopy)) (v : ℕ) (d : List McCopy) → v < length xs → get_or xs v [] ≡ get_or xs v d
-    default_back xs v d below = sym (default xs v d below)
+    default_back xs v d below = sym (default_at xs v d below)
 
     queues_still : (q : ℕ) → get_or (m.inputs ++ m.cores) q [] ≡ get_or (mid.inputs ++ mid.cores) q []
     queues_still q = ap (λ l. get_or (l ++ m.cores) q []) unsent.inputs ∙ ap (λ l. get_or (mid.inputs ++ l) q []) unsent.cores
 
     unsent_before : (s v : ℕ) → unsent_at second s v ≡ unsent_at start s v
-    unsent_before s v = by (slice_get second s) refl
-      where
-        by : (o : Option Share) → slice_get second s ≡ o → unsent_at second s v ≡ unsent_at start s v
-        by (Some y) at =
-            let within = slice_get_within second s y at in
-            let long = lanes.shares_same.0 in
-            let x = slice_get_there start s (omega (arith, within, long)) in
-            ap (λ (z : Option Share). unsent_in z v) at ∙ (ap (λ e. get_or e.items v []) (lanes.shares_same.1 s x.0 y x.1 at).unsent ∙ ap (λ (z : Option Share). unsent_in z v) (sym x.1))
-        by None at = none_too (slice_get start s) refl
-          where
-            none_too : (o : Option Share) → slice_get start s ≡ o → unsent_at second s v ≡ unsent_at start s v
-            none_too None also = ap (λ (z : Option Share). unsent_in z v) (at ∙ sym also)
-            none_too (Some x) also =
-                let within = slice_get_within start s x also in
-                let long = lanes.shares_same.0 in
-                let y = slice_get_there second s (omega (arith, within, long)) in
-                absurd (none-some y.0 (sym at ∙ y.1))
+    unsent_before s v = by_unsent start second s v lanes.shares_same.0 (λ k x y at also. (lanes.shares_same.1 k x y at also).unsent)
 
 -- ---- shares of the runs so far
 
@@ -635,8 +584,8 @@ nothing_none runs queues vertices shares none = subst (NothingTo runs queues ver
   hands = All-nil (λ s. IsEmptyHand queues vertices s.hold);
 })
 
-pub nothing_more : (runs : List ℕ) (queues vertices n from to : ℕ) (share : Share) (shares new : List Share) → NothingTo runs queues vertices n from shares → to ≡ get_or runs n 0 → share.from ≡ from → share.to ≡ to → IsEmptyHand queues vertices share.hold →
-    new ≡ shares ++ share ∷ [] → NothingTo runs queues vertices (n + 1) to new
+pub nothing_more : (runs : List ℕ) (queues vertices n from to : ℕ) (share : Share) (shares new : List Share) → NothingTo runs queues vertices n from shares → to ≡ get_or runs n 0 →
+    share.from ≡ from → share.to ≡ to → IsEmptyHand queues vertices share.hold → new ≡ shares ++ share ∷ [] → NothingTo runs queues vertices (n + 1) to new
 nothing_more runs queues vertices n from to share shares new so_far at from_is to_is empty is = subst (NothingTo runs queues vertices (n + 1) to) (sym is) (record {
   long = length_push shares share ∙ ap (λ k. k + 1) so_far.long;
   next = at ∙ sym (start_more runs n);

@@ -5,27 +5,18 @@ use Rattle.std.proofs.lemmas.Bool.{cases_eq, cond_both}
 use Rattle.std.proofs.lemmas.List.{map-append, length-append}
 use Rattle.std.proofs.lemmas.List.Elements.{All-append, All-contains, All-cons, All-filter, All-head, All-map, All-nil, All-tail, All-weaker}
 use Rattle.std.proofs.lemmas.Grind.{flat_map-append}
-use Rattle.spin_base.proofs.Members.{contains_among}
-use Rattle.spin_base.proofs.Pairs.{All-from_map}
-use Rattle.spin_base.proofs.Places.{All-each}
-use Rattle.spin_base.specs.declared.chips.Chip.{Chip}
-use Rattle.spin_base.specs.declared.chips.Port.{Port}
-use Rattle.spin_base.specs.declared.routes.Out.{Out}
-use Rattle.spin_base.specs.declared.blocks.Entry.{Entry}
-use Rattle.spin_base.specs.declared.copies.McCopy.{McCopy}
-use Rattle.spin_base.specs.Hops.{last_hop}
-use Rattle.spin_base.specs.Lookup.{lookup}
+use Rattle.spin_base.proofs.{Members.contains_among, Pairs.All-from_map, Places.All-each}
+use Rattle.spin_base.specs.declared.{chips.Chip.Chip, chips.Port.Port, routes.Out.Out, blocks.Entry.Entry, copies.McCopy.McCopy}
+use Rattle.spin_base.specs.{Hops.last_hop, Lookup.lookup}
 use Rattle.spin_base.specs.Outputs.{all_outs, has, outs_of, IsOutput}
 use Rattle.machine_desc.specs.Live.{chip_of, index_of}
 use Rattle.chip_node.specs.declared.ends.Served.TheVariants.{Dumped}
-use Rattle.chip_node.specs.declared.nodes.CoreBank.{CoreBank}
-use Rattle.chip_node.specs.declared.nodes.RouterNode.{RouterNode}
+use Rattle.chip_node.specs.declared.nodes.{CoreBank.CoreBank, RouterNode.RouterNode}
 use Rattle.chip_node.specs.Acting.{service_items, BankMoves, GetsOne, RoutesOne, SendsOne}
 use Rattle.chip_node.specs.Acting.{place_at_router}
 use Rattle.chip_node.specs.Items.{Item, Service, took, served, sent, got, where_same, getting_of, gettings, sending_of, sendings, service_of, services, taking_of, takings}
 use Rattle.chip_node.specs.Routing.{outputs_at}
-use Rattle.mesh_core.specs.State.{Setup}
-use Rattle.mesh_core.specs.Step.{outputs}
+use Rattle.mesh_core.specs.{State.Setup, Step.outputs}
 use Rattle.mesh_run.specs.Played.{owed_on, place_behind, AreTurns, IsDoneOn, IsLiveIndex, IsVertexOn}
 use Rattle.mesh_run.specs.Floors.{IsBankOf}
 use Rattle.mesh_run.specs.Shares.{actor_of, bank_place, router_place}
@@ -218,12 +209,11 @@ module _ (u : Setup) where
   routed_each : (r : RouterNode) (a : ℕ) → IsRouterOf a r → (items : List Item) → RoutesOne r.table.now r items → All (IsDoneOn u) items
   routed_each r a of items h =
       let live : IsLiveIndex u r.index = subst (IsLiveIndex u) (sym of.index) of.live in
-      let outs = served_outputs r items h in
       subst (All (IsDoneOn u)) (sym h.are)
       (All-cons (IsDoneOn u) (took r.index h.port h.copy) (service_items r h.done) live
       (All-map (IsDoneOn u) (λ s. served r.index r.chip (place_at_router r.behind.now s.out) s) h.done
       (All-each (λ s. IsDoneOn u (served r.index r.chip (place_at_router r.behind.now s.out) s)) h.done (λ s in_done.
-      let output : IsOutput s.out = All-contains (λ (t : Service). IsOutput t.out) h.done s outs in_done in (
+      let output : IsOutput s.out = All-contains (λ (t : Service). IsOutput t.out) h.done s (served_outputs r items h) in_done in (
         live,
         of.chip ∙ ap (chip_of u.machine) (sym of.index),
         of.behind s.out output ∙ ap (λ (c : Chip). place_behind u c s.out) (sym of.chip),

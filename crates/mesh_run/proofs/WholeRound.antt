@@ -1,22 +1,13 @@
 -- A whole round of all shares: the ends of links dealt, turns played, ends collected, links at rest and logs gathered.
 use Rattle.std.proofs.Common.{◌≡◌, ℕ, ◌+◌, ◌*◌, ◌<◌, false, List, [], length, get_or, Some, ◌∙◌, subst, arith}
 use Rattle.std.specs.List.{list_any, slice_get, slice_index_or}
-use Rattle.std.proofs.lemmas.List.{get_or_default}
-use Rattle.std.proofs.lemmas.Option.{slice_get-get_or}
+use Rattle.std.proofs.lemmas.{List.get_or_default, Option.slice_get-get_or}
 use Rattle.spin_base.proofs.Places.{slice_get_there}
 use Rattle.chip_node.specs.Items.{Item}
 use Rattle.mesh_core.specs.State.{Setup, State, IsMesh}
-use Rattle.mesh_run.specs.declared.homes.Home.{Home}
-use Rattle.mesh_run.specs.declared.queues.Rested.{Rested}
-use Rattle.mesh_run.specs.declared.raised.RaisedMesh.{RaisedMesh}
-use Rattle.mesh_run.specs.declared.shares.Share.{Share}
-use Rattle.mesh_run.specs.declared.standing.Standing.{Standing}
+use Rattle.mesh_run.specs.declared.{homes.Home.Home, queues.Rested.Rested, raised.RaisedMesh.RaisedMesh, shares.Share.Share, standing.Standing.Standing}
 use Rattle.mesh_run.specs.Crossing.{Deals, HoldsCollected, IsUncut}
-use Rattle.mesh_run.specs.Gathering.{AreEmptied}
-use Rattle.mesh_run.specs.Homes.{run_start}
-use Rattle.mesh_run.specs.Played.{AreTurns}
-use Rattle.mesh_run.specs.Queues.{RestAll}
-use Rattle.mesh_run.specs.Raised.{IsRoomyFrom}
+use Rattle.mesh_run.specs.{Gathering.AreEmptied, Homes.run_start, Played.AreTurns, Queues.RestAll, Raised.IsRoomyFrom}
 use Rattle.mesh_run.specs.Shares.{AreOf, IsNoted, PlaysRound, SharePlays}
 use Rattle.mesh_run.specs.Split.{end_at}
 use Rattle.mesh_run.proofs.AfterDeal.{lane_uncut}
@@ -88,10 +79,8 @@ module _ (w : Whole) where
   pub whole_turns : AreTurns u w.turns (joined parts)
   whole_turns =
       let shared = w.roomy.raised.shared in
-      let many = shared.long in
-      let as_dealt = dealt_long in
       let listed_long = all_parts.1 in
-      turns_joined u w.turns (2 * (u.machine.width * u.machine.height)) shared.ends parts shared.runs (omega (arith, many, as_dealt, listed_long))
+      turns_joined u w.turns (2 * (u.machine.width * u.machine.height)) shared.ends parts shared.runs (omega (arith, shared.long, dealt_long, listed_long))
       (λ k d below. ((all_parts.2 k d (omega (arith, below, listed_long))).plays (first_share k (omega (arith, below, listed_long)))).turns_are)
       (λ k d below. own k d (omega (arith, below, listed_long)))
     where
@@ -102,8 +91,7 @@ module _ (w : Whole) where
       own k d below =
           let was = slice_get_there w.r.shares.items k (let as_dealt = dealt_long in omega (arith, as_dealt, below)) in
           let s = first_share k below in
-          let is = slice_get-get_or w.dealt k s below in
-          let same = w.deals.same.1 k was.0 (get_or w.dealt k s) was.1 is in
+          let same = w.deals.same.1 k was.0 (get_or w.dealt k s) was.1 (slice_get-get_or w.dealt k s below) in
           let mine = ((all_parts.2 k d below).plays s).own in
           subst (λ n. AreOf n (slice_index_or w.roomy.raised.shared.ends k 0) (get_or parts k d)) (same.from ∙ w.roomy.raised.shared.from k was.0 was.1)
           (subst (λ n. AreOf (get_or w.dealt k s).from n (get_or parts k d)) (same.to ∙ w.roomy.raised.shared.to k was.0 was.1) mine)

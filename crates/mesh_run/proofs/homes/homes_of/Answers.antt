@@ -1,7 +1,6 @@
 use Rattle.std.proofs.Common.{◌≡◌, ◌+◌, ◌*◌, ◌<◌, ℕ, length, subst, arith}
 use Rattle.std.proofs.lemmas.Option.{slice_get-get_or}
-use Rattle.mesh_run.specs.Floors.{grid_size}
-use Rattle.mesh_run.specs.Homes.{AreHomesTo}
+use Rattle.mesh_run.specs.{Floors.grid_size, Homes.AreHomesTo}
 use Rattle.mesh_run.proofs.HomeLaws.{homes_all, homes_none, ports_more, vertex_more}
 use Rattle.mesh_run.proofs.homes.homes_of.Goals as goal
 
@@ -15,13 +14,12 @@ loop-index-preserved c =
     let below = c.loop-index-test.true in
     let router : 2 * c.loop-index.index < length c.args.table.now = omega (arith, long, chips, below) in
     let bank : 2 * c.loop-index.index + 1 < length c.args.table.now = omega (arith, long, chips, below) in
-    ports_more c.args.table.now c.loop-index.index _ _ c.loop-index.homes.items c.push_ports.new.homes.items c.loop-index.invariant (slice_get-get_or c.args.table.now (2 * c.loop-index.index) 0 router)
-    (slice_get-get_or c.args.table.now (2 * c.loop-index.index + 1) 0 bank) c.in_ok-push_ports.ensures
+    ports_more c.args.table.now c.loop-index.index _ _ c.loop-index.homes.items c.push_ports.new.homes.items c.loop-index.invariant
+    (slice_get-get_or c.args.table.now (2 * c.loop-index.index) 0 router) (slice_get-get_or c.args.table.now (2 * c.loop-index.index + 1) 0 bank) c.in_ok-push_ports.ensures
 
 pub loop-vertex-init : goal.loop-vertex-init
 loop-vertex-init c =
-    let chips = c.chips_of-chips.ensures.value in
-    let all : c.loop-index.index ≡ grid_size c.args.setup.now = omega (arith, chips) in
+    let all : c.loop-index.index ≡ grid_size c.args.setup.now = omega (arith, c.chips_of-chips.ensures.value) in
     subst (λ (n : ℕ). AreHomesTo c.args.table.now n 0 c.loop-index.homes.items) all c.loop-index.invariant
 
 pub loop-vertex-preserved : goal.loop-vertex-preserved
@@ -40,5 +38,4 @@ loop-vertex-preserved c =
 
 pub returns : goal.returns
 returns c =
-    let chips = c.chips_of-chips.ensures.value in
-    homes_all c.args.setup.now c.args.table.now c.loop-at.at c.loop-at.homes.items (omega (arith, chips)) c.loop-at.invariant
+    homes_all c.args.setup.now c.args.table.now c.loop-at.at c.loop-at.homes.items (omega (arith, c.chips_of-chips.ensures.value)) c.loop-at.invariant

@@ -1,17 +1,15 @@
 use Rattle.std.proofs.Common.{sym, ap, ◌∙◌, subst, arith}
-use Rattle.link_queue.specs.declared.links.Link.{Link}
-use Rattle.link_queue.specs.declared.links.Rx.{Rx}
-use Rattle.link_queue.specs.declared.links.Tx.{Tx}
+use Rattle.link_queue.specs.declared.links.{Link.Link, Rx.Rx, Tx.Tx}
 use Rattle.link_queue.specs.Ends.{IsTx, IsRx, sending}
-use Rattle.mesh_run.proofs.Resting.{held_short, lent_inside, lent_link, put_again, rest_count, rest_fits, rest_inside, rest_places, rest_sent, rest_stands, rest_took, rest_wide, rest_within, widened_up}
+use Rattle.mesh_run.proofs.Resting.{held_short, lent_inside, lent_link, put_again, rest_count, rest_fits, rest_inside, rest_places}
+use Rattle.mesh_run.proofs.Resting.{rest_sent, rest_stands, rest_took, rest_wide, rest_within, widened_up}
 use Rattle.mesh_run.proofs.queues.widen_at.Goals as goal
 
 pub index-requires : goal.index-requires
 index-requires g c =
     let u = c.requires in
     let inside = rest_inside u.3 (c.rest_at-held.ensures u.0 u.1 u.2 u.3) in
-    let many = c.rest_at-held.new.standing.links.ok.0 in
-    omega (arith, inside, many)
+    omega (arith, inside, c.rest_at-held.new.standing.links.ok.0)
 
 pub free_places-requires : goal.free_places-requires
 free_places-requires g c = let u = c.requires in rest_fits u.3 (c.rest_at-held.ensures u.0 u.1 u.2 u.3) c.index.ensures c.places-has.ensures
@@ -35,8 +33,7 @@ index-requires-2 g c =
     let u = c.requires in
     let r = c.rest_at-held.ensures u.0 u.1 u.2 u.3 in
     let inside = lent_inside u.3 r (c.take_ends-tx.ensures.left _ r.holds) in
-    let many = c.take_ends-tx.new.self.links.ok.0 in
-    omega (arith, inside, many)
+    omega (arith, inside, c.take_ends-tx.new.self.links.ok.0)
 
 pub invariant_of-resting : goal.invariant_of-resting
 invariant_of-resting g c =
@@ -55,13 +52,10 @@ invariant_of-resting g c =
 pub widened-requires : goal.widened-requires
 widened-requires g c =
     let u = c.requires in
-    let r = c.rest_at-held.ensures u.0 u.1 u.2 u.3 in
-    let short = held_short u.3 r u.4 in
     let is = c.for_held-wider.ensures in
-    let some = c.args.places.some in
     record {
-      some = omega (arith, is, some);
-      fits = omega (arith, short, is);
+      some = omega (arith, is, c.args.places.some);
+      fits = omega (arith, held_short u.3 (c.rest_at-held.ensures u.0 u.1 u.2 u.3) u.4, is);
     }
 
 pub set-requires : goal.set-requires
@@ -81,7 +75,8 @@ returns-in-Ok-clause-wide g c = λ ends old holds at up.
     let r = c.rest_at-held.ensures ends old holds at in
     let taken = c.take_ends-tx.ensures.ends _ r.now r.holds (rest_stands at r) in
     let made = c.in-Ok.ensures in
-    widened_up at r up c.args.places.turns (ap (λ (x : Tx). (sending x).first) taken.0) c.for_held-wider.ensures made.sending made.taking made.cap made.room (c.set.ensures _ (c.take_ends-tx.ensures.left _ r.holds))
+    widened_up at r up c.args.places.turns (ap (λ (x : Tx). (sending x).first) taken.0) c.for_held-wider.ensures made.sending made.taking made.cap made.room
+    (c.set.ensures _ (c.take_ends-tx.ensures.left _ r.holds))
 
 pub returns-in-Err-clause-back : goal.returns-in-Err-clause-back
 returns-in-Err-clause-back g c = λ ends old holds at up.
