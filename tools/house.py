@@ -25,7 +25,7 @@ ALONE = r"\((Tests alone|No command)"
 MOST = {
     "conditions a function, in hundredths": 64,
     "conditions of one function": 5,
-    "lines of proofs": 83341,
+    "lines of proofs": 83342,
     "lines of proofs longer than 200 characters": 910,
     "lines of proofs longer than 300 characters": 9,
     "lines of definitions": 13529,

@@ -21,7 +21,7 @@ use Rattle.mesh_core.specs.Ledger.{all_hand_marks, core_marks, delivered_marks, 
 use Rattle.mesh_core.specs.Queues.{drop_front}
 use Rattle.mesh_core.specs.State.{Setup, State, IsMesh}
 use Rattle.mesh_core.specs.Trail.{Mark, IsUnderWayAt, delivered}
-use Rattle.mesh_drain.specs.Draining.{AreAlike, BringsAlways, HasBrought, IsMoved, IsReachedDropless, MaySend, SendAlone, of_packet}
+use Rattle.mesh_drain.specs.Draining.{AreRoutedAlike, BringsAlways, HasBrought, IsMoved, IsReachedDropless, MaySend, SendAlone, of_packet}
 use Rattle.mesh_drain.proofs.Frame.{dumped_reached, kept_reached, setup_reached}
 use Rattle.app_loads.specs.declared.answers.UnloadErr.{UnloadErr}
 use Rattle.app_loads.specs.declared.answers.UnloadErr.TheVariants.{NotLoaded, Waiting, Memory}
@@ -178,7 +178,7 @@ module _ (k copy : McCopy) where
 
 -- where what came is the last group's, it is known where others come
 pub comes_again : (before after : List Delivery) (u : Setup) (v first : ℕ) (copy : McCopy) (arrivals : List Arrival) (block : Block) → HasBroughtMore before after u v copy.key →
-    first ≡ length before → drop first after ≡ deliveries_at arrivals (sent_of copy) → ((other : ℕ) → IsKeyOf block other → AreAlike u copy.key other) → Comes u v arrivals block
+    first ≡ length before → drop first after ≡ deliveries_at arrivals (sent_of copy) → ((other : ℕ) → IsKeyOf block other → AreRoutedAlike u copy.key other) → Comes u v arrivals block
 comes_again before after u v first copy arrivals block has long behind alike = λ s k rest may same here key.
     let come : has.come ≡ deliveries_at arrivals (sent_of copy) = sym (drop_at before has.come first (sym long)) ∙ (ap (drop first) (sym has.is) ∙ behind) in
     subst (λ l. IsReachedDropless s (record s { unsent = slice_set s.unsent v rest; delivered = s.delivered ++ l }))

@@ -4,7 +4,7 @@ use Rattle.std.specs.BTreeMap.{BTreeMap, get}
 use Rattle.std.specs.Ordering.{nat_cmp}
 use Rattle.machine_desc.specs.RightTables.{IsKeyOf}
 use Rattle.mesh_core.specs.State.{Setup, State, IsMesh}
-use Rattle.mesh_drain.specs.Draining.{AreAlike, BringsAlways, IsMoved, IsReachedDropless, MaySend, MeetsSomeLedger, SendAlone}
+use Rattle.mesh_drain.specs.Draining.{AreRoutedAlike, BringsAlways, IsMoved, IsReachedDropless, MaySend, MeetsSomeLedger, SendAlone}
 use Rattle.mesh_core.specs.Expected.{NothingWaits}
 use Rattle.spin_base.specs.declared.blocks.Block.{Block}
 use Rattle.spin_base.specs.declared.copies.Delivery.{Delivery}
@@ -27,7 +27,7 @@ IsBlockWith apps key block = (app : LoadedApp) × Contains apps app × Contains 
 
 -- any two keys of a block of one of the applications are alike
 abbrev pub AreAlikeInBlocks : Setup → List LoadedApp → Type 0
-AreAlikeInBlocks u apps = (block : Block) (key other : ℕ) → IsBlockWith apps key block → IsKeyOf block other → AreAlike u key other
+AreAlikeInBlocks u apps = (block : Block) (key other : ℕ) → IsBlockWith apps key block → IsKeyOf block other → AreRoutedAlike u key other
 
 -- Each copy of a mesh has its place, and where senders are known, they alone have packets unsent, and no copy waits. Keys of one block
 -- are alike.

@@ -29,7 +29,7 @@ use Rattle.mesh_core.specs.State.{Setup, State, Hand, IsMesh, Queue, behind, inp
 use Rattle.mesh_core.specs.Step.{after_event, after_events, after_serving, collect_of, has_room, has_room_behind, in_hand, outputs, outs_without, push_at, push_behind, send_of, serves, take_of}
 use Rattle.mesh_core.specs.HasRun.{DropsNone}
 use Rattle.mesh_core.proofs.Fixed.{by_send, by_take, setup_after}
-use Rattle.mesh_drain.specs.Draining.{AreAlike, HasBrought, IsOnward, IsReachedDropless, IsReachedOnward, MaySend, of_packet}
+use Rattle.mesh_drain.specs.Draining.{AreRoutedAlike, HasBrought, IsOnward, IsReachedDropless, IsReachedOnward, MaySend, of_packet}
 use Rattle.mesh_drain.proofs.Frame.{kept_reached, onward_drops_none, sent_dropless, setup_reached}
 use Rattle.mesh_drain.proofs.Packets.{after_inject}
 
@@ -49,7 +49,7 @@ module _ (key : ℕ) (k : McCopy) where
   in_each port (table ∷ tables) (suc i) all = in_each port tables i (All-tail (λ (l : List Entry). (at : Port) → lookup l key at ≡ lookup l k.key at) table tables all)
 
   -- a router gives the other key the same outputs
-  same_outputs : (u : Setup) → AreAlike u key k.key → (c : Chip) (port : Port) (x : McCopy) → outputs u c port (numbered x) ≡ outputs u c port x
+  same_outputs : (u : Setup) → AreRoutedAlike u key k.key → (c : Chip) (port : Port) (x : McCopy) → outputs u c port (numbered x) ≡ outputs u c port x
   same_outputs u alike c port x =
       let table : List Entry = table_at u.machine u.tables c in
       ap (λ route. if x.hop == last_hop then [] else outs_of route) (elim (cases_Bool (x.key == key)) [
@@ -69,7 +69,7 @@ module _ (key : ℕ) (k : McCopy) where
   held_for x port [] = refl
   held_for x port (o ∷ os) = refl
 
-  module _ (u : Setup) (agree : AreAlike u key k.key) (unsent : List (List McCopy)) (dumped : List DumpRec) where
+  module _ (u : Setup) (agree : AreRoutedAlike u key k.key) (unsent : List (List McCopy)) (dumped : List DumpRec) where
     abbrev like : List Delivery → State → State
     like ds s = record { setup = s.setup; unsent = unsent; inputs = queues s.inputs; hands = map held s.hands; cores = queues s.cores; delivered = ds; dumped = dumped }
 
@@ -85,7 +85,7 @@ module _ (key : ℕ) (k : McCopy) where
         let outs : List Out = outputs s.setup c port x in
         let made : List (List McCopy) → List (Option Hand) → State = λ inputs hands. record (like ds s) { inputs = inputs; hands = hands } in
         let other : List Out = outputs s.setup c port (numbered x) in
-        let same : other ≡ outs = same_outputs s.setup (subst (λ w. AreAlike w key k.key) (sym its) agree) c port x in
+        let same : other ≡ outs = same_outputs s.setup (subst (λ w. AreRoutedAlike w key k.key) (sym its) agree) c port x in
         chosen ds s (made (set (queues s.inputs) i (map numbered rest)) (set (map held s.hands) j (in_hand (numbered x) port other)))
         (record s { inputs = set s.inputs i rest; hands = set s.hands j (in_hand x port outs) }) (is_live_chip s.setup.machine c)
         (ap (λ l. made l (set (map held s.hands) j (in_hand (numbered x) port other))) (sym (map-set (map numbered) s.inputs i rest))
@@ -268,7 +268,8 @@ module _ (s t : State) (v : ℕ) (k : McCopy) (rest : List McCopy) (may : MaySen
   is_come : (l : List Delivery) → (after_events (after_event s (Inject v)) on.events).delivered ≡ (after_event s (Inject v)).delivered ++ l → l ≡ come
   is_come l is = sym (ap (drop (length s.delivered)) (here l is) ∙ drop_at s.delivered l (length s.delivered) refl)
 
-  module _ (r : State) (x : McCopy) (left : List McCopy) (may_r : MaySend r) (same : r.setup ≡ s.setup) (first_r : slice_get r.unsent v ≡ Some (x ∷ left)) (agree : AreAlike s.setup k.key x.key) where
+  module _ (r : State) (x : McCopy) (left : List McCopy) (may_r : MaySend r) (same : r.setup ≡ s.setup)
+      (first_r : slice_get r.unsent v ≡ Some (x ∷ left)) (agree : AreRoutedAlike s.setup k.key x.key) where
     abbrev unsent : List (List McCopy)
     unsent = set r.unsent v left
 

@@ -56,8 +56,8 @@ pub record IsReachedOnward (before after : State) : Type 0 where
   pub is : after ≡ after_events before events
 
 -- Two keys are alike where each router's table gives both the same, at each port.
-abbrev pub AreAlike : Setup → ℕ → ℕ → Type 0
-AreAlike u key other = All (λ (table : List Entry). (port : Port) → lookup table key port ≡ lookup table other port) u.tables
+abbrev pub AreRoutedAlike : Setup → ℕ → ℕ → Type 0
+AreRoutedAlike u key other = All (λ (table : List Entry). (port : Port) → lookup table key port ≡ lookup table other port) u.tables
 
 -- the same delivery, but of this packet, with the packet's key in place of that one
 abbrev pub of_packet : ℕ → McCopy → Delivery → Delivery
@@ -71,7 +71,7 @@ of_packet key k d = record {
 -- gives the key.
 abbrev pub BringsAlways : Setup → ℕ → ℕ → List Delivery → Type 0
 BringsAlways u v key come =
-    (s : State) (k : McCopy) (rest : List McCopy) → MaySend s → s.setup ≡ u → slice_get s.unsent v ≡ Some (k ∷ rest) → AreAlike u key k.key →
+    (s : State) (k : McCopy) (rest : List McCopy) → MaySend s → s.setup ≡ u → slice_get s.unsent v ≡ Some (k ∷ rest) → AreRoutedAlike u key k.key →
     IsReachedDropless s (record s { unsent = slice_set s.unsent v rest; delivered = s.delivered ++ map (of_packet key k) come })
 
 -- Deliveries have come, and so they come whenever the vertex sends a packet with a key alike to this one.
