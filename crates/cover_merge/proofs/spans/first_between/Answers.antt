@@ -1,0 +1,15 @@
+-- The alias that was read is the first that the block meets.
+use Rattle.std.proofs.Common.{◌∙◌, sym, ap, subst, arith, length}
+use Rattle.std.proofs.lemmas.List.{get_or_default}
+use Rattle.tern_word.specs.declared.tables.Alias.{Alias}
+use Rattle.tern_word.specs.Ternary.{Intersects}
+use Rattle.cover_merge.proofs.spans.first_between.Goals as goal
+
+pub returns-then-intersects : goal.returns-then-intersects
+returns-then-intersects c = record {
+  begins = c.loop-i.auto.i;
+  ends = c.loop-i-test.true;
+  meets = λ d. subst (λ (a : Alias). Intersects c.args.block a.block) (c.index-aliases-i.is ∙ get_or_default c.args.aliases.now c.loop-i.i c.index-aliases-i.result d (omega (arith, c.loop-i-test.true, c.requires.inside)))
+      (c.intersects.ensures.0 c.if-intersects.true);
+  before = c.loop-i.invariant;
+}
