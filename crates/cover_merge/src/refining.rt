@@ -121,11 +121,46 @@ fn sifted(
         (2 ≤ length set.new.items) × (merged ≡ merged_block rows.now set.new.items)
         × (PassesUpCheck rows.now set.new.items))) }
 {
-    let merged = merged_block(rows, set);
+    let merged = cut(rows, rivals, set);
+    if set.len() < 2 {
+        return Ok(None);
+    }
     if all_pass(rows, rivals, set, generality(merged)) {
         return Ok(Some(merged));
     }
     sift(alloc, rows, rivals, set)
+}
+
+// Takes out the places behind the last one that passes with the merge of those up to it: each fails with the merge of those up
+// to it. The merge of those that are left.
+fn cut(rows: &[Row], rivals: &Rivals, set: &mut Vec<u32>) -> Block {
+    let mut merged = rows[set[0] as usize].block;
+    let mut general = generality(merged);
+    let mut stays = 0;
+    let mut left = merged;
+    for k in 0..set.len() {
+        let s = set[k] as usize;
+        let next = merge_two(merged, rows[s].block);
+        if next.mask != merged.mask {
+            general = generality(next);
+        }
+        merged = next;
+        if has_none_up_to(rivals, s, general) {
+            stays = k + 1;
+            left = merged;
+        }
+    }
+    set.truncate(stays);
+    left
+}
+
+// Whether each rival of the row is more general.
+fn has_none_up_to(rivals: &Rivals, s: usize, general: u32) -> bool {
+    let serial = rivals.serials[s];
+    match rivals.of[serial].as_slice().first() {
+        Some(rival) => rival.general > general,
+        None => true,
+    }
 }
 
 // Whether no place fails the up-check with a merge of this generality.
