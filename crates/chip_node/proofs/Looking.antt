@@ -1,5 +1,5 @@
 -- What a router sees at a port, and that there is room for what its turn needs.
-use Rattle.std.proofs.Common.{◌≡◌, ◌≢◌, ℕ, ◌<◌, ◌≤◌, Bool, true, false, cond, ◌==◌, List, [], ◌∷◌, length, get_or, Option, None, Some, refl, sym, ap, subst, ◌∙◌, arith}
+use Rattle.std.proofs.Common.{◌≡◌, ◌≢◌, ℕ, ◌<◌, ◌≤◌, Bool, true, false, cond, ◌==◌, List, [], ◌∷◌, length, get_or, set, Option, None, Some, refl, sym, ap, subst, ◌∙◌, arith}
 use Rattle.std.specs.List.{All, slice_get}
 use Rattle.std.proofs.lemmas.List.Elements.{All-filter, All-nil, All-weaker}
 use Rattle.std.proofs.lemmas.Option.{slice_get_read, slice_get_within}
@@ -21,13 +21,14 @@ use Rattle.chip_node.specs.declared.holdings.Holdings.{Holdings}
 use Rattle.chip_node.specs.declared.nodes.Behind.{Behind}
 use Rattle.chip_node.specs.declared.nodes.RouterNode.{RouterNode}
 use Rattle.chip_node.specs.Acting.{place_in, IsReadyRouter}
-use Rattle.chip_node.specs.Going.{EndHasRoom, IsIdle, IsIdleAt}
+use Rattle.chip_node.specs.Going.{EndHasRoom, IsIdle, IsIdleAt, Stays}
 use Rattle.chip_node.specs.Items.{port_place}
-use Rattle.chip_node.specs.Passing.{EndTakes, IsSeen}
+use Rattle.chip_node.specs.Passing.{EndLacks, EndTakes, IsSeen}
 use Rattle.chip_node.specs.Routing.{outputs_at}
 use Rattle.chip_node.specs.Taking.{HasRoomBehind, HasRoomForOuts, HasRoomIn}
 use Rattle.chip_node.proofs.Outputs.{few_pass}
-use Rattle.chip_node.proofs.Placing.{Writes}
+use Rattle.chip_node.proofs.EndSteps.{end_lacks_idle, end_stays_lacks}
+use Rattle.chip_node.proofs.Placing.{stays_at, Writes}
 
 -- ---- nothing to take
 
@@ -44,6 +45,19 @@ idle_past ends xs n q same at past = λ y also.
 pub read_stands : (ends xs : List End) (n q : ℕ) (x : End) → xs ≡ ends → n ≡ q → n < length xs → x ≡ get_or xs n x → slice_get ends q ≡ Some x
 read_stands ends xs n q x same at below read =
     ap (slice_get ends) (sym at) ∙ (ap (λ (l : List End). slice_get l n) (sym same) ∙ slice_get_read xs (length xs) n x refl below read)
+
+-- what is written at a place
+pub end_written : (ends : List End) (n q : ℕ) (old new : End) → n ≡ q → q < length ends → old ≡ get_or ends n old → Writes ends (set ends n new) q old new
+end_written ends n q old new at inside read = record {
+  stood = read_stands ends ends n q old refl at (subst (λ k. k < length ends) (sym at) inside) read;
+  stands = ap (λ k. set ends k new) at;
+}
+
+-- where nothing was found, there was nothing
+pub lacks_at : (a b : Holdings) (q : ℕ) (old new : End) → Writes a.ends.items b.ends.items q old new → EndLacks old new → b.unsent.items ≡ a.unsent.items → b.deliveries ≡ a.deliveries → b.dumps ≡ a.dumps →
+    Stays a b × IsIdleAt a.ends.items q
+lacks_at a b q old new w lacks unsent deliveries dumps =
+    (stays_at a b q old new w (end_stays_lacks old new lacks) unsent deliveries dumps, idle_at a.ends.items q old w.stood (end_lacks_idle old new lacks))
 
 -- ---- room
 

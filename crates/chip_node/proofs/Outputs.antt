@@ -50,9 +50,6 @@ rises_differ low (o ∷ os) h zero (suc j) d before inside = λ same.
 rises_differ low (o ∷ os) h (suc i) zero d before inside = absurd (omega arith)
 rises_differ low (o ∷ os) h (suc i) (suc j) d before inside = rises_differ (out_number o + 1) os h.2 i j d (omega arith) (omega arith)
 
-pub all_numbered : All IsOutput all_outs
-all_numbered = rises_numbered 0 all_outs rises_all
-
 pub outs_numbered : (r : Route) → All IsOutput (outs_of r)
 outs_numbered r = rises_numbered 0 (outs_of r) (rises_filter (has r) 0 all_outs rises_all)
 

@@ -110,9 +110,7 @@ same_unsent a b same v = ap (λ (l : List (List McCopy)). slice_index_or l v [])
 -- A log that grew by some items has as much room less.
 grown : {T : Type 0} (a b : WithRoom T) (more : List T) → b.items ≡ a.items ++ more → b.spare + length more ≡ a.spare → b.spare + length b.items ≡ a.spare + length a.items
 grown a b more items spare =
-    let long = ap length items in
-    let both = length-append a.items more in
-    omega (arith, long, both, spare)
+    omega (arith, ap length items, length-append a.items more, spare)
 
 -- the router took a copy
 pub took_goes : (cap patience i : ℕ) (port : Port) (k : McCopy) (a b : Holdings) (old new : End) → Writes a.ends.items b.ends.items (port_place i port) old new → EndTakes k old new

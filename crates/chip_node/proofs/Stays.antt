@@ -7,15 +7,13 @@ use Rattle.spin_base.specs.declared.copies.Delivery.{Delivery}
 use Rattle.spin_base.specs.declared.copies.DumpRec.{DumpRec}
 use Rattle.spin_base.specs.WithRoom.{WithRoom}
 use Rattle.spin_base.proofs.Places.{All-at, slice_get_there}
-use Rattle.link_queue.specs.declared.links.Link.{Link}
-use Rattle.link_queue.specs.Ends.{cap_of, sending, taking}
+use Rattle.link_queue.specs.Ends.{sending, taking}
 use Rattle.link_queue.specs.TheRule.{StartsWith}
 use Rattle.chip_node.specs.declared.ends.End.{End}
 use Rattle.chip_node.specs.declared.ends.End.TheVariants.{Away, Own, Sends, Takes}
 use Rattle.chip_node.specs.declared.ends.InEnd.{InEnd}
 use Rattle.chip_node.specs.declared.ends.OutEnd.{OutEnd}
 use Rattle.chip_node.specs.declared.holdings.Holdings.{Holdings}
-use Rattle.chip_node.specs.Ends.{IsOutEndOf}
 use Rattle.chip_node.specs.Going.{EndStays, EndHasRoom, IsIdle, IsIdleAt, HasAmpleRoom, SenderGoes, Stays, TakerGoes}
 
 -- ---- ends of links, one step after the other
@@ -32,9 +30,8 @@ sender_on patience c d e f x y z h k = record {
   fulls = k.fulls ∙ (ap (λ l. l ++ k.notes) h.fulls ∙ append_assoc (sending x.tx).fulls h.notes k.notes);
   patient =
       let both = patient_on patience (length d) (length f) (length h.notes) (length k.notes) h.patient k.patient in
-      let dropped = length-append d f in
       let noted = length-append h.notes k.notes in
-      subst (λ n. patience * n ≤ length (h.notes ++ k.notes)) (sym dropped) (subst (λ n. patience * (length d + length f) ≤ n) (sym noted) both);
+      subst (λ n. patience * n ≤ length (h.notes ++ k.notes)) (sym (length-append d f)) (subst (λ n. patience * (length d + length f) ≤ n) (sym noted) both);
 }
 
 pub taker_on : (w v : List McCopy) (x y z : InEnd) → TakerGoes w x y → TakerGoes v y z → TakerGoes (w ++ v) x z
@@ -85,12 +82,6 @@ end_roomy_on cap Away y h room = subst (EndHasRoom cap) (sym h) tt
 end_roomy_on cap (Own a) y h room = subst (EndHasRoom cap) (sym h) room
 end_roomy_on cap (Sends a) y (b, is, h) room = subst (EndHasRoom cap) (sym is) tt
 end_roomy_on cap (Takes a) y (b, is, h) room = subst (EndHasRoom cap) (sym is) tt
-
--- two ends of one link have its capacity
-same_cap : (links : List Link) (x y : OutEnd) → IsOutEndOf links x → IsOutEndOf links y → y.link ≡ x.link → (sending y.tx).cap ≡ (sending x.tx).cap
-same_cap links x y h k same =
-    let of : k.of ≡ h.of = same_Some k.of h.of (sym k.stands ∙ (ap (slice_get links) same ∙ h.stands)) in
-    k.is_end.cap ∙ (ap (λ (l : Link). cap_of l) of ∙ sym h.is_end.cap)
 
 -- ---- all that is held
 

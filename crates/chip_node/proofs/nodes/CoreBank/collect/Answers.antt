@@ -1,12 +1,11 @@
-use Rattle.std.proofs.Common.{ℕ, ◌+◌, ◌<◌, length, get_or, set, refl, sym, arith}
+use Rattle.std.proofs.Common.{ℕ, ◌+◌, ◌<◌, length, get_or, refl, sym, arith}
 use Rattle.std.proofs.lemmas.List.Elements.{All-set}
 use Rattle.chip_node.specs.Going.{IsEndOf, IsIdleAt}
 use Rattle.chip_node.proofs.Banking.{vertex_idle, vertex_there}
-use Rattle.chip_node.proofs.EndSteps.{end_lacks_idle, end_stays_lacks}
 use Rattle.chip_node.proofs.Flows.{goes_none, ready_bank_on, stays_goes}
 use Rattle.chip_node.proofs.GoingRound.{gone_more}
-use Rattle.chip_node.proofs.Looking.{idle_at, read_stands}
-use Rattle.chip_node.proofs.Placing.{got_goes, stays_at, Writes}
+use Rattle.chip_node.proofs.Looking.{end_written, lacks_at}
+use Rattle.chip_node.proofs.Placing.{got_goes}
 use Rattle.chip_node.proofs.Stays.{stays_on}
 use Rattle.chip_node.proofs.nodes.CoreBank.collect.Goals as goal
 
@@ -21,7 +20,7 @@ returns-in-Some-clause-acts g c =
     let there = vertex_there c.args.around.links.now b m at v c.loop-step.invariant.ready below c.index-vertex.ensures in
     let old = c.index_mut.result.now in
     let new = c.take.new.self in
-    let w : Writes m.ends.items (set m.ends.items (b.cores + v) new) (b.cores + v) old new = record { stood = read_stands m.ends.items m.ends.items (b.cores + v) (b.cores + v) old refl refl there c.index_mut.ensures.value; stands = refl } in (
+    let w = end_written m.ends.items (b.cores + v) (b.cores + v) old new refl there c.index_mut.ensures.value in (
       _,
       record { vertex = v; copy = c.in-Some.copy; has = (at, below, sym c.index-vertex.ensures); are = refl },
       stays_goes c.args.around.capacity c.args.around.patience c.args.hold.now m _ _ c.loop-step.invariant.stays
@@ -42,14 +41,12 @@ loop-step-preserved g c =
     let there = vertex_there c.args.around.links.now b m at v before.ready below c.index-vertex.ensures in
     let old = c.index_mut.result.now in
     let new = c.take.new.self in
-    let w : Writes m.ends.items (set m.ends.items (b.cores + v) new) (b.cores + v) old new = record { stood = read_stands m.ends.items m.ends.items (b.cores + v) (b.cores + v) old refl refl there c.index_mut.ensures.value; stands = refl } in
-    let lacks = c.in_default.ensures.none in
-    let stays = stays_at m _ (b.cores + v) old new w (end_stays_lacks old new lacks) refl refl refl in
-    let idle = idle_at m.ends.items (b.cores + v) old w.stood (end_lacks_idle old new lacks) in
+    let w = end_written m.ends.items (b.cores + v) (b.cores + v) old new refl there c.index_mut.ensures.value in
+    let none = lacks_at m _ (b.cores + v) old new w c.in_default.ensures.none refl refl refl in
     record {
-      stays = stays_on a m _ before.stays stays;
-      ready = ready_bank_on c.args.around.capacity c.args.around.patience c.args.around.links.now b m _ _ (goes_none c.args.around.capacity c.args.around.patience m _ stays)
+      stays = stays_on a m _ before.stays none.0;
+      ready = ready_bank_on c.args.around.capacity c.args.around.patience c.args.around.links.now b m _ _ (goes_none c.args.around.capacity c.args.around.patience m _ none.0)
           (All-set (IsEndOf c.args.around.links.now) m.ends.items (b.cores + v) new c.in_default.ensures.end before.ready.ends) before.ready;
       idle = gone_more (λ (j : ℕ). (d : ℕ) → IsIdleAt a.ends.items (b.cores + get_or b.vertices.items j d)) ring.start ring.count c.loop-step.step at (omega arith) inside c.place_after.ensures.place
-          (vertex_idle b a m at v before.stays below c.index-vertex.ensures idle) before.idle;
+          (vertex_idle b a m at v before.stays below c.index-vertex.ensures none.1) before.idle;
     }

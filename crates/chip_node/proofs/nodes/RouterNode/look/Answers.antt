@@ -1,4 +1,4 @@
-use Rattle.std.proofs.Common.{◌≡◌, ◌+◌, ◌*◌, ◌<◌, List, length, set, refl, sym, ap, subst, ◌∙◌, arith}
+use Rattle.std.proofs.Common.{◌≡◌, ◌+◌, ◌*◌, List, length, refl, ap, subst, ◌∙◌, arith}
 use Rattle.std.proofs.lemmas.Bool.{false≢true}
 use Rattle.std.proofs.lemmas.List.Elements.{All-set}
 use Rattle.spin_base.proofs.Places.{one_item_at}
@@ -9,10 +9,10 @@ use Rattle.chip_node.specs.Items.{port_place}
 use Rattle.chip_node.specs.Passing.{IsSeen}
 use Rattle.chip_node.specs.Routing.{outputs_at}
 use Rattle.chip_node.specs.Taking.{HasRoomForOuts}
-use Rattle.chip_node.proofs.EndSteps.{end_lacks_idle, end_stays_lacks}
+use Rattle.chip_node.proofs.EndSteps.{end_lacks_idle}
 use Rattle.chip_node.proofs.Flows.{goes_none, ready_router_on}
-use Rattle.chip_node.proofs.Looking.{idle_at, idle_past, read_stands, room_for_all, room_kept, seen_first}
-use Rattle.chip_node.proofs.Placing.{stays_at, took_goes, Writes}
+use Rattle.chip_node.proofs.Looking.{end_written, idle_at, idle_past, lacks_at, read_stands, room_kept, seen_first}
+use Rattle.chip_node.proofs.Placing.{took_goes}
 use Rattle.chip_node.proofs.Stays.{stays_same}
 use Rattle.chip_node.proofs.nodes.RouterNode.look.Goals as goal
 
@@ -40,13 +40,11 @@ returns-in-Some-take-clause-looks g c =
     let new = c.take.new.self in
     let long = ap length c.deref.ensures.value in
     let inside = c.in-Some.ensures.lookup.3.0 in
-    let below : 7 * r.index + c.from.result < length a.ends.items = omega arith in
-    let stood = read_stands a.ends.items a.ends.items _ _ old refl at below c.index_mut.ensures.value in
-    let w : Writes a.ends.items (set a.ends.items (7 * r.index + c.from.result) new) (port_place r.index c.args.port) old new = record { stood = stood; stands = ap (λ n. set a.ends.items n new) at } in
+    let w = end_written a.ends.items _ (port_place r.index c.args.port) old new at (omega arith) c.index_mut.ensures.value in
     let x = c.in-Some.end.now in
     let stands = read_stands a.ends.items c.deref.result.now _ _ x c.deref.ensures.value at inside c.in-Some.ensures.lookup.1 in
     let f = c.in-Front.copy in
-    let sees : IsSeen (Front f) old = subst (IsSeen (Front f)) (one_item_at a.ends.items (port_place r.index c.args.port) _ x old refl stands stood) c.in-Front.ensures in
+    let sees : IsSeen (Front f) old = subst (IsSeen (Front f)) (one_item_at a.ends.items (port_place r.index c.args.port) _ x old refl stands w.stood) c.in-Front.ensures in
     let given = c.outputs_of-outs.ensures.given ∙ ap (outputs_at r.table.now c.args.port) (seen_first f c.in-Some-take.copy old new sees c.in-Some-take.ensures.some) in
     record {
       goes = took_goes c.args.around.capacity c.args.around.patience r.index c.args.port c.in-Some-take.copy a _ old new w c.in-Some-take.ensures.some refl refl refl;
@@ -71,13 +69,8 @@ returns-in-None-clause-looks g c =
     let new = c.take.new.self in
     let long = ap length c.deref.ensures.value in
     let inside = c.in-Some.ensures.lookup.3.0 in
-    let below : 7 * r.index + c.from.result < length a.ends.items = omega arith in
-    let stood = read_stands a.ends.items a.ends.items _ _ old refl at below c.index_mut.ensures.value in
-    let w : Writes a.ends.items (set a.ends.items (7 * r.index + c.from.result) new) (port_place r.index c.args.port) old new = record { stood = stood; stands = ap (λ n. set a.ends.items n new) at } in
-    let lacks = c.in-None.ensures.none in (
-      stays_at a _ (port_place r.index c.args.port) old new w (end_stays_lacks old new lacks) refl refl refl,
-      idle_at a.ends.items (port_place r.index c.args.port) old stood (end_lacks_idle old new lacks),
-    )
+    let w = end_written a.ends.items _ (port_place r.index c.args.port) old new at (omega arith) c.index_mut.ensures.value in
+    lacks_at a _ (port_place r.index c.args.port) old new w c.in-None.ensures.none refl refl refl
 
 pub returns-in-None-clause-ready : goal.returns-in-None-clause-ready
 returns-in-None-clause-ready g c =

@@ -1,12 +1,10 @@
-use Rattle.std.proofs.Common.{◌≡◌, ◌+◌, ◌*◌, ◌<◌, List, length, set, refl, sym, ap, subst, ◌∙◌}
+use Rattle.std.proofs.Common.{◌+◌, ◌*◌, refl, ap, ◌∙◌}
 use Rattle.std.proofs.lemmas.List.Elements.{All-set}
-use Rattle.chip_node.specs.declared.holdings.Holdings.{Holdings}
-use Rattle.chip_node.specs.Going.{EndStays, IsEndOf, Stays}
+use Rattle.chip_node.specs.Going.{IsEndOf}
 use Rattle.chip_node.specs.Items.{port_place}
-use Rattle.chip_node.proofs.EndSteps.{end_lacks_idle, end_stays_lacks}
 use Rattle.chip_node.proofs.Flows.{goes_none, ready_router_on}
-use Rattle.chip_node.proofs.Looking.{idle_at, read_stands}
-use Rattle.chip_node.proofs.Placing.{stays_at, Writes}
+use Rattle.chip_node.proofs.Looking.{end_written, lacks_at}
+use Rattle.chip_node.proofs.Placing.{stays_at}
 use Rattle.chip_node.proofs.Turning.{looks_on}
 use Rattle.chip_node.proofs.nodes.RouterNode.look_over.Goals as goal
 
@@ -14,16 +12,10 @@ pub returns-then-finds_nothing-clause-looks : goal.returns-then-finds_nothing-cl
 returns-then-finds_nothing-clause-looks g c =
     let r = c.args.self in
     let a = c.args.hold.now in
-    let at : 7 * r.index + c.from.result ≡ port_place r.index c.args.port = ap (λ n. 7 * r.index + n) (c.from.ensures ∙ c.number.ensures.number) in
     let old = c.index_mut.result.now in
     let new = c.finds_nothing.new.self in
-    let below : 7 * r.index + c.from.result < length a.ends.items = subst (λ n. n < length a.ends.items) (sym at) c.requires.place in
-    let stood = read_stands a.ends.items a.ends.items _ _ old refl at below c.index_mut.ensures.value in
-    let w : Writes a.ends.items (set a.ends.items (7 * r.index + c.from.result) new) (port_place r.index c.args.port) old new = record { stood = stood; stands = ap (λ n. set a.ends.items n new) at } in
-    let lacks = c.if-finds_nothing.ensures.yes refl in (
-      stays_at a _ (port_place r.index c.args.port) old new w (end_stays_lacks old new lacks) refl refl refl,
-      idle_at a.ends.items (port_place r.index c.args.port) old stood (end_lacks_idle old new lacks),
-    )
+    let w = end_written a.ends.items _ (port_place r.index c.args.port) old new (ap (λ n. 7 * r.index + n) (c.from.ensures ∙ c.number.ensures.number)) c.requires.place c.index_mut.ensures.value in
+    lacks_at a _ (port_place r.index c.args.port) old new w (c.if-finds_nothing.ensures.yes refl) refl refl refl
 
 pub returns-then-finds_nothing-clause-ready : goal.returns-then-finds_nothing-clause-ready
 returns-then-finds_nothing-clause-ready g c =
@@ -35,12 +27,9 @@ pub take_over-requires-clause-ready : goal.take_over-requires-clause-ready
 take_over-requires-clause-ready g c =
     let r = c.args.self in
     let a = c.args.hold.now in
-    let at : 7 * r.index + c.from.result ≡ port_place r.index c.args.port = ap (λ n. 7 * r.index + n) (c.from.ensures ∙ c.number.ensures.number) in
     let old = c.index_mut.result.now in
     let new = c.finds_nothing.new.self in
-    let below : 7 * r.index + c.from.result < length a.ends.items = subst (λ n. n < length a.ends.items) (sym at) c.requires.place in
-    let stood = read_stands a.ends.items a.ends.items _ _ old refl at below c.index_mut.ensures.value in
-    let w : Writes a.ends.items (set a.ends.items (7 * r.index + c.from.result) new) (port_place r.index c.args.port) old new = record { stood = stood; stands = ap (λ n. set a.ends.items n new) at } in
+    let w = end_written a.ends.items _ (port_place r.index c.args.port) old new (ap (λ n. 7 * r.index + n) (c.from.ensures ∙ c.number.ensures.number)) c.requires.place c.index_mut.ensures.value in
     ready_router_on c.args.around.capacity c.args.around.patience c.args.around.links.now r a _ _
     (goes_none c.args.around.capacity c.args.around.patience a _ (stays_at a _ (port_place r.index c.args.port) old new w (c.if-finds_nothing.ensures.no refl) refl refl refl))
     (All-set (IsEndOf c.args.around.links.now) a.ends.items _ new c.finds_nothing.ensures.end c.requires.ready.ends) c.requires.ready
@@ -49,11 +38,8 @@ pub returns-clause-looks : goal.returns-clause-looks
 returns-clause-looks g c =
     let r = c.args.self in
     let a = c.args.hold.now in
-    let at : 7 * r.index + c.from.result ≡ port_place r.index c.args.port = ap (λ n. 7 * r.index + n) (c.from.ensures ∙ c.number.ensures.number) in
     let old = c.index_mut.result.now in
     let new = c.finds_nothing.new.self in
-    let below : 7 * r.index + c.from.result < length a.ends.items = subst (λ n. n < length a.ends.items) (sym at) c.requires.place in
-    let stood = read_stands a.ends.items a.ends.items _ _ old refl at below c.index_mut.ensures.value in
-    let w : Writes a.ends.items (set a.ends.items (7 * r.index + c.from.result) new) (port_place r.index c.args.port) old new = record { stood = stood; stands = ap (λ n. set a.ends.items n new) at } in
+    let w = end_written a.ends.items _ (port_place r.index c.args.port) old new (ap (λ n. 7 * r.index + n) (c.from.ensures ∙ c.number.ensures.number)) c.requires.place c.index_mut.ensures.value in
     looks_on c.args.around.capacity c.args.around.patience c.args.self.table.now r c.args.port a _ c.take_over.result c.take_over.new.hold
     (stays_at a _ (port_place r.index c.args.port) old new w (c.if-finds_nothing.ensures.no refl) refl refl refl) c.take_over.ensures.looks

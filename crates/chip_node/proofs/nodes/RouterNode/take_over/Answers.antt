@@ -1,14 +1,13 @@
-use Rattle.std.proofs.Common.{◌≡◌, ◌+◌, ◌*◌, ◌<◌, List, length, set, refl, sym, ap, subst, ◌∙◌, arith}
+use Rattle.std.proofs.Common.{◌+◌, ◌*◌, List, refl, sym, ap, subst, ◌∙◌}
 use Rattle.std.proofs.lemmas.Bool.{false≢true}
 use Rattle.std.proofs.lemmas.List.Elements.{All-set}
 use Rattle.spin_base.specs.declared.routes.Out.{Out}
 use Rattle.chip_node.specs.Going.{IsEndOf}
 use Rattle.chip_node.specs.Items.{port_place}
 use Rattle.chip_node.specs.Taking.{HasRoomForOuts}
-use Rattle.chip_node.proofs.EndSteps.{end_lacks_idle, end_stays_lacks}
 use Rattle.chip_node.proofs.Flows.{goes_none, ready_router_on}
-use Rattle.chip_node.proofs.Looking.{idle_at, read_stands, room_for_all, room_kept}
-use Rattle.chip_node.proofs.Placing.{stays_at, took_goes, Writes}
+use Rattle.chip_node.proofs.Looking.{end_written, lacks_at, room_for_all, room_kept}
+use Rattle.chip_node.proofs.Placing.{took_goes}
 use Rattle.chip_node.proofs.Stays.{stays_same}
 use Rattle.chip_node.proofs.nodes.RouterNode.take_over.Goals as goal
 
@@ -19,12 +18,9 @@ pub returns-in-Some-clause-looks : goal.returns-in-Some-clause-looks
 returns-in-Some-clause-looks g c =
     let r = c.args.self in
     let a = c.args.hold.now in
-    let at : 7 * r.index + c.from.result ≡ port_place r.index c.args.port = ap (λ n. 7 * r.index + n) (c.from.ensures ∙ c.number.ensures.number) in
     let old = c.index_mut.result.now in
     let new = c.take.new.self in
-    let below : 7 * r.index + c.from.result < length a.ends.items = subst (λ n. n < length a.ends.items) (sym at) c.requires.place in
-    let stood = read_stands a.ends.items a.ends.items _ _ old refl at below c.index_mut.ensures.value in
-    let w : Writes a.ends.items (set a.ends.items (7 * r.index + c.from.result) new) (port_place r.index c.args.port) old new = record { stood = stood; stands = ap (λ n. set a.ends.items n new) at } in
+    let w = end_written a.ends.items _ (port_place r.index c.args.port) old new (ap (λ n. 7 * r.index + n) (c.from.ensures ∙ c.number.ensures.number)) c.requires.place c.index_mut.ensures.value in
     let given = c.outputs_of-outs.ensures.given in
     record {
       goes = took_goes c.args.around.capacity c.args.around.patience r.index c.args.port c.in-Some.copy a _ old new w c.in-Some.ensures.some refl refl refl;
@@ -45,16 +41,10 @@ pub returns-in-None-clause-looks : goal.returns-in-None-clause-looks
 returns-in-None-clause-looks g c =
     let r = c.args.self in
     let a = c.args.hold.now in
-    let at : 7 * r.index + c.from.result ≡ port_place r.index c.args.port = ap (λ n. 7 * r.index + n) (c.from.ensures ∙ c.number.ensures.number) in
     let old = c.index_mut.result.now in
     let new = c.take.new.self in
-    let below : 7 * r.index + c.from.result < length a.ends.items = subst (λ n. n < length a.ends.items) (sym at) c.requires.place in
-    let stood = read_stands a.ends.items a.ends.items _ _ old refl at below c.index_mut.ensures.value in
-    let w : Writes a.ends.items (set a.ends.items (7 * r.index + c.from.result) new) (port_place r.index c.args.port) old new = record { stood = stood; stands = ap (λ n. set a.ends.items n new) at } in
-    let lacks = c.in-None.ensures.none in (
-      stays_at a _ (port_place r.index c.args.port) old new w (end_stays_lacks old new lacks) refl refl refl,
-      idle_at a.ends.items (port_place r.index c.args.port) old stood (end_lacks_idle old new lacks),
-    )
+    let w = end_written a.ends.items _ (port_place r.index c.args.port) old new (ap (λ n. 7 * r.index + n) (c.from.ensures ∙ c.number.ensures.number)) c.requires.place c.index_mut.ensures.value in
+    lacks_at a _ (port_place r.index c.args.port) old new w c.in-None.ensures.none refl refl refl
 
 pub returns-in-None-clause-ready : goal.returns-in-None-clause-ready
 returns-in-None-clause-ready g c =
