@@ -81,11 +81,9 @@ module _ (u : Setup) (f : Floor) where
 
   router_outputs : (i : ℕ) (r : RouterNode) → IsFloorOf u f → i < grid_size u → IsFloorRouter u f i r → length r.behind.now ≡ 24
   router_outputs i r of below is =
-      let all = ap length is.3 in
       let taken = length-take 24 (drop (24 * i) f.behind.items) in
       let dropped = length-drop (24 * i) f.behind.items in
-      let long = of.behind_long in
-      omega (arith, all, taken, dropped, long, below)
+      omega (arith, ap length is.3, taken, dropped, of.behind_long, below)
 
   pub router_of : (i : ℕ) (r : RouterNode) → IsFloorOf u f → i < grid_size u → is_live_chip u.machine (chip_of u.machine i) ≡ true → IsFloorRouter u f i r → IsRouterOf u i r
   router_of i r of below live is = record {
@@ -145,14 +143,14 @@ module _ (u : Setup) (f : Floor) where
           vertices = All-each (λ v. (v < length s.hold.unsent.items) × (b.cores + v < length s.hold.ends.items)) b.vertices.items (λ v has.
               let on = bank.vertices v has in
               let below = slice_get_within u.spots v on.spot on.stands in
-              let unsent_long = share.unsent_long in
-              let ends_long = share.ends_long in
-              let cores = bank.cores in
-              (omega (arith, below, unsent_long), omega (arith, below, ends_long, cores)));
+              (omega (arith, below, share.unsent_long), omega (arith, below, share.ends_long, bank.cores)));
           ends = share.ends;
         }
 
 module _ (u : Setup) (links : List QueueLink) (s : Share) where
+  was_in : (t : Share) → t.from ≡ s.from → t.to ≡ s.to → {a : ℕ} → IsInRun t.from t.to a → IsInRun s.from s.to a
+  was_in t from to {a} is = record { above = subst (λ n. n ≤ a) from is.above; below = subst (λ n. a < n) to is.below }
+
   -- a share is one of its mesh after what was done
   pub share_on : (cap patience : ℕ) (t : Share) (items : List Item) → t.from ≡ s.from → t.to ≡ s.to → Goes cap patience s.hold items t.hold → AreEndsOf links t.hold.ends.items →
       IsShareOf u links s → IsShareOf u links t
@@ -160,26 +158,20 @@ module _ (u : Setup) (links : List QueueLink) (s : Share) where
     ends_long = goes.ends_long ∙ share.ends_long;
     unsent_long = goes.unsent_long ∙ share.unsent_long;
     within = subst (λ n. n ≤ 2 * grid_size u) (sym to) share.within;
-    routers = λ i o q live within behind. holds_sender_on cap patience s.hold t.hold items q goes (share.routers i o q live (was_in within) behind);
-    banks = λ i live within. holds_sender_on cap patience s.hold t.hold items (injection_place i) goes (share.banks i live (was_in within));
+    routers = λ i o q live within behind. holds_sender_on cap patience s.hold t.hold items q goes (share.routers i o q live (was_in t from to within) behind);
+    banks = λ i live within. holds_sender_on cap patience s.hold t.hold items (injection_place i) goes (share.banks i live (was_in t from to within));
     ends = ends;
   }
-    where
-      was_in : {a : ℕ} → IsInRun t.from t.to a → IsInRun s.from s.to a
-      was_in {a} is = record { above = subst (λ n. n ≤ a) from is.above; below = subst (λ n. a < n) to is.below }
 
   pub share_same : (t : Share) → t.from ≡ s.from → t.to ≡ s.to → t.hold ≡ s.hold → IsShareOf u links s → IsShareOf u links t
   share_same t from to hold share = record {
     ends_long = subst (λ (h : Holdings). length h.ends.items ≡ port_count u + length u.spots) (sym hold) share.ends_long;
     unsent_long = subst (λ (h : Holdings). length h.unsent.items ≡ length u.spots) (sym hold) share.unsent_long;
     within = subst (λ n. n ≤ 2 * grid_size u) (sym to) share.within;
-    routers = λ i o q live within behind. subst (λ (h : Holdings). HoldsSender h.ends.items q) (sym hold) (share.routers i o q live (was_in within) behind);
-    banks = λ i live within. subst (λ (h : Holdings). HoldsSender h.ends.items (injection_place i)) (sym hold) (share.banks i live (was_in within));
+    routers = λ i o q live within behind. subst (λ (h : Holdings). HoldsSender h.ends.items q) (sym hold) (share.routers i o q live (was_in t from to within) behind);
+    banks = λ i live within. subst (λ (h : Holdings). HoldsSender h.ends.items (injection_place i)) (sym hold) (share.banks i live (was_in t from to within));
     ends = subst (λ (h : Holdings). AreEndsOf links h.ends.items) (sym hold) share.ends;
   }
-    where
-      was_in : {a : ℕ} → IsInRun t.from t.to a → IsInRun s.from s.to a
-      was_in {a} is = record { above = subst (λ n. n ≤ a) from is.above; below = subst (λ n. a < n) to is.below }
 
 -- ---- what a turn does
 

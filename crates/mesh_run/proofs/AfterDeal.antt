@@ -89,10 +89,8 @@ module _ (m : State) (is_mesh : IsMesh m) (more : ℕ) (r : RaisedMesh) (raised 
   homes_below q h at =
       let shared = raised.shared in
       let below = shared.homes_are.below q h (length shared.ends) at shared.numbers.below in
-      let sender = below.0 in
-      let receiver = below.1 in
       let many = shared.long in
-      (omega (arith, sender, many), omega (arith, receiver, many))
+      (omega (arith, below.0, many), omega (arith, below.1, many))
 
   -- where a cut has neither its sender nor its receiver, no end of a link of its queue is held
   pub no_end_of_cut : (l : ℕ) (c : Cut) → slice_get r.layout.now.cuts.items l ≡ Some c → (k : ℕ) → k ≢ c.sender → k ≢ c.receiver → IsUncut r.layout.now.cuts.items k c.queue
@@ -136,9 +134,7 @@ module _ (m : State) (is_mesh : IsMesh m) (more : ℕ) (r : RaisedMesh) (raised 
   -- a link that is up, at its place
   pub link_up_at : (l : ℕ) (e : LinkEnds) → slice_get raised.ends l ≡ Some e → WasUp u.capacity e
   link_up_at l e at =
-      let below = slice_get_within raised.ends l e at in
-      let long = raised.up.long in
-      let up = raised.up.each l [] e (omega (arith, below, long)) in
+      let up = raised.up.each l [] e (omega (arith, slice_get_within raised.ends l e at, raised.up.long)) in
       subst (WasUp u.capacity) (get_or_from_slice_get raised.ends l e e at) (record { ends = up.ends; few = up.holds.few })
 
   module _ (dealt : List Share) (deals : Deals raised.ends r.layout.now.cuts.items r.shares.items dealt) where
@@ -149,9 +145,7 @@ module _ (m : State) (is_mesh : IsMesh m) (more : ℕ) (r : RaisedMesh) (raised 
     of_cut : (l : ℕ) (c : Cut) (k : ℕ) → slice_get r.layout.now.cuts.items l ≡ Some c → k < length r.shares.items → Holds raised.ends dealt k c.queue c.sender
     of_cut l c k at below =
         let cut = raised.shared.cut l c at in
-        let within = slice_get_within r.layout.now.cuts.items l c at in
-        let long = links_many in
-        let e = slice_get_there raised.ends l (omega (arith, within, long)) in
+        let e = slice_get_there raised.ends l (omega (arith, slice_get_within r.layout.now.cuts.items l c at, links_many)) in
         let is = deals.dealt l c e.0 at e.1 in
         elim (cases_eq k c.sender) [
           | inl same ↦ sends l e.0 e.1 (ap (λ n. end_at dealt n c.queue) same ∙ is.0)
@@ -217,11 +211,7 @@ module _ (m : State) (is_mesh : IsMesh m) (more : ℕ) (r : RaisedMesh) (raised 
         -- its actors have its number
         numbered : (a : ℕ) → IsInRun t.from t.to a → slice_get raised.shared.table a ≡ Some k
         numbered a in_run =
-            let above = in_run.above in
-            let below = in_run.below in
-            let from = run_from in
-            let to = run_to in
-            raised.shared.numbers.number a k has_run (record { above = omega (arith, above, from); below = omega (arith, below, to) })
+            raised.shared.numbers.number a k has_run (record { above = omega (arith, in_run.above, run_from); below = omega (arith, in_run.below, run_to) })
 
         ends_many : length t.hold.ends.items ≡ length r.layout.now.homes.items
         ends_many = (deals.same.1 k was.0 t was.1 at).ends_long ∙ (raised.shared.ends_long k was.0 was.1 ∙ sym raised.shared.homes_are.long)
@@ -237,17 +227,13 @@ module _ (m : State) (is_mesh : IsMesh m) (more : ℕ) (r : RaisedMesh) (raised 
           routers = λ i o q live in_run behind.
               let led = leads u (chip_of u.machine i) o q behind in
               let place = place_below u (chip_of u.machine i) o q (live_inside u.machine (chip_of u.machine i) live.live) led in
-              let long = raised.shared.homes_are.long in
-              let h = slice_get_there r.layout.now.homes.items q (omega (arith, place, long)) in
+              let h = slice_get_there r.layout.now.homes.items q (omega (arith, place, raised.shared.homes_are.long)) in
               sender_of q h.0 h.1 (raised.shared.homes_are.routers i o q k h.0 live (has_bit u i o q led) behind (numbered (router_place i) in_run) h.1);
           banks = λ i live in_run.
-              let low = live_below u i live in
-              let long = raised.shared.homes_are.long in
-              let h = slice_get_there r.layout.now.homes.items (injection_place i) (omega (arith, low, long)) in
+              let h = slice_get_there r.layout.now.homes.items (injection_place i) (omega (arith, live_below u i live, raised.shared.homes_are.long)) in
               sender_of (injection_place i) h.0 h.1 (raised.shared.homes_are.banks i k h.0 live (numbered (bank_place i) in_run) h.1);
           ends = λ q d inside.
-              let many = ends_many in
-              let h = slice_get_there r.layout.now.homes.items q (omega (arith, inside, many)) in
+              let h = slice_get_there r.layout.now.homes.items q (omega (arith, inside, ends_many)) in
               let e = is_end k q h.0.sender (of_queue q h.0 k h.1 below_dealt) in
               subst (IsEndOf links) (sym (get_or_from_slice_get t.hold.ends.items q e.0 d (in_share dealt k q t e.0 at e.1))) e.2;
         }

@@ -4,21 +4,12 @@ use Rattle.std.proofs.lemmas.List.{get_or_default, length-map}
 use Rattle.std.proofs.lemmas.Option.{get_or_from_slice_get, slice_get_within, slice_get-get_or}
 use Rattle.spin_base.proofs.Places.{slice_get-mapped, slice_get_there}
 use Rattle.spin_base.specs.declared.copies.McCopy.{McCopy}
-use Rattle.link_queue.specs.declared.links.LinkEnds.{LinkEnds}
 use Rattle.mesh_run.specs.declared.homes.Cut.{Cut}
 use Rattle.mesh_run.specs.Queues.{queue_of_link, AreUp, IsUp}
 use Rattle.mesh_run.specs.Split.{cut_queues, HaveNoLogs}
 use Rattle.mesh_run.proofs.AfterMesh.{mesh, queue_there}
+use Rattle.mesh_run.proofs.Resting.{fewer}
 use Rattle.mesh_run.proofs.WholeRound.{Whole}
-
--- a link with places for more copies has places for those that it holds
-up_for_none : (cap more : ℕ) (queue : List McCopy) (e : LinkEnds) → IsUp cap more queue e → IsUp cap 0 queue e
-up_for_none cap more queue e up = record {
-  ends = up.ends;
-  holds = record { enough = let enough = up.holds.enough in omega (arith, enough); few = up.holds.few };
-  tx_new = up.tx_new;
-  rx_new = up.rx_new;
-}
 
 module _ (w : Whole) where
   pub whole_no_logs : HaveNoLogs w.cleared
@@ -29,21 +20,15 @@ module _ (w : Whole) where
 
   after_long : length w.rests.now ≡ length w.r.layout.now.cuts.items
   after_long =
-      let first = w.roomy.raised.up.long in
       let many = length-map w.r.layout.now.cuts.items (λ (d : Cut). get_or (w.m.inputs ++ w.m.cores) d.queue []) in
-      let collected = w.collects.long in
-      let rested = w.rests.long in
-      omega (arith, first, many, collected, rested)
+      omega (arith, w.roomy.raised.up.long, many, w.collects.long, w.rests.long)
 
   queue_at_cut : (l : ℕ) (q : List McCopy) → l < length w.r.layout.now.cuts.items → get_or (map queue_of_link w.rests.now) l q ≡ get_or (cut_queues ((mesh w).inputs ++ (mesh w).cores) w.r.layout.now.cuts.items) l q
   queue_at_cut l q below =
       let cut = slice_get_there w.r.layout.now.cuts.items l below in
       let place = slice_get_within w.r.layout.now.homes.items cut.0.queue (record { sender = cut.0.sender; receiver = cut.0.receiver }) (w.roomy.raised.shared.cut l cut.0 cut.1).0 in
-      let long = w.roomy.raised.shared.homes_are.long in
-      let is = (queue_there w cut.0.queue (omega (arith, place, long))).link l cut.0 cut.1 refl in
-      let mapped = length-map w.rests.now queue_of_link in
-      let links = after_long in
-      get_or_default (map queue_of_link w.rests.now) l q [] (omega (arith, below, mapped, links)) ∙ (is
+      let is = (queue_there w cut.0.queue (omega (arith, place, w.roomy.raised.shared.homes_are.long))).link l cut.0 cut.1 refl in
+      get_or_default (map queue_of_link w.rests.now) l q [] (omega (arith, below, length-map w.rests.now queue_of_link, after_long)) ∙ (is
       ∙ sym (get_or_from_slice_get (cut_queues ((mesh w).inputs ++ (mesh w).cores) w.r.layout.now.cuts.items) l (get_or ((mesh w).inputs ++ (mesh w).cores) cut.0.queue []) q
       (slice_get-mapped (λ (d : Cut). get_or ((mesh w).inputs ++ (mesh w).cores) d.queue []) w.r.layout.now.cuts.items l cut.0 cut.1)))
 
@@ -57,5 +42,5 @@ module _ (w : Whole) where
         each = λ l q e below.
             let inside : l < length w.r.layout.now.cuts.items = omega (arith, below, many) in
             subst (λ (x : List McCopy). IsUp w.m.setup.capacity 0 x (get_or w.rests.now l e)) (queue_at_cut l q inside)
-            (up_for_none w.m.setup.capacity w.rested.free (get_or (map queue_of_link w.rests.now) l q) (get_or w.rests.now l e) (w.rests.up.each l q e (omega (arith, inside, mapped, links))));
+            (fewer w.m.setup.capacity w.rested.free (get_or (map queue_of_link w.rests.now) l q) (get_or w.rests.now l e) (w.rests.up.each l q e (omega (arith, inside, mapped, links))));
       }

@@ -66,9 +66,8 @@ module _ (w : Whole) where
     | inl less ↦ (after_unsent.2 v [] less).sent
     | inr more ↦
         let before = w.is_mesh.unsent_lists in
-        let after = after_unsent.1 in
         get_or_past w.m.unsent v [] (omega (arith, more, before)) ∙ sym (ap (λ (l : List McCopy). l ++ get_or after_unsent.0 v []) (none_sent w.m.setup v more (joined (parts w)) (whole_turns w).each)
-        ∙ get_or_past after_unsent.0 v [] (omega (arith, more, after)))
+        ∙ get_or_past after_unsent.0 v [] (omega (arith, more, after_unsent.1)))
   ]
 
   pub whole_played : IsPlayedBy w.patience w.turns (joined (parts w)) w.m mesh

@@ -37,9 +37,7 @@ sum_within f g (x ∷ xs) [] long each = absurd (omega (arith, long))
 sum_within f g (x ∷ xs) (y ∷ ys) long each =
     let first = each 0 x y (omega arith) in
     let rest = sum_within f g xs ys (omega (arith, long)) (λ i a b below. each (suc i) a b (omega (arith, below))) in
-    let one = sum_by-cons f x xs in
-    let other = sum_by-cons g y ys in
-    omega (arith, first, rest, one, other)
+    omega (arith, first, rest, sum_by-cons f x xs, sum_by-cons g y ys)
 
 -- an end with the link of its place
 out_is : (a : OutEnd) (l : ℕ) → a.link ≡ l → Some (Sends a) ≡ Some (Sends (record { link = l; tx = a.tx }))
@@ -86,9 +84,7 @@ module _ (m : State) (is_mesh : IsMesh m) (more : ℕ) (r : RaisedMesh) (raised 
   -- both ends of each link are where its cut says
   pub ends_laid : AreLaid links played r.layout.now.cuts.items
   ends_laid = λ l c at.
-      let within = slice_get_within r.layout.now.cuts.items l c at in
-      let many = links_many m is_mesh more r raised in
-      let e = slice_get_there raised.ends l (omega (arith, within, many)) in
+      let e = slice_get_there raised.ends l (omega (arith, slice_get_within r.layout.now.cuts.items l c at, links_many m is_mesh more r raised)) in
       let is = deals.dealt l c e.0 at e.1 in
       let sends = sender_passes m.setup.capacity patience dealt played some_parts.0 some_played c.sender c.queue (record { link = l; tx = e.0.tx }) is.0 in
       let takes = taker_passes m.setup.capacity patience dealt played some_parts.0 some_played c.receiver c.queue (record { link = l; rx = e.0.rx }) is.1 in
@@ -102,8 +98,7 @@ module _ (m : State) (is_mesh : IsMesh m) (more : ℕ) (r : RaisedMesh) (raised 
   -- the ends that a played share holds are ends of the links at their places
   played_ends : (k : ℕ) (t : Share) → slice_get played k ≡ Some t → All (IsEndOf links) t.hold.ends.items
   played_ends k t at =
-      let inside = slice_get_within played k t at in
-      let stays = (plays k t (omega (arith, inside, long))).1 in
+      let stays = (plays k t (omega (arith, slice_get_within played k t at, long))).1 in
       subst (λ (x : Share). All (IsEndOf links) x.hold.ends.items) (get_or_from_slice_get played k t t at) stays.ends
 
   -- the links that were collected can rest
@@ -113,9 +108,8 @@ module _ (m : State) (is_mesh : IsMesh m) (more : ℕ) (r : RaisedMesh) (raised 
       let e = get_or collects.ends l d in
       let at = slice_get-get_or collects.ends l d below in
       let as_long = collects.long in
-      let many = links_many m is_mesh more r raised in
       let old = slice_get_there raised.ends l (omega (arith, below, as_long)) in
-      let c = slice_get_there r.layout.now.cuts.items l (omega (arith, below, as_long, many)) in
+      let c = slice_get_there r.layout.now.cuts.items l (omega (arith, below, as_long, links_many m is_mesh more r raised)) in
       let is = collects.collects.dealt l c.0 e c.1 at in
       let up = link_up_at m is_mesh more r raised l old.0 old.1 in
       let link : e.link ≡ old.0.link = same_Some e.link old.0.link (sym (slice_get-mapped (λ (x : LinkEnds). x.link) collects.ends l e at)
@@ -137,9 +131,8 @@ module _ (m : State) (is_mesh : IsMesh m) (more : ℕ) (r : RaisedMesh) (raised 
     where
       spare_on : (old e : LinkEnds) → e.link ≡ old.link → e.room ≡ old.room → cap_of old.link ≤ old.room.spare → cap_of e.link ≤ e.room.spare
       spare_on old e link room spare =
-          let cap = ap cap_of link in
           let has = ap (λ x. x.spare) room in
-          omega (arith, cap, has, spare)
+          omega (arith, ap cap_of link, has, spare)
 
   -- there is room for what the shares logged
   pub logs_fit : (brought : Standing) (collected : List Share) (logs : MeshLogs) (collects : HoldsCollected raised.ends r.layout.now.cuts.items played brought collected) →
@@ -149,9 +142,7 @@ module _ (m : State) (is_mesh : IsMesh m) (more : ℕ) (r : RaisedMesh) (raised 
       (λ i x y below. (within i x y below).0) in
       let dumps = sum_within (λ (s : Share). length s.hold.dumps.items) (λ (s : Share). s.hold.dumps.spare) collected r.shares.items all_long
       (λ i x y below. (within i x y below).1) in
-      let delivered = room.delivered in
-      let dumped = room.dumped in
-      record { delivered = omega (arith, deliveries, delivered); dumped = omega (arith, dumps, dumped) }
+      record { delivered = omega (arith, deliveries, room.delivered); dumped = omega (arith, dumps, room.dumped) }
     where
       all_long : length collected ≡ length r.shares.items
       all_long = collects.collects.same.0 ∙ (long ∙ deals.same.0)
@@ -161,15 +152,13 @@ module _ (m : State) (is_mesh : IsMesh m) (more : ℕ) (r : RaisedMesh) (raised 
           (c.hold.deliveries ≡ p.hold.deliveries) × (c.hold.dumps ≡ p.hold.dumps) →
           (length c.hold.deliveries.items ≤ s.hold.deliveries.spare) × (length c.hold.dumps.items ≤ s.hold.dumps.spare)
       share_within s d p c items first empty goes last =
-          let delivered = goes.deliveries_room in
-          let dumped = goes.dumps_room in
           let a = ap (λ v. v.spare) first.0 in
           let b = ap (λ v. v.spare) first.1 in
           let e = ap (λ v. length v.items) first.0 ∙ ap length empty.1 in
           let f = ap (λ v. length v.items) first.1 ∙ ap length empty.0 in
           let g = ap (λ v. length v.items) last.0 in
           let h = ap (λ v. length v.items) last.1 in
-          (omega (arith, delivered, a, e, g), omega (arith, dumped, b, f, h))
+          (omega (arith, goes.deliveries_room, a, e, g), omega (arith, goes.dumps_room, b, f, h))
 
       within : (i : ℕ) (x y : Share) → i < length collected →
           (length (get_or collected i x).hold.deliveries.items ≤ (get_or r.shares.items i y).hold.deliveries.spare)
@@ -180,9 +169,8 @@ module _ (m : State) (is_mesh : IsMesh m) (more : ℕ) (r : RaisedMesh) (raised 
           let s = slice_get-get_or r.shares.items i y (omega (arith, below, as_collected, long, as_dealt)) in
           let d = slice_get-get_or dealt i x (omega (arith, below, as_collected, long)) in
           let p = slice_get-get_or played i x (omega (arith, below, as_collected)) in
-          let c = slice_get-get_or collected i x below in
           let first = deals.same.1 i (get_or r.shares.items i y) (get_or dealt i x) s d in
-          let last = collects.collects.same.1 i (get_or played i x) (get_or collected i x) p c in
+          let last = collects.collects.same.1 i (get_or played i x) (get_or collected i x) p (slice_get-get_or collected i x below) in
           share_within (get_or r.shares.items i y) (get_or dealt i x) (get_or played i x) (get_or collected i x) (get_or some_parts.0 i [])
           (first.deliveries, first.dumps) (raised.no_logs i y (omega (arith, below, as_collected, long, as_dealt)))
           (some_parts.2 i [] (omega (arith, below, as_collected, long)) x) (last.deliveries, last.dumps)

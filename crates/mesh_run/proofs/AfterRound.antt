@@ -52,45 +52,37 @@ module _ (w : Whole) where
   logged i x z below =
       let as_dealt = dealt_long w in
       let as_collected = collected_long in
-      let as_played = w.played_long in
-      let many = parts_many in
       let s = slice_get-get_or w.r.shares.items i x (omega (arith, below, as_collected, as_dealt)) in
       let d = slice_get-get_or w.dealt i x (omega (arith, below, as_collected)) in
-      let p = slice_get-get_or w.played i x (omega (arith, below, as_collected, as_played)) in
-      let c = slice_get-get_or w.collected i x below in
+      let p = slice_get-get_or w.played i x (omega (arith, below, as_collected, w.played_long)) in
       let first = w.deals.same.1 i (get_or w.r.shares.items i x) (get_or w.dealt i x) s d in
-      let last = w.collects.collects.same.1 i (get_or w.played i x) (get_or w.collected i x) p c in
+      let last = w.collects.collects.same.1 i (get_or w.played i x) (get_or w.collected i x) p (slice_get-get_or w.collected i x below) in
       let one = share_logged w.m.setup.capacity w.patience
       (get_or w.r.shares.items i x) (get_or w.dealt i x) (get_or w.played i x) (get_or w.collected i x) (get_or (parts w) i [])
       (first.deliveries, first.dumps) (w.roomy.raised.no_logs i x (omega (arith, below, as_collected, as_dealt)))
       ((played_parts w).goes i x (omega (arith, below, as_collected))) (last.deliveries, last.dumps) in
-      let same : get_or (parts w) i [] ≡ get_or (parts w) i z = get_or_default (parts w) i [] z (omega (arith, below, as_collected, many)) in
+      let same : get_or (parts w) i [] ≡ get_or (parts w) i z = get_or_default (parts w) i [] z (omega (arith, below, as_collected, parts_many)) in
       (one.0 ∙ ap (λ (l : List Item). deliveries l) same, one.1 ∙ ap (λ (l : List Item). records l) same)
 
   -- what all shares logged
   pub whole_delivered : flat_map (λ (s : Share). s.hold.deliveries.items) w.collected ≡ deliveries (joined (parts w))
   whole_delivered =
-      let many = parts_many in
-      let long = collected_long in
       flat_same (λ (s : Share). s.hold.deliveries.items) (λ (p : List Item). flat_map delivered_of p) w.collected (parts w)
-      (omega (arith, many, long)) (λ i x z below. (logged i x z below).0)
+      (omega (arith, parts_many, collected_long)) (λ i x z below. (logged i x z below).0)
       ∙ sym (flat_map_joined delivered_of (parts w))
 
   pub whole_dumped : flat_map (λ (s : Share). s.hold.dumps.items) w.collected ≡ records (joined (parts w))
   whole_dumped =
-      let many = parts_many in
-      let long = collected_long in
       flat_same (λ (s : Share). s.hold.dumps.items) (λ (p : List Item). flat_map dumped_of p) w.collected (parts w)
-      (omega (arith, many, long)) (λ i x z below. (logged i x z below).1)
+      (omega (arith, parts_many, collected_long)) (λ i x z below. (logged i x z below).1)
       ∙ sym (flat_map_joined dumped_of (parts w))
 
   -- whether a copy moved is noted after ends are collected as it was before
   moved_same : list_any (λ (s : Share). s.moved) w.played ≡ list_any (λ (s : Share). s.moved) w.collected
   moved_same = any_same (λ (s : Share). s.moved) (λ (s : Share). s.moved) w.played w.collected (sym w.collects.collects.same.0) (λ i x y below.
       let same = w.collects.collects.same in
-      let long = same.0 in
       let p = slice_get-get_or w.played i x below in
-      sym (same.1 i (get_or w.played i x) (get_or w.collected i y) p (slice_get-get_or w.collected i y (omega (arith, below, long)))).moved)
+      sym (same.1 i (get_or w.played i x) (get_or w.collected i y) p (slice_get-get_or w.collected i y (omega (arith, below, same.0)))).moved)
 
   -- the mesh after a round: its shares, its links and its logs are those that the round left, and the rest is as it was
   module _ (shares : Vec Share) (logs : MeshLogs) (left : shares.items ≡ w.cleared) where

@@ -30,11 +30,10 @@ module _ (w : Whole) where
       let long = all_long in
       let as_dealt = dealt_long w in
       let as_played = w.played_long in
-      let as_collected = w.collects.collects.same.0 in
       let s = slice_get_there w.r.shares.items k (omega (arith, below, long)) in
       let d = slice_get_there w.dealt k (omega (arith, below, long, as_dealt)) in
       let p = slice_get_there w.played k (omega (arith, below, long, as_dealt, as_played)) in
-      let c = slice_get_there w.collected k (omega (arith, below, long, as_dealt, as_played, as_collected)) in
+      let c = slice_get_there w.collected k (omega (arith, below, long, as_dealt, as_played, w.collects.collects.same.0)) in
       let first = w.deals.same.1 k s.0 d.0 s.1 d.1 in
       let third = w.collects.collects.same.1 k p.0 c.0 p.1 c.1 in
       let fourth = w.clears.1 k c.0 t c.1 at in

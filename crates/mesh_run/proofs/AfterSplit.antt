@@ -33,9 +33,7 @@ module _ (w : Whole) where
 
   away_after : (q : ℕ) (h : Home) (s : ℕ) → slice_get w.r.layout.now.homes.items q ≡ Some h → s < length w.cleared → (s ≢ h.sender) ⊎ (h.sender ≢ h.receiver) → end_at w.cleared s q ≡ Some Away
   away_after q h s at inside other =
-      let long = cleared_long in
-      let as_dealt = dealt_long w in
-      let was = w.roomy.raised.lanes.away q h s at (omega (arith, inside, long, as_dealt)) other in
+      let was = w.roomy.raised.lanes.away q h s at (omega (arith, inside, cleared_long, dealt_long w)) other in
       elim (cases_eq h.sender h.receiver) [
         | inl same ↦ stays_away s q (uncut w q h at same s) was
         | inr two ↦

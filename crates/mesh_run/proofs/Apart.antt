@@ -16,10 +16,10 @@ use Rattle.spin_base.proofs.Equality.{chip_eq_same}
 use Rattle.spin_base.specs.Equality.{chip_eq}
 use Rattle.chip_node.specs.Items.{where_same, where_there}
 use Rattle.mesh_core.specs.State.{Setup, input, core, behind, queue_at}
-use Rattle.mesh_core.proofs.Changes.{queue_at-below}
 use Rattle.mesh_core.proofs.Ways.{vertex_behind_stands}
 pub use Rattle.chip_node.proofs.Placing.{where_here as here, where_other as elsewhere}
 use Rattle.mesh_run.specs.Played.{place_behind, queue_place_of, vertex_place}
+use Rattle.mesh_run.proofs.Feeding.{port_is_no_vertex}
 use Rattle.mesh_run.proofs.Ends.{leads, by_link, to_vertex, to_none, one_end, one_link, one_port}
 
 -- ---- where two places are the same
@@ -58,10 +58,6 @@ module _ (u : Setup) where
       nothing : {n : ℕ} → None ≡ Some n → ⊥
       nothing same = cc
 
-  -- no port's queue is a vertex's
-  pub port_is_no_vertex : (c : Chip) (port : Port) (v : ℕ) → IsInside u.machine c → queue_at u.machine c port ≡ vertex_place u v → ⊥
-  port_is_no_vertex c port v inside same = omega (arith, same, queue_at-below u.machine c port inside)
-
   -- two outputs of chips of the grid that lead to one queue are one
   pub one_output : (a c : Chip) (p o : Out) (q : ℕ) → IsInside u.machine a → IsInside u.machine c → place_behind u a p ≡ Some q → place_behind u c o ≡ Some q → (a ≡ c) × (p ≡ o)
   one_output a c p o q in_a in_c first second = elim (behind_at a p q in_a first) [
@@ -69,10 +65,10 @@ module _ (u : Setup) where
       | to_port d' e' out' live' far' in_e' at' place' ↦
           let one = one_link u a c d o e in_a in_c far (at' ∙ ap input place) in
           (one.0, out ∙ one.1)
-      | to_core v below at' place' ↦ absurd (port_is_no_vertex e (ByLink (opposite_of d)) v in_e (sym place ∙ place'))
+      | to_core v below at' place' ↦ absurd (port_is_no_vertex u e (ByLink (opposite_of d)) v in_e (sym place ∙ place'))
     ]
     | to_core v below at place ↦ elim (behind_at c o q in_c second) [
-      | to_port d e out live far in_e at' place' ↦ absurd (port_is_no_vertex e (ByLink (opposite_of d)) v in_e (sym place' ∙ place))
+      | to_port d e out live far in_e at' place' ↦ absurd (port_is_no_vertex u e (ByLink (opposite_of d)) v in_e (sym place' ∙ place))
       | to_core w below' at' place' ↦
           let same : v ≡ w = omega (arith, place, place') in
           let one = one_end u a p v at in
@@ -89,7 +85,7 @@ module _ (u : Setup) where
     | to_port d far out live leads_to in_far at place ↦
         let one = one_port u.machine c far port (ByLink (opposite_of d)) in_c in_far place in
         (opposite_of d, one.1, subst (λ (x : Chip). IsLiveLink u.machine x (opposite_of d)) (sym one.0) (live_back u.machine e far d leads_to live))
-    | to_core v below at place ↦ absurd (port_is_no_vertex c port v in_c place)
+    | to_core v below at place ↦ absurd (port_is_no_vertex u c port v in_c place)
   ]
 
   -- no output of a chip leads to a port of its own
@@ -99,7 +95,7 @@ module _ (u : Setup) where
         let one = one_port u.machine c far port (ByLink (opposite_of d)) inside in_far place in
         let self : chip_eq c far ≡ true = subst (λ (x : Chip). chip_eq c x ≡ true) one.0 (chip_eq_same c) in
         absurd (differ (sym self ∙ (far_parts u.machine c far d leads_to).2))
-    | to_core v below at place ↦ absurd (port_is_no_vertex c port v inside place)
+    | to_core v below at place ↦ absurd (port_is_no_vertex u c port v inside place)
   ]
     where
       differ : true ≡ false → ⊥

@@ -18,6 +18,57 @@ use Rattle.mesh_run.specs.Split.{end_at, end_in}
 use Rattle.mesh_run.specs.Standing.{HoldsAll}
 use Rattle.mesh_run.proofs.Holding.{only_ends}
 
+-- ---- lists of which each item is as the one at its place
+
+abbrev pub AreEach : {X : Type 0} → (X → X → Type 0) → List X → List X → Type 0
+AreEach {X} R before after = (length after ≡ length before) × ((k : ℕ) (s t : X) → slice_get before k ≡ Some s → slice_get after k ≡ Some t → R s t)
+
+pub each_self : {X : Type 0} (R : X → X → Type 0) → ((x : X) → R x x) → (xs : List X) → AreEach R xs xs
+each_self R self xs = (refl, λ k s t at also. subst (R s) (same_Some s t (sym at ∙ also)) (self s))
+
+pub each_on : {X : Type 0} (R : X → X → Type 0) → ((x y z : X) → R x y → R y z → R x z) → (a b c : List X) → AreEach R a b → AreEach R b c → AreEach R a c
+each_on R on a b c first second = (
+  second.0 ∙ first.0,
+  λ k x z at also.
+      let y = slice_get_there b k (omega (arith, slice_get_within a k x at, first.0)) in
+      on x y.0 z (first.1 k x y.0 at y.1) (second.1 k y.0 z y.1 also),
+)
+
+-- one item is another
+pub each_set : {X : Type 0} (R : X → X → Type 0) → ((x : X) → R x x) → (xs : List X) (i : ℕ) (s t : X) → slice_get xs i ≡ Some s → R s t → AreEach R xs (set xs i t)
+each_set {X} R self xs i s t stands new = (
+  length-set xs i t,
+  λ k x y at also. elim (cases_eq k i) [
+    | inl here ↦
+        let is_x : s ≡ x = same_Some s x (sym stands ∙ (ap (slice_get xs) (sym here) ∙ at)) in
+        let is_y : t ≡ y = same_Some t y (sym (slice_get-set_same xs i s t stands) ∙ (ap (slice_get (set xs i t)) (sym here) ∙ also)) in
+        subst (λ (z : X). R x z) is_y (subst (λ (z : X). R z t) is_x new)
+    | inr other ↦ subst (R x) (same_Some x y (sym at ∙ (sym (slice_get-set_other xs i k t other) ∙ also))) (self x)
+  ],
+)
+
+-- ---- all but ends is the same
+
+pub ends_self : (s : Share) → SameButEnds s s
+ends_self s = record { from = refl; to = refl; moved = refl; ends_long = refl; unsent = refl; dumps = refl; deliveries = refl }
+
+ends_on : (x y z : Share) → SameButEnds x y → SameButEnds y z → SameButEnds x z
+ends_on x y z p q = record {
+  from = q.from ∙ p.from;
+  to = q.to ∙ p.to;
+  moved = q.moved ∙ p.moved;
+  ends_long = q.ends_long ∙ p.ends_long;
+  unsent = q.unsent ∙ p.unsent;
+  dumps = q.dumps ∙ p.dumps;
+  deliveries = q.deliveries ∙ p.deliveries;
+}
+
+pub same_self : (shares : List Share) → AreSameButEnds shares shares
+same_self shares = each_self SameButEnds ends_self shares
+
+pub same_on : (a b c : List Share) → AreSameButEnds a b → AreSameButEnds b c → AreSameButEnds a c
+same_on a b c first second = each_on SameButEnds ends_on a b c first second
+
 -- ---- one end of one share
 
 -- a share whose end is there is there
@@ -57,26 +108,15 @@ pub end_set : (before after : List Share) (share queue : ℕ) (s t : Share) (old
     t.from ≡ s.from → t.to ≡ s.to → t.moved ≡ s.moved → t.hold.unsent ≡ s.hold.unsent → t.hold.dumps ≡ s.hold.dumps → t.hold.deliveries ≡ s.hold.deliveries →
     t.hold.ends.items ≡ set s.hold.ends.items queue end → PutsEnd share queue end before after
 end_set before after share queue s t old end stands holds is from to moved unsent dumps deliveries ends = subst (PutsEnd share queue end before) (sym is) (record {
-  same = (
-    length-set before share t,
-    λ k x y at also. elim (cases_eq k share) [
-      | inl here ↦
-          let is_x : s ≡ x = same_Some s x (sym stands ∙ (ap (slice_get before) (sym here) ∙ at)) in
-          let is_y : t ≡ y = same_Some t y (sym (slice_get-set_same before share s t stands) ∙ (ap (slice_get (set before share t)) (sym here) ∙ also)) in
-          subst (λ (z : Share). SameButEnds x z) is_y (subst (λ (z : Share). SameButEnds z t) is_x (record {
-            from = from;
-            to = to;
-            moved = moved;
-            ends_long = ap length ends ∙ length-set s.hold.ends.items queue end;
-            unsent = unsent;
-            dumps = dumps;
-            deliveries = deliveries;
-          }))
-      | inr other ↦
-          let is_y : x ≡ y = same_Some x y (sym at ∙ (sym (slice_get-set_other before share k t other) ∙ also)) in
-          subst (SameButEnds x) is_y (record { from = refl; to = refl; moved = refl; ends_long = refl; unsent = refl; dumps = refl; deliveries = refl })
-    ],
-  );
+  same = each_set SameButEnds ends_self before share s t stands (record {
+    from = from;
+    to = to;
+    moved = moved;
+    ends_long = ap length ends ∙ length-set s.hold.ends.items queue end;
+    unsent = unsent;
+    dumps = dumps;
+    deliveries = deliveries;
+  });
   here = ap (λ (o : Option Share). end_in o queue) (slice_get-set_same before share s t stands) ∙ (ap (λ l. slice_get l queue) ends ∙ slice_get-set_same s.hold.ends.items queue old end holds);
   others = λ k q differs. elim (cases_eq k share) [
     | inl here ↦
@@ -89,41 +129,13 @@ end_set before after share queue s t old end stands holds is from to moved unsen
   ];
 })
 
--- ---- all but ends is the same
-
-pub same_self : (shares : List Share) → AreSameButEnds shares shares
-same_self shares = (refl, λ k s t at also. subst (SameButEnds s) (same_Some s t (sym at ∙ also)) (record { from = refl; to = refl; moved = refl; ends_long = refl; unsent = refl; dumps = refl; deliveries = refl }))
-
-pub same_on : (a b c : List Share) → AreSameButEnds a b → AreSameButEnds b c → AreSameButEnds a c
-same_on a b c first second = (
-  second.0 ∙ first.0,
-  λ k x z at also.
-      let within = slice_get_within a k x at in
-      let long = first.0 in
-      let y = slice_get_there b k (omega (arith, within, long)) in
-      let p = first.1 k x y.0 at y.1 in
-      let q = second.1 k y.0 z y.1 also in
-      record {
-        from = q.from ∙ p.from;
-        to = q.to ∙ p.to;
-        moved = q.moved ∙ p.moved;
-        ends_long = q.ends_long ∙ p.ends_long;
-        unsent = q.unsent ∙ p.unsent;
-        dumps = q.dumps ∙ p.dumps;
-        deliveries = q.deliveries ∙ p.deliveries;
-      },
-)
-
 -- an end's place stays
 pub end_still : (a b : List Share) (s q : ℕ) (e : End) → AreSameButEnds a b → end_at a s q ≡ Some e → (f : End) × (end_at b s q ≡ Some f)
 end_still a b s q e same is =
     let at = end_there a s q e is in
-    let within = slice_get_within a s at.share at.stands in
-    let long = same.0 in
-    let y = slice_get_there b s (omega (arith, within, long)) in
+    let y = slice_get_there b s (omega (arith, slice_get_within a s at.share at.stands, same.0)) in
     let ends = (same.1 s at.share y.0 at.stands y.1).ends_long in
-    let inside = slice_get_within at.share.hold.ends.items q e at.holds in
-    let f = slice_get_there y.0.hold.ends.items q (omega (arith, ends, inside)) in
+    let f = slice_get_there y.0.hold.ends.items q (omega (arith, ends, slice_get_within at.share.hold.ends.items q e at.holds)) in
     (f.0, ap (λ (o : Option Share). end_in o q) y.1 ∙ f.1)
 
 -- ---- both ends of a cut's link
@@ -139,14 +151,9 @@ puts_two cuts start before mid after n c first second are at one two = (
 -- an end of one cut's link is none of another's
 pub apart : (cuts : List Cut) (start : List Share) (k l s : ℕ) (a b : Cut) → AreCuts cuts start → slice_get cuts k ≡ Some a → slice_get cuts l ≡ Some b → l < k → IsOfCut a s b.queue → ⊥
 apart cuts start k l s a b are at_k at_l less of =
-    let same = are.apart l k b a at_l at_k of.0 in
-    omega (arith, same, less)
+    omega (arith, are.apart l k b a at_l at_k of.0, less)
 
 -- ---- dealing
-
--- no end of the first cuts' links is held there
-IsUncutTo : List Cut → ℕ → ℕ → ℕ → Type 0
-IsUncutTo cuts n s q = (l : ℕ) (c : Cut) → l < n → slice_get cuts l ≡ Some c → IsOfCut c s q → ⊥
 
 pub record DealtTo (cuts : List Cut) (start : Standing) (before : List Share) (n : ℕ) (standing : Standing) (now : List Share) : Type 0 where
   pub ends : List LinkEnds

@@ -49,10 +49,8 @@ module _ (w : Whole) where
   pub home_below : (q : ℕ) (h : Home) → slice_get w.r.layout.now.homes.items q ≡ Some h → (h.sender < length w.dealt) × (h.receiver < length w.dealt)
   home_below q h at =
       let below = homes_below w.m w.is_mesh (w.turns + 1) w.r w.roomy.raised q h at in
-      let sender = below.0 in
-      let receiver = below.1 in
       let as_dealt = dealt_long w in
-      (omega (arith, sender, as_dealt), omega (arith, receiver, as_dealt))
+      (omega (arith, below.0, as_dealt), omega (arith, below.1, as_dealt))
 
   held_fits : (q : ℕ) → length (held_at w.m q) ≤ w.m.setup.capacity
   held_fits q = fits_at w.m.setup.capacity (w.m.inputs ++ w.m.cores) q (All-append (FitsQueue w.m.setup.capacity) w.m.inputs w.m.cores w.is_mesh.inputs_within w.is_mesh.cores_within)
@@ -61,10 +59,8 @@ module _ (w : Whole) where
   pub cleared_end : (s q : ℕ) (b : End) → end_at w.collected s q ≡ Some b → end_at w.cleared s q ≡ Some b
   cleared_end s q b at =
       let was = stood (slice_get w.collected s) q b at in
-      let below = slice_get_within w.collected s was.0 was.1 in
-      let is = slice_get_there w.cleared s (let long = w.clears.0 in omega (arith, below, long)) in
-      let same = w.clears.1 s was.0 is.0 was.1 is.1 in
-      ap (λ (x : Option Share). end_in x q) is.1 ∙ (same_end was.0 is.0 q same.ends ∙ was.2)
+      let is = slice_get_there w.cleared s (let long = w.clears.0 in omega (arith, slice_get_within w.collected s was.0 was.1, long)) in
+      ap (λ (x : Option Share). end_in x q) is.1 ∙ (same_end was.0 is.0 q (w.clears.1 s was.0 is.0 was.1 is.1).ends ∙ was.2)
 
   -- a queue that is a lane of one share
   lane_after : (q : ℕ) (h : Home) → slice_get w.r.layout.now.homes.items q ≡ Some h → h.sender ≡ h.receiver → (after : List McCopy) × AfterRound q after
@@ -74,12 +70,11 @@ module _ (w : Whole) where
       let was = lanes.lanes q h at same in
       let dealt = dealt_same w q h at same h.sender ∙ was.1 in
       let p = lane_passes cap w.patience w.dealt w.played (parts w) (played_parts w) h.sender q was.0 dealt in
-      let as_dealt = dealt_long w in
       let now : end_at w.cleared h.sender q ≡ Some (Own p.lane) = cleared_end h.sender q (Own p.lane) (collected_same w q h at same h.sender ∙ p.stays) in (
         p.lane.items,
         record {
           goes = lane_queue cap w.patience w.dealt w.played (parts w) (played_parts w) q h.sender was.0 (held_at w.m q) (home_below q h at).0 was.2 (held_fits q)
-              (λ k below other. dealt_same w q h at same k ∙ lanes.away q h k at (omega (arith, below, as_dealt)) (inl other)) p;
+              (λ k below other. dealt_same w q h at same k ∙ lanes.away q h k at (omega (arith, below, dealt_long w)) (inl other)) p;
           lane = λ g stands one. (p.lane, subst (λ (x : Home). end_at w.cleared x.sender q ≡ Some (Own p.lane)) (same_Some h g (sym at ∙ stands)) now, refl);
           link = λ l c stands is. absurd (uncut w q h at same c.sender l c stands (sym is, inl refl));
         },
@@ -108,8 +103,7 @@ module _ (w : Whole) where
         let up = w.roomy.raised.up in
         let many = length-map w.r.layout.now.cuts.items (λ (d : Cut). held_at w.m d.queue) in
         let below = slice_get_within w.r.layout.now.cuts.items l c stands in
-        let long = up.long in
-        let is = slice_get_there w.roomy.raised.ends l (omega (arith, many, below, long)) in
+        let is = slice_get_there w.roomy.raised.ends l (omega (arith, many, below, up.long)) in
         let queue : get_or (cut_queues (w.m.inputs ++ w.m.cores) w.r.layout.now.cuts.items) l [] ≡ held_at w.m c.queue =
         get_or_from_slice_get (cut_queues (w.m.inputs ++ w.m.cores) w.r.layout.now.cuts.items) l (held_at w.m c.queue) [] (slice_get-mapped (λ (d : Cut). held_at w.m d.queue) w.r.layout.now.cuts.items l c stands) in (
           is.0,
@@ -122,9 +116,7 @@ module _ (w : Whole) where
     -- the link as it was collected
     now : (e : LinkEnds) × (slice_get w.collects.ends l ≡ Some e) × (e.link ≡ old.0.link) × IsDown e (get_or (map queue_of_link w.rests.now) l [])
     now =
-        let was = slice_get_within w.roomy.raised.ends l old.0 old.1 in
-        let long = w.collects.long in
-        let below : l < length w.collects.ends = omega (arith, was, long) in
+        let below : l < length w.collects.ends = omega (arith, slice_get_within w.roomy.raised.ends l old.0 old.1, w.collects.long) in
         let is = slice_get_there w.collects.ends l below in
         let link = slice_get-mapped (λ (x : LinkEnds). x.link) w.collects.ends l is.0 is.1 in
         let linked = slice_get-mapped (λ (x : LinkEnds). x.link) w.roomy.raised.ends l old.0 old.1 in (

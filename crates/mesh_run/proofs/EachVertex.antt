@@ -42,9 +42,8 @@ module _ (w : Whole) where
   played_unsent k v below =
       let s = slice_get_there w.dealt k below in
       let goes = (played_parts w).goes k s.0 below in
-      let is = slice_get-get_or w.dealt k s.0 below in
       let there = slice_get-get_or w.played k s.0 (let long = w.played_long in omega (arith, long, below)) in
-      sym (dealt_unsent k v below) ∙ (ap (λ (x : Option Share). unsent_in x v) is ∙ (goes.unsent v
+      sym (dealt_unsent k v below) ∙ (ap (λ (x : Option Share). unsent_in x v) (slice_get-get_or w.dealt k s.0 below) ∙ (goes.unsent v
       ∙ ap (λ (l : List McCopy). sent_by v (get_or (parts w) k []) ++ l) (ap (λ (x : Option Share). unsent_in x v) (sym there) ∙ sym (cleared_unsent k v below))))
 
   -- where nothing is unsent, nothing is sent
@@ -60,8 +59,7 @@ module _ (w : Whole) where
   pub vertex_after : (v : ℕ) → v < length w.m.setup.spots → (after : List McCopy) × VertexAfter v after
   vertex_after v inside =
       let unsent = w.roomy.raised.unsent in
-      let long = w.roomy.raised.shared.homes_are.long in
-      let home = slice_get_there w.r.layout.now.homes.items (vertex_place w.m.setup v) (omega (arith, inside, long)) in
+      let home = slice_get_there w.r.layout.now.homes.items (vertex_place w.m.setup v) (omega (arith, inside, w.roomy.raised.shared.homes_are.long)) in
       let at = home.1 in
       let below = (home_below w (vertex_place w.m.setup v) home.0 at).1 in
       let k = home.0.receiver in

@@ -59,8 +59,7 @@ on_one_chip u v w s t a b at also here there same =
 pub one_output : (u : Setup) (a c : Chip) (o q : Out) (p : ℕ) → IsInside u.machine a → IsInside u.machine c → LeadsTo u a o p → LeadsTo u c q p → (a ≡ c) × (o ≡ q)
 one_output u a c o q p in_a in_c (by_link d e out far at) (by_link g h also far' is) =
     let in_e = far_inside u.machine a e d in_a far in
-    let in_h = far_inside u.machine c h g in_c far' in
-    let one = same_queue u.machine e h (ByLink (opposite_of d)) (ByLink (opposite_of g)) in_e in_h (sym at ∙ is) in
+    let one = same_queue u.machine e h (ByLink (opposite_of d)) (ByLink (opposite_of g)) in_e (far_inside u.machine c h g in_c far') (sym at ∙ is) in
     let back : opposite_of d ≡ opposite_of g = same_dir (opposite_of d) (opposite_of g) one.1 in
     let link : d ≡ g = sym (opposite_of-opposite d) ∙ (ap opposite_of back ∙ opposite_of-opposite g) in
     let to_a : far_of u.machine e (opposite_of d) ≡ Some a = far_back u.machine a e d in_a far in

@@ -68,8 +68,7 @@ module _ (u : Setup) where
   pub few_injected : (turns i : ℕ) (items : List Item) → AreTurns u turns items → IsLiveIndex u i → length (entered (injection_place i) items) ≤ turns
   few_injected turns i items h live =
       let fewer_than = fewer (entered_by (injection_place i)) (sending_of i) (sent_there i live) items h.each in
-      let few = h.sends i in
-      omega (arith, fewer_than, few)
+      omega (arith, fewer_than, h.sends i)
 
   -- ---- a queue behind an output
 
@@ -100,9 +99,7 @@ module _ (u : Setup) where
       let first = map {B = Out × McCopy} (λ p. (p, t.1)) (outputs u c t.0 t.1) in
       let both = count_by-append (by o) first (owed_on u c taken) in
       let mapped = count_by-map {B = Out × McCopy} (by o) (λ p. (p, t.1)) (outputs u c t.0 t.1) in
-      let one = few_outputs c o t.0 t.1 output in
-      let rest = few_owed c o output taken in
-      omega (arith, both, mapped, one, rest)
+      omega (arith, both, mapped, few_outputs c o t.0 t.1 output, few_owed c o output taken)
 
   -- what one item brings to the queue behind an output, its router served there
   served_there : (i : ℕ) (o : Out) (q : ℕ) → IsLiveIndex u i → place_behind u (chip_of u.machine i) o ≡ Some q → (x : Item) → IsDoneOn u x →
@@ -118,8 +115,7 @@ module _ (u : Setup) where
         let counted : count_by (by o) (map told (s ∷ [])) ≡ 1 = ap (λ (b : Bool). 0 + one_if b) (subst (λ (e : Out). out_eq o e ≡ true) (sym one.1) (out_eq_same o)) in
         let all = ap (λ (l : List Service). count_by (by o) (map told l)) service in
         let brings = ap length (here p q (brought s s.fate) same) in
-        let few = few_brought s s.fate in
-        omega (arith, counted, all, brings, few)
+        omega (arith, counted, all, brings, few_brought s s.fate)
     | inr other ↦ let none = ap length (elsewhere p q (brought s s.fate) other) in omega (arith, none)
   ]
   served_there i o q live behind (sent j v k) done =
@@ -145,11 +141,9 @@ module _ (u : Setup) where
   pub few_behind : (turns i : ℕ) (o : Out) (q : ℕ) (items : List Item) → AreTurns u turns items → IsLiveIndex u i → IsOutput o → place_behind u (chip_of u.machine i) o ≡ Some q →
       length (entered q items) ≤ turns
   few_behind turns i o q items h live output behind =
-      let most = counted i o q live behind items h.each in
       let owed = ap (count_by (by o)) (h.each_once i) in
       let few = few_owed (chip_of u.machine i) o output (takings i items) in
-      let turns_few = h.takes i in
-      omega (arith, most, owed, few, turns_few)
+      omega (arith, counted i o q live behind items h.each, owed, few, h.takes i)
 
   -- ---- any queue
 

@@ -1,9 +1,9 @@
 -- Floors chip by chip: the vertices on a chip, the queues behind its outputs, and that there are few vertices.
-use Rattle.std.proofs.Common.{◌≡◌, ◌≢◌, Bool, true, false, ℕ, ◌+◌, ◌*◌, ◌<◌, ◌≤◌, List, [], ◌∷◌, ◌++◌, map, length, get_or, Option, Some, None, refl, sym, ap, ◌∙◌, subst, arith, suc, append_assoc, length-append, inl, inr}
+use Rattle.std.proofs.Common.{◌≡◌, ◌≢◌, ℕ, ◌+◌, ◌*◌, ◌<◌, ◌≤◌, List, [], ◌∷◌, ◌++◌, map, length, get_or, Option, Some, None, refl, sym, ap, ◌∙◌, subst, arith, suc, append_assoc, length-append, inl, inr}
 use Rattle.std.specs.List.{All, AllPairs, slice_get}
 use Rattle.std.specs.Option.{option_to_list}
 use Rattle.std.proofs.lemmas.Bool.{cases_eq, cases_lt}
-use Rattle.std.proofs.lemmas.Option.{get_or_from_slice_get, none-some, same_Some, slice_get_within}
+use Rattle.std.proofs.lemmas.Option.{get_or_from_slice_get, none-some, slice_get_within}
 use Rattle.std.proofs.lemmas.List.{get_or-map, length-map, length_push}
 use Rattle.std.proofs.Math.Nat.{mul-le-mul_left}
 use Rattle.spin_base.specs.declared.chips.Chip.{Chip}
@@ -14,7 +14,7 @@ use Rattle.spin_base.proofs.Members.{Among, Contains-at, among_contains, among_e
 use Rattle.spin_base.proofs.Places.{All-at, slice_get_there, slice_get-append_left, slice_get-push_cases, slice_get-pushed}
 use Rattle.spin_base.proofs.Outputs.{out_number_below, out_number_injective}
 use Rattle.machine_desc.specs.Description.{Description, HasSize}
-use Rattle.machine_desc.specs.Live.{chip_of, is_live_chip, IsSite}
+use Rattle.machine_desc.specs.Live.{chip_of, IsSite}
 use Rattle.machine_desc.specs.NetsOn.{vertex_at}
 use Rattle.machine_desc.proofs.Branches.{length_le_from_apart}
 use Rattle.mesh_core.specs.State.{Setup}
@@ -25,7 +25,7 @@ use Rattle.chip_node.specs.Acting.{place_in}
 use Rattle.chip_node.specs.declared.nodes.Behind.{Behind}
 use Rattle.chip_node.specs.declared.nodes.CoreBank.{CoreBank}
 use Rattle.mesh_run.specs.declared.floors.Floor.{Floor}
-use Rattle.mesh_run.specs.Floors.{AddsBehind, AreVerticesOn, AreVerticesOf, IsBankOf, IsFloorOf, IsFloorSoFar, grid_size, live_if, live_one, place_of_slot}
+use Rattle.mesh_run.specs.Floors.{AddsBehind, AreVerticesOn, AreVerticesOf, IsBankOf, IsFloorOf, IsFloorSoFar, grid_size, live_one, place_of_slot}
 use Rattle.mesh_run.specs.Played.{place_behind, port_count, IsVertexOn}
 
 -- ---- few vertices
@@ -33,10 +33,8 @@ use Rattle.mesh_run.specs.Played.{place_behind, port_count, IsVertexOn}
 -- vertices on different sites are at different places of the table of spots
 pub few_chips : (m : Description) → HasSize m → m.width * m.height ≤ 4096
 few_chips m size =
-    let w = size.width_to_64 in
-    let h = size.height_to_64 in
-    let area : m.width * m.height ≤ m.width * 64 = mul-le-mul_left m.width h in
-    omega (arith, w, area)
+    let area : m.width * m.height ≤ m.width * 64 = mul-le-mul_left m.width size.height_to_64 in
+    omega (arith, size.width_to_64, area)
 
 -- Different items with different numbers below a bound are no more than the bound.
 few_numbered : {A : Type 0} (f : A → ℕ) (n : ℕ) (xs : List A) (x : A) → AllPairs (λ a b. a ≢ b) xs → ((k : ℕ) → k < length xs → f (get_or xs k x) < n)
@@ -58,8 +56,7 @@ few_numbered {A} f n xs x different small one = subst (λ l. l ≤ n) (length-ma
 pub few_vertices : (m : Description) (spots : List Spot) → AllPairs (λ a b. a ≢ b) spots → All (IsSite m) spots → HasSize m → length spots ≤ 98304
 few_vertices m spots different sites size =
     let few = few_numbered (spot_place m) (24 * (m.width * m.height)) spots nothing different small one in
-    let area = few_chips m size in
-    omega (arith, few, area)
+    omega (arith, few, few_chips m size)
   where
     nothing : Spot
     nothing = record { chip = record { x = 0; y = 0 }; core = 0 }
@@ -206,17 +203,14 @@ bank_of u i b index cores vertices = record { index = index; cores = cores; vert
 pub floor_more : (u : Setup) (n : ℕ) (f g : Floor) (chip : Option Chip) (bank : CoreBank) → IsFloorSoFar u n f → g.chips.items ≡ f.chips.items ++ chip ∷ [] → chip ≡ live_one u n →
     AddsBehind u (chip_of u.machine n) 24 f.behind.items g.behind.items → g.banks.items ≡ f.banks.items ++ bank ∷ [] → IsBankOf u n bank → IsFloorSoFar u (n + 1) g
 floor_more u n f g chip bank so_far chips is_chip adds banks is_bank =
-    let chips_were = so_far.chips_long in
     let behind_were = so_far.behind_long in
-    let banks_were = so_far.banks_long in
-    let added = adds.long in
     let all_chips = ap length chips ∙ length_push f.chips.items chip in
     let all_behind = ap length adds.are ∙ length-append f.behind.items adds.more in
     let all_banks = ap length banks ∙ length_push f.banks.items bank in
     record {
-      chips_long = omega (arith, all_chips, chips_were);
-      behind_long = omega (arith, all_behind, behind_were, added);
-      banks_long = omega (arith, all_banks, banks_were);
+      chips_long = omega (arith, all_chips, so_far.chips_long);
+      behind_long = omega (arith, all_behind, behind_were, adds.long);
+      banks_long = omega (arith, all_banks, so_far.banks_long);
       chips = λ i below. elim (cases_eq i n) [
         | inl same ↦ subst (λ k. slice_get g.chips.items k ≡ Some (live_one u k)) (sym same)
             (ap (λ l. slice_get l n) chips ∙ (slice_get-pushed f.chips.items chip n (sym so_far.chips_long) ∙ ap Some is_chip))
@@ -239,22 +233,3 @@ floor_more u n f g chip bank so_far chips is_chip adds banks is_bank =
         | inr last ↦ subst (λ (x : CoreBank). IsBankOf u i x) last.1 (subst (λ k. IsBankOf u k bank) (sym (last.0 ∙ so_far.banks_long)) is_bank)
       ];
     }
-
--- what stands at a chip's place tells whether it is live
-pub live_there : (u : Setup) (i : ℕ) (chip : Chip) → Some chip ≡ live_one u i → (is_live_chip u.machine (chip_of u.machine i) ≡ true) × (chip ≡ chip_of u.machine i)
-live_there u i chip is = by (is_live_chip u.machine (chip_of u.machine i)) is
-  where
-    by : (b : Bool) → Some chip ≡ live_if b (chip_of u.machine i) → (b ≡ true) × (chip ≡ chip_of u.machine i)
-    by true e = (refl, same_Some chip (chip_of u.machine i) e)
-    by false e = absurd (none-some chip (sym e))
-
-pub dead_there : (u : Setup) (i : ℕ) → None ≡ live_one u i → is_live_chip u.machine (chip_of u.machine i) ≡ false
-dead_there u i is = by (is_live_chip u.machine (chip_of u.machine i)) is
-  where
-    by : (b : Bool) → None ≡ live_if b (chip_of u.machine i) → b ≡ false
-    by true e = absurd (none-some (chip_of u.machine i) e)
-    by false e = refl
-
--- the chip that is read at a place
-pub chip_read : (u : Setup) (f : Floor) (i : ℕ) (d : Option Chip) → IsFloorOf u f → i < grid_size u → get_or f.chips.items i d ≡ live_one u i
-chip_read u f i d floor below = get_or_from_slice_get f.chips.items i (live_one u i) d (floor.chips i below)

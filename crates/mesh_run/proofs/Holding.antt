@@ -15,16 +15,16 @@ use Rattle.mesh_run.specs.Queues.{AreEnds, IsDown, DownTo}
 
 -- ---- the list is the only one
 
-first_same : {X : Type 0} (x y : X) (xs ys : List X) → x ∷ xs ≡ y ∷ ys → x ≡ y
+pub first_same : {X : Type 0} (x y : X) (xs ys : List X) → x ∷ xs ≡ y ∷ ys → x ≡ y
 first_same x y xs ys e = cc
 
-rest_same : {X : Type 0} (x y : X) (xs ys : List X) → x ∷ xs ≡ y ∷ ys → xs ≡ ys
+pub rest_same : {X : Type 0} (x y : X) (xs ys : List X) → x ∷ xs ≡ y ∷ ys → xs ≡ ys
 rest_same x y xs ys e = cc
 
 equal_ends : (e f : LinkEnds) → e.link ≡ f.link → e.tx ≡ f.tx → e.rx ≡ f.rx → e.room ≡ f.room → e ≡ f
 equal_ends e f links txs rxs rooms = λ i. record { link = links i; tx = txs i; rx = rxs i; room = rooms i }
 
-both_same : {X : Type 0} (x y : X) (xs ys : List X) → x ≡ y → xs ≡ ys → x ∷ xs ≡ y ∷ ys
+pub both_same : {X : Type 0} (x y : X) (xs ys : List X) → x ≡ y → xs ≡ ys → x ∷ xs ≡ y ∷ ys
 both_same x y xs ys first rest = cc
 
 none_is_some : {X : Type 0} (x : X) (xs : List X) → [] ≡ x ∷ xs → ⊥

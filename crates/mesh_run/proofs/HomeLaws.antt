@@ -48,8 +48,7 @@ pushed_rises p ends so_far a b less below =
     elim (cases_lt b (length ends)) [
       | inl inside ↦
           let second : get_or (ends ++ p ∷ []) b 0 ≡ get_or ends b 0 = get_or_append_left ends (p ∷ []) 0 b inside in
-          let was = so_far.rising a b less inside in
-          omega (arith, first, second, was)
+          omega (arith, first, second, so_far.rising a b less inside)
       | inr last ↦
           let second : get_or (ends ++ p ∷ []) b 0 ≡ p = get_or_push ends p 0 b (omega (arith, last, below, long)) in
           let was = so_far.most a (omega (arith, less, below, long)) in
@@ -60,17 +59,15 @@ pub rise_more : (p : ℕ) (before after : List ℕ) → RiseTo p before → MayG
 rise_more p before after so_far (inl same) = subst (RiseTo (p + 1)) (sym same) (rise_on p before so_far)
 rise_more p before after so_far (inr grown) = subst (RiseTo (p + 1)) (sym grown) (
     let long = length_push before p in
-    let few = so_far.few in
     record {
       rising = pushed_rises p before so_far;
       most = λ a below. elim (cases_lt a (length before)) [
         | inl inside ↦
             let at : get_or (before ++ p ∷ []) a 0 ≡ get_or before a 0 = get_or_append_left before (p ∷ []) 0 a inside in
-            let was = so_far.most a inside in
-            omega (arith, at, was)
+            omega (arith, at, so_far.most a inside)
         | inr last ↦ let at : get_or (before ++ p ∷ []) a 0 ≡ p = get_or_push before p 0 a (omega (arith, last, below, long)) in omega (arith, at)
       ];
-      few = omega (arith, long, few);
+      few = omega (arith, long, so_far.few);
     })
 
 pub runs_all : (p count : ℕ) (before after : List ℕ) → p ≡ count → RiseTo p before → after ≡ before ++ count ∷ [] → AreShareRuns count after
@@ -111,16 +108,6 @@ table_none ends table none = record {
   done = λ a k less in_run. absurd (omega (arith, less));
   below = λ a k at. absurd (none-some k (ap (λ (l : List ℕ). slice_get l a) (sym none) ∙ at));
 }
-
-pub run_none : (ends : List ℕ) (n : ℕ) (table : List ℕ) → TableTo ends n table → RunTo ends n (length table) table
-run_none ends n table so_far =
-    let long = so_far.long in
-    record {
-      long = refl;
-      done = so_far.done;
-      here = λ a from to. absurd (omega (arith, from, to, long));
-      below = λ a k at. let was = so_far.below a k at in omega (arith, was);
-    }
 
 pub run_more : (ends : List ℕ) (n p : ℕ) (table new : List ℕ) → RunTo ends n p table → new ≡ table ++ n ∷ [] → RunTo ends n (p + 1) new
 run_more ends n p table new so_far is = subst (RunTo ends n (p + 1)) (sym is) (record {
@@ -200,9 +187,8 @@ ports_more table n router bank homes new so_far at_router at_bank is = subst (Ar
 pub vertex_more : (table : List ℕ) (chips m : ℕ) (home : Home) (homes new : List Home) → AreHomesTo table chips m homes → IsInTable table home → new ≡ homes ++ home ∷ [] → AreHomesTo table chips (m + 1) new
 vertex_more table chips m home homes new so_far listed is = subst (AreHomesTo table chips (m + 1)) (sym is) (
     let long = so_far.long in
-    let added = length_push homes home in
     record {
-      long = omega (arith, long, added);
+      long = omega (arith, long, length_push homes home);
       listed = All-push (IsInTable table) homes home so_far.listed listed;
       banks = λ i k h below at_k at_h.
           so_far.banks i k h below at_k (sym (slice_get-first homes (home ∷ []) (injection_place i) (omega (arith, below, long))) ∙ at_h);
@@ -213,16 +199,6 @@ vertex_more table chips m home homes new so_far listed is = subst (AreHomesTo ta
 -- the indices of live chips on the same chip are the same
 pub same_chip : (u : Setup) (i j : ℕ) → IsLiveIndex u i → IsLiveIndex u j → chip_of u.machine i ≡ chip_of u.machine j → i ≡ j
 same_chip u i j first second same = sym first.is ∙ (ap (index_of u.machine) same ∙ second.is)
-
-pub senders_none : (u : Setup) (table : List ℕ) (homes : List Home) → AreHomesTo table (grid_size u) (length u.spots) homes → HaveSenders u table 0 0 homes
-senders_none u table homes are = record {
-  homes_are = are;
-  routers = λ i o q k h before. absurd (nothing i o before);
-}
-  where
-    nothing : (i : ℕ) (o : Out) → IsBefore 0 0 i o → ⊥
-    nothing i o (inl less) = omega (arith, less)
-    nothing i o (inr same) = let less = same.1 in omega (arith, less)
 
 -- an output more
 pub senders_more : (u : Setup) (table : List ℕ) (n m sender : ℕ) (place : Option ℕ) (p : Out) (homes new : List Home) → HaveSenders u table n m homes → IsLiveIndex u n → n < grid_size u → IsOutput p → out_number p ≡ m →
@@ -383,15 +359,13 @@ cuts_more homes n home cuts new at_n so_far (inr other) = subst (CutsTo homes (n
         | inl one ↦ elim (slice_get-push_cases cuts last b l at_l) [
           | inl two ↦ so_far.apart k l a b one.1 two.1 same
           | inr two ↦
-              let less = so_far.below k a one.1 in
               let queue : n ≡ b.queue = ap (λ (x : Cut). x.queue) two.1 in
-              absurd (omega (arith, less, queue, same))
+              absurd (omega (arith, so_far.below k a one.1, queue, same))
         ]
         | inr one ↦ elim (slice_get-push_cases cuts last b l at_l) [
           | inl two ↦
-              let less = so_far.below l b two.1 in
               let queue : n ≡ a.queue = ap (λ (x : Cut). x.queue) one.1 in
-              absurd (omega (arith, less, queue, same))
+              absurd (omega (arith, so_far.below l b two.1, queue, same))
           | inr two ↦ one.0 ∙ sym two.0
         ]
       ];

@@ -17,7 +17,8 @@ use Rattle.mesh_run.specs.Queues.{AreEnds, AreUp, DownTo, IsDown, IsUp}
 use Rattle.mesh_run.specs.Raised.{IsRaisedFrom}
 use Rattle.mesh_run.specs.Split.{cut_queues}
 use Rattle.mesh_run.specs.Splitting.{FitHomes, HoldVertices, MovesOut, SameButCopies, SetsQueue}
-use Rattle.mesh_run.proofs.SplitLaws.{same_state, state_on}
+use Rattle.mesh_run.proofs.Holding.{both_same, first_same, rest_same}
+use Rattle.mesh_run.proofs.SplitLaws.{default_at, same_state, state_on}
 
 -- ---- what the calls ask for
 
@@ -26,14 +27,12 @@ pub fits_raised : (m : State) (more : ℕ) (r : RaisedMesh) → IsMesh m → IsR
 fits_raised m more r mesh raised =
     let shared = raised.shared in
     let long = shared.homes_are.long in
-    let inputs = mesh.input_lists in
     let cores = mesh.core_lists in
     let unsent = mesh.unsent_lists in
-    let inputs_long = raised.inputs_long in
     let cores_long = raised.cores_long in
     let unsent_long = raised.unsent_long in
     record {
-      long = omega (arith, long, inputs, cores, inputs_long, cores_long);
+      long = omega (arith, long, mesh.input_lists, cores, raised.inputs_long, cores_long);
       vertices = omega (arith, cores, unsent, cores_long, unsent_long);
       senders = λ i d below. (both i d below).0;
       receivers = λ i d below. (both i d below).1;
@@ -54,10 +53,8 @@ all_are_ends cap more queues ends up = λ i e below. let long = up.long in (up.e
 
 pub no_more_links : (m : State) (more : ℕ) (r : RaisedMesh) → (raised : IsRaisedFrom m more r) → length raised.ends ≤ length r.crossing.items
 no_more_links m more r raised =
-    let long = raised.up.long in
     let mapped = length-map r.layout.now.cuts.items (λ (c : Cut). get_or (m.inputs ++ m.cores) c.queue []) in
-    let crossing = raised.crossing in
-    omega (arith, long, mapped, crossing)
+    omega (arith, raised.up.long, mapped, raised.crossing)
 
 -- ---- a link that is down
 
@@ -135,12 +132,9 @@ pub cut_inside : (m : State) (more n : ℕ) (r : RaisedMesh) (mid now : State) (
     slice_get r.layout.now.cuts.items n ≡ Some c → c.queue < length now.inputs + length now.cores
 cut_inside m more n r mid now down left c mesh raised same so_far at =
     let below = slice_get_within r.layout.now.homes.items c.queue (record { sender = c.sender; receiver = c.receiver }) (raised.shared.cut n c at).0 in
-    let homes = raised.shared.homes_are.long in
-    let ports = mesh.input_lists in
-    let spots = mesh.core_lists in
     let inputs : length now.inputs ≡ length m.inputs = so_far.same.inputs_long ∙ (same.inputs_long ∙ raised.inputs_long) in
     let cores : length now.cores ≡ length m.cores = so_far.same.cores_long ∙ (same.cores_long ∙ raised.cores_long) in
-    omega (arith, below, homes, ports, spots, inputs, cores)
+    omega (arith, below, raised.shared.homes_are.long, mesh.input_lists, mesh.core_lists, inputs, cores)
 
 -- ---- the whole mesh
 
@@ -152,15 +146,6 @@ two_lists (x ∷ a) [] b d e long = absurd (omega (arith, long))
 two_lists (x ∷ a) (y ∷ c) b d e long =
     let rest = two_lists a c b d (rest_same x y (a ++ b) (c ++ d) e) (omega (arith, long)) in
     (both_same x y a c (first_same x y (a ++ b) (c ++ d) e) rest.0, rest.1)
-  where
-    first_same : {X : Type 0} (x y : X) (xs ys : List X) → x ∷ xs ≡ y ∷ ys → x ≡ y
-    first_same x y xs ys e = cc
-
-    rest_same : {X : Type 0} (x y : X) (xs ys : List X) → x ∷ xs ≡ y ∷ ys → xs ≡ ys
-    rest_same x y xs ys e = cc
-
-    both_same : {X : Type 0} (x y : X) (xs ys : List X) → x ≡ y → xs ≡ ys → x ∷ xs ≡ y ∷ ys
-    both_same x y xs ys first rest = cc
 
 equal_states : (s t : State) → s.setup ≡ t.setup → s.unsent ≡ t.unsent → s.inputs ≡ t.inputs → s.hands ≡ t.hands → s.cores ≡ t.cores → s.delivered ≡ t.delivered → s.dumped ≡ t.dumped → s ≡ t
 equal_states s t setup unsent inputs hands cores delivered dumped = λ i. record {
@@ -215,9 +200,6 @@ lowered m more n r mid now back down left mesh raised moves are so_far past setu
           subst (λ (k : ℕ). get_or (now.inputs ++ now.cores) k [] ≡ get_or (m.inputs ++ m.cores) k []) cut.3 here
     ]
 
-    default : (xs : List (List McCopy)) (v : ℕ) (d : List McCopy) → v < length xs → get_or xs v d ≡ get_or xs v []
-    default xs v d below = let x = slice_get_there xs v below in get_or_from_slice_get xs v x.0 d x.1 ∙ sym (get_or_from_slice_get xs v x.0 [] x.1)
-
     joined : now.inputs ++ now.cores ≡ m.inputs ++ m.cores
     joined =
         let long_now : length (now.inputs ++ now.cores) ≡ length now.inputs + length now.cores = length-append now.inputs now.cores in
@@ -225,11 +207,9 @@ lowered m more n r mid now back down left mesh raised moves are so_far past setu
         let a = inputs_long in
         let b = cores_long in
         let homes = raised.shared.homes_are.long in
-        let ports = mesh.input_lists in
-        let spots = mesh.core_lists in
         same_lists (now.inputs ++ now.cores) (m.inputs ++ m.cores) (omega (arith, long_now, long_m, a, b)) (λ q d below.
-        let h = slice_get_there r.layout.now.homes.items q (omega (arith, below, long_now, a, b, homes, ports, spots)) in
-        default (now.inputs ++ now.cores) q d below ∙ (each q h.0 h.1 ∙ sym (default (m.inputs ++ m.cores) q d (omega (arith, below, long_now, long_m, a, b)))))
+        let h = slice_get_there r.layout.now.homes.items q (omega (arith, below, long_now, a, b, homes, mesh.input_lists, mesh.core_lists)) in
+        default_at (now.inputs ++ now.cores) q d below ∙ (each q h.0 h.1 ∙ sym (default_at (m.inputs ++ m.cores) q d (omega (arith, below, long_now, long_m, a, b)))))
 
     halves : (now.inputs ≡ m.inputs) × (now.cores ≡ m.cores)
     halves = two_lists now.inputs m.inputs now.cores m.cores joined inputs_long

@@ -114,13 +114,11 @@ module _ (cap patience : ℕ) (before after : List Share) (parts : List (List It
         let filled = l.filled in
         let from = note.0 in
         let to_put = note.1 in
-        let to_took = note.2 in
         let all = ap length put in
         let both = length-append held (entered q items) in
-        let taken = ap length took in
         record {
           entered_by_then = omega (arith, to_put, all, both);
-          left_by_then = omega (arith, enough, few, fits, filled, from, to_put, to_took, all, both, taken);
+          left_by_then = omega (arith, enough, few, fits, filled, from, to_put, note.2, all, both, ap length took);
           full = omega (arith, enough, few, fits, filled, from, to_put, all, both);
         }
 

@@ -49,11 +49,8 @@ plan_shared u ends table homes cuts vertices shares runs numbers homes_are cuts_
 
 pub plan_fits : (m : State) (ends table : List ℕ) (homes : List Home) (shares : List Share) → IsMesh m → IsShareTable (2 * grid_size m.setup) ends table → AreHomesOf m.setup table homes → HoldNothing ends (length homes) (length m.unsent) shares → FitHomes m homes shares
 plan_fits m ends table homes shares mesh numbers homes_are nothing =
-    let inputs = mesh.input_lists in
-    let cores = mesh.core_lists in
-    let long = homes_are.long in
     record {
-      long = omega (arith, long, inputs, cores);
+      long = omega (arith, homes_are.long, mesh.input_lists, mesh.core_lists);
       vertices = mesh.unsent_lists ∙ sym mesh.core_lists;
       senders = λ i d below. (both i d below).0;
       receivers = λ i d below. (both i d below).1;
@@ -85,10 +82,8 @@ cuts_fit m cuts mesh = λ i d below.
 -- there are fewer queues than numbers of a word
 pub few_homes : (m : State) (table : List ℕ) (homes : List Home) → IsMesh m → AreHomesOf m.setup table homes → length homes ≤ 200000
 few_homes m table homes mesh are =
-    let chips = few_chips m.setup.machine mesh.size in
     let vertices = few_vertices m.setup.machine m.setup.spots mesh.different mesh.sites mesh.size in
-    let long = are.long in
-    omega (arith, chips, vertices, long)
+    omega (arith, few_chips m.setup.machine mesh.size, vertices, are.long)
 
 -- there are no more cuts than queues
 pub few_cuts : (u : Setup) (homes : List Home) (cuts : List Cut) (shares : List Share) → AreShared u homes cuts shares → length cuts ≤ length homes

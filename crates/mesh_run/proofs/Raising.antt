@@ -97,13 +97,9 @@ same_runs before after same = record {
 same_end_at : (before after : List Share) (s q : ℕ) (a : End) → AreSameCopies before after → end_at before s q ≡ Some a → (b : End) × (end_at after s q ≡ Some b) × SameEnd a b
 same_end_at before after s q a same is =
     let at = end_there before s q a is in
-    let within = slice_get_within before s at.share at.stands in
-    let long = same.0 in
-    let y = slice_get_there after s (omega (arith, within, long)) in
+    let y = slice_get_there after s (omega (arith, slice_get_within before s at.share at.stands, same.0)) in
     let pair = same.1 s at.share y.0 at.stands y.1 in
-    let inside = slice_get_within at.share.hold.ends.items q a at.holds in
-    let ends = pair.ends_long in
-    let b = slice_get_there y.0.hold.ends.items q (omega (arith, inside, ends)) in
+    let b = slice_get_there y.0.hold.ends.items q (omega (arith, slice_get_within at.share.hold.ends.items q a at.holds, pair.ends_long)) in
     (b.0, ap (λ (o : Option Share). end_in o q) y.1 ∙ b.1, pair.ends q a b.0 at.holds b.1)
 
 pub lanes_still : (queues : List (List McCopy)) (homes : List Home) (before after : List Share) → AreSameCopies before after → HoldLanes queues homes before → HoldLanes queues homes after
@@ -113,8 +109,7 @@ lanes_still queues homes before after same held = record {
       let now = same_end_at before after h.sender q (Own was.0) same was.1 in
       (now.2.0, now.1 ∙ ap Some now.2.1, now.2.2 ∙ was.2);
   away = λ q h s at below other.
-      let long = same.0 in
-      let now = same_end_at before after s q Away same (held.away q h s at (omega (arith, below, long)) other) in
+      let now = same_end_at before after s q Away same (held.away q h s at (omega (arith, below, same.0)) other) in
       now.1 ∙ ap Some now.2;
 }
 
@@ -124,9 +119,7 @@ unsent_same before after s v same = by (slice_get after s) refl
     none_too : (o : Option Share) → slice_get after s ≡ None → slice_get before s ≡ o → unsent_at after s v ≡ unsent_at before s v
     none_too None at also = ap (λ (z : Option Share). unsent_in z v) (at ∙ sym also)
     none_too (Some x) at also =
-        let within = slice_get_within before s x also in
-        let long = same.0 in
-        let y = slice_get_there after s (omega (arith, within, long)) in
+        let y = slice_get_there after s (omega (arith, slice_get_within before s x also, same.0)) in
         absurd (none-some y.0 (sym at ∙ y.1))
 
     by : (o : Option Share) → slice_get after s ≡ o → unsent_at after s v ≡ unsent_at before s v
@@ -188,9 +181,8 @@ roomier m less more r s ends was same holds up copies = record {
 -- links that are up know their queues
 pub known_queues : (cap more : ℕ) (queues : List (List McCopy)) (ends : List LinkEnds) → AreUp cap more queues ends → queues ≡ map queue_of_link ends
 known_queues cap more queues ends up =
-    let mapped = length-map ends queue_of_link in
     let long = up.long in
-    same_lists queues (map queue_of_link ends) (omega (arith, mapped, long)) (λ i q below.
+    same_lists queues (map queue_of_link ends) (omega (arith, length-map ends queue_of_link, long)) (λ i q below.
     let inside : i < length ends = omega (arith, below, long) in
     let e = slice_get_there ends i inside in
     sym (get_or-map queue_of_link ends i e.0 q inside ∙ (up.each i q e.0 below).tx_new.first))

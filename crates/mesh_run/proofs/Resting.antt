@@ -215,7 +215,7 @@ stay_up cap more back now long each =
           subst (λ (l : List McCopy). IsUp cap more l (get_or now i e)) (sym (get_or-map queue_of_link back i e q inside)) (each i e e inside);
     }
 
-fewer : (cap more : ℕ) (queue : List McCopy) (e : LinkEnds) → IsUp cap more queue e → IsUp cap 0 queue e
+pub fewer : (cap more : ℕ) (queue : List McCopy) (e : LinkEnds) → IsUp cap more queue e → IsUp cap 0 queue e
 fewer cap more queue e up = record { ends = up.ends; holds = fewer_fit cap more 0 _ _ (omega arith) up.holds; tx_new = up.tx_new; rx_new = up.rx_new }
 
 -- all links are widened
@@ -296,10 +296,8 @@ module _ {ends : List LinkEnds} {place : ℕ} {old : LinkEnds} {s : Standing} {h
   -- as many copies as it holds have places
   held_fits : held ≤ cap_of r.now.link
   held_fits =
-      let bound = r.rests.bound in
-      let counts = r.rests.counts in
       let same : cap_of r.now.link ≡ cap_of old.link = ap cap_of r.link in
-      omega (arith, bound, counts, same)
+      omega (arith, r.rests.bound, r.rests.counts, same)
 
   -- it stands there
   pub rest_stands : slice_get (set ends place r.now) place ≡ Some r.now
@@ -383,11 +381,10 @@ module _ {ends : List LinkEnds} {place : ℕ} {old : LinkEnds} {s : Standing} {h
     pub put_again : {t : Standing} {tx : Tx} {rx : Rx} → tx ≡ r.now.tx → rx ≡ r.now.rx → HoldsAll (set (set ends place r.now) place (record (r.now) { tx = tx; rx = rx })) t → UpAt cap 0 ends place (queue_of_link old) t
     put_again {t} {tx} {rx} tx_is rx_is holds =
         let same : (record (r.now) { tx = tx; rx = rx }) ≡ r.now = λ i. record (r.now) { tx = tx_is i; rx = rx_is i } in
-        let fits = held_fits in
         record {
           now = r.now;
           holds = subst (λ (e : LinkEnds). HoldsAll (set ends place e) t) same (set_again ends place r.now (record (r.now) { tx = tx; rx = rx }) t holds);
-          up = rested_up 0 (record { enough = omega (arith, fits); few = few_places });
+          up = rested_up 0 (record { enough = omega (arith, held_fits); few = few_places });
         }
 
     -- it has places for a round already

@@ -1,10 +1,8 @@
 -- Shares with the same copies.
-use Rattle.std.proofs.Common.{◌≡◌, ℕ, length, set, Some, refl, sym, ap, ◌∙◌, subst, arith, inl, inr}
+use Rattle.std.proofs.Common.{◌≡◌, length, refl, sym, ap, ◌∙◌, subst, arith}
 use Rattle.std.specs.List.{slice_get}
-use Rattle.std.proofs.lemmas.Bool.{cases_eq}
 use Rattle.std.proofs.lemmas.Option.{same_Some, slice_get_within}
-use Rattle.std.proofs.lemmas.List.{length-set}
-use Rattle.spin_base.proofs.Places.{slice_get_there, slice_get-set_same, slice_get-set_other}
+use Rattle.spin_base.proofs.Places.{slice_get_there}
 use Rattle.chip_node.specs.declared.ends.End.{End}
 use Rattle.chip_node.specs.declared.ends.End.TheVariants.{Away, Own, Sends, Takes}
 use Rattle.mesh_run.specs.declared.shares.Share.{Share}
@@ -39,9 +37,7 @@ copies_on a b c first second = record {
   to = second.to ∙ first.to;
   ends_long = second.ends_long ∙ first.ends_long;
   ends = λ q x z at also.
-      let within = slice_get_within a.hold.ends.items q x at in
-      let long = first.ends_long in
-      let y = slice_get_there b.hold.ends.items q (omega (arith, within, long)) in
+      let y = slice_get_there b.hold.ends.items q (omega (arith, slice_get_within a.hold.ends.items q x at, first.ends_long)) in
       end_on x y.0 z (first.ends q x y.0 at y.1) (second.ends q y.0 z y.1 also);
   unsent = second.unsent ∙ first.unsent;
   dumps = second.dumps ∙ first.dumps;
@@ -60,24 +56,3 @@ logs_made a b c first from to ends unsent dumps deliveries = copies_on a b c fir
   dumps = dumps;
   deliveries = deliveries;
 })
-
--- one end has more room
-pub end_widened : (s t : Share) (place : ℕ) (old new : End) → slice_get s.hold.ends.items place ≡ Some old → SameEnd old new → t.from ≡ s.from → t.to ≡ s.to → t.hold.ends.items ≡ set s.hold.ends.items place new → t.hold.unsent ≡ s.hold.unsent →
-    t.hold.dumps ≡ s.hold.dumps → t.hold.deliveries ≡ s.hold.deliveries → SameCopies s t
-end_widened s t place old new stands same from to ends unsent dumps deliveries = record {
-  from = from;
-  to = to;
-  ends_long = ap length ends ∙ length-set s.hold.ends.items place new;
-  ends = λ q x y at also. elim (cases_eq q place) [
-    | inl here ↦
-        let is_x : old ≡ x = same_Some old x (sym stands ∙ (ap (slice_get s.hold.ends.items) (sym here) ∙ at)) in
-        let is_y : new ≡ y = same_Some new y (sym (slice_get-set_same s.hold.ends.items place old new stands) ∙ (ap (λ l. slice_get l place) (sym ends) ∙ (ap (slice_get t.hold.ends.items) (sym here) ∙ also))) in
-        subst (λ (e : End). SameEnd x e) is_y (subst (λ (e : End). SameEnd e new) is_x same)
-    | inr other ↦
-        let is : x ≡ y = same_Some x y (sym at ∙ (sym (slice_get-set_other s.hold.ends.items place q new other) ∙ (ap (λ l. slice_get l q) (sym ends) ∙ also))) in
-        subst (SameEnd x) is (end_same x)
-  ];
-  unsent = unsent;
-  dumps = ap (λ l. l.items) dumps;
-  deliveries = ap (λ l. l.items) deliveries;
-}

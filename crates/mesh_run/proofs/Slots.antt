@@ -1,7 +1,7 @@
 -- Links with all their ends, of which one is set.
 use Rattle.std.proofs.Common.{◌≡◌, ℕ, ◌<◌, List, length, map, get_or, set, Option, None, Some, refl, sym, ap, ◌∙◌, subst, arith}
 use Rattle.std.specs.List.{slice_get}
-use Rattle.std.proofs.lemmas.List.{length-map, length-set, map-set, set-set}
+use Rattle.std.proofs.lemmas.List.{length-map, map-set, set-set}
 use Rattle.std.proofs.lemmas.Option.{get_or_from_slice_get, same_Some}
 use Rattle.spin_base.proofs.Places.{slice_get-mapped, set-slice_get}
 use Rattle.link_queue.specs.declared.links.LinkEnds.{LinkEnds}
@@ -13,9 +13,7 @@ use Rattle.mesh_run.specs.Standing.{HoldsAll, LacksEnds}
 -- the place is one of a list that is a map
 pub within_map : {X : Type 0} (f : LinkEnds → X) (ends : List LinkEnds) (slots : List X) (place : ℕ) → slots ≡ map f ends → place < length ends → place < length slots
 within_map f ends slots place are below =
-    let many = ap length are in
-    let mapped = length-map ends f in
-    omega (arith, many, mapped, below)
+    omega (arith, ap length are, length-map ends f, below)
 
 pub slot_is : {X : Type 0} (f : LinkEnds → X) (ends : List LinkEnds) (slots : List X) (place : ℕ) (old : LinkEnds) (d : X) → slots ≡ map f ends → slice_get ends place ≡ Some old → get_or slots place d ≡ f old
 slot_is f ends slots place old d are at =
@@ -66,22 +64,6 @@ set_there ends place new s t lacks links txs rxs rooms = record {
 
 pub in_links : (ends : List LinkEnds) (place : ℕ) (s : Standing) → LacksEnds ends place s → place < length ends → place < length s.links.items
 in_links ends place s lacks below = within_map (λ (e : LinkEnds). e.link) ends s.links.items place lacks.links below
-
-pub in_rooms : (ends : List LinkEnds) (place : ℕ) (s : Standing) → LacksEnds ends place s → place < length ends → place < length s.rooms.items
-in_rooms ends place s lacks below = within_map (λ (e : LinkEnds). e.room) ends s.rooms.items place lacks.rooms below
-
-within_set : {X : Type 0} (f : LinkEnds → X) (ends : List LinkEnds) (slots : List X) (place : ℕ) (gone : X) → slots ≡ set (map f ends) place gone → place < length ends → place < length slots
-within_set f ends slots place gone are below =
-    let many = ap length are in
-    let same = length-set (map f ends) place gone in
-    let mapped = length-map ends f in
-    omega (arith, many, same, mapped, below)
-
-pub in_txs : (ends : List LinkEnds) (place : ℕ) (s : Standing) → LacksEnds ends place s → place < length ends → place < length s.txs.items
-in_txs ends place s lacks below = within_set (λ (e : LinkEnds). Some e.tx) ends s.txs.items place None lacks.txs below
-
-pub in_rxs : (ends : List LinkEnds) (place : ℕ) (s : Standing) → LacksEnds ends place s → place < length ends → place < length s.rxs.items
-in_rxs ends place s lacks below = within_set (λ (e : LinkEnds). Some e.rx) ends s.rxs.items place None lacks.rxs below
 
 -- the ends that are gone, and all that is left
 pub ends_gone : (ends : List LinkEnds) (place : ℕ) (s t : Standing) → HoldsAll ends s → t.links ≡ s.links → t.rooms ≡ s.rooms → t.txs.items ≡ set s.txs.items place None → t.rxs.items ≡ set s.rxs.items place None →

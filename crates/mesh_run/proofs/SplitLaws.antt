@@ -17,13 +17,10 @@ use Rattle.mesh_run.specs.Crossing.{AreSameButEnds, PutsEnd}
 use Rattle.mesh_run.specs.Homes.{run_start}
 use Rattle.mesh_run.specs.Split.{end_at, end_in, unsent_at, unsent_in}
 use Rattle.mesh_run.specs.Splitting.{AreSameButUnsent, AreSameHolds, FitHomes, HoldNothing, IsEmptyHand, MayPutLane, MayTakeLane, MovesIn, MovesOut, PutsUnsent, SameButCopies, SameButUnsent, SetsQueue, SetsUnsent}
-use Rattle.mesh_run.proofs.CrossingLaws.{same_on, same_self}
+use Rattle.mesh_run.proofs.CrossingLaws.{each_on, each_self, each_set, same_on, same_self}
 use Rattle.mesh_run.proofs.HomeLaws.{start_more}
 
 -- ---- one queue of a mesh
-
-pub queues_of : State → List (List McCopy)
-queues_of m = m.inputs ++ m.cores
 
 pub same_state : (m : State) → SameButCopies m m
 same_state m = record { setup = refl; hands = refl; inputs_long = refl; cores_long = refl; unsent_long = refl; delivered = refl; dumped = refl }
@@ -96,29 +93,25 @@ sets_unsent m n vertex q unsent inputs cores setup hands delivered dumped = reco
 
 -- ---- unsent copies of one vertex in a share
 
+vertices_self : (s : Share) → SameButUnsent s s
+vertices_self s = record { from = refl; to = refl; ends = refl; unsent_long = refl; dumps = refl; deliveries = refl }
+
+vertices_on : (x y z : Share) → SameButUnsent x y → SameButUnsent y z → SameButUnsent x z
+vertices_on x y z p q =
+    record { from = q.from ∙ p.from; to = q.to ∙ p.to; ends = q.ends ∙ p.ends; unsent_long = q.unsent_long ∙ p.unsent_long; dumps = q.dumps ∙ p.dumps; deliveries = q.deliveries ∙ p.deliveries }
+
 pub unsent_set : (before after : List Share) (share vertex : ℕ) (s t : Share) (copies : List McCopy) → slice_get before share ≡ Some s → vertex < length s.hold.unsent.items → after ≡ set before share t →
     t.from ≡ s.from → t.to ≡ s.to → t.hold.ends ≡ s.hold.ends → t.hold.dumps ≡ s.hold.dumps → t.hold.deliveries ≡ s.hold.deliveries →
     t.hold.unsent.items ≡ set s.hold.unsent.items vertex copies → PutsUnsent share vertex copies before after
 unsent_set before after share vertex s t copies stands below is from to ends dumps deliveries unsent = subst (PutsUnsent share vertex copies before) (sym is) (record {
-  same = (
-    length-set before share t,
-    λ k x y at also. elim (cases_eq k share) [
-      | inl here ↦
-          let is_x : s ≡ x = same_Some s x (sym stands ∙ (ap (slice_get before) (sym here) ∙ at)) in
-          let is_y : t ≡ y = same_Some t y (sym (slice_get-set_same before share s t stands) ∙ (ap (slice_get (set before share t)) (sym here) ∙ also)) in
-          subst (λ (z : Share). SameButUnsent x z) is_y (subst (λ (z : Share). SameButUnsent z t) is_x (record {
-            from = from;
-            to = to;
-            ends = ends;
-            unsent_long = ap length unsent ∙ length-set s.hold.unsent.items vertex copies;
-            dumps = dumps;
-            deliveries = deliveries;
-          }))
-      | inr other ↦
-          let is_y : x ≡ y = same_Some x y (sym at ∙ (sym (slice_get-set_other before share k t other) ∙ also)) in
-          subst (SameButUnsent x) is_y (record { from = refl; to = refl; ends = refl; unsent_long = refl; dumps = refl; deliveries = refl })
-    ],
-  );
+  same = each_set SameButUnsent vertices_self before share s t stands (record {
+    from = from;
+    to = to;
+    ends = ends;
+    unsent_long = ap length unsent ∙ length-set s.hold.unsent.items vertex copies;
+    dumps = dumps;
+    deliveries = deliveries;
+  });
   here = ap (λ (o : Option Share). unsent_in o vertex) (slice_get-set_same before share s t stands) ∙ (ap (λ l. get_or l vertex []) unsent ∙ get_or-set_same s.hold.unsent.items vertex copies [] below);
   others = λ k v differs. elim (cases_eq k share) [
     | inl here ↦
@@ -131,55 +124,26 @@ unsent_set before after share vertex s t copies stands below is from to ends dum
   ];
 })
 
-pub unsent_read : (shares : List Share) (share vertex : ℕ) (s : Share) (copies : List McCopy) → slice_get shares share ≡ Some s → copies ≡ get_or s.hold.unsent.items vertex [] → copies ≡ unsent_at shares share vertex
-unsent_read shares share vertex s copies stands read = read ∙ ap (λ (o : Option Share). unsent_in o vertex) (sym stands)
-
 pub unsent_self : (shares : List Share) → AreSameButUnsent shares shares
-unsent_self shares = (refl, λ k s t at also. subst (SameButUnsent s) (same_Some s t (sym at ∙ also)) (record { from = refl; to = refl; ends = refl; unsent_long = refl; dumps = refl; deliveries = refl }))
+unsent_self shares = each_self SameButUnsent vertices_self shares
 
 pub unsent_on : (a b c : List Share) → AreSameButUnsent a b → AreSameButUnsent b c → AreSameButUnsent a c
-unsent_on a b c first second = (
-  second.0 ∙ first.0,
-  λ k x z at also.
-      let within = slice_get_within a k x at in
-      let long = first.0 in
-      let y = slice_get_there b k (omega (arith, within, long)) in
-      let p = first.1 k x y.0 at y.1 in
-      let q = second.1 k y.0 z y.1 also in
-      record { from = q.from ∙ p.from; to = q.to ∙ p.to; ends = q.ends ∙ p.ends; unsent_long = q.unsent_long ∙ p.unsent_long; dumps = q.dumps ∙ p.dumps; deliveries = q.deliveries ∙ p.deliveries },
-)
+unsent_on a b c first second = each_on SameButUnsent vertices_on a b c first second
+
+abbrev SameHold : Share → Share → Type 0
+SameHold s t = (t.from ≡ s.from) × (t.to ≡ s.to) × (t.hold ≡ s.hold)
+
+hold_self : (s : Share) → SameHold s s
+hold_self s = (refl, refl, refl)
 
 pub holds_self : (shares : List Share) → AreSameHolds shares shares
-holds_self shares = (refl, λ k s t at also. let is : s ≡ t = same_Some s t (sym at ∙ also) in (ap (λ (x : Share). x.from) (sym is), ap (λ (x : Share). x.to) (sym is), ap (λ (x : Share). x.hold) (sym is)))
+holds_self shares = each_self SameHold hold_self shares
 
 pub holds_on : (a b c : List Share) → AreSameHolds a b → AreSameHolds b c → AreSameHolds a c
-holds_on a b c first second = (
-  second.0 ∙ first.0,
-  λ k x z at also.
-      let within = slice_get_within a k x at in
-      let long = first.0 in
-      let y = slice_get_there b k (omega (arith, within, long)) in
-      let p = first.1 k x y.0 at y.1 in
-      let q = second.1 k y.0 z y.1 also in
-      (q.0 ∙ p.0, q.1 ∙ p.1, q.2 ∙ p.2),
-)
+holds_on a b c first second = each_on SameHold (λ x y z p q. (q.0 ∙ p.0, q.1 ∙ p.1, q.2 ∙ p.2)) a b c first second
 
 pub holds_set : (shares : List Share) (share : ℕ) (s t : Share) → slice_get shares share ≡ Some s → t.from ≡ s.from → t.to ≡ s.to → t.hold ≡ s.hold → AreSameHolds shares (set shares share t)
-holds_set shares share s t stands from to hold = (
-  length-set shares share t,
-  λ k x y at also. elim (cases_eq k share) [
-    | inl here ↦
-        let is_x : s ≡ x = same_Some s x (sym stands ∙ (ap (slice_get shares) (sym here) ∙ at)) in
-        let is_y : t ≡ y = same_Some t y (sym (slice_get-set_same shares share s t stands) ∙ (ap (slice_get (set shares share t)) (sym here) ∙ also)) in (
-          ap (λ (z : Share). z.from) (sym is_y) ∙ (from ∙ ap (λ (z : Share). z.from) is_x),
-          ap (λ (z : Share). z.to) (sym is_y) ∙ (to ∙ ap (λ (z : Share). z.to) is_x),
-          ap (λ (z : Share). z.hold) (sym is_y) ∙ (hold ∙ ap (λ (z : Share). z.hold) is_x),
-        )
-    | inr other ↦
-        let is : x ≡ y = same_Some x y (sym at ∙ (sym (slice_get-set_other shares share k t other) ∙ also)) in
-        (ap (λ (z : Share). z.from) (sym is), ap (λ (z : Share). z.to) (sym is), ap (λ (z : Share). z.hold) (sym is))
-  ],
-)
+holds_set shares share s t stands from to hold = each_set SameHold hold_self shares share s t stands (from, to, hold)
 
 -- ---- moving in
 
@@ -326,10 +290,28 @@ pub unsent_wide : (m : State) (homes : List Home) (start second now : List Share
 unsent_wide m homes start second now k t fits ends unsent at =
     let within = slice_get_within now k t at in
     let long_b = unsent.0 in
-    let long_c = ends.0 in
-    let s = slice_get_there start k (omega (arith, within, long_b, long_c)) in
+    let s = slice_get_there start k (omega (arith, within, long_b, ends.0)) in
     let x = slice_get_there second k (omega (arith, within, long_b)) in
     (unsent.1 k x.0 t x.1 at).unsent_long ∙ (ap (λ e. length e.items) (ends.1 k s.0 x.0 s.1 x.1).unsent ∙ All-at (λ (y : Share). length y.hold.unsent.items ≡ length m.unsent) start k s.0 fits.unsent_long s.1)
+
+-- where the same is unsent in each share, it is at each place
+by_unsent : (a b : List Share) (s v : ℕ) → length b ≡ length a → ((k : ℕ) (x y : Share) → slice_get a k ≡ Some x → slice_get b k ≡ Some y → y.hold.unsent ≡ x.hold.unsent) → unsent_at b s v ≡ unsent_at a s v
+by_unsent a b s v long each = by (slice_get b s) refl
+  where
+    by : (o : Option Share) → slice_get b s ≡ o → unsent_at b s v ≡ unsent_at a s v
+    by (Some y) at =
+        let x = slice_get_there a s (omega (arith, slice_get_within b s y at, long)) in
+        ap (λ (z : Option Share). unsent_in z v) at ∙ (ap (λ e. get_or e.items v []) (each s x.0 y x.1 at) ∙ ap (λ (z : Option Share). unsent_in z v) (sym x.1))
+    by None at = none_too (slice_get a s) refl
+      where
+        none_too : (o : Option Share) → slice_get a s ≡ o → unsent_at b s v ≡ unsent_at a s v
+        none_too None also = ap (λ (z : Option Share). unsent_in z v) (at ∙ sym also)
+        none_too (Some x) also =
+            let y = slice_get_there b s (omega (arith, slice_get_within a s x also, long)) in
+            absurd (none-some y.0 (sym at ∙ y.1))
+
+pub default_at : (xs : List (List McCopy)) (v : ℕ) (d : List McCopy) → v < length xs → get_or xs v d ≡ get_or xs v []
+default_at xs v d below = let x = slice_get_there xs v below in get_or_from_slice_get xs v x.0 d x.1 ∙ sym (get_or_from_slice_get xs v x.0 [] x.1)
 
 -- a share with the same actors, logs and places
 record Parts (s t : Share) : Type 0 where
@@ -355,8 +337,7 @@ moved_in m mid left homes runs queues vertices n k start second third after noth
   no_logs = λ j d below. no_logs j (get_or after j d) (slice_get-get_or after j d below);
   lanes = record {
     lanes = λ q h at one.
-        let inside = slice_get_within homes q h at in
-        let was = lanes.lanes q h (omega (arith, inside, past)) at one in
+        let was = lanes.lanes q h (omega (arith, slice_get_within homes q h at, past)) at one in
         (was.0, ends_still h.sender q ∙ was.1, was.2);
     away = λ q h s at below other.
         let inside = slice_get_within homes q h at in
@@ -380,9 +361,8 @@ moved_in m mid left homes runs queues vertices n k start second third after noth
     all j s t at also =
         let within = slice_get_within start j s at in
         let long_c = lanes.shares_same.0 in
-        let long_b = unsent.shares_same.0 in
         let x = slice_get_there second j (omega (arith, within, long_c)) in
-        let y = slice_get_there third j (omega (arith, within, long_c, long_b)) in
+        let y = slice_get_there third j (omega (arith, within, long_c, unsent.shares_same.0)) in
         let p = lanes.shares_same.1 j s x.0 at x.1 in
         let q = unsent.shares_same.1 j x.0 y.0 x.1 y.1 in
         let r = same.1 j y.0 t y.1 also in
@@ -397,11 +377,7 @@ moved_in m mid left homes runs queues vertices n k start second third after noth
 
     no_logs : (j : ℕ) (t : Share) → slice_get after j ≡ Some t → (t.hold.dumps.items ≡ []) × (t.hold.deliveries.items ≡ [])
     no_logs j t also =
-        let within = slice_get_within after j t also in
-        let long_a = same.0 in
-        let long_b = unsent.shares_same.0 in
-        let long_c = lanes.shares_same.0 in
-        let s = slice_get_there start j (omega (arith, within, long_a, long_b, long_c)) in
+        let s = slice_get_there start j (omega (arith, slice_get_within after j t also, same.0, unsent.shares_same.0, lanes.shares_same.0)) in
         let hand = All-at (λ (x : Share). IsEmptyHand queues vertices x.hold) start j s.0 nothing.hands s.1 in
         let p = all j s.0 t s.1 also in
         (ap (λ l. l.items) p.dumps ∙ hand.dumps, ap (λ l. l.items) p.deliveries ∙ hand.deliveries)
@@ -411,33 +387,14 @@ moved_in m mid left homes runs queues vertices n k start second third after noth
       where
         by : (o : Option Share) → slice_get b s ≡ o → end_at b s q ≡ end_at a s q
         by (Some y) at =
-            let within = slice_get_within b s y at in
-            let x = slice_get_there a s (omega (arith, within, long)) in
+            let x = slice_get_there a s (omega (arith, slice_get_within b s y at, long)) in
             ap (λ (z : Option Share). end_in z q) at ∙ (ap (λ e. slice_get e.items q) (each s x.0 y x.1 at) ∙ ap (λ (z : Option Share). end_in z q) (sym x.1))
         by None at = none_too (slice_get a s) refl
           where
             none_too : (o : Option Share) → slice_get a s ≡ o → end_at b s q ≡ end_at a s q
             none_too None also = ap (λ (z : Option Share). end_in z q) (at ∙ sym also)
             none_too (Some x) also =
-                let within = slice_get_within a s x also in
-                let y = slice_get_there b s (omega (arith, within, long)) in
-                absurd (none-some y.0 (sym at ∙ y.1))
-
-    by_unsent : (a b : List Share) (s v : ℕ) → length b ≡ length a → ((k : ℕ) (x y : Share) → slice_get a k ≡ Some x → slice_get b k ≡ Some y → y.hold.unsent ≡ x.hold.unsent) → unsent_at b s v ≡ unsent_at a s v
-    by_unsent a b s v long each = by (slice_get b s) refl
-      where
-        by : (o : Option Share) → slice_get b s ≡ o → unsent_at b s v ≡ unsent_at a s v
-        by (Some y) at =
-            let within = slice_get_within b s y at in
-            let x = slice_get_there a s (omega (arith, within, long)) in
-            ap (λ (z : Option Share). unsent_in z v) at ∙ (ap (λ e. get_or e.items v []) (each s x.0 y x.1 at) ∙ ap (λ (z : Option Share). unsent_in z v) (sym x.1))
-        by None at = none_too (slice_get a s) refl
-          where
-            none_too : (o : Option Share) → slice_get a s ≡ o → unsent_at b s v ≡ unsent_at a s v
-            none_too None also = ap (λ (z : Option Share). unsent_in z v) (at ∙ sym also)
-            none_too (Some x) also =
-                let within = slice_get_within a s x also in
-                let y = slice_get_there b s (omega (arith, within, long)) in
+                let y = slice_get_there b s (omega (arith, slice_get_within a s x also, long)) in
                 absurd (none-some y.0 (sym at ∙ y.1))
 
     ends_still : (s q : ℕ) → end_at after s q ≡ end_at second s q
@@ -460,9 +417,8 @@ moved_in m mid left homes runs queues vertices n k start second third after noth
         let x = slice_get_there start s below in
         let hand = All-at (λ (k : Share). IsEmptyHand queues vertices k.hold) start s x.0 nothing.hands x.1 in
         let long : length x.0.hold.ends.items ≡ length homes = All-at (λ (k : Share). length k.hold.ends.items ≡ length homes) start s x.0 fits.ends_long x.1 in
-        let empty = ap length hand.ends in
         let many : length (replicate queues Away) ≡ queues = length-replicate queues Away in
-        no_end runs queues vertices start s q nothing below (omega (arith, inside, long, empty, many))
+        no_end runs queues vertices start s q nothing below (omega (arith, inside, long, ap length hand.ends, many))
 
 -- ---- moving out
 
@@ -575,47 +531,25 @@ pub moved_out : (left mid m : State) (homes : List Home) (n k : ℕ) (start seco
 moved_out left mid m homes n k start second third fits past past_k lanes unsent = record {
   same = state_on left mid m lanes.same unsent.same;
   lanes = λ queues q h held at one.
-      let inside = slice_get_within homes q h at in
       let lane = held.lanes q h at one in
-      queues_still q ∙ (lanes.lanes q h lane.0 (omega (arith, inside, past)) at one lane.1 ∙ lane.2);
+      queues_still q ∙ (lanes.lanes q h lane.0 (omega (arith, slice_get_within homes q h at, past)) at one lane.1 ∙ lane.2);
   others = λ q h at apart. queues_still q ∙ lanes.others q h at apart;
   vertices = λ sent long held.
       let m_long = unsent.same.unsent_long ∙ lanes.same.unsent_long in
       same_lists m.unsent sent (m_long ∙ sym long) (λ v d below.
-      let many = fits.long in
-      let few = fits.vertices in
-      let h = slice_get_there homes (length left.inputs + v) (omega (arith, below, m_long, many, few)) in
-      default m.unsent v d below ∙ (unsent.done v h.0 (omega (arith, below, m_long, past_k)) h.1
+      let h = slice_get_there homes (length left.inputs + v) (omega (arith, below, m_long, fits.long, fits.vertices)) in
+      default_at m.unsent v d below ∙ (unsent.done v h.0 (omega (arith, below, m_long, past_k)) h.1
       ∙ (unsent_before h.0.receiver v ∙ (held.here v h.0 h.1 ∙ default_back sent v d (omega (arith, below, m_long, long))))));
 }
   where
-    default : (xs : List (List McCopy)) (v : ℕ) (d : List McCopy) → v < length xs → get_or xs v d ≡ get_or xs v []
-    default xs v d below = let x = slice_get_there xs v below in get_or_from_slice_get xs v x.0 d x.1 ∙ sym (get_or_from_slice_get xs v x.0 [] x.1)
-
     default_back : (xs : List (List McCopy)) (v : ℕ) (d : List McCopy) → v < length xs → get_or xs v [] ≡ get_or xs v d
-    default_back xs v d below = sym (default xs v d below)
+    default_back xs v d below = sym (default_at xs v d below)
 
     queues_still : (q : ℕ) → get_or (m.inputs ++ m.cores) q [] ≡ get_or (mid.inputs ++ mid.cores) q []
     queues_still q = ap (λ l. get_or (l ++ m.cores) q []) unsent.inputs ∙ ap (λ l. get_or (mid.inputs ++ l) q []) unsent.cores
 
     unsent_before : (s v : ℕ) → unsent_at second s v ≡ unsent_at start s v
-    unsent_before s v = by (slice_get second s) refl
-      where
-        by : (o : Option Share) → slice_get second s ≡ o → unsent_at second s v ≡ unsent_at start s v
-        by (Some y) at =
-            let within = slice_get_within second s y at in
-            let long = lanes.shares_same.0 in
-            let x = slice_get_there start s (omega (arith, within, long)) in
-            ap (λ (z : Option Share). unsent_in z v) at ∙ (ap (λ e. get_or e.items v []) (lanes.shares_same.1 s x.0 y x.1 at).unsent ∙ ap (λ (z : Option Share). unsent_in z v) (sym x.1))
-        by None at = none_too (slice_get start s) refl
-          where
-            none_too : (o : Option Share) → slice_get start s ≡ o → unsent_at second s v ≡ unsent_at start s v
-            none_too None also = ap (λ (z : Option Share). unsent_in z v) (at ∙ sym also)
-            none_too (Some x) also =
-                let within = slice_get_within start s x also in
-                let long = lanes.shares_same.0 in
-                let y = slice_get_there second s (omega (arith, within, long)) in
-                absurd (none-some y.0 (sym at ∙ y.1))
+    unsent_before s v = by_unsent start second s v lanes.shares_same.0 (λ k x y at also. (lanes.shares_same.1 k x y at also).unsent)
 
 -- ---- shares of the runs so far
 

@@ -218,12 +218,11 @@ module _ (u : Setup) where
   routed_each : (r : RouterNode) (a : ℕ) → IsRouterOf a r → (items : List Item) → RoutesOne r.table.now r items → All (IsDoneOn u) items
   routed_each r a of items h =
       let live : IsLiveIndex u r.index = subst (IsLiveIndex u) (sym of.index) of.live in
-      let outs = served_outputs r items h in
       subst (All (IsDoneOn u)) (sym h.are)
       (All-cons (IsDoneOn u) (took r.index h.port h.copy) (service_items r h.done) live
       (All-map (IsDoneOn u) (λ s. served r.index r.chip (place_at_router r.behind.now s.out) s) h.done
       (All-each (λ s. IsDoneOn u (served r.index r.chip (place_at_router r.behind.now s.out) s)) h.done (λ s in_done.
-      let output : IsOutput s.out = All-contains (λ (t : Service). IsOutput t.out) h.done s outs in_done in (
+      let output : IsOutput s.out = All-contains (λ (t : Service). IsOutput t.out) h.done s (served_outputs r items h) in_done in (
         live,
         of.chip ∙ ap (chip_of u.machine) (sym of.index),
         of.behind s.out output ∙ ap (λ (c : Chip). place_behind u c s.out) (sym of.chip),

@@ -97,14 +97,3 @@ pub record IsPlayedBy (patience turns : ℕ) (items : List Item) (m n : State) :
   pub unsent : (v : ℕ) → slice_index_or m.unsent v [] ≡ sent_by v items ++ slice_index_or n.unsent v []
   pub delivered : n.delivered ≡ m.delivered ++ deliveries items
   pub dumped : n.dumped ≡ m.dumped ++ records items
-
--- no copy waits in a queue, and none is unsent
-pub record HasNone (m : State) : Type 0 where
-  pub queues : (q : ℕ) → held_at m q ≡ []
-  pub unsent : (v : ℕ) → slice_index_or m.unsent v [] ≡ []
-
--- A round on threads leads from one mesh to another. It tells whether a copy moved. Where all were asked to look and there are turns, none
--- moved only where there was none.
-pub record IsPlayed (patience turns : ℕ) (m n : State) : Type 0 where
-  pub items : List Item
-  pub played : IsPlayedBy patience turns items m n

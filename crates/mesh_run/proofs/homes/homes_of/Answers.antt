@@ -20,8 +20,7 @@ loop-index-preserved c =
 
 pub loop-vertex-init : goal.loop-vertex-init
 loop-vertex-init c =
-    let chips = c.chips_of-chips.ensures.value in
-    let all : c.loop-index.index ≡ grid_size c.args.setup.now = omega (arith, chips) in
+    let all : c.loop-index.index ≡ grid_size c.args.setup.now = omega (arith, c.chips_of-chips.ensures.value) in
     subst (λ (n : ℕ). AreHomesTo c.args.table.now n 0 c.loop-index.homes.items) all c.loop-index.invariant
 
 pub loop-vertex-preserved : goal.loop-vertex-preserved
@@ -40,5 +39,4 @@ loop-vertex-preserved c =
 
 pub returns : goal.returns
 returns c =
-    let chips = c.chips_of-chips.ensures.value in
-    homes_all c.args.setup.now c.args.table.now c.loop-at.at c.loop-at.homes.items (omega (arith, chips)) c.loop-at.invariant
+    homes_all c.args.setup.now c.args.table.now c.loop-at.at c.loop-at.homes.items (omega (arith, c.chips_of-chips.ensures.value)) c.loop-at.invariant

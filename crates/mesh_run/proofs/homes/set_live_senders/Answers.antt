@@ -12,14 +12,11 @@ set_sender-requires c = λ q is.
     let u = c.args.setup.now in
     let chip = chip_of u.machine c.args.index in
     let below = place_below u chip c.out_at.result q (live_inside u.machine chip c.requires.live.live) (leads u chip c.out_at.result q (sym c.behind_output-behind.ensures ∙ is)) in
-    let long = c.loop-number.invariant.homes_are.long in
-    omega (arith, below, long)
+    omega (arith, below, c.loop-number.invariant.homes_are.long)
 
 pub loop-number-preserved : goal.loop-number-preserved
 loop-number-preserved c =
-    let below = c.requires.below in
-    let long = c.requires.long in
-    let inside : 2 * c.args.index < length c.args.table.now = omega (arith, below, long) in
+    let inside : 2 * c.args.index < length c.args.table.now = omega (arith, c.requires.below, c.requires.long) in
     senders_more c.args.setup.now c.args.table.now c.args.index c.loop-number.number _ _ _ c.loop-number.homes.items c.set_sender.new.homes.items c.loop-number.invariant c.requires.live c.requires.below
     c.out_at.ensures.output c.out_at.ensures.number c.behind_output-behind.ensures (slice_get-get_or c.args.table.now (2 * c.args.index) 0 inside) c.set_sender.ensures
 

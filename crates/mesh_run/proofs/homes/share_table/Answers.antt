@@ -10,8 +10,7 @@ loop-number-preserved c =
     let ends = c.args.ends.now in
     let n = c.loop-number.number in
     let from = run_from c.args.count ends n c.requires.runs c.loop-number-test.true in
-    let long = c.loop-number.invariant.long in
-    run_all ends n c.loop-place._place c.loop-place.table.items c.loop-place.invariant (omega (arith, from, long))
+    run_all ends n c.loop-place._place c.loop-place.table.items c.loop-place.invariant (omega (arith, from, c.loop-number.invariant.long))
 
 pub loop-place-preserved : goal.loop-place-preserved
 loop-place-preserved c = run_more c.args.ends.now c.loop-number.number c.loop-place._place c.loop-place.table.items c.push.new.self.items c.loop-place.invariant c.in_ok-push.ensures.items

@@ -6,10 +6,7 @@ use Rattle.mesh_run.proofs.queues.bring_down.Goals as goal
 pub loop-gone-init : goal.loop-gone-init
 loop-gone-init g c =
     let r = c.requires.ends in
-    let many = as_many r.0 c.args.standing r.1 in
-    let ok = c.args.standing.links.ok.0 in
-    let end = c.len-count.ensures in
-    let count : c.len-count.result ≡ length r.0 = omega (arith, many, ok, end) in
+    let count : c.len-count.result ≡ length r.0 = omega (arith, as_many r.0 c.args.standing r.1, c.args.standing.links.ok.0, c.len-count.ensures) in
     (r.0, r.1, r.2, r.3, count, down_none r.0 c.args.standing c.args.queues.now.items r.1)
 
 pub pop-requires : goal.pop-requires
@@ -29,12 +26,8 @@ down-requires g c =
 pub index_mut-requires : goal.index_mut-requires
 index_mut-requires g c =
     let h = c.loop-gone.invariant in
-    let many = c.loop-gone.queues.ok.0 in
-    let long = h.5.long in
-    let fits = h.3 in
-    let count = h.4 in
     let more : c.loop-gone.gone < c.len-count.result = c.loop-gone-test.true in
-    omega (arith, many, long, fits, count, more)
+    omega (arith, c.loop-gone.queues.ok.0, h.5.long, h.3, h.4, more)
 
 pub loop-gone-preserved : goal.loop-gone-preserved
 loop-gone-preserved g c =

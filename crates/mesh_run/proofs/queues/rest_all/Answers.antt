@@ -21,8 +21,7 @@ index-requires g c =
     let h = c.loop-place.invariant in
     let n = next_at h.3.so_far h.1 (c.len-place-end.ensures ∙ c.args.standing.now.links.ok.0) c.loop-place-test.true in
     let inside = rest_inside n.stands (c.rest_at-held.ensures h.3.so_far.now n.old h.3.so_far.holds n.stands) in
-    let long = c.rest_at-held.new.standing.links.ok.0 in
-    omega (arith, inside, long)
+    omega (arith, inside, c.rest_at-held.new.standing.links.ok.0)
 
 pub free_places-requires : goal.free_places-requires
 free_places-requires g c =

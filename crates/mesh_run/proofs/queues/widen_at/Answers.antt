@@ -10,8 +10,7 @@ pub index-requires : goal.index-requires
 index-requires g c =
     let u = c.requires in
     let inside = rest_inside u.3 (c.rest_at-held.ensures u.0 u.1 u.2 u.3) in
-    let many = c.rest_at-held.new.standing.links.ok.0 in
-    omega (arith, inside, many)
+    omega (arith, inside, c.rest_at-held.new.standing.links.ok.0)
 
 pub free_places-requires : goal.free_places-requires
 free_places-requires g c = let u = c.requires in rest_fits u.3 (c.rest_at-held.ensures u.0 u.1 u.2 u.3) c.index.ensures c.places-has.ensures
@@ -35,8 +34,7 @@ index-requires-2 g c =
     let u = c.requires in
     let r = c.rest_at-held.ensures u.0 u.1 u.2 u.3 in
     let inside = lent_inside u.3 r (c.take_ends-tx.ensures.left _ r.holds) in
-    let many = c.take_ends-tx.new.self.links.ok.0 in
-    omega (arith, inside, many)
+    omega (arith, inside, c.take_ends-tx.new.self.links.ok.0)
 
 pub invariant_of-resting : goal.invariant_of-resting
 invariant_of-resting g c =
@@ -55,13 +53,10 @@ invariant_of-resting g c =
 pub widened-requires : goal.widened-requires
 widened-requires g c =
     let u = c.requires in
-    let r = c.rest_at-held.ensures u.0 u.1 u.2 u.3 in
-    let short = held_short u.3 r u.4 in
     let is = c.for_held-wider.ensures in
-    let some = c.args.places.some in
     record {
-      some = omega (arith, is, some);
-      fits = omega (arith, short, is);
+      some = omega (arith, is, c.args.places.some);
+      fits = omega (arith, held_short u.3 (c.rest_at-held.ensures u.0 u.1 u.2 u.3) u.4, is);
     }
 
 pub set-requires : goal.set-requires

@@ -11,11 +11,7 @@ loop-place-init c = lanes_none c.args.parts.now c.args.homes.now c.args.shares.n
 
 pub swap_queue-copies-requires : goal.swap_queue-copies-requires
 swap_queue-copies-requires c =
-    let long = c.requires.4.long in
-    let inputs = c.loop-place.invariant.same.inputs_long in
-    let cores = c.loop-place.invariant.same.cores_long in
-    let below = c.loop-place-test.true in
-    omega (arith, long, inputs, cores, below)
+    omega (arith, c.requires.4.long, c.loop-place.invariant.same.inputs_long, c.loop-place.invariant.same.cores_long, c.loop-place-test.true)
 
 pub put_lane-requires : goal.put_lane-requires
 put_lane-requires c =

@@ -11,11 +11,7 @@ loop-place-init c = out_none c.args.parts.now c.args.homes.now c.args.shares.now
 
 pub take_lane-requires-clause-queue : goal.take_lane-requires-clause-queue
 take_lane-requires-clause-queue c =
-    let long = c.requires.long in
-    let inputs = c.loop-place.invariant.same.inputs_long in
-    let cores = c.loop-place.invariant.same.cores_long in
-    let below = c.loop-place-test.true in
-    omega (arith, long, inputs, cores, below)
+    omega (arith, c.requires.long, c.loop-place.invariant.same.inputs_long, c.loop-place.invariant.same.cores_long, c.loop-place-test.true)
 
 pub take_lane-requires-clause-end : goal.take_lane-requires-clause-end
 take_lane-requires-clause-end c =

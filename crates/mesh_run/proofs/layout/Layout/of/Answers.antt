@@ -14,14 +14,12 @@ of-requires c = subst (λ (s : State). length s.setup.tables ≡ grid_size s.set
 pub runs_of-requires-clause-few : goal.runs_of-requires-clause-few
 runs_of-requires-clause-few c =
     let few = few_chips c.parts.inside.setup.machine (subst (λ (s : State). HasSize s.setup.machine) (sym c.parts.view_is) c.requires.mesh.size) in
-    let long = c.in_ok-floor.ensures.chips_long in
-    omega (arith, few, long)
+    omega (arith, few, c.in_ok-floor.ensures.chips_long)
 
 pub actors-requires : goal.actors-requires
 actors-requires c =
     let few = few_chips c.parts.inside.setup.machine (subst (λ (s : State). HasSize s.setup.machine) (sym c.parts.view_is) c.requires.mesh.size) in
-    let long = c.in_ok-floor.ensures.chips_long in
-    omega (arith, few, long)
+    omega (arith, few, c.in_ok-floor.ensures.chips_long)
 
 pub share_table-requires-clause-runs : goal.share_table-requires-clause-runs
 share_table-requires-clause-runs c = subst (λ n. AreShareRuns n c.deref.result.now) (sym c.actors.ensures) (subst (AreShareRuns (2 * length c.in_ok-floor.floor.chips.items)) (sym c.deref.ensures.value) c.in_ok-runs.ensures.runs)
@@ -29,10 +27,7 @@ share_table-requires-clause-runs c = subst (λ n. AreShareRuns n c.deref.result.
 pub share_table-requires-clause-few : goal.share_table-requires-clause-few
 share_table-requires-clause-few c =
     let few = few_chips c.parts.inside.setup.machine (subst (λ (s : State). HasSize s.setup.machine) (sym c.parts.view_is) c.requires.mesh.size) in
-    let long = c.in_ok-floor.ensures.chips_long in
-    let runs = c.in_ok-runs.ensures.few in
-    let same = ap length c.deref.ensures.value in
-    omega (arith, few, long, runs, same)
+    omega (arith, few, c.in_ok-floor.ensures.chips_long, c.in_ok-runs.ensures.few, ap length c.deref.ensures.value)
 
 pub homes_of-requires-clause-floor : goal.homes_of-requires-clause-floor
 homes_of-requires-clause-floor c = c.in_ok-floor.ensures
@@ -44,15 +39,13 @@ pub cuts_of-requires : goal.cuts_of-requires
 cuts_of-requires c =
     let homes = c.in_ok-homes.homes.items in
     let few = few_homes c.args.parts.now c.deref-2.result.now homes c.requires.mesh (subst (λ (s : State). AreHomesOf s.setup c.deref-2.result.now homes) c.parts.view_is c.in_ok-homes.ensures) in
-    let same = ap length c.deref-3.ensures.value in
-    omega (arith, few, same)
+    omega (arith, few, ap length c.deref-3.ensures.value)
 
 pub returns : goal.returns
 returns c =
     let m = c.args.parts.now in
     let is = c.parts.view_is in
     let homes = c.in_ok-homes.homes.items in
-    let cuts = c.in_ok-cuts.cuts.items in
     let runs = c.in_ok-runs.runs.items in
     let table = c.in_ok-table.table.items in
     let floor = subst (λ (s : State). IsFloorOf s.setup c.in_ok-floor.floor) is c.in_ok-floor.ensures in
@@ -63,5 +56,5 @@ returns c =
       runs = subst (λ (n : ℕ). AreShareRuns (2 * n) runs) floor.chips_long c.in_ok-runs.ensures.runs;
       numbers = subst (λ (n : ℕ). IsShareTable n runs table) count (subst (λ (r : List ℕ). IsShareTable c.actors.result r table) c.deref.ensures.value c.in_ok-table.ensures);
       homes = subst (λ (t : List ℕ). AreHomesOf m.setup t homes) c.deref-2.ensures.value (subst (λ (s : State). AreHomesOf s.setup c.deref-2.result.now homes) is c.in_ok-homes.ensures);
-      cuts = subst (λ (h : List Home). AreCutsOf h cuts) c.deref-3.ensures.value c.in_ok-cuts.ensures;
+      cuts = subst (λ (h : List Home). AreCutsOf h c.in_ok-cuts.cuts.items) c.deref-3.ensures.value c.in_ok-cuts.ensures;
     }

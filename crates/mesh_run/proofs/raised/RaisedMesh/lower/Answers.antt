@@ -26,8 +26,7 @@ swap_queue-requires g c =
     let r = c.requires in
     let cuts = c.args.self.layout.now.cuts.items in
     let end = c.len-number-end.ensures ∙ c.args.self.layout.now.cuts.ok.0 in
-    let test = c.loop-number-test.true in
-    let below : c.loop-number.number < length cuts = omega (arith, end, test) in
+    let below : c.loop-number.number < length cuts = omega (arith, end, c.loop-number-test.true) in
     cut_inside r.0 0 c.loop-number.number c.args.self c.move_out.new.parts c.loop-number.parts c.bring_down.new.queues.items c.loop-number.crossing.items c.index.result.now r.1 r.2 c.move_out.ensures.same
     c.loop-number.invariant (cut_at cuts c.loop-number.number c.index.result.now below c.index.ensures)
 
@@ -38,8 +37,7 @@ loop-number-preserved g c =
     let cuts = c.args.self.layout.now.cuts.items in
     let left = c.loop-number.crossing.items in
     let end = c.len-number-end.ensures ∙ c.args.self.layout.now.cuts.ok.0 in
-    let test = c.loop-number-test.true in
-    let below : n < length cuts = omega (arith, end, test) in
+    let below : n < length cuts = omega (arith, end, c.loop-number-test.true) in
     let at = cut_at cuts n c.index.result.now below c.index.ensures in
     let inside = cut_inside r.0 0 n c.args.self c.move_out.new.parts c.loop-number.parts c.bring_down.new.queues.items left c.index.result.now r.1 r.2 c.move_out.ensures.same c.loop-number.invariant at in
     let long = c.loop-number.invariant.long ∙ (c.bring_down.ensures.long ∙ r.2.crossing) in
@@ -54,8 +52,7 @@ returns g c = λ m mesh raised.
     let opened = c.parts.view_is in
     let moves = subst (λ (homes : List Home). MovesOut homes self.shares.items self.parts c.move_out.new.parts) c.deref.ensures.value c.move_out.ensures in
     let end = c.len-number-end.ensures ∙ self.layout.now.cuts.ok.0 in
-    let test = c.loop-number-test.false in
-    let past : length self.layout.now.cuts.items ≤ c.loop-number.number = omega (arith, end, test) in
+    let past : length self.layout.now.cuts.items ≤ c.loop-number.number = omega (arith, end, c.loop-number-test.false) in
     lowered m 0 c.loop-number.number self c.move_out.new.parts c.loop-number.parts _ c.bring_down.new.queues.items c.loop-number.crossing.items mesh raised moves
     (c.bring_down.ensures.down raised.ends raised.holds) c.loop-number.invariant past
     (ap (λ (s : State). s.setup) opened) (ap (λ (s : State). s.unsent) opened) (ap (λ (s : State). s.inputs) opened) (ap (λ (s : State). s.hands) opened) (ap (λ (s : State). s.cores) opened)

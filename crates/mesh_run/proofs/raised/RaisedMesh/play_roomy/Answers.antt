@@ -47,9 +47,8 @@ dealt g c m is_mesh roomy =
 turned : (g : Over) (c : After-play_all g) (m : State) → IsDealt m c.args.self.now c.deal.new.standing c.deal.new.shares.items →
     IsTurned m c.args.self.now c.deal.new.standing c.deal.new.shares.items c.play_all.new.shares.items
 turned g c m before =
-    let r = c.args.self.now in
     is_turned before c.play_all.ensures.long
-    (subst (λ (l : List Link). PlayAndStay r l c.deal.new.shares.items c.play_all.new.shares.items) c.deref-2.ensures.value
+    (subst (λ (l : List Link). PlayAndStay c.args.self.now l c.deal.new.shares.items c.play_all.new.shares.items) c.deref-2.ensures.value
     (subst (λ (x : RaisedMesh). PlayAndStay x c.deref-2.result.now c.deal.new.shares.items c.play_all.new.shares.items) c.self.view_is c.play_all.ensures.each))
 
 -- the ends that were collected

@@ -14,11 +14,9 @@ crossing_of-requires g c =
     let m = c.args.parts.now in
     let l = c.args.layout.now in
     let is = c.requires.layout in
-    let long = is.homes.long in
     let inputs = c.requires.mesh.input_lists in
-    let cores = c.requires.mesh.core_lists in
     subst (AreInside (length m.inputs + length m.cores)) (sym c.deref.ensures.value)
-    (cuts_inside l.homes.items l.cuts.items (length m.inputs + length m.cores) is.cuts (omega (arith, long, inputs, cores)))
+    (cuts_inside l.homes.items l.cuts.items (length m.inputs + length m.cores) is.cuts (omega (arith, is.homes.long, inputs, c.requires.mesh.core_lists)))
 
 pub bring_up-requires : goal.bring_up-requires
 bring_up-requires g c =
