@@ -90,10 +90,9 @@ no_further m order vertices xs i is_order first out =
     elim (cases_lt i (length xs)) [
       | inl beyond ↦ elim (slice_get_cases xs i).1 [
         | inl (x, x_in, is_x, got_x) ↦ (
-            let mine = first.each i out.vertex x out.is is_x in
             let before = subst (λ o. AreFirstSpots m o vertices out.spots) orders out.before in
             let same : take i xs ≡ out.spots = ap (λ n. take n xs) (sym out.here) ∙ begins m order vertices out.spots xs before first (omega (arith, out.here)) in
-            let spot = subst (λ e. IsSpotFor m order (take i vertices) e out.vertex x) same mine in
+            let spot = subst (λ e. IsSpotFor m order (take i vertices) e out.vertex x) same (first.each i out.vertex x out.is is_x) in
             let none = subst (λ o. FindsNoRoom m o (take i vertices) out.spots out.vertex) orders out.none in
             absurd (spot_has_room m order (take i vertices) out.spots out.vertex x spot none)
             )

@@ -44,9 +44,6 @@ module _ (leaves : ℕ) (tree : List ℕ) (is_tree : IsTree leaves tree) where
       let same : get_or tree (leaves + k) d ≡ get_or tree (leaves + k) 0 = get_or_default tree (leaves + k) d 0 (omega (arith, in_tree, is_tree.long)) in
       omega (arith, here, at, same)
 
-pub room_at : (leaves : ℕ) (tree : List ℕ) (k : ℕ) → get_or (drop leaves tree) k 0 ≡ get_or tree (leaves + k) 0
-room_at leaves tree k = get_or-drop leaves tree k 0
-
 -- the nodes of one level, of which those before the node have too little room, and the node has enough
 pub record IsFound (tree : List ℕ) (need first node : ℕ) : Type 0 where
   pub from : first ≤ node

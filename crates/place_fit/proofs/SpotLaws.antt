@@ -47,11 +47,6 @@ first_from_place P test (x ∷ xs) (suc q) c at has passes none =
       | inr out ↦ subst (λ l. IsFirstChip P l c) (sym (cond-false (test x) (x ∷ filter test xs) (filter test xs) out)) rest
     ]
 
--- what is first has the property
-pub first_has : (P : Chip → Type 0) (xs : List Chip) (c : Chip) → IsFirstChip P xs c → P c
-first_has P [] c f = absurd f
-first_has P (x ∷ xs) c f = elim f [ inl here ↦ subst P here.1 here.0 | inr later ↦ first_has P xs c later.1 ]
-
 module _ (m : Description) (vs : List Vertex) (ss : List Spot) (b : Board) (stands : Stands m vs ss b) (v : Vertex) where
   order : List Chip
   order = filter (is_live_chip m) (hilbert b.level)
@@ -100,8 +95,7 @@ module _ (m : Description) (vs : List Vertex) (ss : List Spot) (b : Board) (stan
     pub memory_is : need_of v ≡ v.sdram → r.memory ≡ memory_of vs ss v r.spot
     memory_is plain =
         let some = core_with_room m vs ss r.spot.chip (get_or b.cores.items place 0) (get_or b.rooms place 0) here v.sdram found.enough in
-        let left = here.left some in
-        let used : m.sdram + 1 - get_or b.rooms place 0 ≡ used_on r.spot.chip vs ss = omega (arith, left) in
+        let used : m.sdram + 1 - get_or b.rooms place 0 ≡ used_on r.spot.chip vs ss = omega (arith, here.left some) in
         filled.memory ∙ (ap (cond (v.sdram == 0) 0) used ∙ ap (λ n. cond (n == 0) 0 (used_on r.spot.chip vs ss)) (sym plain))
 
   none_by : (at : Option Chip) → MatchOption at (All (λ room. room ≤ v.sdram) b.rooms) (HasNoRoomAt m b v.sdram)
@@ -111,8 +105,7 @@ module _ (m : Description) (vs : List Vertex) (ss : List Spot) (b : Board) (stan
       let c = get_or (hilbert b.level) q d in
       let at = on_board q c (slice_get-get_or (hilbert b.level) q d inside) in
       let more = room_for m vs ss c (get_or b.cores.items q 0) (get_or b.rooms q 0) (told_at q c at) v room in
-      let within = slice_get_within b.chips q c at in
-      omega (arith, more, none q 0 (omega (arith, within, stands.board.rooms))))
+      omega (arith, more, none q 0 (omega (arith, slice_get_within b.chips q c at, stands.board.rooms))))
   none_by (Some c) none =
       All-cons (λ z. HasRoom m vs ss v z → ⊥) c [] (λ room.
       let live = lives c room in

@@ -35,6 +35,5 @@ loop-place-preserved c =
 
 pub returns-clause-empty : goal.returns-clause-empty
 returns-clause-empty c q d is =
-    let e = c.as_slice-chip-items.ensures in
-    let here : slice_get c.as_slice-chip-items.result.now q ≡ Some d = ap (λ l. slice_get l q) e ∙ is in
+    let here : slice_get c.as_slice-chip-items.result.now q ≡ Some d = ap (λ l. slice_get l q) c.as_slice-chip-items.ensures ∙ is in
     c.loop-place.invariant.told q d (omega (arith, slice_get_within c.as_slice-chip-items.result.now q d here, c.loop-place-test.false)) here

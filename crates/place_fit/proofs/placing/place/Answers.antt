@@ -29,7 +29,6 @@ returns-in_default-clause-no_room c =
     let m = c.args.machine.now in
     let b = c.loop-i.board in
     let v = c.loop-i.invariant in
-    let vertices = c.args.graph.now.vertices in
     record {
       order = filter (is_live_chip m) (hilbert b.level);
       is_order = record { level = b.level; is_level = v.level; live = refl };
@@ -39,7 +38,7 @@ returns-in_default-clause-no_room c =
       vertex = c.vertex-item.result;
       is = sym (ap (λ l. slice_get l c.loop-i.i) c.as_slice-vertex-items.ensures)
           ∙ slice_get_read c.as_slice-vertex-items.result.now _ c.loop-i.i c.vertex-item.result refl c.loop-i-test.true c.vertex-item.is;
-      none = finds_none m (take c.loop-i.i vertices) c.loop-i.spots b v.stands c.vertex-item.result c.in_default.ensures.none;
+      none = finds_none m (take c.loop-i.i c.args.graph.now.vertices) c.loop-i.spots b v.stands c.vertex-item.result c.in_default.ensures.none;
     }
 
 pub put-requires : goal.put-requires
@@ -52,7 +51,6 @@ pub loop-i-preserved : goal.loop-i-preserved
 loop-i-preserved c =
     let m = c.args.machine.now in
     let old = c.loop-i.board in
-    let new = c.put.new.self in
     let inv = c.loop-i.invariant in
     let i = c.loop-i.i in
     let vertices = c.args.graph.now.vertices in
@@ -66,7 +64,7 @@ loop-i-preserved c =
     let taken : take (i + 1) vertices ≡ take i vertices ++ v ∷ [] =
     take_more vertices i v (slice_get_within vertices i v is) ∙ ap (λ w. take i vertices ++ w ∷ []) (get_or_from_slice_get vertices i v v is) in
     let order = filter (is_live_chip m) (hilbert old.level) in
-    let stood = stood m (take i vertices) spots old inv.stands v new r c.in-Some.ensures.placed in
+    let stood = stood m (take i vertices) spots old inv.stands v c.put.new.self r c.in-Some.ensures.placed in
     let first = spots_more vertices i v is spots inv.each_one r.spot m order inv.first stood.spot in
     record {
       level = subst (IsCurveLevel m) (sym stood.level) inv.level;
