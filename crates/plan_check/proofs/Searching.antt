@@ -234,7 +234,3 @@ flagged_goes m flags c d o e is some = elim (cases_Bool (is_flagged m flags c d)
 pub flagged_nowhere : (m : Description) (flags : List Bool) (c : Chip) (d : Dir) (o : Option Chip) (e : Chip) → o ≡ (if is_flagged m flags c d then far_of m c d else None) → o ≡ None →
     is_flagged m flags c d ≡ true → far_of m c d ≡ Some e → ⊥
 flagged_nowhere m flags c d o e is none hit leads = none-some e (sym none ∙ (is ∙ (cond-true (is_flagged m flags c d) (far_of m c d) None hit ∙ leads)))
-
--- a mark that was read
-pub mark_read : (marks : List Bool) (p : ℕ) (r b : Bool) → p < length marks → r ≡ get_or marks p r → r ≡ b → get_or marks p false ≡ b
-mark_read marks p r b below is came = sym (get_or_default marks p r false below) ∙ (sym is ∙ came)
