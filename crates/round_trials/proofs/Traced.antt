@@ -1,40 +1,18 @@
 -- The mesh that `trace` makes of a job: without an event nothing has left its vertex, so no router has a copy in hand.
-use Rattle.std.proofs.Common.{◌≡◌, ℕ, ◌*◌, List, [], Option, Some, None, IfSome, refl, sym, ap, ◌∙◌, subst}
+use Rattle.std.proofs.Common.{◌≡◌, Option, Some, IfSome, ap, ◌∙◌, subst}
 use Rattle.std.specs.List.{slice_get}
-use Rattle.std.proofs.lemmas.List.Elements.{All-replicate}
 use Rattle.spin_base.specs.declared.copies.Packet.{Packet}
 use Rattle.machine_desc.specs.declared.nets.NetPlan.{NetPlan}
-use Rattle.mesh_core.specs.State.{Hand, State}
-use Rattle.mesh_core.specs.Step.{after_events}
+use Rattle.mesh_core.specs.State.{State}
 use Rattle.mesh_core.specs.Opened.{MeetsJobLedger}
 use Rattle.mesh_core.specs.Whereabouts.{IsTracked}
 use Rattle.mesh_example.proofs.Tracked.{job_tracked}
-use Rattle.mesh_round.specs.RoundFlow.{HasNoHand}
 use Rattle.job_readers.specs.declared.jobs.Job.{Job}
 use Rattle.par_compile.specs.declared.compiling.Plan.{Plan}
 use Rattle.run_report.specs.declared.reports.Report.{Report}
-use Rattle.spin_words.specs.declared.commands.JobWord.TheVariants.{Trace}
 use Rattle.spin_jobs.specs.declared.outcomes.Parts.{Parts}
 use Rattle.spin_jobs.specs.Parts.{WhereRun}
-use Rattle.spin_jobs.specs.Planned.{opened_of, setup_of}
-use Rattle.spin_jobs.specs.Words.{IsMadeOf, IsTraced, ran, reinjected, traced, imaged, listed, generated}
 use Rattle.round_trials.specs.Kept.{KeepsLedger}
-
-no_hand : (job : Job) (plan : Plan) (mesh : State) (report : Report) → IsTraced job plan mesh report → job.run.events ≡ [] → HasNoHand mesh
-no_hand job plan mesh report is none =
-    let u = setup_of job plan in
-    subst HasNoHand (sym (is.reached ∙ ap (after_events (opened_of job plan)) none))
-    (All-replicate (λ (h : Option Hand). h ≡ None) (u.machine.width * u.machine.height) None refl)
-
-pub made_no_hand : (job : Job) (parts : Parts) (text : List ℕ) → IsMadeOf Trace job parts text → job.run.events ≡ [] → IfSome parts.mesh HasNoHand
-made_no_hand job parts text made none = elim made.makes [
-  | ran is r ↦ absurd (let no : ⊥ = cc in no)
-  | reinjected is r ↦ absurd (let no : ⊥ = cc in no)
-  | traced is r ↦ subst (λ p. IfSome p.mesh HasNoHand) (sym r.4) (no_hand job made.plan r.0 r.1 r.3 none)
-  | imaged is l ↦ subst (λ p. IfSome p.mesh HasNoHand) (sym l.given) tt
-  | listed is l ↦ subst (λ p. IfSome p.mesh HasNoHand) (sym l.0) tt
-  | generated n is r ↦ absurd (let no : ⊥ = cc in no)
-]
 
 given : {A : Type 0} (o : Option A) (x : A) (P : A → Type 0) → o ≡ Some x → IfSome o P → P x
 given o x P is has = subst (λ o. IfSome o P) is has
