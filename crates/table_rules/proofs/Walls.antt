@@ -227,9 +227,6 @@ module _ (target room : ℕ) (given : List RoutedBlock) (route : Route) (rows : 
       (none_of (rows_at before are.places) k
       (rows_at-from (λ (r : Row). Matches r.block k → ⊥) before are.places (λ s d found. miss s d (All-has (λ n. n < length before) are.places s in_range found))))
 
-pub none_new : (given : List RoutedBlock) → HasNoNewKeys given given
-none_new given k small none = none
-
 -- ---- what the code tests
 
 -- the rows before it, from the slice that was read
