@@ -19,7 +19,7 @@ use Rattle.mesh_core.specs.State.{Setup, input, core, behind, queue_at}
 use Rattle.mesh_core.proofs.Ways.{vertex_behind_stands}
 pub use Rattle.chip_node.proofs.Placing.{where_here as here, where_other as elsewhere}
 use Rattle.mesh_run.specs.Played.{place_behind, queue_place_of, vertex_place}
-use Rattle.mesh_run.proofs.Feeding.{port_is_no_vertex}
+pub use Rattle.mesh_run.proofs.Feeding.{port_is_no_vertex}
 use Rattle.mesh_run.proofs.Ends.{leads, by_link, to_vertex, to_none, one_end, one_link, one_port}
 
 -- ---- where two places are the same
