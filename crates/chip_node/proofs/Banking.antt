@@ -23,7 +23,8 @@ first_item [] k e = cc
 first_item (x ∷ xs) k e = (xs, (let same : k ≡ x = cc in ap (λ z. z ∷ xs) (sym same)))
 
 -- a vertex of the bank whose first unsent copy was read
-pub unsent_first : (b : CoreBank) (h : Holdings) (v : ℕ) (k : McCopy) (u xs : List McCopy) → Contains b.vertices.items v → v < length h.unsent.items → u ≡ get_or h.unsent.items v u → xs ≡ u → Some k ≡ slice_get xs 0 → IsUnsentAt b h v k
+pub unsent_first : (b : CoreBank) (h : Holdings) (v : ℕ) (k : McCopy) (u xs : List McCopy) → Contains b.vertices.items v → v < length h.unsent.items → u ≡ get_or h.unsent.items v u →
+    xs ≡ u → Some k ≡ slice_get xs 0 → IsUnsentAt b h v k
 unsent_first b h v k u xs has below read same first =
     let item = first_item xs k first in
     record { has = has; rest = item.0; first = get_or_default h.unsent.items v [] u below ∙ (sym read ∙ (sym same ∙ item.1)) }
@@ -58,7 +59,8 @@ gets_only b xs one = record {
   some = λ e. (let are = one.are in cc);
 }
 
-pub halves_act : (cap patience : ℕ) (k : CoreBank) (a b c : Holdings) (s t : Turn) → HalfActs cap patience (SendsOne k) a s b → HalfActs cap patience (GetsOne k) b t c → BankActs cap patience k a (turn_of_both s t) c
+pub halves_act : (cap patience : ℕ) (k : CoreBank) (a b c : Holdings) (s t : Turn) → HalfActs cap patience (SendsOne k) a s b → HalfActs cap patience (GetsOne k) b t c →
+    BankActs cap patience k a (turn_of_both s t) c
 halves_act cap patience k a b c Moved Moved (xs, one, goes) (ys, other, then) = (
   xs ++ ys,
   record { first = xs; second = ys; sends = inr one; gets = inr other; are = refl; some = some_more _ xs ys one.are },
@@ -99,7 +101,8 @@ cannot_get_before k a b stays none =
 
 -- ---- the vertex at a place of the bank
 
-pub vertex_there : (links : List Link) (k : CoreBank) (h : Holdings) (at v : ℕ) → IsReadyBank links k h → at < length k.vertices.items → v ≡ get_or k.vertices.items at v → k.cores + v < length h.ends.items
+pub vertex_there : (links : List Link) (k : CoreBank) (h : Holdings) (at v : ℕ) → IsReadyBank links k h → at < length k.vertices.items → v ≡ get_or k.vertices.items at v →
+    k.cores + v < length h.ends.items
 vertex_there links k h at v ready below read =
     let here : k.cores + get_or k.vertices.items at v < length h.ends.items = (ready.vertices at v below).1 in
     subst (λ n. k.cores + n < length h.ends.items) (sym read) here

@@ -197,7 +197,8 @@ holds_sender_on cap patience a b xs q h s =
     record { end = y.0; stands = y.1; sends = end_sends_on cap patience (entered q xs) (left q xs) (lost_at q xs) s.end y.0 (h.ends q s.end y.0 s.stands y.1) s.sends }
 
 -- A router that may begin its turn still may, and so may a bank. That ends of links are theirs is told by who changed them.
-pub ready_router_on : (cap patience : ℕ) (links : List Link) (r : RouterNode) (a b : Holdings) (xs : List Item) → Goes cap patience a xs b → AreEndsOf links b.ends.items → IsReadyRouter links r a → IsReadyRouter links r b
+pub ready_router_on : (cap patience : ℕ) (links : List Link) (r : RouterNode) (a b : Holdings) (xs : List Item) → Goes cap patience a xs b → AreEndsOf links b.ends.items →
+    IsReadyRouter links r a → IsReadyRouter links r b
 ready_router_on cap patience links r a b xs h ends ready = record {
   outputs = ready.outputs;
   senders = λ o q behind. holds_sender_on cap patience a b xs q h (ready.senders o q behind);
@@ -206,7 +207,8 @@ ready_router_on cap patience links r a b xs h ends ready = record {
   ends = ends;
 }
 
-pub ready_bank_on : (cap patience : ℕ) (links : List Link) (k : CoreBank) (a b : Holdings) (xs : List Item) → Goes cap patience a xs b → AreEndsOf links b.ends.items → IsReadyBank links k a → IsReadyBank links k b
+pub ready_bank_on : (cap patience : ℕ) (links : List Link) (k : CoreBank) (a b : Holdings) (xs : List Item) → Goes cap patience a xs b → AreEndsOf links b.ends.items →
+    IsReadyBank links k a → IsReadyBank links k b
 ready_bank_on cap patience links k a b xs h ends ready = record {
   sender = holds_sender_on cap patience a b xs (injection_place k.index) h ready.sender;
   vertices =

@@ -10,7 +10,8 @@ IsBehind start count steps j = ((start ≤ j) × (j < start + steps)) ⊎ (j + c
 abbrev pub IsPlaceOf : ℕ → ℕ → ℕ → ℕ → Type 0
 IsPlaceOf start count steps at = (at ≡ start + steps) ⊎ (at + count ≡ start + steps)
 
-still_behind : (start count steps at j : ℕ) → start ≤ count → steps < count → at < count → j < count → IsPlaceOf start count steps at → j ≢ at → IsBehind start count (steps + 1) j → IsBehind start count steps j
+still_behind : (start count steps at j : ℕ) → start ≤ count → steps < count → at < count → j < count → IsPlaceOf start count steps at → j ≢ at → IsBehind start count (steps + 1) j →
+    IsBehind start count steps j
 still_behind start count steps at j s n below inside (inl e) other (inl h) = inl (h.0, omega (arith, h.1))
 still_behind start count steps at j s n below inside (inl e) other (inr h) = absurd (omega arith)
 still_behind start count steps at j s n below inside (inr e) other (inl h) = inl (h.0, omega (arith, h.1))

@@ -54,8 +54,8 @@ end_written ends n q old new at inside read = record {
 }
 
 -- where nothing was found, there was nothing
-pub lacks_at : (a b : Holdings) (q : ℕ) (old new : End) → Writes a.ends.items b.ends.items q old new → EndLacks old new → b.unsent.items ≡ a.unsent.items → b.deliveries ≡ a.deliveries → b.dumps ≡ a.dumps →
-    Stays a b × IsIdleAt a.ends.items q
+pub lacks_at : (a b : Holdings) (q : ℕ) (old new : End) → Writes a.ends.items b.ends.items q old new → EndLacks old new → b.unsent.items ≡ a.unsent.items → b.deliveries ≡ a.deliveries →
+    b.dumps ≡ a.dumps → Stays a b × IsIdleAt a.ends.items q
 lacks_at a b q old new w lacks unsent deliveries dumps =
     (stays_at a b q old new w (end_stays_lacks old new lacks) unsent deliveries dumps, idle_at a.ends.items q old w.stood (end_lacks_idle old new lacks))
 
@@ -96,8 +96,8 @@ seen_first f k (Takes a) y sees takes = absurd sees
 seen_first f k (Own a) y (rest, items) (b, is, taken) = let both : f ∷ rest ≡ k ∷ b.items = sym items ∙ taken in cc
 
 -- what is taken at a port leaves the room behind the outputs
-pub room_kept : (cap : ℕ) (links : List Link) (r : RouterNode) (port : Port) (outs : List Out) (a b : Holdings) (old new : End) → IsReadyRouter links r a → Writes a.ends.items b.ends.items (port_place r.index port) old new → b.dumps ≡ a.dumps
-    → HasRoomForOuts cap r outs a → HasRoomForOuts cap r outs b
+pub room_kept : (cap : ℕ) (links : List Link) (r : RouterNode) (port : Port) (outs : List Out) (a b : Holdings) (old new : End) → IsReadyRouter links r a
+    → Writes a.ends.items b.ends.items (port_place r.index port) old new → b.dumps ≡ a.dumps → HasRoomForOuts cap r outs a → HasRoomForOuts cap r outs b
 room_kept cap links r port outs a b old new ready w dumps room = record {
   behind = All-weaker (HasRoomBehind cap r a) (HasRoomBehind cap r b) (λ o before q e behind stands.
       (let other : q ≢ port_place r.index port = λ same. ready.apart o port (behind ∙ ap Some same) in

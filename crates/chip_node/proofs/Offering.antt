@@ -40,7 +40,8 @@ out_end_read links e l h is = subst (λ m. IsTx m e.tx) (sym (is ∙ get_or_from
 refuses_one : (cap : ℕ) (v u : Known) → RefusesOffer cap v u → v.cap ≡ cap → RefusesOffers 1 v u
 refuses_one cap v u r is = record { noted = r.noted; looked = λ _. r.looked; full = λ _. (let full = r.full in omega arith) }
 
-pub offer_answer : (x : Offered) (P : Type 0) (k : McCopy) (cap : ℕ) (v u : Known) → MatchOffered x P (λ back. (back ≡ k) × RefusesOffer cap v u) → v.cap ≡ cap → MatchOffered x P (λ back. (back ≡ k) × RefusesOffers 1 v u)
+pub offer_answer : (x : Offered) (P : Type 0) (k : McCopy) (cap : ℕ) (v u : Known) → MatchOffered x P (λ back. (back ≡ k) × RefusesOffer cap v u) → v.cap ≡ cap →
+    MatchOffered x P (λ back. (back ≡ k) × RefusesOffers 1 v u)
 offer_answer Taken P k cap v u h is = h
 offer_answer (Full back) P k cap v u h is = (h.0, refuses_one cap v u h.1 is)
 

@@ -85,7 +85,8 @@ ends_at cap patience before after items q old new w goes others p x y at also =
     ]
 
 -- nothing was done, and an end was looked at
-pub stays_at : (a b : Holdings) (q : ℕ) (old new : End) → Writes a.ends.items b.ends.items q old new → EndStays old new → b.unsent.items ≡ a.unsent.items → b.deliveries ≡ a.deliveries → b.dumps ≡ a.dumps → Stays a b
+pub stays_at : (a b : Holdings) (q : ℕ) (old new : End) → Writes a.ends.items b.ends.items q old new → EndStays old new → b.unsent.items ≡ a.unsent.items → b.deliveries ≡ a.deliveries →
+    b.dumps ≡ a.dumps → Stays a b
 stays_at a b q old new w stays unsent deliveries dumps = record {
   ends_long = written_long a.ends.items b.ends.items q old new w;
   ends = λ p x y at also. elim (cases_eq p q) [
@@ -130,7 +131,8 @@ took_goes cap patience i port k a b old new w takes unsent deliveries dumps = re
 
 -- a vertex took a copy
 pub got_goes : (cap patience i v q : ℕ) (k : McCopy) (a b : Holdings) (old new : End) → Writes a.ends.items b.ends.items q old new → EndTakes k old new
-    → b.unsent.items ≡ a.unsent.items → b.deliveries.items ≡ a.deliveries.items ++ record { vertex = v; copy = k } ∷ [] → b.deliveries.spare + 1 ≡ a.deliveries.spare → b.dumps ≡ a.dumps → Goes cap patience a (got i v q k ∷ []) b
+    → b.unsent.items ≡ a.unsent.items → b.deliveries.items ≡ a.deliveries.items ++ record { vertex = v; copy = k } ∷ [] → b.deliveries.spare + 1 ≡ a.deliveries.spare → b.dumps ≡ a.dumps
+    → Goes cap patience a (got i v q k ∷ []) b
 got_goes cap patience i v q k a b old new w takes unsent deliveries spare dumps = record {
   ends_long = written_long a.ends.items b.ends.items q old new w;
   ends = ends_at cap patience a.ends.items b.ends.items (got i v q k ∷ []) q old new w
@@ -145,8 +147,10 @@ got_goes cap patience i v q k a b old new w takes unsent deliveries spare dumps 
 }
 
 -- a vertex sent a copy
-pub sent_goes : (cap patience tries i v : ℕ) (k : McCopy) (rest : List McCopy) (a b : Holdings) (old new : End) → Writes a.ends.items b.ends.items (injection_place i) old new → EndSends cap tries k old new
-    → v < length a.unsent.items → slice_index_or a.unsent.items v [] ≡ k ∷ rest → b.unsent.items ≡ set a.unsent.items v rest → b.deliveries ≡ a.deliveries → b.dumps ≡ a.dumps → Goes cap patience a (sent i v k ∷ []) b
+pub sent_goes : (cap patience tries i v : ℕ) (k : McCopy) (rest : List McCopy) (a b : Holdings) (old new : End) → Writes a.ends.items b.ends.items (injection_place i) old new
+    → EndSends cap tries k old new
+    → v < length a.unsent.items → slice_index_or a.unsent.items v [] ≡ k ∷ rest → b.unsent.items ≡ set a.unsent.items v rest → b.deliveries ≡ a.deliveries → b.dumps ≡ a.dumps
+    → Goes cap patience a (sent i v k ∷ []) b
 sent_goes cap patience tries i v k rest a b old new w sends below first unsent deliveries dumps = record {
   ends_long = written_long a.ends.items b.ends.items (injection_place i) old new w;
   ends = ends_at cap patience a.ends.items b.ends.items (sent i v k ∷ []) (injection_place i) old new w
@@ -168,7 +172,8 @@ sent_goes cap patience tries i v k rest a b old new w sends below first unsent d
           first ∙ (ap (λ l. k ∷ l) (sym now) ∙ ap (λ l. l ++ slice_index_or b.unsent.items v []) (sym (only_here v (k ∷ [])))) in
           subst (λ n. slice_index_or a.unsent.items n [] ≡ sent_by n (sent i v k ∷ []) ++ slice_index_or b.unsent.items n []) (sym here) at_v
       | inr other ↦
-          let now : slice_index_or b.unsent.items u [] ≡ slice_index_or a.unsent.items u [] = ap (λ (l : List (List McCopy)). slice_index_or l u []) unsent ∙ get_or-set_other a.unsent.items v u rest [] other in
+          let now : slice_index_or b.unsent.items u [] ≡ slice_index_or a.unsent.items u [] =
+          ap (λ (l : List (List McCopy)). slice_index_or l u []) unsent ∙ get_or-set_other a.unsent.items v u rest [] other in
           sym now ∙ ap (λ l. l ++ slice_index_or b.unsent.items u []) (sym (not_other v u (k ∷ []) other))
     ]
 
@@ -179,7 +184,8 @@ served_nowhere : (cap patience i : ℕ) (c : Chip) (s : Service) (a b : Holdings
     → b.dumps.items ≡ a.dumps.items ++ recorded c s s.fate → b.dumps.spare + length (recorded c s s.fate) ≡ a.dumps.spare → Goes cap patience a (served i c None s ∷ []) b
 served_nowhere cap patience i c s a b ends unsent deliveries dumped spare = record {
   ends_long = ap length ends;
-  ends = λ q x y at also. (let same : x ≡ y = same_Some x y (sym at ∙ (ap (λ (l : List End). slice_get l q) (sym ends) ∙ also)) in end_goes_none cap patience x y (subst (EndStays x) same (end_stays_same x)));
+  ends = λ q x y at also. (let same : x ≡ y = same_Some x y (sym at ∙ (ap (λ (l : List End). slice_get l q) (sym ends) ∙ also)) in end_goes_none cap patience x y
+      (subst (EndStays x) same (end_stays_same x)));
   unsent_long = ap length unsent;
   unsent = same_unsent a b unsent;
   delivered = ap (λ (l : WithRoom Delivery). l.items) deliveries ∙ sym (append-nil a.deliveries.items);
@@ -189,7 +195,8 @@ served_nowhere cap patience i c s a b ends unsent deliveries dumped spare = reco
 }
 
 served_end : (cap patience i : ℕ) (c : Chip) (q : ℕ) (o : Out) (k : McCopy) (fate : Served) (old new : End) → EndServes cap patience (onward k) fate old new
-    → EndGoes cap patience (entered q (served i c (Some q) (record { out = o; copy = k; fate = fate }) ∷ [])) (left q (served i c (Some q) (record { out = o; copy = k; fate = fate }) ∷ [])) (lost_at q (served i c (Some q) (record { out = o; copy = k; fate = fate }) ∷ [])) old new
+    → EndGoes cap patience (entered q (served i c (Some q) (record { out = o; copy = k; fate = fate }) ∷ [])) (left q (served i c (Some q) (record { out = o; copy = k; fate = fate }) ∷ []))
+    (lost_at q (served i c (Some q) (record { out = o; copy = k; fate = fate }) ∷ [])) old new
 served_end cap patience i c q o k Sent old new h =
     subst (λ (l : List McCopy). EndGoes cap patience l [] (lost_at q (served i c (Some q) (record { out = o; copy = k; fate = Sent }) ∷ [])) old new) (sym (only_here q (onward k ∷ [])))
     (subst (λ (l : List McCopy). EndGoes cap patience (onward k ∷ []) [] l old new) (sym (only_here q [])) (end_goes_sends cap patience patience (onward k) old new h))
@@ -197,8 +204,8 @@ served_end cap patience i c q o k Dumped old new h =
     subst (λ (l : List McCopy). EndGoes cap patience l [] (lost_at q (served i c (Some q) (record { out = o; copy = k; fate = Dumped }) ∷ [])) old new) (sym (only_here q []))
     (subst (λ (l : List McCopy). EndGoes cap patience [] [] l old new) (sym (only_here q (k ∷ []))) (end_goes_refuses cap patience k old new h))
 
-served_there : (cap patience i : ℕ) (c : Chip) (q : ℕ) (o : Out) (k : McCopy) (fate : Served) (a b : Holdings) → SendsThere cap patience q (onward k) fate a.ends.items b.ends.items → b.unsent.items ≡ a.unsent.items
-    → b.deliveries ≡ a.deliveries → b.dumps.items ≡ a.dumps.items ++ recorded c (record { out = o; copy = k; fate = fate }) fate
+served_there : (cap patience i : ℕ) (c : Chip) (q : ℕ) (o : Out) (k : McCopy) (fate : Served) (a b : Holdings) → SendsThere cap patience q (onward k) fate a.ends.items b.ends.items
+    → b.unsent.items ≡ a.unsent.items → b.deliveries ≡ a.deliveries → b.dumps.items ≡ a.dumps.items ++ recorded c (record { out = o; copy = k; fate = fate }) fate
     → b.dumps.spare + length (recorded c (record { out = o; copy = k; fate = fate }) fate) ≡ a.dumps.spare
     → Goes cap patience a (served i c (Some q) (record { out = o; copy = k; fate = fate }) ∷ []) b
 served_there cap patience i c q o k fate a b h unsent deliveries dumped spare = record {
@@ -219,7 +226,8 @@ served_there cap patience i c q o k fate a b h unsent deliveries dumped spare = 
     w : Writes a.ends.items b.ends.items q h.old h.new
     w = record { stood = h.stood; stands = h.stands }
 
-pub served_goes : (cap patience i : ℕ) (c : Chip) (place : Option ℕ) (o : Out) (k : McCopy) (fate : Served) (a b : Holdings) → SendsBehind cap patience place (onward k) fate a.ends.items b.ends.items → b.unsent.items ≡ a.unsent.items
+pub served_goes : (cap patience i : ℕ) (c : Chip) (place : Option ℕ) (o : Out) (k : McCopy) (fate : Served) (a b : Holdings)
+    → SendsBehind cap patience place (onward k) fate a.ends.items b.ends.items → b.unsent.items ≡ a.unsent.items
     → b.deliveries ≡ a.deliveries → b.dumps.items ≡ a.dumps.items ++ recorded c (record { out = o; copy = k; fate = fate }) fate
     → b.dumps.spare + length (recorded c (record { out = o; copy = k; fate = fate }) fate) ≡ a.dumps.spare
     → Goes cap patience a (served i c place (record { out = o; copy = k; fate = fate }) ∷ []) b
@@ -227,7 +235,8 @@ served_goes cap patience i c None o k fate a b h unsent deliveries dumped spare 
 served_goes cap patience i c (Some q) o k fate a b h unsent deliveries dumped spare = served_there cap patience i c q o k fate a b h unsent deliveries dumped spare
 
 -- a queue that is not behind the output is as it was
-pub served_elsewhere : (cap patience : ℕ) (place : Option ℕ) (k : McCopy) (fate : Served) (before after : List End) (q : ℕ) → SendsBehind cap patience place k fate before after → place ≢ Some q → slice_get after q ≡ slice_get before q
+pub served_elsewhere : (cap patience : ℕ) (place : Option ℕ) (k : McCopy) (fate : Served) (before after : List End) (q : ℕ) → SendsBehind cap patience place k fate before after →
+    place ≢ Some q → slice_get after q ≡ slice_get before q
 served_elsewhere cap patience None k fate before after q h other = ap (λ (l : List End). slice_get l q) h.1
 served_elsewhere cap patience (Some p) k fate before after q h other =
     ap (λ (l : List End). slice_get l q) h.stands ∙ slice_get-set_other before p q h.new (λ e. other (ap Some (sym e)))

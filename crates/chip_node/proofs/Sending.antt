@@ -21,7 +21,8 @@ use Rattle.chip_node.specs.Passing.{SendsBehind}
 
 -- ---- the place behind an output
 
-pub place_there : (behind : List (Option Behind)) (o : Out) (n : ℕ) (d : Option Behind) (b : Behind) → n ≡ out_number o → length behind ≡ 24 → IsOutput o → get_or behind n d ≡ Some b → place_at_router behind o ≡ Some b.place
+pub place_there : (behind : List (Option Behind)) (o : Out) (n : ℕ) (d : Option Behind) (b : Behind) → n ≡ out_number o → length behind ≡ 24 → IsOutput o → get_or behind n d ≡ Some b →
+    place_at_router behind o ≡ Some b.place
 place_there behind o n d b number long numbered is =
     let below = out_number_below o numbered in
     let stands : slice_get behind (out_number o) ≡ Some (get_or behind n d) = ap (slice_get behind) (sym number) ∙ slice_get-get_or behind n d (omega arith) in
@@ -46,11 +47,13 @@ pub sent_recorded : (c : Chip) (o : Out) (k : McCopy) (fate : Served) (a b : Wit
 sent_recorded c o k fate a b is same =
     subst (λ (f : Served). b.items ≡ a.items ++ recorded c (record { out = o; copy = k; fate = f }) f) (sym is) (ap (λ (l : WithRoom DumpRec). l.items) same ∙ sym (append-nil a.items))
 
-pub dumped_recorded : (c : Chip) (o : Out) (k : McCopy) (fate : Served) (a b : List DumpRec) → fate ≡ Dumped → b ≡ a ++ record { chip = c; out = o; copy = k } ∷ [] → b ≡ a ++ recorded c (record { out = o; copy = k; fate = fate }) fate
+pub dumped_recorded : (c : Chip) (o : Out) (k : McCopy) (fate : Served) (a b : List DumpRec) → fate ≡ Dumped → b ≡ a ++ record { chip = c; out = o; copy = k } ∷ [] →
+    b ≡ a ++ recorded c (record { out = o; copy = k; fate = fate }) fate
 dumped_recorded c o k fate a b is more = subst (λ (f : Served). b ≡ a ++ recorded c (record { out = o; copy = k; fate = f }) f) (sym is) more
 
 -- A record takes as much room as it says, and a copy that was sent none.
-pub sent_room : (c : Chip) (o : Out) (k : McCopy) (fate : Served) (a b : WithRoom DumpRec) → fate ≡ Sent → b ≡ a → b.spare + length (recorded c (record { out = o; copy = k; fate = fate }) fate) ≡ a.spare
+pub sent_room : (c : Chip) (o : Out) (k : McCopy) (fate : Served) (a b : WithRoom DumpRec) → fate ≡ Sent → b ≡ a →
+    b.spare + length (recorded c (record { out = o; copy = k; fate = fate }) fate) ≡ a.spare
 sent_room c o k fate a b is same =
     let spare = ap (λ (l : WithRoom DumpRec). l.spare) same in
     subst (λ (f : Served). b.spare + length (recorded c (record { out = o; copy = k; fate = f }) f) ≡ a.spare) (sym is) (omega (arith, spare))

@@ -18,10 +18,16 @@ use Rattle.chip_node.proofs.Flows.{goes_none, goes_on}
 use Rattle.chip_node.proofs.Stays.{stays_same}
 
 pub serves_none : (cap patience : ℕ) (r : RouterNode) (k : McCopy) (a : Holdings) → ServesOuts cap patience r [] k a a
-serves_none cap patience r k a = record { done = []; each_once = refl; nowhere = All-nil (λ (s : Service). place_at_router r.behind.now s.out ≡ None → s.fate ≡ Dumped); goes = goes_none cap patience a a (stays_same a) }
+serves_none cap patience r k a = record {
+  done = [];
+  each_once = refl;
+  nowhere = All-nil (λ (s : Service). place_at_router r.behind.now s.out ≡ None → s.fate ≡ Dumped);
+  goes = goes_none cap patience a a (stays_same a);
+}
 
 -- one output more
-pub serves_more : (cap patience : ℕ) (r : RouterNode) (k : McCopy) (a b c : Holdings) (outs : List Out) (i : ℕ) (s : Service) → i < length outs → s.out ≡ get_or outs i s.out → s.copy ≡ k → (place_at_router r.behind.now s.out ≡ None → s.fate ≡ Dumped)
+pub serves_more : (cap patience : ℕ) (r : RouterNode) (k : McCopy) (a b c : Holdings) (outs : List Out) (i : ℕ) (s : Service) → i < length outs → s.out ≡ get_or outs i s.out → s.copy ≡ k
+    → (place_at_router r.behind.now s.out ≡ None → s.fate ≡ Dumped)
     → ServesOuts cap patience r (take i outs) k a b → Goes cap patience b (service_items r (s ∷ [])) c → ServesOuts cap patience r (take (i + 1) outs) k a c
 serves_more cap patience r k a b c outs i s below read of nowhere h goes = record {
   nowhere =
@@ -50,8 +56,10 @@ serves_more cap patience r k a b c outs i s below read of nowhere h goes = recor
     item x = served r.index r.chip (place_at_router r.behind.now x.out) x
 
 -- the outputs from one on still have room, where the queue behind the one before alone has changed
-pub room_left : (cap : ℕ) (links : List Link) (r : RouterNode) (a b : Holdings) (outs : List Out) (i : ℕ) (o : Out) → IsReadyRouter links r a → All IsOutput outs → AllPairs (λ x y. x ≢ y) outs → i < length outs → o ≡ get_or outs i o
-    → AllWithin (HasRoomBehind cap r a) outs i (length outs) → ((q : ℕ) → place_at_router r.behind.now o ≢ Some q → slice_get b.ends.items q ≡ slice_get a.ends.items q) → AllWithin (HasRoomBehind cap r b) outs (i + 1) (length outs)
+pub room_left : (cap : ℕ) (links : List Link) (r : RouterNode) (a b : Holdings) (outs : List Out) (i : ℕ) (o : Out) → IsReadyRouter links r a → All IsOutput outs
+    → AllPairs (λ x y. x ≢ y) outs → i < length outs → o ≡ get_or outs i o
+    → AllWithin (HasRoomBehind cap r a) outs i (length outs) → ((q : ℕ) → place_at_router r.behind.now o ≢ Some q → slice_get b.ends.items q ≡ slice_get a.ends.items q)
+    → AllWithin (HasRoomBehind cap r b) outs (i + 1) (length outs)
 room_left cap links r a b outs i o ready numbered differ below read room elsewhere = λ j d from inside q e behind stands.
     (let p = get_or outs j d in
     let o_is : IsOutput o = subst IsOutput (sym read) (numbered i o below) in

@@ -23,7 +23,8 @@ use Rattle.chip_node.proofs.GoingRound.{GoneBy, IsPlaceOf, gone_all}
 use Rattle.chip_node.proofs.Stays.{idle_before, roomy_on, stays_on}
 
 -- a copy was taken after looks that did nothing, and each of its outputs was served
-pub routes_one : (cap patience : ℕ) (entries : List Entry) (r : RouterNode) (port : Port) (k : McCopy) (outs : List Out) (a b c d : Holdings) → Stays a b → Goes cap patience b (took r.index port k ∷ []) c
+pub routes_one : (cap patience : ℕ) (entries : List Entry) (r : RouterNode) (port : Port) (k : McCopy) (outs : List Out) (a b c d : Holdings) → Stays a b
+    → Goes cap patience b (took r.index port k ∷ []) c
     → outs ≡ outputs_at entries port k → ServesOuts cap patience r outs k c d → (items : List Item) × RoutesOne entries r items × Goes cap patience a items d
 routes_one cap patience entries r port k outs a b c d stays takes given serves = (
   took r.index port k ∷ service_items r serves.done,
@@ -45,7 +46,8 @@ ports_gone P start steps end gone (Link d) = gone_all P start 7 steps end gone (
 ports_gone P start steps end gone Local = gone_all P start 7 steps end gone 6 (omega arith)
 
 -- at the port of a number nothing is there to take, and was not before
-pub next_idle : (a b : Holdings) (i at : ℕ) (p : Port) → Stays a b → port_number p ≡ at → IsIdleAt b.ends.items (port_place i p) → (port : Port) → port_number port ≡ at → IsIdleAt a.ends.items (port_place i port)
+pub next_idle : (a b : Holdings) (i at : ℕ) (p : Port) → Stays a b → port_number p ≡ at → IsIdleAt b.ends.items (port_place i p) → (port : Port) → port_number port ≡ at →
+    IsIdleAt a.ends.items (port_place i port)
 next_idle a b i at p stays number idle port same =
     subst (λ n. IsIdleAt a.ends.items (7 * i + n)) (number ∙ sym same) (idle_before a b (port_place i p) stays idle)
 
@@ -65,7 +67,8 @@ port_at (suc (suc (suc (suc (suc (suc zero)))))) low = refl
 port_at (suc (suc (suc (suc (suc (suc (suc n))))))) low = absurd (omega arith)
 
 -- a look after nothing was done is a look
-pub looks_on : (cap patience : ℕ) (entries : List Entry) (r : RouterNode) (port : Port) (a b : Holdings) (look : Look) (c : Holdings) → Stays a b → Looks cap patience entries r port b look c → Looks cap patience entries r port a look c
+pub looks_on : (cap patience : ℕ) (entries : List Entry) (r : RouterNode) (port : Port) (a b : Holdings) (look : Look) (c : Holdings) → Stays a b →
+    Looks cap patience entries r port b look c → Looks cap patience entries r port a look c
 looks_on most patience entries r port a b (Took t) c s l = record {
   goes = stays_goes most patience a b c _ s l.goes;
   given = l.given;

@@ -19,7 +19,8 @@ returns-in-Sent-clause-acts g c =
     let unsent = c.in-Some.ensures.first in
     let old = c.index_mut.result.now in
     let new = c.send.new.self in
-    let w : Writes a.ends.items (set a.ends.items (7 * b.index + 6) new) (injection_place b.index) old new = record { stood = sender_stands c.requires.sender old c.index_mut.ensures.value; stands = refl } in
+    let w : Writes a.ends.items (set a.ends.items (7 * b.index + 6) new) (injection_place b.index) old new =
+    record { stood = sender_stands c.requires.sender old c.index_mut.ensures.value; stands = refl } in
     let both = All-contains (λ (n : ℕ). (n < length a.unsent.items) × (b.cores + n < length a.ends.items)) b.vertices.items v c.requires.vertices unsent.has in
     let was = c.index_mut-in-Sent.result.now in
     let first = c.index_mut-in-Sent.ensures.value ∙ (get_or_default a.unsent.items v was [] both.0 ∙ unsent.first) in
@@ -40,12 +41,18 @@ returns-in-Dumped-clause-acts g c =
     let a = c.args.hold.now in
     let old = c.index_mut.result.now in
     let new = c.send.new.self in
-    let w : Writes a.ends.items (set a.ends.items (7 * b.index + 6) new) (injection_place b.index) old new = record { stood = sender_stands c.requires.sender old c.index_mut.ensures.value; stands = refl } in
+    let w : Writes a.ends.items (set a.ends.items (7 * b.index + 6) new) (injection_place b.index) old new =
+    record { stood = sender_stands c.requires.sender old c.index_mut.ensures.value; stands = refl } in
     stays_at a _ (injection_place b.index) old new w (end_stays_refuses c.args.around.capacity 1 old new c.in-Dumped.ensures.served) refl refl refl
 
 pub returns-in-Dumped-clause-idle : goal.returns-in-Dumped-clause-idle
 returns-in-Dumped-clause-idle g c = λ moved roomy.
-    inr (c.index_mut.result.now, sender_stands c.requires.sender c.index_mut.result.now c.index_mut.ensures.value, end_refuses_full c.args.around.capacity 1 c.index_mut.result.now c.send.new.self (omega arith) c.in-Dumped.ensures.served)
+    inr (
+      c.index_mut.result.now,
+      sender_stands c.requires.sender c.index_mut.result.now c.index_mut.ensures.value,
+      end_refuses_full c.args.around.capacity 1 c.index_mut.result.now
+          c.send.new.self (omega arith) c.in-Dumped.ensures.served,
+    )
 
 pub returns-in-Dumped-clause-ready : goal.returns-in-Dumped-clause-ready
 returns-in-Dumped-clause-ready g c =

@@ -17,7 +17,8 @@ pub send-requires-clause-end : goal.send-requires-clause-end
 send-requires-clause-end g c =
     let there = place_there c.args.self.behind.now c.args.out c.number.result None c.in-Some.behind c.number.ensures c.requires.ready.outputs c.requires.numbered c.in-Some.is in
     let s = c.requires.ready.senders c.args.out c.in-Some.behind.place there in
-    All-at (IsEndOf c.args.around.links.now) c.args.hold.now.ends.items c.in-Some.behind.place c.index_mut.result.now c.requires.ready.ends (sender_stands s c.index_mut.result.now c.index_mut.ensures.value)
+    All-at (IsEndOf c.args.around.links.now) c.args.hold.now.ends.items c.in-Some.behind.place c.index_mut.result.now c.requires.ready.ends
+    (sender_stands s c.index_mut.result.now c.index_mut.ensures.value)
 
 pub send-requires-clause-sends : goal.send-requires-clause-sends
 send-requires-clause-sends g c =

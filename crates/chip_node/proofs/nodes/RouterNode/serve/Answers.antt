@@ -25,11 +25,13 @@ returns-in-Sent-clause-goes g c =
 
 pub returns-in-Sent-clause-elsewhere : goal.returns-in-Sent-clause-elsewhere
 returns-in-Sent-clause-elsewhere g c = λ q other.
-    served_elsewhere c.args.around.capacity c.args.around.patience (place_at_router c.args.self.behind.now c.args.out) c.onward.result c.send-served.result c.args.hold.now.ends.items c.send-served.new.hold.ends.items q c.send-served.ensures.sends other
+    served_elsewhere c.args.around.capacity c.args.around.patience (place_at_router c.args.self.behind.now c.args.out) c.onward.result c.send-served.result c.args.hold.now.ends.items
+    c.send-served.new.hold.ends.items q c.send-served.ensures.sends other
 
 pub returns-in-Sent-clause-ready : goal.returns-in-Sent-clause-ready
 returns-in-Sent-clause-ready g c =
-    ready_router_on c.args.around.capacity c.args.around.patience c.args.around.links.now c.args.self c.args.hold.now c.send-served.new.hold _ (returns-in-Sent-clause-goes g c) c.send-served.ensures.ends c.requires.ready
+    ready_router_on c.args.around.capacity c.args.around.patience c.args.around.links.now c.args.self c.args.hold.now c.send-served.new.hold _
+    (returns-in-Sent-clause-goes g c) c.send-served.ensures.ends c.requires.ready
 
 pub returns-in-Dumped-clause-goes : goal.returns-in-Dumped-clause-goes
 returns-in-Dumped-clause-goes g c =
@@ -48,16 +50,20 @@ returns-in-Dumped-clause-goes g c =
 
 pub returns-in-Dumped-clause-elsewhere : goal.returns-in-Dumped-clause-elsewhere
 returns-in-Dumped-clause-elsewhere g c = λ q other.
-    served_elsewhere c.args.around.capacity c.args.around.patience (place_at_router c.args.self.behind.now c.args.out) c.onward.result c.send-served.result c.args.hold.now.ends.items c.send-served.new.hold.ends.items q c.send-served.ensures.sends other
+    served_elsewhere c.args.around.capacity c.args.around.patience (place_at_router c.args.self.behind.now c.args.out) c.onward.result c.send-served.result c.args.hold.now.ends.items
+    c.send-served.new.hold.ends.items q c.send-served.ensures.sends other
 
 pub returns-in-Dumped-clause-ready : goal.returns-in-Dumped-clause-ready
 returns-in-Dumped-clause-ready g c =
-    ready_router_on c.args.around.capacity c.args.around.patience c.args.around.links.now c.args.self c.args.hold.now _ _ (returns-in-Dumped-clause-goes g c) c.send-served.ensures.ends c.requires.ready
+    ready_router_on c.args.around.capacity c.args.around.patience c.args.around.links.now c.args.self c.args.hold.now _ _ (returns-in-Dumped-clause-goes g c) c.send-served.ensures.ends
+    c.requires.ready
 
 pub returns-in-Sent-clause-nowhere : goal.returns-in-Sent-clause-nowhere
 returns-in-Sent-clause-nowhere g c = λ none.
-    sent_nowhere c.args.around.capacity c.args.around.patience (place_at_router c.args.self.behind.now c.args.out) c.onward.result c.send-served.result c.args.hold.now.ends.items c.send-served.new.hold.ends.items c.send-served.ensures.sends none
+    sent_nowhere c.args.around.capacity c.args.around.patience (place_at_router c.args.self.behind.now c.args.out) c.onward.result c.send-served.result c.args.hold.now.ends.items
+    c.send-served.new.hold.ends.items c.send-served.ensures.sends none
 
 pub returns-in-Dumped-clause-nowhere : goal.returns-in-Dumped-clause-nowhere
 returns-in-Dumped-clause-nowhere g c = λ none.
-    sent_nowhere c.args.around.capacity c.args.around.patience (place_at_router c.args.self.behind.now c.args.out) c.onward.result c.send-served.result c.args.hold.now.ends.items c.send-served.new.hold.ends.items c.send-served.ensures.sends none
+    sent_nowhere c.args.around.capacity c.args.around.patience (place_at_router c.args.self.behind.now c.args.out) c.onward.result c.send-served.result c.args.hold.now.ends.items
+    c.send-served.new.hold.ends.items c.send-served.ensures.sends none

@@ -26,8 +26,10 @@ loop-out-preserved g c =
     let below : i < length outs = omega arith in
     let read : o ≡ get_or outs i o = get_or_default outs i (Link East) o below in
     record {
-      serves = serves_more c.args.around.capacity c.args.around.patience r c.args.copy c.args.hold.now c.loop-out.hold c.serve.new.hold outs i s below read refl c.serve.ensures.nowhere before.serves c.serve.ensures.goes;
+      serves = serves_more c.args.around.capacity c.args.around.patience r c.args.copy c.args.hold.now c.loop-out.hold c.serve.new.hold outs i s below read refl c.serve.ensures.nowhere
+          before.serves c.serve.ensures.goes;
       ready = c.serve.ensures.ready;
-      behind = room_left c.args.around.capacity c.args.around.links.now r c.loop-out.hold c.serve.new.hold outs i o before.ready c.requires.numbered c.requires.differ below read before.behind c.serve.ensures.elsewhere;
+      behind = room_left c.args.around.capacity c.args.around.links.now r c.loop-out.hold c.serve.new.hold outs i o before.ready c.requires.numbered c.requires.differ below read
+          before.behind c.serve.ensures.elsewhere;
       records = (let records = before.records in let spare = c.serve.ensures.spare in omega arith);
     }

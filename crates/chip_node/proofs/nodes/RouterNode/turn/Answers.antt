@@ -14,8 +14,8 @@ use Rattle.chip_node.proofs.nodes.RouterNode.turn.Goals.{in-Empty, in-NoRoom}
 pub returns-in-Took-clause-acts : goal.returns-in-Took-clause-acts
 returns-in-Took-clause-acts g c =
     let port : Port = get_or seven_ports ((c.args.number % 7 + c.ports.step) % 7) (Link East) in
-    routes_one c.args.around.capacity c.args.around.patience c.args.self.table.now c.args.self port c.in-Took.taken.copy c.as_slice.result.now c.args.hold.now c.ports.hold c.look.new.hold c.serve_all.new.hold
-    c.ports.invariant.stays c.in-Took.ensures.looks.goes (c.as_slice.ensures.value ∙ c.in-Took.ensures.looks.given) c.serve_all.ensures.serves
+    routes_one c.args.around.capacity c.args.around.patience c.args.self.table.now c.args.self port c.in-Took.taken.copy c.as_slice.result.now c.args.hold.now c.ports.hold c.look.new.hold
+    c.serve_all.new.hold c.ports.invariant.stays c.in-Took.ensures.looks.goes (c.as_slice.ensures.value ∙ c.in-Took.ensures.looks.given) c.serve_all.ensures.serves
 
 pub ports-preserved : goal.ports-preserved
 ports-preserved g c =
