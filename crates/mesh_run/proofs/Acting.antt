@@ -1,5 +1,6 @@
 -- What one turn of the actor at a place does to a share, and turns one after the other.
-use Rattle.std.proofs.Common.{◌≡◌, ◌≢◌, ◌⊎◌, ℕ, zero, suc, ◌+◌, ◌*◌, ◌/◌, ◌%◌, ◌<◌, ◌≤◌, Bool, true, false, List, [], ◌∷◌, ◌++◌, length, take, drop, Option, None, Some, refl, sym, ap, ◌∙◌, subst, arith, inl, inr}
+use Rattle.std.proofs.Common.{◌≡◌, ◌≢◌, ◌⊎◌, ℕ, zero, suc, ◌+◌, ◌*◌, ◌/◌, ◌%◌, ◌<◌, ◌≤◌, Bool, true, false, List, [], ◌∷◌}
+use Rattle.std.proofs.Common.{◌++◌, length, take, drop, Option, None, Some, refl, sym, ap, ◌∙◌, subst, arith, inl, inr}
 use Rattle.std.specs.List.{All, slice_get, slice_index_or}
 use Rattle.std.proofs.lemmas.List.{length-take, length-drop}
 use Rattle.std.proofs.lemmas.List.Elements.{All-append, All-nil, All-weaker}
@@ -13,15 +14,11 @@ use Rattle.spin_base.specs.declared.routes.Out.TheVariants.{Link, Core}
 use Rattle.spin_base.specs.Links.{port_number}
 use Rattle.spin_base.specs.Outputs.{out_number, IsOutput}
 use Rattle.machine_desc.specs.Live.{chip_of, index_of, is_live_chip}
-use Rattle.machine_desc.proofs.Far.{live_inside}
-use Rattle.machine_desc.proofs.Live.{index_of-chip_of}
+use Rattle.machine_desc.proofs.{Far.live_inside, Live.index_of-chip_of}
 use Rattle.link_queue.specs.declared.links.Link.{Link as QueueLink}
-use Rattle.chip_node.specs.declared.holdings.Holdings.{Holdings}
-use Rattle.chip_node.specs.declared.holdings.Turn.{Turn}
+use Rattle.chip_node.specs.declared.holdings.{Holdings.Holdings, Turn.Turn}
 use Rattle.chip_node.specs.declared.holdings.Turn.TheVariants.{Moved, Nothing, Waits}
-use Rattle.chip_node.specs.declared.nodes.Behind.{Behind}
-use Rattle.chip_node.specs.declared.nodes.CoreBank.{CoreBank}
-use Rattle.chip_node.specs.declared.nodes.RouterNode.{RouterNode}
+use Rattle.chip_node.specs.declared.nodes.{Behind.Behind, CoreBank.CoreBank, RouterNode.RouterNode}
 use Rattle.chip_node.specs.Acting.{place_in, BankActs, IsReadyBank, IsReadyRouter, RouterActs}
 use Rattle.chip_node.specs.Acting.{place_at_router}
 use Rattle.chip_node.specs.Going.{AreEndsOf, Goes, HoldsSender, Stays}
@@ -29,8 +26,7 @@ use Rattle.chip_node.specs.Items.{Item, injection_place, port_place}
 use Rattle.chip_node.proofs.Flows.{goes_none, goes_on, holds_sender_on}
 use Rattle.chip_node.proofs.Stays.{stays_same}
 use Rattle.mesh_core.specs.State.{Setup}
-use Rattle.mesh_run.specs.declared.floors.Floor.{Floor}
-use Rattle.mesh_run.specs.declared.shares.Share.{Share}
+use Rattle.mesh_run.specs.declared.{floors.Floor.Floor, shares.Share.Share}
 use Rattle.mesh_run.specs.Floors.{grid_size, IsBankOf, IsFloorOf}
 use Rattle.mesh_run.specs.Played.{place_behind, port_count, IsLiveIndex}
 use Rattle.mesh_run.specs.Shares.{actor_of, bank_place, router_place, ActsAt, AreOf, DoesAt, IsInRun, IsNoted, IsShareOf, MovesAt, PlaysOne, PlaysRound, PlaysTurns, SharePlays}

@@ -8,8 +8,7 @@ use Rattle.mesh_run.specs.declared.homes.Cut.{Cut}
 use Rattle.mesh_run.specs.Queues.{queue_of_link, AreUp, IsUp}
 use Rattle.mesh_run.specs.Split.{cut_queues, HaveNoLogs}
 use Rattle.mesh_run.proofs.AfterMesh.{mesh, queue_there}
-use Rattle.mesh_run.proofs.Resting.{fewer}
-use Rattle.mesh_run.proofs.WholeRound.{Whole}
+use Rattle.mesh_run.proofs.{Resting.fewer, WholeRound.Whole}
 
 module _ (w : Whole) where
   pub whole_no_logs : HaveNoLogs w.cleared
@@ -23,7 +22,8 @@ module _ (w : Whole) where
       let many = length-map w.r.layout.now.cuts.items (λ (d : Cut). get_or (w.m.inputs ++ w.m.cores) d.queue []) in
       omega (arith, w.roomy.raised.up.long, many, w.collects.long, w.rests.long)
 
-  queue_at_cut : (l : ℕ) (q : List McCopy) → l < length w.r.layout.now.cuts.items → get_or (map queue_of_link w.rests.now) l q ≡ get_or (cut_queues ((mesh w).inputs ++ (mesh w).cores) w.r.layout.now.cuts.items) l q
+  queue_at_cut : (l : ℕ) (q : List McCopy) → l < length w.r.layout.now.cuts.items →
+      get_or (map queue_of_link w.rests.now) l q ≡ get_or (cut_queues ((mesh w).inputs ++ (mesh w).cores) w.r.layout.now.cuts.items) l q
   queue_at_cut l q below =
       let cut = slice_get_there w.r.layout.now.cuts.items l below in
       let place = slice_get_within w.r.layout.now.homes.items cut.0.queue (record { sender = cut.0.sender; receiver = cut.0.receiver }) (w.roomy.raised.shared.cut l cut.0 cut.1).0 in

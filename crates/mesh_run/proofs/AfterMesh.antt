@@ -51,7 +51,8 @@ module _ (w : Whole) where
   -- each queue of that mesh is what the round makes of it
   pub queue_there : (q : ℕ) → q < port_count w.m.setup + length w.m.setup.spots → AfterRound w q (get_or (after_inputs.0 ++ after_cores.0) q [])
   queue_there q below = elim (cases_lt q (port_count w.m.setup)) [
-    | inl less ↦ subst (λ (x : List McCopy). AfterRound w q x) (sym (get_or_append_left after_inputs.0 after_cores.0 [] q (let long = after_inputs.1 in omega (arith, less, long)))) (after_inputs.2 q [] less)
+    | inl less ↦ subst (λ (x : List McCopy). AfterRound w q x) (sym (get_or_append_left after_inputs.0 after_cores.0 [] q (let long = after_inputs.1 in omega (arith, less, long))))
+        (after_inputs.2 q [] less)
     | inr more ↦
         let long = after_inputs.1 in
         let v = q - length after_inputs.0 in

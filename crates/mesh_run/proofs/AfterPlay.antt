@@ -1,30 +1,21 @@
 -- The shares after the turns of a round: the ends that they hold can be collected, and there is room for what they logged.
 use Rattle.std.proofs.Common.{◌≡◌, ℕ, ◌<◌, ◌≤◌, List, [], ◌∷◌, length, map, get_or, Some, sym, ap, ◌∙◌, subst, arith, suc}
 use Rattle.std.specs.List.{All, slice_get, sum_by}
-use Rattle.std.proofs.lemmas.List.{get_or_default}
-use Rattle.std.proofs.lemmas.List.Sums.{sum_by-cons}
+use Rattle.std.proofs.lemmas.List.{get_or_default, Sums.sum_by-cons}
 use Rattle.std.proofs.lemmas.Option.{get_or_from_slice_get, slice_get_within, slice_get-get_or, same_Some}
 use Rattle.spin_base.proofs.Places.{All-at, slice_get-mapped, slice_get_there}
-use Rattle.link_queue.specs.declared.links.Link.{Link}
-use Rattle.link_queue.specs.declared.links.LinkEnds.{LinkEnds}
+use Rattle.link_queue.specs.declared.links.{Link.Link, LinkEnds.LinkEnds}
 use Rattle.link_queue.specs.Ends.{cap_of, IsRx, IsTx}
 use Rattle.chip_node.specs.declared.ends.End.{End}
 use Rattle.chip_node.specs.declared.ends.End.TheVariants.{Sends, Takes}
-use Rattle.chip_node.specs.declared.ends.InEnd.{InEnd}
-use Rattle.chip_node.specs.declared.ends.OutEnd.{OutEnd}
+use Rattle.chip_node.specs.declared.ends.{InEnd.InEnd, OutEnd.OutEnd}
 use Rattle.chip_node.specs.Going.{Goes, IsEndOf}
 use Rattle.chip_node.specs.Items.{Item}
 use Rattle.mesh_core.specs.State.{IsMesh, State}
-use Rattle.mesh_run.specs.declared.gathering.MeshLogs.{MeshLogs}
-use Rattle.mesh_run.specs.declared.raised.RaisedMesh.{RaisedMesh}
-use Rattle.mesh_run.specs.declared.shares.Share.{Share}
-use Rattle.mesh_run.specs.declared.standing.Standing.{Standing}
+use Rattle.mesh_run.specs.declared.{gathering.MeshLogs.MeshLogs, raised.RaisedMesh.RaisedMesh, shares.Share.Share, standing.Standing.Standing}
 use Rattle.mesh_run.specs.Crossing.{AreLaid, Deals, HoldsCollected}
 use Rattle.mesh_run.specs.Gathering.{FitsLogs, HasRoomForLogs}
-use Rattle.mesh_run.specs.Queues.{WasUp}
-use Rattle.mesh_run.specs.Raised.{IsRaisedFrom}
-use Rattle.mesh_run.specs.Shares.{PlaysAndStays}
-use Rattle.mesh_run.specs.Split.{end_at}
+use Rattle.mesh_run.specs.{Queues.WasUp, Raised.IsRaisedFrom, Shares.PlaysAndStays, Split.end_at}
 use Rattle.mesh_run.proofs.AfterDeal.{link_at, link_up_at, links_many}
 use Rattle.mesh_run.proofs.Together.{PlayedParts, listed, sender_passes, stood, taker_passes}
 

@@ -2,13 +2,10 @@
 use Rattle.std.proofs.Common.{◌≡◌, ℕ, ◌<◌, Bool, false, ◌||◌, List, [], ◌∷◌, ◌++◌, length, get_or, refl, sym, ap, ap₂, ◌∙◌, subst, arith, suc}
 use Rattle.std.specs.List.{flat_map, list_any}
 use Rattle.std.specs.Global.{Vec}
-use Rattle.std.proofs.lemmas.List.{get_or_default}
-use Rattle.std.proofs.lemmas.Option.{slice_get-get_or}
+use Rattle.std.proofs.lemmas.{List.get_or_default, Option.slice_get-get_or}
 use Rattle.chip_node.specs.Going.{Goes}
 use Rattle.chip_node.specs.Items.{Item, deliveries, delivered_of, dumped_of, records}
-use Rattle.mesh_run.specs.declared.gathering.MeshLogs.{MeshLogs}
-use Rattle.mesh_run.specs.declared.raised.RaisedMesh.{RaisedMesh}
-use Rattle.mesh_run.specs.declared.shares.Share.{Share}
+use Rattle.mesh_run.specs.declared.{gathering.MeshLogs.MeshLogs, raised.RaisedMesh.RaisedMesh, shares.Share.Share}
 use Rattle.mesh_run.specs.Gathering.{IsAnyMoved}
 use Rattle.mesh_run.specs.Raised.{IsRaisedFrom, PlaysTo}
 use Rattle.mesh_run.specs.Shares.{IsNoted}

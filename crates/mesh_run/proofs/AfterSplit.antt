@@ -4,11 +4,8 @@ use Rattle.std.specs.List.{slice_get}
 use Rattle.std.proofs.lemmas.Bool.{cases_eq, cases_lt}
 use Rattle.std.proofs.lemmas.Option.{slice_get_within}
 use Rattle.chip_node.specs.declared.ends.End.TheVariants.{Away}
-use Rattle.mesh_run.specs.declared.homes.Cut.{Cut}
-use Rattle.mesh_run.specs.declared.homes.Home.{Home}
-use Rattle.mesh_run.specs.declared.shares.Share.{Share}
-use Rattle.mesh_run.specs.Crossing.{IsUncut}
-use Rattle.mesh_run.specs.Played.{vertex_place}
+use Rattle.mesh_run.specs.declared.{homes.Cut.Cut, homes.Home.Home, shares.Share.Share}
+use Rattle.mesh_run.specs.{Crossing.IsUncut, Played.vertex_place}
 use Rattle.mesh_run.specs.Split.{end_at, unsent_in, HoldLanes, HoldUnsent}
 use Rattle.mesh_run.proofs.AfterMesh.{after_unsent, mesh, queue_there}
 use Rattle.mesh_run.proofs.EachQueue.{cleared_end, elsewhere}
@@ -52,7 +49,8 @@ module _ (w : Whole) where
 
   pub whole_lanes : HoldLanes ((mesh w).inputs ++ (mesh w).cores) w.r.layout.now.homes.items w.cleared
   whole_lanes = record {
-    lanes = λ q h at same. (queue_there w q (let below = slice_get_within w.r.layout.now.homes.items q h at in let long = w.roomy.raised.shared.homes_are.long in omega (arith, below, long))).lane h at same;
+    lanes = λ q h at same.
+        (queue_there w q (let below = slice_get_within w.r.layout.now.homes.items q h at in let long = w.roomy.raised.shared.homes_are.long in omega (arith, below, long))).lane h at same;
     away = away_after;
   }
 

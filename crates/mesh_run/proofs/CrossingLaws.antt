@@ -5,14 +5,10 @@ use Rattle.std.proofs.lemmas.Bool.{cases_eq}
 use Rattle.std.proofs.lemmas.Option.{get_or_from_slice_get, none-some, same_Some, slice_get_within}
 use Rattle.std.proofs.lemmas.List.{length-map, length-set, map-set, same_lists}
 use Rattle.spin_base.proofs.Places.{slice_get_there, slice_get-mapped, slice_get-set_same, slice_get-set_other, set-slice_get}
-use Rattle.link_queue.specs.declared.links.LinkEnds.{LinkEnds}
-use Rattle.link_queue.specs.declared.links.Tx.{Tx}
-use Rattle.link_queue.specs.declared.links.Rx.{Rx}
+use Rattle.link_queue.specs.declared.links.{LinkEnds.LinkEnds, Tx.Tx, Rx.Rx}
 use Rattle.chip_node.specs.declared.ends.End.{End}
 use Rattle.chip_node.specs.declared.ends.End.TheVariants.{Away, Sends, Takes}
-use Rattle.mesh_run.specs.declared.homes.Cut.{Cut}
-use Rattle.mesh_run.specs.declared.shares.Share.{Share}
-use Rattle.mesh_run.specs.declared.standing.Standing.{Standing}
+use Rattle.mesh_run.specs.declared.{homes.Cut.Cut, shares.Share.Share, standing.Standing.Standing}
 use Rattle.mesh_run.specs.Crossing.{AreCuts, AreLaid, AreSameButEnds, Deals, HoldsCollected, HoldsNoEnds, IsLaid, IsOfCut, PutsEnd, SameButEnds}
 use Rattle.mesh_run.specs.Split.{end_at, end_in}
 use Rattle.mesh_run.specs.Standing.{HoldsAll}
@@ -104,8 +100,8 @@ end_inside shares s q e share is read =
     subst (λ (x : Share). q < length x.hold.ends.items) (sym same) (slice_get_within at.share.hold.ends.items q e at.holds)
 
 -- one end of a share is another
-pub end_set : (before after : List Share) (share queue : ℕ) (s t : Share) (old end : End) → slice_get before share ≡ Some s → slice_get s.hold.ends.items queue ≡ Some old → after ≡ set before share t →
-    t.from ≡ s.from → t.to ≡ s.to → t.moved ≡ s.moved → t.hold.unsent ≡ s.hold.unsent → t.hold.dumps ≡ s.hold.dumps → t.hold.deliveries ≡ s.hold.deliveries →
+pub end_set : (before after : List Share) (share queue : ℕ) (s t : Share) (old end : End) → slice_get before share ≡ Some s → slice_get s.hold.ends.items queue ≡ Some old →
+    after ≡ set before share t → t.from ≡ s.from → t.to ≡ s.to → t.moved ≡ s.moved → t.hold.unsent ≡ s.hold.unsent → t.hold.dumps ≡ s.hold.dumps → t.hold.deliveries ≡ s.hold.deliveries →
     t.hold.ends.items ≡ set s.hold.ends.items queue end → PutsEnd share queue end before after
 end_set before after share queue s t old end stands holds is from to moved unsent dumps deliveries ends = subst (PutsEnd share queue end before) (sym is) (record {
   same = each_set SameButEnds ends_self before share s t stands (record {
@@ -140,7 +136,8 @@ end_still a b s q e same is =
 
 -- ---- both ends of a cut's link
 
-pub puts_two : (cuts : List Cut) (start before mid after : List Share) (n : ℕ) (c : Cut) (first second : End) → AreCuts cuts start → slice_get cuts n ≡ Some c → PutsEnd c.sender c.queue first before mid → PutsEnd c.receiver c.queue second mid after →
+pub puts_two : (cuts : List Cut) (start before mid after : List Share) (n : ℕ) (c : Cut) (first second : End) → AreCuts cuts start → slice_get cuts n ≡ Some c →
+    PutsEnd c.sender c.queue first before mid → PutsEnd c.receiver c.queue second mid after →
     (end_at after c.sender c.queue ≡ Some first) × (end_at after c.receiver c.queue ≡ Some second) × ((s q : ℕ) → (IsOfCut c s q → ⊥) → end_at after s q ≡ end_at before s q)
 puts_two cuts start before mid after n c first second are at one two = (
   two.others c.sender c.queue (λ same. are.two n c at same.0) ∙ one.here,
@@ -187,13 +184,15 @@ dealt_none cuts start before ends holds long = record {
 }
 
 -- the link at the next place
-pub next_link : (cuts : List Cut) (start standing : Standing) (before now : List Share) (n : ℕ) → DealtTo cuts start before n standing now → n < length cuts → (e : LinkEnds) × (slice_get standing.txs.items n ≡ Some (Some e.tx)) × (slice_get standing.rxs.items n ≡ Some (Some e.rx))
+pub next_link : (cuts : List Cut) (start standing : Standing) (before now : List Share) (n : ℕ) → DealtTo cuts start before n standing now → n < length cuts →
+    (e : LinkEnds) × (slice_get standing.txs.items n ≡ Some (Some e.tx)) × (slice_get standing.rxs.items n ≡ Some (Some e.rx))
 next_link cuts start standing before now n so_far below =
     let long = so_far.long in
     let e = slice_get_there so_far.ends n (omega (arith, long, below)) in
     (e.0, so_far.txs n e.0 (omega arith) e.1, so_far.rxs n e.0 (omega arith) e.1)
 
-pub dealt_more : (cuts : List Cut) (start standing after : Standing) (before now mid new : List Share) (n : ℕ) (c : Cut) (tx : Tx) (rx : Rx) → AreCuts cuts before → DealtTo cuts start before n standing now → slice_get cuts n ≡ Some c →
+pub dealt_more : (cuts : List Cut) (start standing after : Standing) (before now mid new : List Share) (n : ℕ) (c : Cut) (tx : Tx) (rx : Rx) → AreCuts cuts before →
+    DealtTo cuts start before n standing now → slice_get cuts n ≡ Some c →
     slice_get standing.txs.items n ≡ Some (Some tx) → slice_get standing.rxs.items n ≡ Some (Some rx) → after.links ≡ standing.links → after.rooms ≡ standing.rooms →
     after.txs.items ≡ set standing.txs.items n None → after.rxs.items ≡ set standing.rxs.items n None →
     PutsEnd c.sender c.queue (Sends (record { link = n; tx = tx })) now mid → PutsEnd c.receiver c.queue (Takes (record { link = n; rx = rx })) mid new → DealtTo cuts start before (n + 1) after new
@@ -216,8 +215,10 @@ dealt_more cuts start standing after before now mid new n c tx rx are so_far at 
             let here_e : slice_get so_far.ends n ≡ Some e = ap (slice_get so_far.ends) (sym here) ∙ there in
             let is_tx : tx ≡ e.tx = same_Some tx e.tx (same_Some (Some tx) (Some e.tx) (sym tx_is ∙ so_far.txs n e (omega arith) here_e)) in
             let is_rx : rx ≡ e.rx = same_Some rx e.rx (same_Some (Some rx) (Some e.rx) (sym rx_is ∙ so_far.rxs n e (omega arith) here_e)) in (
-              ap (λ (x : Cut). end_at new x.sender x.queue) (sym is_c) ∙ (both.0 ∙ (ap (λ (x : Tx). Some (Sends (record { link = n; tx = x }))) is_tx ∙ ap (λ (k : ℕ). Some (Sends (record { link = k; tx = e.tx }))) (sym here))),
-              ap (λ (x : Cut). end_at new x.receiver x.queue) (sym is_c) ∙ (both.1 ∙ (ap (λ (x : Rx). Some (Takes (record { link = n; rx = x }))) is_rx ∙ ap (λ (k : ℕ). Some (Takes (record { link = k; rx = e.rx }))) (sym here))),
+              ap (λ (x : Cut). end_at new x.sender x.queue) (sym is_c)
+                  ∙ (both.0 ∙ (ap (λ (x : Tx). Some (Sends (record { link = n; tx = x }))) is_tx ∙ ap (λ (k : ℕ). Some (Sends (record { link = k; tx = e.tx }))) (sym here))),
+              ap (λ (x : Cut). end_at new x.receiver x.queue) (sym is_c)
+                  ∙ (both.1 ∙ (ap (λ (x : Rx). Some (Takes (record { link = n; rx = x }))) is_rx ∙ ap (λ (k : ℕ). Some (Takes (record { link = k; rx = e.rx }))) (sym here))),
             )
         | inr other ↦
             let before_n : l < n = omega (arith, less, other) in
@@ -229,20 +230,22 @@ dealt_more cuts start standing after before now mid new n c tx rx are so_far at 
       others = λ s q uncut. both.2 s q (uncut n c (omega arith) at) ∙ so_far.others s q (λ l d less. uncut l d (omega (arith, less)));
     }
 
-pub dealt_all : (cuts : List Cut) (start standing : Standing) (before now : List Share) (n : ℕ) (ends : List LinkEnds) → DealtTo cuts start before n standing now → length cuts ≤ n → HoldsAll ends start → Deals ends cuts before now × HoldsNoEnds ends standing
-dealt_all cuts start standing before now n ends so_far past holds = subst (λ (l : List LinkEnds). Deals l cuts before now × HoldsNoEnds l standing) (only_ends so_far.ends ends start so_far.held holds) (
-  record {
-    same = so_far.same;
-    dealt = λ l c e at there. let within = slice_get_within cuts l c at in so_far.dealt l c e (omega (arith, within, past)) at there;
-    others = λ s q uncut. so_far.others s q (λ l c less. uncut l c);
-  },
-  record {
-    links = sym so_far.held.links ∙ ap (λ v. v.items) (sym so_far.links);
-    rooms = sym so_far.held.rooms ∙ ap (λ v. v.items) (sym so_far.rooms);
-    txs_long = so_far.txs_long;
-    rxs_long = so_far.rxs_long;
-  },
-)
+pub dealt_all : (cuts : List Cut) (start standing : Standing) (before now : List Share) (n : ℕ) (ends : List LinkEnds) → DealtTo cuts start before n standing now → length cuts ≤ n →
+    HoldsAll ends start → Deals ends cuts before now × HoldsNoEnds ends standing
+dealt_all cuts start standing before now n ends so_far past holds = subst (λ (l : List LinkEnds). Deals l cuts before now × HoldsNoEnds l standing)
+    (only_ends so_far.ends ends start so_far.held holds) (
+      record {
+        same = so_far.same;
+        dealt = λ l c e at there. let within = slice_get_within cuts l c at in so_far.dealt l c e (omega (arith, within, past)) at there;
+        others = λ s q uncut. so_far.others s q (λ l c less. uncut l c);
+      },
+      record {
+        links = sym so_far.held.links ∙ ap (λ v. v.items) (sym so_far.links);
+        rooms = sym so_far.held.rooms ∙ ap (λ v. v.items) (sym so_far.rooms);
+        txs_long = so_far.txs_long;
+        rxs_long = so_far.rxs_long;
+      },
+    )
 
 -- ---- collecting
 
@@ -263,7 +266,8 @@ pub record CollectedTo (cuts : List Cut) (start : Standing) (before : List Share
   pub gone : (l : ℕ) (c : Cut) → l < n → slice_get cuts l ≡ Some c → (end_at now c.sender c.queue ≡ Some Away) × (end_at now c.receiver c.queue ≡ Some Away)
   pub others : (s q : ℕ) → ((l : ℕ) (c : Cut) → l < n → slice_get cuts l ≡ Some c → IsOfCut c s q → ⊥) → end_at now s q ≡ end_at before s q
 
-pub collected_none : (cuts : List Cut) (start : Standing) (before : List Share) (ends : List LinkEnds) → HoldsNoEnds ends start → length ends ≡ length cuts → CollectedTo cuts start before 0 start before
+pub collected_none : (cuts : List Cut) (start : Standing) (before : List Share) (ends : List LinkEnds) → HoldsNoEnds ends start → length ends ≡ length cuts →
+    CollectedTo cuts start before 0 start before
 collected_none cuts start before ends holds long = record {
   ends = ends;
   long = long;
@@ -282,8 +286,10 @@ collected_none cuts start before ends holds long = record {
 }
 
 -- the ends of the next cut's link lie where they were laid
-pub next_laid : (cuts : List Cut) (start standing : Standing) (before now : List Share) (n : ℕ) (c : Cut) → CollectedTo cuts start before n standing now → AreCuts cuts before → AreLaid start.links.items before cuts → slice_get cuts n ≡ Some c →
-    (laid : IsLaid start.links.items before n c) × (end_at now c.sender c.queue ≡ Some (Sends (record { link = n; tx = laid.tx }))) × (end_at now c.receiver c.queue ≡ Some (Takes (record { link = n; rx = laid.rx })))
+pub next_laid : (cuts : List Cut) (start standing : Standing) (before now : List Share) (n : ℕ) (c : Cut) → CollectedTo cuts start before n standing now → AreCuts cuts before →
+    AreLaid start.links.items before cuts → slice_get cuts n ≡ Some c →
+    (laid : IsLaid start.links.items before n c) × (end_at now c.sender c.queue ≡ Some (Sends (record { link = n; tx = laid.tx })))
+    × (end_at now c.receiver c.queue ≡ Some (Takes (record { link = n; rx = laid.rx })))
 next_laid cuts start standing before now n c so_far are laid at =
     let here = laid n c at in (
       here,
@@ -297,7 +303,8 @@ next_laid cuts start standing before now n c so_far are laid at =
 same_but : {X : Type 0} (f : LinkEnds → X) (ends : List LinkEnds) (n : ℕ) (old new : LinkEnds) → slice_get ends n ≡ Some old → f new ≡ f old → map f (set ends n new) ≡ map f ends
 same_but f ends n old new at same = map-set f ends n new ∙ (ap (set (map f ends) n) same ∙ set-slice_get (map f ends) n (f old) (slice_get-mapped f ends n old at))
 
-pub collected_more : (cuts : List Cut) (start standing after : Standing) (before now mid new : List Share) (n : ℕ) (c : Cut) (tx : Tx) (rx : Rx) → AreCuts cuts before → CollectedTo cuts start before n standing now → slice_get cuts n ≡ Some c →
+pub collected_more : (cuts : List Cut) (start standing after : Standing) (before now mid new : List Share) (n : ℕ) (c : Cut) (tx : Tx) (rx : Rx) → AreCuts cuts before →
+    CollectedTo cuts start before n standing now → slice_get cuts n ≡ Some c →
     end_at before c.sender c.queue ≡ Some (Sends (record { link = n; tx = tx })) → end_at before c.receiver c.queue ≡ Some (Takes (record { link = n; rx = rx })) →
     after.links ≡ standing.links → after.rooms ≡ standing.rooms → after.txs.items ≡ set standing.txs.items n (Some tx) → after.rxs.items ≡ set standing.rxs.items n (Some rx) →
     PutsEnd c.sender c.queue Away now mid → PutsEnd c.receiver c.queue Away mid new → CollectedTo cuts start before (n + 1) after new
@@ -339,8 +346,10 @@ collected_more cuts start standing after before now mid new n c tx rx are so_far
         | inl here ↦
             let is_c : c ≡ d = same_Some c d (sym at ∙ (ap (slice_get cuts) (sym here) ∙ at_l)) in
             let is_e : e_new ≡ e = same_Some e_new e (sym new_at ∙ (ap (slice_get (set so_far.ends n e_new)) (sym here) ∙ there)) in (
-              ap (λ (x : Cut). end_at before x.sender x.queue) (sym is_c) ∙ (sends ∙ (ap (λ (x : LinkEnds). Some (Sends (record { link = n; tx = x.tx }))) is_e ∙ ap (λ (k : ℕ). Some (Sends (record { link = k; tx = e.tx }))) (sym here))),
-              ap (λ (x : Cut). end_at before x.receiver x.queue) (sym is_c) ∙ (takes ∙ (ap (λ (x : LinkEnds). Some (Takes (record { link = n; rx = x.rx }))) is_e ∙ ap (λ (k : ℕ). Some (Takes (record { link = k; rx = e.rx }))) (sym here))),
+              ap (λ (x : Cut). end_at before x.sender x.queue) (sym is_c)
+                  ∙ (sends ∙ (ap (λ (x : LinkEnds). Some (Sends (record { link = n; tx = x.tx }))) is_e ∙ ap (λ (k : ℕ). Some (Sends (record { link = k; tx = e.tx }))) (sym here))),
+              ap (λ (x : Cut). end_at before x.receiver x.queue) (sym is_c)
+                  ∙ (takes ∙ (ap (λ (x : LinkEnds). Some (Takes (record { link = n; rx = x.rx }))) is_e ∙ ap (λ (k : ℕ). Some (Takes (record { link = k; rx = e.rx }))) (sym here))),
             )
         | inr other ↦ so_far.dealt l d e (omega (arith, less, other)) at_l (sym (slice_get-set_other so_far.ends n l e_new other) ∙ there)
       ];
@@ -359,8 +368,8 @@ collected_more cuts start standing after before now mid new n c tx rx are so_far
     }
 
 -- all ends are there
-all_there : {X : Type 0} (end : LinkEnds → X) (ends : List LinkEnds) (slots : List (Option X)) → length slots ≡ length ends → ((k : ℕ) (e : LinkEnds) → slice_get ends k ≡ Some e → slice_get slots k ≡ Some (Some (end e))) →
-    slots ≡ map (λ (e : LinkEnds). Some (end e)) ends
+all_there : {X : Type 0} (end : LinkEnds → X) (ends : List LinkEnds) (slots : List (Option X)) → length slots ≡ length ends →
+    ((k : ℕ) (e : LinkEnds) → slice_get ends k ≡ Some e → slice_get slots k ≡ Some (Some (end e))) → slots ≡ map (λ (e : LinkEnds). Some (end e)) ends
 all_there end ends slots long each =
     let mapped = length-map ends (λ (e : LinkEnds). Some (end e)) in
     same_lists slots (map (λ (e : LinkEnds). Some (end e)) ends) (long ∙ sym mapped) (λ k d below.
@@ -368,16 +377,18 @@ all_there end ends slots long each =
     get_or_from_slice_get slots k (Some (end e.0)) d (each k e.0 e.1)
     ∙ sym (get_or_from_slice_get (map (λ (x : LinkEnds). Some (end x)) ends) k (Some (end e.0)) d (slice_get-mapped (λ (x : LinkEnds). Some (end x)) ends k e.0 e.1)))
 
-pub collected_all : (cuts : List Cut) (start standing : Standing) (before now : List Share) (n : ℕ) (old : List LinkEnds) → CollectedTo cuts start before n standing now → length cuts ≤ n → HoldsNoEnds old start → length old ≡ length cuts →
-    HoldsCollected old cuts before standing now
+pub collected_all : (cuts : List Cut) (start standing : Standing) (before now : List Share) (n : ℕ) (old : List LinkEnds) → CollectedTo cuts start before n standing now → length cuts ≤ n →
+    HoldsNoEnds old start → length old ≡ length cuts → HoldsCollected old cuts before standing now
 collected_all cuts start standing before now n old so_far past holds long =
     let many = so_far.long in
     record {
       ends = so_far.ends;
       holds = record {
         links = ap (λ v. v.items) so_far.links ∙ sym so_far.links_are;
-        txs = all_there (λ (e : LinkEnds). e.tx) so_far.ends standing.txs.items so_far.txs_long (λ k e at. let within = slice_get_within so_far.ends k e at in so_far.txs k e (omega (arith, within, many, past)) at);
-        rxs = all_there (λ (e : LinkEnds). e.rx) so_far.ends standing.rxs.items so_far.rxs_long (λ k e at. let within = slice_get_within so_far.ends k e at in so_far.rxs k e (omega (arith, within, many, past)) at);
+        txs = all_there (λ (e : LinkEnds). e.tx) so_far.ends standing.txs.items so_far.txs_long
+            (λ k e at. let within = slice_get_within so_far.ends k e at in so_far.txs k e (omega (arith, within, many, past)) at);
+        rxs = all_there (λ (e : LinkEnds). e.rx) so_far.ends standing.rxs.items so_far.rxs_long
+            (λ k e at. let within = slice_get_within so_far.ends k e at in so_far.rxs k e (omega (arith, within, many, past)) at);
         rooms = ap (λ v. v.items) so_far.rooms ∙ sym so_far.rooms_are;
       };
       long = many ∙ sym long;

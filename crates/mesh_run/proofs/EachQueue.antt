@@ -1,24 +1,18 @@
 -- What a whole round makes of each queue: a lane goes on in its share, and a link rests with what is left of its queue.
 use Rattle.std.proofs.Common.{◌≡◌, ◌≢◌, ℕ, ◌+◌, ◌<◌, ◌≤◌, min, List, [], ◌++◌, length, map, get_or, Option, Some, refl, sym, ap, ◌∙◌, subst, arith, inl, inr}
 use Rattle.std.specs.List.{slice_get}
-use Rattle.std.proofs.lemmas.Bool.{cases_eq}
-use Rattle.std.proofs.lemmas.List.{length-map}
-use Rattle.std.proofs.lemmas.List.Elements.{All-append}
+use Rattle.std.proofs.lemmas.{Bool.cases_eq, List.length-map, List.Elements.All-append}
 use Rattle.std.proofs.lemmas.Option.{get_or_from_slice_get, slice_get_within, same_Some}
 use Rattle.spin_base.proofs.Places.{slice_get-mapped, slice_get_there}
 use Rattle.spin_base.specs.declared.copies.McCopy.{McCopy}
 use Rattle.spin_base.specs.WithRoom.{WithRoom}
-use Rattle.link_queue.specs.declared.links.Link.{Link}
-use Rattle.link_queue.specs.declared.links.LinkEnds.{LinkEnds}
+use Rattle.link_queue.specs.declared.links.{Link.Link, LinkEnds.LinkEnds}
 use Rattle.link_queue.specs.Ends.{cap_of}
 use Rattle.chip_node.specs.declared.ends.End.{End}
 use Rattle.chip_node.specs.declared.ends.End.TheVariants.{Own, Sends, Takes}
-use Rattle.chip_node.specs.declared.ends.InEnd.{InEnd}
-use Rattle.chip_node.specs.declared.ends.OutEnd.{OutEnd}
+use Rattle.chip_node.specs.declared.ends.{InEnd.InEnd, OutEnd.OutEnd}
 use Rattle.mesh_core.specs.State.{FitsQueue}
-use Rattle.mesh_run.specs.declared.homes.Cut.{Cut}
-use Rattle.mesh_run.specs.declared.homes.Home.{Home}
-use Rattle.mesh_run.specs.declared.shares.Share.{Share}
+use Rattle.mesh_run.specs.declared.{homes.Cut.Cut, homes.Home.Home, shares.Share.Share}
 use Rattle.mesh_run.specs.Crossing.{IsUncut}
 use Rattle.mesh_run.specs.Played.{held_at, QueueGoes}
 use Rattle.mesh_run.specs.Queues.{queue_of_link, IsDown, IsUp}
@@ -105,7 +99,8 @@ module _ (w : Whole) where
         let below = slice_get_within w.r.layout.now.cuts.items l c stands in
         let is = slice_get_there w.roomy.raised.ends l (omega (arith, many, below, up.long)) in
         let queue : get_or (cut_queues (w.m.inputs ++ w.m.cores) w.r.layout.now.cuts.items) l [] ≡ held_at w.m c.queue =
-        get_or_from_slice_get (cut_queues (w.m.inputs ++ w.m.cores) w.r.layout.now.cuts.items) l (held_at w.m c.queue) [] (slice_get-mapped (λ (d : Cut). held_at w.m d.queue) w.r.layout.now.cuts.items l c stands) in (
+        get_or_from_slice_get (cut_queues (w.m.inputs ++ w.m.cores) w.r.layout.now.cuts.items) l (held_at w.m c.queue) []
+        (slice_get-mapped (λ (d : Cut). held_at w.m d.queue) w.r.layout.now.cuts.items l c stands) in (
           is.0,
           is.1,
           subst (λ (x : List McCopy). IsUp w.m.setup.capacity (w.turns + 1) x is.0) queue

@@ -5,8 +5,7 @@ use Rattle.std.proofs.lemmas.Option.{slice_get-get_or, same_Some}
 use Rattle.spin_base.proofs.Places.{both_none, slice_get_there}
 use Rattle.spin_base.specs.declared.copies.McCopy.{McCopy}
 use Rattle.chip_node.specs.Items.{sent_by, sent_in}
-use Rattle.mesh_run.specs.declared.homes.Home.{Home}
-use Rattle.mesh_run.specs.declared.shares.Share.{Share}
+use Rattle.mesh_run.specs.declared.{homes.Home.Home, shares.Share.Share}
 use Rattle.mesh_run.specs.Played.{vertex_place}
 use Rattle.mesh_run.specs.Split.{unsent_at, unsent_in}
 use Rattle.mesh_run.proofs.EachQueue.{home_below}

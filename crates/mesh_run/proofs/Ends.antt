@@ -1,14 +1,10 @@
 -- Which queue is behind which output: each queue has at most one output that leads to it.
 use Rattle.std.proofs.Common.{◌≡◌, ℕ, Bool, true, false, Option, Some, None, refl, ap, sym, ◌∙◌}
 use Rattle.std.specs.List.{slice_get}
-use Rattle.spin_base.specs.declared.chips.Chip.{Chip}
-use Rattle.spin_base.specs.declared.chips.Spot.{Spot}
-use Rattle.spin_base.specs.declared.chips.Dir.{Dir}
-use Rattle.spin_base.specs.declared.chips.Port.TheVariants.{Link as ByLink}
+use Rattle.spin_base.specs.declared.chips.{Chip.Chip, Spot.Spot, Dir.Dir, Port.TheVariants.Link as ByLink}
 use Rattle.spin_base.specs.declared.routes.Out.{Out}
 use Rattle.spin_base.specs.declared.routes.Out.TheVariants.{Link, Core}
-use Rattle.spin_base.specs.Links.{opposite_of}
-use Rattle.spin_base.specs.Outputs.{out_of}
+use Rattle.spin_base.specs.{Links.opposite_of, Outputs.out_of}
 use Rattle.machine_desc.specs.Live.{far_of, is_live_link, IsInside, IsLiveLink}
 use Rattle.machine_desc.proofs.Far.{far_inside, far_back, live_ends, opposite_of-opposite}
 use Rattle.mesh_core.specs.State.{Setup, input, core, nowhere, behind, behind_link, core_queue_of, queue_at, vertex_behind}

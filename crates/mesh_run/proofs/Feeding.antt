@@ -2,22 +2,16 @@
 use Rattle.std.proofs.Common.{◌≡◌, ℕ, ◌<◌, Bool, true, false, length, Option, Some, None, refl, ap, sym, ◌∙◌, arith}
 use Rattle.std.specs.List.{slice_get}
 use Rattle.std.proofs.lemmas.Option.{slice_get_within, none-some, same_Some}
-use Rattle.spin_base.specs.declared.chips.Chip.{Chip}
-use Rattle.spin_base.specs.declared.chips.Spot.{Spot}
-use Rattle.spin_base.specs.declared.chips.Dir.{Dir}
-use Rattle.spin_base.specs.declared.chips.Port.{Port}
+use Rattle.spin_base.specs.declared.chips.{Chip.Chip, Spot.Spot, Dir.Dir, Port.Port}
 use Rattle.spin_base.specs.declared.chips.Port.TheVariants.{Link as ByLink, Local}
 use Rattle.spin_base.specs.declared.routes.Out.{Out}
 use Rattle.spin_base.specs.declared.routes.Out.TheVariants.{Link, Core}
-use Rattle.spin_base.specs.Links.{opposite_of}
-use Rattle.spin_base.specs.Outputs.{out_of}
+use Rattle.spin_base.specs.{Links.opposite_of, Outputs.out_of}
 use Rattle.spin_base.proofs.Equality.{link_is_not_local}
 use Rattle.machine_desc.specs.Live.{far_of, is_live_link, IsInside}
 use Rattle.machine_desc.proofs.Far.{far_inside, far_back, live_ends, opposite_of-opposite}
 use Rattle.mesh_core.specs.State.{Setup, behind_link, core_queue_of, queue_at, vertex_behind}
-use Rattle.mesh_core.proofs.Changes.{queue_at-below}
-use Rattle.mesh_core.proofs.Keeping.{same_queue}
-use Rattle.mesh_core.proofs.Ways.{vertex_behind_stands}
+use Rattle.mesh_core.proofs.{Changes.queue_at-below, Keeping.same_queue, Ways.vertex_behind_stands}
 use Rattle.mesh_run.specs.Played.{queue_place_of, place_behind, vertex_place}
 
 -- Where an output leads: by a link to the port at the far end, or to a vertex on a spot of the chip.

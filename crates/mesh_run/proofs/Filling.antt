@@ -5,15 +5,9 @@ use Rattle.std.proofs.lemmas.Bool.{cases_eq, cond_both}
 use Rattle.std.proofs.lemmas.List.{length-append, map-append}
 use Rattle.std.proofs.lemmas.List.Elements.{All-head, All-tail}
 use Rattle.spin_base.proofs.Counts.{count_by-append, count_by-map}
-use Rattle.spin_base.proofs.Equality.{out_eq_same}
-use Rattle.spin_base.proofs.Once.{outs_once}
-use Rattle.spin_base.specs.declared.chips.Chip.{Chip}
-use Rattle.spin_base.specs.declared.chips.Port.{Port}
-use Rattle.spin_base.specs.declared.routes.Out.{Out}
-use Rattle.spin_base.specs.declared.copies.McCopy.{McCopy}
-use Rattle.spin_base.specs.Equality.{out_eq}
-use Rattle.spin_base.specs.Hops.{last_hop}
-use Rattle.spin_base.specs.Lookup.{lookup}
+use Rattle.spin_base.proofs.{Equality.out_eq_same, Once.outs_once}
+use Rattle.spin_base.specs.declared.{chips.Chip.Chip, chips.Port.Port, routes.Out.Out, copies.McCopy.McCopy}
+use Rattle.spin_base.specs.{Equality.out_eq, Hops.last_hop, Lookup.lookup}
 use Rattle.spin_base.specs.Outputs.{has, outs_of, IsOutput}
 use Rattle.machine_desc.specs.Live.{chip_of, index_of}
 use Rattle.machine_desc.specs.RightTables.{table_at}
@@ -21,8 +15,7 @@ use Rattle.machine_desc.proofs.Far.{live_inside}
 use Rattle.chip_node.specs.declared.ends.Served.{Served}
 use Rattle.chip_node.specs.declared.ends.Served.TheVariants.{Sent, Dumped}
 use Rattle.chip_node.specs.Items.{Item, Service, took, served, sent, got, brought, entered, entered_by, injection_place, sending_of, service_of, services, takings}
-use Rattle.mesh_core.specs.State.{Setup}
-use Rattle.mesh_core.specs.Step.{outputs}
+use Rattle.mesh_core.specs.{State.Setup, Step.outputs}
 use Rattle.mesh_run.specs.Played.{owed_on, place_behind, AreTurns, IsDoneOn, IsLiveIndex}
 use Rattle.mesh_run.proofs.Apart.{elsewhere, here, no_injection, not_there, one_output}
 
@@ -109,7 +102,8 @@ module _ (u : Setup) where
   served_there i o q live behind (served j c (Some p) s) done = elim (cases_eq p q) [
     | inl same ↦
         let place : place_behind u (chip_of u.machine j) s.out ≡ Some q = ap (λ (e : Chip). place_behind u e s.out) (sym done.1) ∙ (sym done.2 ∙ ap Some same) in
-        let one = one_output u (chip_of u.machine j) (chip_of u.machine i) s.out o q (live_inside u.machine (chip_of u.machine j) done.0.live) (live_inside u.machine (chip_of u.machine i) live.live) place behind in
+        let one = one_output u (chip_of u.machine j) (chip_of u.machine i) s.out o q (live_inside u.machine (chip_of u.machine j) done.0.live)
+        (live_inside u.machine (chip_of u.machine i) live.live) place behind in
         let index : j ≡ i = sym done.0.is ∙ (ap (index_of u.machine) one.0 ∙ live.is) in
         let service : service_of i (served j c (Some p) s) ≡ s ∷ [] = here j i (s ∷ []) index in
         let counted : count_by (by o) (map told (s ∷ [])) ≡ 1 = ap (λ (b : Bool). 0 + one_if b) (subst (λ (e : Out). out_eq o e ≡ true) (sym one.1) (out_eq_same o)) in

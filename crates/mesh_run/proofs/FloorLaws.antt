@@ -1,14 +1,13 @@
 -- Floors chip by chip: the vertices on a chip, the queues behind its outputs, and that there are few vertices.
-use Rattle.std.proofs.Common.{◌≡◌, ◌≢◌, ℕ, ◌+◌, ◌*◌, ◌<◌, ◌≤◌, List, [], ◌∷◌, ◌++◌, map, length, get_or, Option, Some, None, refl, sym, ap, ◌∙◌, subst, arith, suc, append_assoc, length-append, inl, inr}
+use Rattle.std.proofs.Common.{◌≡◌, ◌≢◌, ℕ, ◌+◌, ◌*◌, ◌<◌, ◌≤◌, List, [], ◌∷◌, ◌++◌, map, length, get_or, Option, Some}
+use Rattle.std.proofs.Common.{None, refl, sym, ap, ◌∙◌, subst, arith, suc, append_assoc, length-append, inl, inr}
 use Rattle.std.specs.List.{All, AllPairs, slice_get}
 use Rattle.std.specs.Option.{option_to_list}
 use Rattle.std.proofs.lemmas.Bool.{cases_eq, cases_lt}
 use Rattle.std.proofs.lemmas.Option.{get_or_from_slice_get, none-some, slice_get_within}
 use Rattle.std.proofs.lemmas.List.{get_or-map, length-map, length_push}
 use Rattle.std.proofs.Math.Nat.{mul-le-mul_left}
-use Rattle.spin_base.specs.declared.chips.Chip.{Chip}
-use Rattle.spin_base.specs.declared.chips.Spot.{Spot}
-use Rattle.spin_base.specs.declared.routes.Out.{Out}
+use Rattle.spin_base.specs.declared.{chips.Chip.Chip, chips.Spot.Spot, routes.Out.Out}
 use Rattle.spin_base.specs.Outputs.{out_number, IsOutput}
 use Rattle.spin_base.proofs.Members.{Among, Contains-at, among_contains, among_either, among_left, among_only, among_right, contains_among}
 use Rattle.spin_base.proofs.Places.{All-at, slice_get_there, slice_get-append_left, slice_get-push_cases, slice_get-pushed}
@@ -17,13 +16,11 @@ use Rattle.machine_desc.specs.Description.{Description, HasSize}
 use Rattle.machine_desc.specs.Live.{chip_of, IsSite}
 use Rattle.machine_desc.specs.NetsOn.{vertex_at}
 use Rattle.machine_desc.proofs.Branches.{length_le_from_apart}
-use Rattle.mesh_core.specs.State.{Setup}
-use Rattle.mesh_core.specs.VertexTable.{spot_place}
+use Rattle.mesh_core.specs.{State.Setup, VertexTable.spot_place}
 use Rattle.mesh_core.proofs.VertexTableLaws.{same_spot_place, site_inside, spot_place-below}
 use Rattle.mesh_core.proofs.Ways.{vertex_at_stands, vertex_there}
 use Rattle.chip_node.specs.Acting.{place_in}
-use Rattle.chip_node.specs.declared.nodes.Behind.{Behind}
-use Rattle.chip_node.specs.declared.nodes.CoreBank.{CoreBank}
+use Rattle.chip_node.specs.declared.nodes.{Behind.Behind, CoreBank.CoreBank}
 use Rattle.mesh_run.specs.declared.floors.Floor.{Floor}
 use Rattle.mesh_run.specs.Floors.{AddsBehind, AreVerticesOn, AreVerticesOf, IsBankOf, IsFloorOf, IsFloorSoFar, grid_size, live_one, place_of_slot}
 use Rattle.mesh_run.specs.Played.{place_behind, port_count, IsVertexOn}
@@ -134,7 +131,8 @@ module _ (u : Setup) (i : ℕ) where
       | inl same ↦
           let t : Spot = record { chip = chip_of u.machine i; core = n } in
           let is_t : spot ≡ t = spot_is spot (chip_of u.machine i) n here same in
-          among_contains v new (subst (λ (l : List ℕ). Among v l) (sym is) (among_right v old (w ∷ []) (inl (one_place u.spots t v w differ (stands ∙ ap Some is_t) (vertex_at_stands u.spots t w found)))))
+          among_contains v new (subst (λ (l : List ℕ). Among v l) (sym is)
+          (among_right v old (w ∷ []) (inl (one_place u.spots t v w differ (stands ∙ ap Some is_t) (vertex_at_stands u.spots t w found)))))
       | inr other ↦ among_contains v new (subst (λ (l : List ℕ). Among v l) (sym is) (among_left v old (w ∷ []) (contains_among v old (so_far.all v spot stands here (omega (arith, below, other))))))
     ];
   }
@@ -164,8 +162,8 @@ behind_none u c list = record { more = []; are = sym (nil list); long = refl; pl
     nil [] = refl
     nil (x ∷ xs) = ap (λ l. x ∷ l) (nil xs)
 
-pub behind_more : (u : Setup) (c : Chip) (n : ℕ) (before now new : List (Option Behind)) (b : Option Behind) (o : Out) → AddsBehind u c n before now → new ≡ now ++ b ∷ [] → IsOutput o → out_number o ≡ n →
-    place_of_slot b ≡ place_behind u c o → AddsBehind u c (n + 1) before new
+pub behind_more : (u : Setup) (c : Chip) (n : ℕ) (before now new : List (Option Behind)) (b : Option Behind) (o : Out) → AddsBehind u c n before now → new ≡ now ++ b ∷ [] → IsOutput o →
+    out_number o ≡ n → place_of_slot b ≡ place_behind u c o → AddsBehind u c (n + 1) before new
 behind_more u c n before now new b o so_far is output number place = record {
   more = so_far.more ++ b ∷ [];
   are = is ∙ (ap (λ l. l ++ b ∷ []) so_far.are ∙ append_assoc before so_far.more (b ∷ []));

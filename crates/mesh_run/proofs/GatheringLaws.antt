@@ -3,8 +3,7 @@ use Rattle.std.proofs.Common.{◌≡◌, Bool, ℕ, ◌+◌, ◌≤◌, List, �
 use Rattle.std.specs.List.{flat_map, list_any, sum_by}
 use Rattle.std.proofs.lemmas.Option.{get_or_from_slice_get, slice_get_within}
 use Rattle.std.proofs.lemmas.List.{take_all}
-use Rattle.mesh_run.specs.declared.gathering.MeshLogs.{MeshLogs}
-use Rattle.mesh_run.specs.declared.shares.Share.{Share}
+use Rattle.mesh_run.specs.declared.{gathering.MeshLogs.MeshLogs, shares.Share.Share}
 use Rattle.mesh_run.specs.Gathering.{AreEmptied, IsAnyMoved, IsEmptied}
 use Rattle.mesh_run.proofs.Going.{GoneTo, gone_all}
 

@@ -1,5 +1,6 @@
 -- Runs of actors, the numbers of their shares, homes of queues, and cuts.
-use Rattle.std.proofs.Common.{◌≡◌, ◌≢◌, ◌⊎◌, ℕ, ◌+◌, ◌*◌, ◌<◌, ◌≤◌, List, [], ◌∷◌, ◌++◌, replicate, length, get_or, set, Option, Some, None, refl, sym, ap, ◌∙◌, subst, arith, suc, zero, length-append, inl, inr}
+use Rattle.std.proofs.Common.{◌≡◌, ◌≢◌, ◌⊎◌, ℕ, ◌+◌, ◌*◌, ◌<◌, ◌≤◌, List, [], ◌∷◌, ◌++◌, replicate, length, get_or, set}
+use Rattle.std.proofs.Common.{Option, Some, None, refl, sym, ap, ◌∙◌, subst, arith, suc, zero, length-append, inl, inr}
 use Rattle.std.specs.List.{All, slice_get}
 use Rattle.std.proofs.lemmas.Bool.{cases_eq, cases_lt}
 use Rattle.std.proofs.lemmas.Option.{none-some, same_Some, slice_get_within, slice_get-get_or}
@@ -14,8 +15,7 @@ use Rattle.machine_desc.proofs.Far.{live_inside, index_below}
 use Rattle.machine_desc.proofs.Live.{chip_of-inside, index_of-chip_of}
 use Rattle.mesh_core.specs.State.{Setup}
 use Rattle.chip_node.specs.Items.{injection_place}
-use Rattle.mesh_run.specs.declared.homes.Cut.{Cut}
-use Rattle.mesh_run.specs.declared.homes.Home.{Home}
+use Rattle.mesh_run.specs.declared.homes.{Cut.Cut, Home.Home}
 use Rattle.mesh_run.specs.Floors.{grid_size}
 use Rattle.mesh_run.specs.Homes.{AreCutsOf, AreHomesOf, AreHomesTo, AreShareRuns, HaveSenders, IsBefore, IsInTable, IsShareTable, MayCut, MayGrow, SetsSender, homes_of_ports, run_start}
 use Rattle.mesh_run.specs.Played.{IsLiveIndex, place_behind}
@@ -156,8 +156,8 @@ homes_none table homes none = subst (AreHomesTo table 0 0) (sym none) (record {
   banks = λ i k h below. absurd (omega (arith, below));
 })
 
-pub ports_more : (table : List ℕ) (n router bank : ℕ) (homes new : List Home) → AreHomesTo table n 0 homes → slice_get table (router_place n) ≡ Some router → slice_get table (bank_place n) ≡ Some bank →
-    new ≡ homes ++ homes_of_ports router bank → AreHomesTo table (n + 1) 0 new
+pub ports_more : (table : List ℕ) (n router bank : ℕ) (homes new : List Home) → AreHomesTo table n 0 homes → slice_get table (router_place n) ≡ Some router →
+    slice_get table (bank_place n) ≡ Some bank → new ≡ homes ++ homes_of_ports router bank → AreHomesTo table (n + 1) 0 new
 ports_more table n router bank homes new so_far at_router at_bank is = subst (AreHomesTo table (n + 1) 0) (sym is) (
     let long = so_far.long in
     let added = length-append homes (homes_of_ports router bank) in
@@ -165,7 +165,8 @@ ports_more table n router bank homes new so_far at_router at_bank is = subst (Ar
     let other : IsInTable table (record { sender = bank; receiver = router }) = record { sender_at = bank_place n; sender = at_bank; receiver_at = router_place n; receiver = at_router } in
     record {
       long = omega (arith, long, added);
-      listed = All-append (IsInTable table) homes (homes_of_ports router bank) so_far.listed (All-append (IsInTable table) (replicate 6 (record { sender = router; receiver = router })) (record { sender = bank; receiver = router } ∷ [])
+      listed = All-append (IsInTable table) homes (homes_of_ports router bank) so_far.listed (All-append (IsInTable table) (replicate 6 (record { sender = router; receiver = router }))
+          (record { sender = bank; receiver = router } ∷ [])
           (All-append (IsInTable table) (replicate 3 (record { sender = router; receiver = router })) (replicate 3 (record { sender = router; receiver = router })) (three one) (three one))
           (All-push (IsInTable table) [] (record { sender = bank; receiver = router }) (All-nil (IsInTable table)) other));
       banks = λ i k h below at_k at_h. elim (cases_eq i n) [
@@ -184,7 +185,8 @@ ports_more table n router bank homes new so_far at_router at_bank is = subst (Ar
     three : {h : Home} → IsInTable table h → All (IsInTable table) (replicate 3 h)
     three {h} one = All-push (IsInTable table) (h ∷ (h ∷ [])) h (All-push (IsInTable table) (h ∷ []) h (All-push (IsInTable table) [] h (All-nil (IsInTable table)) one) one) one
 
-pub vertex_more : (table : List ℕ) (chips m : ℕ) (home : Home) (homes new : List Home) → AreHomesTo table chips m homes → IsInTable table home → new ≡ homes ++ home ∷ [] → AreHomesTo table chips (m + 1) new
+pub vertex_more : (table : List ℕ) (chips m : ℕ) (home : Home) (homes new : List Home) → AreHomesTo table chips m homes → IsInTable table home → new ≡ homes ++ home ∷ [] →
+    AreHomesTo table chips (m + 1) new
 vertex_more table chips m home homes new so_far listed is = subst (AreHomesTo table chips (m + 1)) (sym is) (
     let long = so_far.long in
     record {
@@ -201,7 +203,8 @@ pub same_chip : (u : Setup) (i j : ℕ) → IsLiveIndex u i → IsLiveIndex u j 
 same_chip u i j first second same = sym first.is ∙ (ap (index_of u.machine) same ∙ second.is)
 
 -- an output more
-pub senders_more : (u : Setup) (table : List ℕ) (n m sender : ℕ) (place : Option ℕ) (p : Out) (homes new : List Home) → HaveSenders u table n m homes → IsLiveIndex u n → n < grid_size u → IsOutput p → out_number p ≡ m →
+pub senders_more : (u : Setup) (table : List ℕ) (n m sender : ℕ) (place : Option ℕ) (p : Out) (homes new : List Home) → HaveSenders u table n m homes → IsLiveIndex u n → n < grid_size u →
+    IsOutput p → out_number p ≡ m →
     place ≡ place_behind u (chip_of u.machine n) p → slice_get table (router_place n) ≡ Some sender → SetsSender place sender homes new → HaveSenders u table n (m + 1) new
 senders_more u table n m sender place p homes new so_far live below_n output number is_place at_sender sets = record {
   homes_are = record {
@@ -288,7 +291,8 @@ homes_all u table n homes past so_far = record {
   long = so_far.homes_are.long;
   routers = λ i o q k h on out. let below = live_below u i on in so_far.routers i o q k h (inl (omega (arith, below, past))) on out;
   banks = λ i k h on. so_far.homes_are.banks i k h (live_below u i on);
-  below = λ q h n at all. let listed = All-at (IsInTable table) homes q h so_far.homes_are.listed at in (all listed.sender_at h.sender listed.sender, all listed.receiver_at h.receiver listed.receiver);
+  below = λ q h n at all.
+      let listed = All-at (IsInTable table) homes q h so_far.homes_are.listed at in (all listed.sender_at h.sender listed.sender, all listed.receiver_at h.receiver listed.receiver);
 }
 
 pub sets_none : (sender : ℕ) (homes : List Home) → SetsSender None sender homes homes
@@ -311,7 +315,8 @@ sets_one place sender homes old stands = record {
 }
   where
     is : (q : ℕ) (h : Home) → place ≡ q → slice_get (set homes place (record old { sender = sender })) q ≡ Some h → record old { sender = sender } ≡ h
-    is q h same at = same_Some (record old { sender = sender }) h (sym (slice_get-set_same homes place old (record old { sender = sender }) stands) ∙ (ap (slice_get (set homes place (record old { sender = sender }))) same ∙ at))
+    is q h same at = same_Some (record old { sender = sender }) h (sym (slice_get-set_same homes place old (record old { sender = sender }) stands)
+        ∙ (ap (slice_get (set homes place (record old { sender = sender }))) same ∙ at))
 
 -- ---- cuts
 

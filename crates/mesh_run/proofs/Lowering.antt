@@ -9,13 +9,10 @@ use Rattle.spin_base.specs.declared.copies.McCopy.{McCopy}
 use Rattle.link_queue.specs.declared.links.LinkEnds.{LinkEnds}
 use Rattle.link_queue.specs.Ends.{sending}
 use Rattle.mesh_core.specs.State.{IsMesh, State}
-use Rattle.mesh_run.specs.declared.homes.Cut.{Cut}
-use Rattle.mesh_run.specs.declared.homes.Home.{Home}
-use Rattle.mesh_run.specs.declared.raised.RaisedMesh.{RaisedMesh}
+use Rattle.mesh_run.specs.declared.{homes.Cut.Cut, homes.Home.Home, raised.RaisedMesh.RaisedMesh}
 use Rattle.mesh_run.specs.Played.{port_count}
 use Rattle.mesh_run.specs.Queues.{AreEnds, AreUp, DownTo, IsDown, IsUp}
-use Rattle.mesh_run.specs.Raised.{IsRaisedFrom}
-use Rattle.mesh_run.specs.Split.{cut_queues}
+use Rattle.mesh_run.specs.{Raised.IsRaisedFrom, Split.cut_queues}
 use Rattle.mesh_run.specs.Splitting.{FitHomes, HoldVertices, MovesOut, SameButCopies, SetsQueue}
 use Rattle.mesh_run.proofs.Holding.{both_same, first_same, rest_same}
 use Rattle.mesh_run.proofs.SplitLaws.{default_at, same_state, state_on}
@@ -42,7 +39,8 @@ fits_raised m more r mesh raised =
           omega (arith, here, unsent, unsent_long);
     }
   where
-    both : (i : ℕ) (d : Home) → i < length r.layout.now.homes.items → ((get_or r.layout.now.homes.items i d).sender < length r.shares.items) × ((get_or r.layout.now.homes.items i d).receiver < length r.shares.items)
+    both : (i : ℕ) (d : Home) → i < length r.layout.now.homes.items →
+        ((get_or r.layout.now.homes.items i d).sender < length r.shares.items) × ((get_or r.layout.now.homes.items i d).receiver < length r.shares.items)
     both i d below =
         raised.shared.homes_are.below i (get_or r.layout.now.homes.items i d) (length r.shares.items) (slice_get-get_or r.layout.now.homes.items i d below)
         (λ a k at. subst (λ (n : ℕ). k < n) (sym raised.shared.long) (raised.shared.numbers.below a k at))
@@ -67,8 +65,8 @@ pub same_queue : (cap more : ℕ) (queue after : List McCopy) (e : LinkEnds) →
 same_queue cap more queue after e up down =
     ap (λ l. l ++ after) (sym up.rx_new.took) ∙ (sym down.all ∙ (ap (λ l. l ++ (sending e.tx).sent) up.tx_new.first ∙ (ap (λ l. queue ++ l) up.tx_new.sent ∙ none_behind queue)))
 
-pub down_at : (m : State) (more : ℕ) (r : RaisedMesh) (down : List (List McCopy)) → (raised : IsRaisedFrom m more r) → DownTo raised.ends down → (l : ℕ) (c : Cut) → slice_get r.layout.now.cuts.items l ≡ Some c →
-    get_or down l [] ≡ get_or (m.inputs ++ m.cores) c.queue []
+pub down_at : (m : State) (more : ℕ) (r : RaisedMesh) (down : List (List McCopy)) → (raised : IsRaisedFrom m more r) → DownTo raised.ends down → (l : ℕ) (c : Cut) →
+    slice_get r.layout.now.cuts.items l ≡ Some c → get_or down l [] ≡ get_or (m.inputs ++ m.cores) c.queue []
 down_at m more r down raised are l c at =
     let queues : List (List McCopy) = cut_queues (m.inputs ++ m.cores) r.layout.now.cuts.items in
     let below = slice_get_within r.layout.now.cuts.items l c at in
@@ -76,8 +74,10 @@ down_at m more r down raised are l c at =
     let long = raised.up.long in
     let e = slice_get_there raised.ends l (omega (arith, below, mapped, long)) in
     let queue : get_or queues l [] ≡ get_or (m.inputs ++ m.cores) c.queue [] =
-    get_or-map (λ (d : Cut). get_or (m.inputs ++ m.cores) d.queue []) r.layout.now.cuts.items l c [] below ∙ ap (λ (d : Cut). get_or (m.inputs ++ m.cores) d.queue []) (get_or_from_slice_get r.layout.now.cuts.items l c c at) in
-    same_queue m.setup.capacity more (get_or queues l []) (get_or down l []) (get_or raised.ends l e.0) (raised.up.each l [] e.0 (omega (arith, below, mapped))) (are l e.0 [] (omega (arith, below, mapped, long))) ∙ queue
+    get_or-map (λ (d : Cut). get_or (m.inputs ++ m.cores) d.queue []) r.layout.now.cuts.items l c [] below
+    ∙ ap (λ (d : Cut). get_or (m.inputs ++ m.cores) d.queue []) (get_or_from_slice_get r.layout.now.cuts.items l c c at) in
+    same_queue m.setup.capacity more (get_or queues l []) (get_or down l []) (get_or raised.ends l e.0) (raised.up.each l [] e.0 (omega (arith, below, mapped)))
+    (are l e.0 [] (omega (arith, below, mapped, long))) ∙ queue
 
 -- ---- links' queues put back one after the other
 
@@ -104,8 +104,10 @@ cuts_none mid cuts down = record {
 abbrev pub AreOfOneCut : List Cut → Type 0
 AreOfOneCut cuts = (k l : ℕ) (a b : Cut) → slice_get cuts k ≡ Some a → slice_get cuts l ≡ Some b → a.queue ≡ b.queue → k ≡ l
 
-pub cuts_more : (mid : State) (cuts : List Cut) (down : List (List McCopy)) (n : ℕ) (now next : State) (left new : List (List McCopy)) (c : Cut) (copies gone : List McCopy) → AreOfOneCut cuts → QueuesBackTo mid cuts down n now left →
-    slice_get cuts n ≡ Some c → c.queue < length now.inputs + length now.cores → copies ≡ get_or left n [] → SetsQueue c.queue copies now next → new ≡ set left n gone → QueuesBackTo mid cuts down (n + 1) next new
+pub cuts_more : (mid : State) (cuts : List Cut) (down : List (List McCopy)) (n : ℕ) (now next : State) (left new : List (List McCopy)) (c : Cut) (copies gone : List McCopy) →
+    AreOfOneCut cuts → QueuesBackTo mid cuts down n now left →
+    slice_get cuts n ≡ Some c → c.queue < length now.inputs + length now.cores → copies ≡ get_or left n [] → SetsQueue c.queue copies now next → new ≡ set left n gone →
+    QueuesBackTo mid cuts down (n + 1) next new
 cuts_more mid cuts down n now next left new c copies gone apart so_far at below read sets is = record {
   same = state_on mid now next so_far.same sets.same;
   unsent = sets.unsent ∙ so_far.unsent;
@@ -128,8 +130,8 @@ pub cut_at : (cuts : List Cut) (n : ℕ) (c : Cut) → n < length cuts → c ≡
 cut_at cuts n c below read = slice_get-get_or cuts n c below ∙ ap Some (sym read)
 
 -- the queue of the next cut is there
-pub cut_inside : (m : State) (more n : ℕ) (r : RaisedMesh) (mid now : State) (down left : List (List McCopy)) (c : Cut) → IsMesh m → IsRaisedFrom m more r → SameButCopies r.parts mid → QueuesBackTo mid r.layout.now.cuts.items down n now left →
-    slice_get r.layout.now.cuts.items n ≡ Some c → c.queue < length now.inputs + length now.cores
+pub cut_inside : (m : State) (more n : ℕ) (r : RaisedMesh) (mid now : State) (down left : List (List McCopy)) (c : Cut) → IsMesh m → IsRaisedFrom m more r → SameButCopies r.parts mid →
+    QueuesBackTo mid r.layout.now.cuts.items down n now left → slice_get r.layout.now.cuts.items n ≡ Some c → c.queue < length now.inputs + length now.cores
 cut_inside m more n r mid now down left c mesh raised same so_far at =
     let below = slice_get_within r.layout.now.homes.items c.queue (record { sender = c.sender; receiver = c.receiver }) (raised.shared.cut n c at).0 in
     let inputs : length now.inputs ≡ length m.inputs = so_far.same.inputs_long ∙ (same.inputs_long ∙ raised.inputs_long) in
@@ -159,9 +161,10 @@ equal_states s t setup unsent inputs hands cores delivered dumped = λ i. record
 }
 
 -- all that was split stands again where it stood
-pub lowered : (m : State) (more n : ℕ) (r : RaisedMesh) (mid now back : State) (down left : List (List McCopy)) → IsMesh m → (raised : IsRaisedFrom m more r) → MovesOut r.layout.now.homes.items r.shares.items r.parts mid → DownTo raised.ends down →
-    QueuesBackTo mid r.layout.now.cuts.items down n now left → length r.layout.now.cuts.items ≤ n →
-    back.setup ≡ now.setup → back.unsent ≡ now.unsent → back.inputs ≡ now.inputs → back.hands ≡ now.hands → back.cores ≡ now.cores → back.delivered ≡ r.logs.delivered.items → back.dumped ≡ r.logs.dumped.items → back ≡ m
+pub lowered : (m : State) (more n : ℕ) (r : RaisedMesh) (mid now back : State) (down left : List (List McCopy)) → IsMesh m → (raised : IsRaisedFrom m more r) →
+    MovesOut r.layout.now.homes.items r.shares.items r.parts mid → DownTo raised.ends down → QueuesBackTo mid r.layout.now.cuts.items down n now left → length r.layout.now.cuts.items ≤ n →
+    back.setup ≡ now.setup → back.unsent ≡ now.unsent → back.inputs ≡ now.inputs → back.hands ≡ now.hands → back.cores ≡ now.cores → back.delivered ≡ r.logs.delivered.items →
+    back.dumped ≡ r.logs.dumped.items → back ≡ m
 lowered m more n r mid now back down left mesh raised moves are so_far past setup unsent inputs hands cores delivered dumped =
     equal_states back m
     (setup ∙ (so_far.same.setup ∙ (moves.same.setup ∙ raised.setup)))
@@ -187,7 +190,8 @@ lowered m more n r mid now back down left mesh raised moves are so_far past setu
     uncut : (q : ℕ) (h : Home) → slice_get r.layout.now.homes.items q ≡ Some h → h.sender ≡ h.receiver → (l : ℕ) (c : Cut) → slice_get r.layout.now.cuts.items l ≡ Some c → c.queue ≢ q
     uncut q h at one l c stands here =
         let cut = raised.shared.cut l c stands in
-        let is : h ≡ record { sender = c.sender; receiver = c.receiver } = same_Some h (record { sender = c.sender; receiver = c.receiver }) (sym at ∙ (ap (slice_get r.layout.now.homes.items) (sym here) ∙ cut.0)) in
+        let is : h ≡ record { sender = c.sender; receiver = c.receiver } = same_Some h (record { sender = c.sender; receiver = c.receiver })
+        (sym at ∙ (ap (slice_get r.layout.now.homes.items) (sym here) ∙ cut.0)) in
         cut.1 (subst (λ (x : Home). x.sender ≡ x.receiver) is one)
 
     each : (q : ℕ) (h : Home) → slice_get r.layout.now.homes.items q ≡ Some h → get_or (now.inputs ++ now.cores) q [] ≡ get_or (m.inputs ++ m.cores) q []

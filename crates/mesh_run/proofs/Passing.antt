@@ -10,15 +10,11 @@ use Rattle.link_queue.specs.declared.links.LinkEnds.{LinkEnds}
 use Rattle.link_queue.specs.Ends.{cap_of, sending, taking}
 use Rattle.link_queue.specs.TheRule.{put_of, IsFullNote}
 use Rattle.link_queue.specs.Ups.{NoNotes}
-use Rattle.chip_node.specs.declared.ends.End.TheVariants.{Away}
-use Rattle.chip_node.specs.declared.ends.InEnd.{InEnd}
-use Rattle.chip_node.specs.declared.ends.OutEnd.{OutEnd}
+use Rattle.chip_node.specs.declared.ends.{End.TheVariants.Away, InEnd.InEnd, OutEnd.OutEnd}
 use Rattle.chip_node.specs.Going.{IsFullMoment}
 use Rattle.chip_node.specs.Items.{Item, entered, entered_by, left, left_by, lost_at, lost_by}
 use Rattle.mesh_run.specs.declared.shares.Share.{Share}
-use Rattle.mesh_run.specs.Played.{QueueGoes}
-use Rattle.mesh_run.specs.Queues.{IsDown}
-use Rattle.mesh_run.specs.Split.{end_at}
+use Rattle.mesh_run.specs.{Played.QueueGoes, Queues.IsDown, Split.end_at}
 use Rattle.mesh_run.proofs.Together.{LanePasses, PlayedParts, SenderPasses, TakerPasses, joined, none_passes, told_by_one}
 
 module _ (cap patience : ℕ) (before after : List Share) (parts : List (List Item)) (h : PlayedParts cap patience before after parts) where

@@ -10,9 +10,7 @@ use Rattle.spin_base.proofs.Places.{All-at}
 use Rattle.chip_node.specs.declared.ends.End.TheVariants.{Away}
 use Rattle.machine_desc.proofs.Branches.{length_le_from_apart}
 use Rattle.mesh_core.specs.State.{FitsQueue, IsMesh, Setup, State}
-use Rattle.mesh_run.specs.declared.homes.Cut.{Cut}
-use Rattle.mesh_run.specs.declared.homes.Home.{Home}
-use Rattle.mesh_run.specs.declared.shares.Share.{Share}
+use Rattle.mesh_run.specs.declared.{homes.Cut.Cut, homes.Home.Home, shares.Share.Share}
 use Rattle.mesh_run.specs.Floors.{grid_size}
 use Rattle.mesh_run.specs.Homes.{AreCutsOf, AreHomesOf, AreShareRuns, IsShareTable}
 use Rattle.mesh_run.specs.Split.{AreShared, cut_queues}
@@ -26,10 +24,12 @@ hand_at runs queues vertices shares k s nothing at = All-at (λ (x : Share). IsE
 ends_many : (runs : List ℕ) (queues vertices : ℕ) (shares : List Share) (k : ℕ) (s : Share) → HoldNothing runs queues vertices shares → slice_get shares k ≡ Some s → length s.hold.ends.items ≡ queues
 ends_many runs queues vertices shares k s nothing at = ap length (hand_at runs queues vertices shares k s nothing at).ends ∙ length-replicate queues Away
 
-unsent_many : (runs : List ℕ) (queues vertices : ℕ) (shares : List Share) (k : ℕ) (s : Share) → HoldNothing runs queues vertices shares → slice_get shares k ≡ Some s → length s.hold.unsent.items ≡ vertices
+unsent_many : (runs : List ℕ) (queues vertices : ℕ) (shares : List Share) (k : ℕ) (s : Share) → HoldNothing runs queues vertices shares → slice_get shares k ≡ Some s →
+    length s.hold.unsent.items ≡ vertices
 unsent_many runs queues vertices shares k s nothing at = ap length (hand_at runs queues vertices shares k s nothing at).unsent ∙ length-replicate vertices []
 
-pub plan_shared : (u : Setup) (ends table : List ℕ) (homes : List Home) (cuts : List Cut) (vertices : ℕ) (shares : List Share) → AreShareRuns (2 * grid_size u) ends → IsShareTable (2 * grid_size u) ends table → AreHomesOf u table homes → AreCutsOf homes cuts →
+pub plan_shared : (u : Setup) (ends table : List ℕ) (homes : List Home) (cuts : List Cut) (vertices : ℕ) (shares : List Share) → AreShareRuns (2 * grid_size u) ends →
+    IsShareTable (2 * grid_size u) ends table → AreHomesOf u table homes → AreCutsOf homes cuts →
     HoldNothing ends (length homes) vertices shares → vertices ≡ length u.spots → AreShared u homes cuts shares
 plan_shared u ends table homes cuts vertices shares runs numbers homes_are cuts_are nothing all = record {
   ends = ends;
@@ -47,7 +47,8 @@ plan_shared u ends table homes cuts vertices shares runs numbers homes_are cuts_
   apart = cuts_are.apart;
 }
 
-pub plan_fits : (m : State) (ends table : List ℕ) (homes : List Home) (shares : List Share) → IsMesh m → IsShareTable (2 * grid_size m.setup) ends table → AreHomesOf m.setup table homes → HoldNothing ends (length homes) (length m.unsent) shares → FitHomes m homes shares
+pub plan_fits : (m : State) (ends table : List ℕ) (homes : List Home) (shares : List Share) → IsMesh m → IsShareTable (2 * grid_size m.setup) ends table → AreHomesOf m.setup table homes →
+    HoldNothing ends (length homes) (length m.unsent) shares → FitHomes m homes shares
 plan_fits m ends table homes shares mesh numbers homes_are nothing =
     record {
       long = omega (arith, homes_are.long, mesh.input_lists, mesh.core_lists);
@@ -108,5 +109,6 @@ few_cuts u homes cuts shares shared =
     apart : (i j d : ℕ) → i < j → j < length (map (λ (c : Cut). c.queue) cuts) → get_or (map (λ (c : Cut). c.queue) cuts) i d ≢ get_or (map (λ (c : Cut). c.queue) cuts) j d
     apart i j d before low e =
         let low_i : i < length (map (λ (c : Cut). c.queue) cuts) = omega (arith, before, low) in
-        let same = shared.apart i j (get_or cuts i nothing) (get_or cuts j nothing) (slice_get-get_or cuts i nothing (in_cuts i low_i)) (slice_get-get_or cuts j nothing (in_cuts j low)) (sym (read i d low_i) ∙ (e ∙ read j d low)) in
+        let same = shared.apart i j (get_or cuts i nothing) (get_or cuts j nothing) (slice_get-get_or cuts i nothing (in_cuts i low_i)) (slice_get-get_or cuts j nothing (in_cuts j low))
+        (sym (read i d low_i) ∙ (e ∙ read j d low)) in
         omega (arith, before, same)

@@ -10,23 +10,15 @@ use Rattle.link_queue.specs.declared.links.LinkEnds.{LinkEnds}
 use Rattle.chip_node.specs.declared.ends.End.{End}
 use Rattle.chip_node.specs.declared.ends.End.TheVariants.{Away, Own}
 use Rattle.mesh_core.specs.State.{IsMesh, Setup, State}
-use Rattle.mesh_run.specs.declared.homes.Cut.{Cut}
-use Rattle.mesh_run.specs.declared.homes.Home.{Home}
-use Rattle.mesh_run.specs.declared.layout.Layout.{Layout}
-use Rattle.mesh_run.specs.declared.raised.RaisedMesh.{RaisedMesh}
-use Rattle.mesh_run.specs.declared.shares.Share.{Share}
-use Rattle.mesh_run.specs.Floors.{IsFloorOf}
-use Rattle.mesh_run.specs.Played.{port_count}
+use Rattle.mesh_run.specs.declared.{homes.Cut.Cut, homes.Home.Home, layout.Layout.Layout, raised.RaisedMesh.RaisedMesh, shares.Share.Share}
+use Rattle.mesh_run.specs.{Floors.IsFloorOf, Played.port_count}
 use Rattle.mesh_run.specs.Queues.{AreUp, StayUp, queue_of_link}
 use Rattle.mesh_run.specs.Raised.{IsRaisedFrom}
 use Rattle.mesh_run.specs.Rooms.{AreSameCopies, SameCopies, SameEnd}
 use Rattle.mesh_run.specs.Split.{AreShared, HaveNoLogs, HoldLanes, HoldUnsent, cut_queues, end_at, end_in, unsent_at, unsent_in}
 use Rattle.mesh_run.specs.Splitting.{AreSameRuns, HoldVertices, MovesIn}
 use Rattle.mesh_run.specs.Standing.{HoldsAll}
-use Rattle.mesh_run.proofs.BringingUp.{fewer_up}
-use Rattle.mesh_run.proofs.CrossingLaws.{end_there}
-use Rattle.mesh_run.proofs.Going.{GoneTo}
-use Rattle.mesh_run.proofs.RoomLaws.{copies_same}
+use Rattle.mesh_run.proofs.{BringingUp.fewer_up, CrossingLaws.end_there, Going.GoneTo, RoomLaws.copies_same}
 
 -- ---- the same runs
 
@@ -54,13 +46,16 @@ shared_still u homes cuts before after same shared = record {
 -- ---- a mesh moved in
 
 -- what vertices did not send, by the places that the setup tells
-pub unsent_held : (m : State) (homes : List Home) (shares : List Share) → length m.inputs ≡ port_count m.setup → HoldVertices (length m.inputs) m.unsent homes shares → HoldUnsent m.setup m.unsent homes shares
+pub unsent_held : (m : State) (homes : List Home) (shares : List Share) → length m.inputs ≡ port_count m.setup → HoldVertices (length m.inputs) m.unsent homes shares →
+    HoldUnsent m.setup m.unsent homes shares
 unsent_held m homes shares long held =
     let here = subst (λ (n : ℕ). HoldVertices n m.unsent homes shares) long held in
     record { here = here.here; nowhere_else = here.nowhere_else }
 
-pub raised_in : (m left : State) (more : ℕ) (start : List Share) (ends : List LinkEnds) (r : RaisedMesh) → IsMesh m → IsFloorOf m.setup r.layout.now.floor → AreShared m.setup r.layout.now.homes.items r.layout.now.cuts.items start → HoldsAll ends r.standing →
-    AreUp m.setup.capacity more (cut_queues (m.inputs ++ m.cores) r.layout.now.cuts.items) ends → length r.crossing.items ≡ length r.layout.now.cuts.items → MovesIn m r.layout.now.homes.items start left r.shares.items →
+pub raised_in : (m left : State) (more : ℕ) (start : List Share) (ends : List LinkEnds) (r : RaisedMesh) → IsMesh m → IsFloorOf m.setup r.layout.now.floor →
+    AreShared m.setup r.layout.now.homes.items r.layout.now.cuts.items start → HoldsAll ends r.standing →
+    AreUp m.setup.capacity more (cut_queues (m.inputs ++ m.cores) r.layout.now.cuts.items) ends → length r.crossing.items ≡ length r.layout.now.cuts.items →
+    MovesIn m r.layout.now.homes.items start left r.shares.items →
     r.parts.setup ≡ left.setup → r.parts.hands ≡ left.hands → r.parts.inputs ≡ left.inputs → r.parts.cores ≡ left.cores → r.parts.unsent ≡ left.unsent →
     r.logs.delivered.items ≡ left.delivered → r.logs.dumped.items ≡ left.dumped → IsRaisedFrom m 0 r
 raised_in m left more start ends r mesh floor shared holds up crossing moves setup hands inputs cores unsent delivered dumped = record {
@@ -128,7 +123,8 @@ unsent_same before after s v same = by (slice_get after s) refl
         ap (λ (z : Option Share). unsent_in z v) at ∙ (ap (λ l. get_or l.items v []) (same.1 s x.0 y x.1 at).unsent ∙ ap (λ (z : Option Share). unsent_in z v) (sym x.1))
     by None at = none_too (slice_get before s) at refl
 
-pub unsent_still : (u : Setup) (unsent : List (List McCopy)) (homes : List Home) (before after : List Share) → AreSameCopies before after → HoldUnsent u unsent homes before → HoldUnsent u unsent homes after
+pub unsent_still : (u : Setup) (unsent : List (List McCopy)) (homes : List Home) (before after : List Share) → AreSameCopies before after → HoldUnsent u unsent homes before →
+    HoldUnsent u unsent homes after
 unsent_still u unsent homes before after same held = record {
   here = λ v h at. unsent_same before after h.receiver v same ∙ held.here v h at;
   nowhere_else = λ v h s at other. unsent_same before after s v same ∙ held.nowhere_else v h s at other;
@@ -199,8 +195,8 @@ known_up m r cap raised is =
     (subst (λ (qs : List (List McCopy)). AreUp m.setup.capacity 0 qs raised.ends) (known_queues m.setup.capacity 0 queues raised.ends raised.up) raised.up)
 
 -- a split mesh of which the links have places for more copies, and the shares the same ones
-pub with_links : (m : State) (more less : ℕ) (r s : RaisedMesh) (cap : ℕ) → (raised : IsRaisedFrom m 0 r) → less ≤ more → cap ≡ r.parts.setup.capacity → StayUp cap more raised.ends s.standing → SameFrame r s →
-    AreSameCopies r.shares.items s.shares.items → IsRaisedFrom m less s
+pub with_links : (m : State) (more less : ℕ) (r s : RaisedMesh) (cap : ℕ) → (raised : IsRaisedFrom m 0 r) → less ≤ more → cap ≡ r.parts.setup.capacity →
+    StayUp cap more raised.ends s.standing → SameFrame r s → AreSameCopies r.shares.items s.shares.items → IsRaisedFrom m less s
 with_links m more less r s cap raised fewer is stay same copies =
     let queues : List (List McCopy) = cut_queues (m.inputs ++ m.cores) r.layout.now.cuts.items in
     let up = subst (λ (n : ℕ). AreUp n more (map queue_of_link raised.ends) stay.now) (is ∙ ap (λ (u : Setup). u.capacity) raised.setup) stay.up in

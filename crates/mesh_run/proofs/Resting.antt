@@ -1,5 +1,6 @@
 -- Links that rest or are widened, one after the other.
-use Rattle.std.proofs.Common.{◌≡◌, ℕ, ◌+◌, ◌-◌, ◌<◌, ◌≤◌, ◌&&◌, Bool, true, nat_eq, min, List, [], ◌++◌, length, map, take, get_or, set, Some, Result, Ok, Err, OnErr, refl, sym, ap, ap₂, ◌∙◌, subst, arith, inl, inr}
+use Rattle.std.proofs.Common.{◌≡◌, ℕ, ◌+◌, ◌-◌, ◌<◌, ◌≤◌, ◌&&◌, Bool, true, nat_eq, min, List, [], ◌++◌, length, map, take}
+use Rattle.std.proofs.Common.{get_or, set, Some, Result, Ok, Err, OnErr, refl, sym, ap, ap₂, ◌∙◌, subst, arith, inl, inr}
 use Rattle.std.specs.List.{All, list_all, slice_get}
 use Rattle.std.proofs.lemmas.Bool.{cases_Bool, cases_eq, cases_lt, eqb-true, cond-false}
 use Rattle.std.proofs.lemmas.List.{append-nil, length-set, length-map, map-set, take-set-le, take_all, get_or-map, get_or-set_same, get_or-set_other}
@@ -7,15 +8,10 @@ use Rattle.std.proofs.lemmas.List.Folds.{list_all_more}
 use Rattle.std.proofs.lemmas.Option.{get_or_from_slice_get, slice_get_within, same_Some}
 use Rattle.spin_base.proofs.Places.{All-at, slice_get_there, slice_get-set_same}
 use Rattle.spin_base.specs.declared.copies.McCopy.{McCopy}
-use Rattle.link_queue.specs.declared.links.LinkEnds.{LinkEnds}
-use Rattle.link_queue.specs.declared.known.Known.{Known}
-use Rattle.link_queue.specs.declared.links.Link.{Link}
-use Rattle.link_queue.specs.declared.links.Tx.{Tx}
-use Rattle.link_queue.specs.declared.links.Rx.{Rx}
+use Rattle.link_queue.specs.declared.{links.LinkEnds.LinkEnds, known.Known.Known, links.Link.Link, links.Tx.Tx, links.Rx.Rx}
 use Rattle.link_queue.specs.Ends.{IsTx, IsRx, cap_of, sending, taking}
 use Rattle.link_queue.specs.Ups.{NoNotes, Rests}
-use Rattle.mesh_run.specs.declared.queues.Rested.{Rested}
-use Rattle.mesh_run.specs.declared.standing.Standing.{Standing}
+use Rattle.mesh_run.specs.declared.{queues.Rested.Rested, standing.Standing.Standing}
 use Rattle.mesh_run.specs.Standing.{HoldsAll, LacksEnds}
 use Rattle.mesh_run.specs.Queues.{AreEnds, AreUp, HasPlaces, IsDown, IsUp, RestAll, RestsAt, StayUp, UpAt, WasUp, free_places_of, is_empty, places_for, queue_of_link}
 use Rattle.mesh_run.proofs.BringingUp.{fewer_fit, made_with}
@@ -57,15 +53,16 @@ next_link P back k s f below =
     }
 
 -- the same of the links that stood at first, as many as were counted
-module _ {P : LinkEnds → LinkEnds → Type 0} {back : List LinkEnds} {k count : ℕ} {s start : Standing} (f : SoFar P back k s) (holds : HoldsAll back start) (many : count ≡ length start.links.items) where
+module _ {P : LinkEnds → LinkEnds → Type 0} {back : List LinkEnds} {k count : ℕ} {s start : Standing} (f : SoFar P back k s) (holds : HoldsAll back start)
+    (many : count ≡ length start.links.items) where
   pub next_at : k < count → NextLink back f.now k
   next_at below = let all = as_many back start holds in next_link P back k s f (omega (arith, below, many, all))
 
   pub links_past : count ≤ k → length back ≤ k
   links_past past = let all = as_many back start holds in omega (arith, past, many, all)
 
-pub one_done : {P : LinkEnds → LinkEnds → Type 0} {back : List LinkEnds} {k : ℕ} {s t : Standing} (new : LinkEnds) → (f : SoFar P back k s) → (n : NextLink back f.now k) → P n.old new → HoldsAll (set f.now k new) t →
-    SoFar P back (k + 1) t
+pub one_done : {P : LinkEnds → LinkEnds → Type 0} {back : List LinkEnds} {k : ℕ} {s t : Standing} (new : LinkEnds) → (f : SoFar P back k s) → (n : NextLink back f.now k) → P n.old new →
+    HoldsAll (set f.now k new) t → SoFar P back (k + 1) t
 one_done {P} {back} {k} {s} {t} new f n is holds =
     let below = slice_get_within back k n.old n.was in
     let long = f.long in
@@ -130,7 +127,8 @@ none_rest cap back s free holds = record { so_far = none_done (RestsAs cap) back
 pub next_was : (P : LinkEnds → Type 0) {back now : List LinkEnds} {k : ℕ} → All P back → (n : NextLink back now k) → P n.old
 next_was P {back} {k = k} all n = All-at P back k n.old all n.was
 
-pub one_rests : {cap : ℕ} {back : List LinkEnds} {k : ℕ} {s t : Standing} {quiet more : Bool} {free less held places : ℕ} (f : RestSoFar cap back k s quiet free) → (n : NextLink back f.so_far.now k) → All (WasUp cap) back →
+pub one_rests : {cap : ℕ} {back : List LinkEnds} {k : ℕ} {s t : Standing} {quiet more : Bool} {free less held places : ℕ} (f : RestSoFar cap back k s quiet free) →
+    (n : NextLink back f.so_far.now k) → All (WasUp cap) back →
     (r : RestsAt f.so_far.now k n.old t held) → places ≡ cap_of r.now.link → less ≡ min free (free_places_of cap places held) → more ≡ (quiet && nat_eq held 0) → RestSoFar cap back (k + 1) t more less
 unfolding one_done rests_as
 one_rests {cap} {back} {k} {s} {t} {quiet} {more} {free} {less} {held} {places} f n were r places_are less_is more_is =
@@ -205,7 +203,8 @@ all_rest {cap} {back} {k} rested f past =
 abbrev pub StaysAs : ℕ → ℕ → LinkEnds → LinkEnds → Type 0
 StaysAs cap more old new = IsUp cap more (queue_of_link old) new
 
-pub stay_up : (cap more : ℕ) (back now : List LinkEnds) → length now ≡ length back → ((i : ℕ) (d e : LinkEnds) → i < length back → StaysAs cap more (get_or back i d) (get_or now i e)) → AreUp cap more (map queue_of_link back) now
+pub stay_up : (cap more : ℕ) (back now : List LinkEnds) → length now ≡ length back → ((i : ℕ) (d e : LinkEnds) → i < length back → StaysAs cap more (get_or back i d) (get_or now i e)) →
+    AreUp cap more (map queue_of_link back) now
 stay_up cap more back now long each =
     let mapped = length-map back queue_of_link in
     record {
@@ -272,8 +271,10 @@ kept_queue v w a b cap count queue tx rx r =
     ap (λ (l : List McCopy). l ++ r.held) (sym rx.took) ∙ (sym r.all ∙ (ap₂ (λ (x y : List McCopy). x ++ y) tx.first tx.sent ∙ append-nil queue))
 
 -- the link at a place rests, by what its ends tell
-pub rests_there : (ends es : List LinkEnds) (place : ℕ) (old o : LinkEnds) (s mid t : Standing) (link : Link) (tx sender : Tx) (rx receiver : Rx) (held : ℕ) → HoldsAll ends s → slice_get ends place ≡ Some old →
-    HoldsAll es s → slice_get es place ≡ Some o → AreEnds o → (tx ≡ old.tx) × (rx ≡ old.rx) → LacksEnds ends place mid → link ≡ get_or mid.links.items place link → IsTx link sender → IsRx link receiver →
+pub rests_there : (ends es : List LinkEnds) (place : ℕ) (old o : LinkEnds) (s mid t : Standing) (link : Link) (tx sender : Tx) (rx receiver : Rx) (held : ℕ) → HoldsAll ends s →
+    slice_get ends place ≡ Some old →
+    HoldsAll es s → slice_get es place ≡ Some o → AreEnds o → (tx ≡ old.tx) × (rx ≡ old.rx) → LacksEnds ends place mid → link ≡ get_or mid.links.items place link → IsTx link sender →
+    IsRx link receiver →
     Rests (cap_of link) (sending tx) (taking rx) (sending sender) (taking receiver) held → HoldsAll (set ends place (record old { tx = sender; rx = receiver })) t → RestsAt ends place old t held
 rests_there ends es place old o s mid t link tx sender rx receiver held holds at were stood are taken lacks index is_tx is_rx rests now =
     let same_old : o ≡ old = same_Some o old (sym stood ∙ (ap (λ (l : List LinkEnds). slice_get l place) (only_ends es ends s were holds) ∙ at)) in
@@ -361,8 +362,10 @@ module _ {ends : List LinkEnds} {place : ℕ} {old : LinkEnds} {s : Standing} {h
     held_short = let fits = held_fits in let few = few_places in omega (arith, fits, few)
 
     -- another link with the same queue stands at the place
-    pub widened_up : (turns : ℕ) {wider : ℕ} {t : Standing} {e : LinkEnds} {q : List McCopy} → q ≡ queue_of_link r.now → wider ≡ places_for cap turns held → IsTx e.link e.tx × NoNotes q (sending e.tx) →
-        IsRx e.link e.rx × NoNotes q (taking e.rx) → cap_of e.link ≡ wider → (e.room.items ≡ []) × (wider ≤ e.room.spare) → HoldsAll (set (set ends place r.now) place e) t → UpAt cap (turns + 1) ends place (queue_of_link old) t
+    pub widened_up : (turns : ℕ) {wider : ℕ} {t : Standing} {e : LinkEnds} {q : List McCopy} → q ≡ queue_of_link r.now → wider ≡ places_for cap turns held →
+        IsTx e.link e.tx × NoNotes q (sending e.tx) →
+        IsRx e.link e.rx × NoNotes q (taking e.rx) → cap_of e.link ≡ wider → (e.room.items ≡ []) × (wider ≤ e.room.spare) → HoldsAll (set (set ends place r.now) place e) t →
+        UpAt cap (turns + 1) ends place (queue_of_link old) t
     widened_up turns {wider} {t} {e} {q} q_is wider_is tx rx cap_is room holds =
         let same : q ≡ queue_of_link old = q_is ∙ (r.rests.sender_new.first ∙ held_same) in
         let count : held ≡ length (queue_of_link old) = r.rests.counts ∙ ap length held_same in
@@ -378,7 +381,8 @@ module _ {ends : List LinkEnds} {place : ℕ} {old : LinkEnds} {s : Standing} {h
         }
 
     -- the link that rests stands again
-    pub put_again : {t : Standing} {tx : Tx} {rx : Rx} → tx ≡ r.now.tx → rx ≡ r.now.rx → HoldsAll (set (set ends place r.now) place (record (r.now) { tx = tx; rx = rx })) t → UpAt cap 0 ends place (queue_of_link old) t
+    pub put_again : {t : Standing} {tx : Tx} {rx : Rx} → tx ≡ r.now.tx → rx ≡ r.now.rx → HoldsAll (set (set ends place r.now) place (record (r.now) { tx = tx; rx = rx })) t →
+        UpAt cap 0 ends place (queue_of_link old) t
     put_again {t} {tx} {rx} tx_is rx_is holds =
         let same : (record (r.now) { tx = tx; rx = rx }) ≡ r.now = λ i. record (r.now) { tx = tx_is i; rx = rx_is i } in
         record {
@@ -394,7 +398,8 @@ module _ {ends : List LinkEnds} {place : ℕ} {old : LinkEnds} {s : Standing} {h
         record {
           now = r.now;
           holds = r.holds;
-          up = rested_up (turns + 1) (free_fits cap (cap_of r.now.link) held (turns + 1) held_fits few_places (subst (λ (n : ℕ). turns + 1 ≤ free_places_of cap n held) are (subst (λ (n : ℕ). turns + 1 ≤ n) free_is left)));
+          up = rested_up (turns + 1) (free_fits cap (cap_of r.now.link) held (turns + 1) held_fits few_places
+              (subst (λ (n : ℕ). turns + 1 ≤ free_places_of cap n held) are (subst (λ (n : ℕ). turns + 1 ≤ n) free_is left)));
         }
 
 -- what holds anyway holds after a refusal

@@ -2,15 +2,9 @@
 use Rattle.std.proofs.Common.{◌≡◌, ℕ, ◌+◌, ◌<◌, Bool, List, ◌++◌, length, get_or, refl, sym, ap, ◌∙◌, subst}
 use Rattle.std.specs.Global.{Vec}
 use Rattle.std.specs.List.{All, flat_map}
-use Rattle.link_queue.specs.declared.links.Link.{Link}
-use Rattle.link_queue.specs.declared.links.LinkEnds.{LinkEnds}
+use Rattle.link_queue.specs.declared.links.{Link.Link, LinkEnds.LinkEnds}
 use Rattle.mesh_core.specs.State.{IsMesh, Setup, State}
-use Rattle.mesh_run.specs.declared.gathering.MeshLogs.{MeshLogs}
-use Rattle.mesh_run.specs.declared.homes.Cut.{Cut}
-use Rattle.mesh_run.specs.declared.queues.Rested.{Rested}
-use Rattle.mesh_run.specs.declared.raised.RaisedMesh.{RaisedMesh}
-use Rattle.mesh_run.specs.declared.shares.Share.{Share}
-use Rattle.mesh_run.specs.declared.standing.Standing.{Standing}
+use Rattle.mesh_run.specs.declared.{gathering.MeshLogs.MeshLogs, homes.Cut.Cut, queues.Rested.Rested, raised.RaisedMesh.RaisedMesh, shares.Share.Share, standing.Standing.Standing}
 use Rattle.mesh_run.specs.Crossing.{AreCuts, AreLaid, Deals, HoldsCollected, HoldsNoEnds}
 use Rattle.mesh_run.specs.Gathering.{AreEmptied, FitsLogs, IsAnyMoved}
 use Rattle.mesh_run.specs.Queues.{RestAll, WasUp}
@@ -19,8 +13,7 @@ use Rattle.mesh_run.specs.Shares.{IsShareOf, PlaysAndStays}
 use Rattle.mesh_run.specs.Standing.{HoldsAll}
 use Rattle.mesh_run.proofs.AfterDeal.{cuts_apart, dealt_shares, links_many}
 use Rattle.mesh_run.proofs.AfterPlay.{ends_laid, links_were_up, logs_fit}
-use Rattle.mesh_run.proofs.AfterRound.{whole_plays}
-use Rattle.mesh_run.proofs.WholeRound.{Whole}
+use Rattle.mesh_run.proofs.{AfterRound.whole_plays, WholeRound.Whole}
 
 -- ends were dealt to the shares of a mesh with room for a round
 pub record IsDealt (m : State) (r : RaisedMesh) (lent : Standing) (dealt : List Share) : Type 0 where

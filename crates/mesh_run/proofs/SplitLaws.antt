@@ -3,7 +3,8 @@ use Rattle.std.proofs.Common.{◌≡◌, ◌≢◌, ◌⊎◌, ℕ, ◌+◌, ◌
 use Rattle.std.specs.List.{All, slice_get}
 use Rattle.std.proofs.lemmas.Bool.{cases_eq, cases_lt}
 use Rattle.std.proofs.lemmas.Option.{get_or_from_slice_get, none-some, same_Some, slice_get_within, slice_get-get_or}
-use Rattle.std.proofs.lemmas.List.{get_or_append_left, get_or-append_right, get_or-replicate, get_or_past, get_or-set_other, get_or-set_same, length-set, length-replicate, length_push, same_lists, set-append_left, set-append_right}
+use Rattle.std.proofs.lemmas.List.{get_or_append_left, get_or-append_right, get_or-replicate, get_or_past, get_or-set_other, get_or-set_same}
+use Rattle.std.proofs.lemmas.List.{length-set, length-replicate, length_push, same_lists, set-append_left, set-append_right}
 use Rattle.std.proofs.lemmas.List.Elements.{All-nil, All-push}
 use Rattle.spin_base.specs.WithRoom.{WithRoom}
 use Rattle.spin_base.specs.declared.copies.McCopy.{McCopy}
@@ -11,12 +12,12 @@ use Rattle.spin_base.proofs.Places.{All-at, slice_get_there, slice_get-push_case
 use Rattle.chip_node.specs.declared.ends.End.{End}
 use Rattle.chip_node.specs.declared.ends.End.TheVariants.{Away, Own}
 use Rattle.mesh_core.specs.State.{State}
-use Rattle.mesh_run.specs.declared.homes.Home.{Home}
-use Rattle.mesh_run.specs.declared.shares.Share.{Share}
+use Rattle.mesh_run.specs.declared.{homes.Home.Home, shares.Share.Share}
 use Rattle.mesh_run.specs.Crossing.{AreSameButEnds, PutsEnd}
 use Rattle.mesh_run.specs.Homes.{run_start}
 use Rattle.mesh_run.specs.Split.{end_at, end_in, unsent_at, unsent_in}
-use Rattle.mesh_run.specs.Splitting.{AreSameButUnsent, AreSameHolds, FitHomes, HoldNothing, IsEmptyHand, MayPutLane, MayTakeLane, MovesIn, MovesOut, PutsUnsent, SameButCopies, SameButUnsent, SetsQueue, SetsUnsent}
+use Rattle.mesh_run.specs.Splitting.{AreSameButUnsent, AreSameHolds, FitHomes, HoldNothing, IsEmptyHand, MayPutLane, MayTakeLane}
+use Rattle.mesh_run.specs.Splitting.{MovesIn, MovesOut, PutsUnsent, SameButCopies, SameButUnsent, SetsQueue, SetsUnsent}
 use Rattle.mesh_run.proofs.CrossingLaws.{each_on, each_self, each_set, same_on, same_self}
 use Rattle.mesh_run.proofs.HomeLaws.{start_more}
 
@@ -36,8 +37,8 @@ state_on a b c p q = record {
   dumped = q.dumped ∙ p.dumped;
 }
 
-pub sets_input : (m n : State) (place : ℕ) (q : List McCopy) → place < length m.inputs → n.inputs ≡ set m.inputs place q → n.cores ≡ m.cores → n.unsent ≡ m.unsent → n.setup ≡ m.setup → n.hands ≡ m.hands →
-    n.delivered ≡ m.delivered → n.dumped ≡ m.dumped → SetsQueue place q m n
+pub sets_input : (m n : State) (place : ℕ) (q : List McCopy) → place < length m.inputs → n.inputs ≡ set m.inputs place q → n.cores ≡ m.cores → n.unsent ≡ m.unsent → n.setup ≡ m.setup →
+    n.hands ≡ m.hands → n.delivered ≡ m.delivered → n.dumped ≡ m.dumped → SetsQueue place q m n
 sets_input m n place q below inputs cores unsent setup hands delivered dumped = record {
   same = record {
     setup = setup;
@@ -52,8 +53,8 @@ sets_input m n place q below inputs cores unsent setup hands delivered dumped = 
   queues = ap (λ l. l ++ n.cores) inputs ∙ (ap (λ l. set m.inputs place q ++ l) cores ∙ sym (set-append_left m.inputs m.cores place q below));
 }
 
-pub sets_core : (m n : State) (place : ℕ) (q : List McCopy) → length m.inputs ≤ place → n.cores ≡ set m.cores (place - length m.inputs) q → n.inputs ≡ m.inputs → n.unsent ≡ m.unsent → n.setup ≡ m.setup → n.hands ≡ m.hands →
-    n.delivered ≡ m.delivered → n.dumped ≡ m.dumped → SetsQueue place q m n
+pub sets_core : (m n : State) (place : ℕ) (q : List McCopy) → length m.inputs ≤ place → n.cores ≡ set m.cores (place - length m.inputs) q → n.inputs ≡ m.inputs → n.unsent ≡ m.unsent →
+    n.setup ≡ m.setup → n.hands ≡ m.hands → n.delivered ≡ m.delivered → n.dumped ≡ m.dumped → SetsQueue place q m n
 sets_core m n place q past cores inputs unsent setup hands delivered dumped = record {
   same = record {
     setup = setup;
@@ -74,8 +75,8 @@ read_input m place q below read = read ∙ sym (get_or_append_left m.inputs m.co
 pub read_core : (m : State) (place : ℕ) (q : List McCopy) → length m.inputs ≤ place → q ≡ get_or m.cores (place - length m.inputs) [] → q ≡ get_or (m.inputs ++ m.cores) place []
 read_core m place q past read = read ∙ sym (get_or-append_right m.inputs m.cores (length m.inputs) place [] refl past)
 
-pub sets_unsent : (m n : State) (vertex : ℕ) (q : List McCopy) → n.unsent ≡ set m.unsent vertex q → n.inputs ≡ m.inputs → n.cores ≡ m.cores → n.setup ≡ m.setup → n.hands ≡ m.hands → n.delivered ≡ m.delivered → n.dumped ≡ m.dumped →
-    SetsUnsent vertex q m n
+pub sets_unsent : (m n : State) (vertex : ℕ) (q : List McCopy) → n.unsent ≡ set m.unsent vertex q → n.inputs ≡ m.inputs → n.cores ≡ m.cores → n.setup ≡ m.setup → n.hands ≡ m.hands →
+    n.delivered ≡ m.delivered → n.dumped ≡ m.dumped → SetsUnsent vertex q m n
 sets_unsent m n vertex q unsent inputs cores setup hands delivered dumped = record {
   same = record {
     setup = setup;
@@ -100,8 +101,8 @@ vertices_on : (x y z : Share) → SameButUnsent x y → SameButUnsent y z → Sa
 vertices_on x y z p q =
     record { from = q.from ∙ p.from; to = q.to ∙ p.to; ends = q.ends ∙ p.ends; unsent_long = q.unsent_long ∙ p.unsent_long; dumps = q.dumps ∙ p.dumps; deliveries = q.deliveries ∙ p.deliveries }
 
-pub unsent_set : (before after : List Share) (share vertex : ℕ) (s t : Share) (copies : List McCopy) → slice_get before share ≡ Some s → vertex < length s.hold.unsent.items → after ≡ set before share t →
-    t.from ≡ s.from → t.to ≡ s.to → t.hold.ends ≡ s.hold.ends → t.hold.dumps ≡ s.hold.dumps → t.hold.deliveries ≡ s.hold.deliveries →
+pub unsent_set : (before after : List Share) (share vertex : ℕ) (s t : Share) (copies : List McCopy) → slice_get before share ≡ Some s → vertex < length s.hold.unsent.items →
+    after ≡ set before share t → t.from ≡ s.from → t.to ≡ s.to → t.hold.ends ≡ s.hold.ends → t.hold.dumps ≡ s.hold.dumps → t.hold.deliveries ≡ s.hold.deliveries →
     t.hold.unsent.items ≡ set s.hold.unsent.items vertex copies → PutsUnsent share vertex copies before after
 unsent_set before after share vertex s t copies stands below is from to ends dumps deliveries unsent = subst (PutsUnsent share vertex copies before) (sym is) (record {
   same = each_set SameButUnsent vertices_self before share s t stands (record {
@@ -112,7 +113,8 @@ unsent_set before after share vertex s t copies stands below is from to ends dum
     dumps = dumps;
     deliveries = deliveries;
   });
-  here = ap (λ (o : Option Share). unsent_in o vertex) (slice_get-set_same before share s t stands) ∙ (ap (λ l. get_or l vertex []) unsent ∙ get_or-set_same s.hold.unsent.items vertex copies [] below);
+  here = ap (λ (o : Option Share). unsent_in o vertex) (slice_get-set_same before share s t stands)
+      ∙ (ap (λ l. get_or l vertex []) unsent ∙ get_or-set_same s.hold.unsent.items vertex copies [] below);
   others = λ k v differs. elim (cases_eq k share) [
     | inl here ↦
         ap (λ (j : ℕ). unsent_at (set before share t) j v) here
@@ -153,7 +155,8 @@ pub record LanesTo (m : State) (homes : List Home) (start : List Share) (n : ℕ
   pub unsent : now.unsent ≡ m.unsent
   pub left : (q : ℕ) → n ≤ q → get_or (now.inputs ++ now.cores) q [] ≡ get_or (m.inputs ++ m.cores) q []
   pub shares_same : AreSameButEnds start shares
-  pub lanes : (q : ℕ) (h : Home) → q < n → slice_get homes q ≡ Some h → h.sender ≡ h.receiver → (a : WithRoom McCopy) × (end_at shares h.sender q ≡ Some (Own a)) × (a.items ≡ get_or (m.inputs ++ m.cores) q [])
+  pub lanes : (q : ℕ) (h : Home) → q < n → slice_get homes q ≡ Some h → h.sender ≡ h.receiver →
+      (a : WithRoom McCopy) × (end_at shares h.sender q ≡ Some (Own a)) × (a.items ≡ get_or (m.inputs ++ m.cores) q [])
   pub others : (s q : ℕ) → ((h : Home) → q < n → slice_get homes q ≡ Some h → h.sender ≡ h.receiver → s ≡ h.sender → ⊥) → end_at shares s q ≡ end_at start s q
 
 pub lanes_none : (m : State) (homes : List Home) (start : List Share) → LanesTo m homes start 0 m start
@@ -167,7 +170,8 @@ lanes_none m homes start = record {
 }
 
 -- the queue at the next place
-pub lanes_more : (m : State) (homes : List Home) (start : List Share) (n : ℕ) (now next : State) (shares new : List Share) (home : Home) (copies gone : List McCopy) → LanesTo m homes start n now shares → slice_get homes n ≡ Some home →
+pub lanes_more : (m : State) (homes : List Home) (start : List Share) (n : ℕ) (now next : State) (shares new : List Share) (home : Home) (copies gone : List McCopy) →
+    LanesTo m homes start n now shares → slice_get homes n ≡ Some home →
     copies ≡ get_or (now.inputs ++ now.cores) n [] → SetsQueue n gone now next → MayPutLane home n copies shares new → LanesTo m homes start (n + 1) next new
 lanes_more m homes start n now next shares new home copies gone so_far at read sets (inl apart) = record {
   same = state_on m now next so_far.same sets.same;
@@ -220,8 +224,10 @@ vertices_to_none ports m now homes start same unsent = record {
   others = λ s v not. refl;
 }
 
-pub vertices_to_more : (ports : ℕ) (m : State) (homes : List Home) (start : List Share) (n : ℕ) (now next : State) (shares new : List Share) (home : Home) (copies gone : List McCopy) → VerticesTo ports m homes start n now shares →
-    slice_get homes (ports + n) ≡ Some home → copies ≡ get_or now.unsent n [] → SameButCopies now next → next.unsent ≡ set now.unsent n gone → PutsUnsent home.receiver n copies shares new → VerticesTo ports m homes start (n + 1) next new
+pub vertices_to_more : (ports : ℕ) (m : State) (homes : List Home) (start : List Share) (n : ℕ) (now next : State) (shares new : List Share) (home : Home) (copies gone : List McCopy) →
+    VerticesTo ports m homes start n now shares →
+    slice_get homes (ports + n) ≡ Some home → copies ≡ get_or now.unsent n [] → SameButCopies now next → next.unsent ≡ set now.unsent n gone → PutsUnsent home.receiver n copies shares new →
+    VerticesTo ports m homes start (n + 1) next new
 vertices_to_more ports m homes start n now next shares new home copies gone so_far at read same unsent put = record {
   same = state_on m now next so_far.same same;
   left = λ v from. ap (λ l. get_or l v []) unsent ∙ (get_or-set_other now.unsent n v gone [] (λ e. omega (arith, e, from)) ∙ so_far.left v (omega (arith, from)));
@@ -229,7 +235,8 @@ vertices_to_more ports m homes start n now next shares new home copies gone so_f
   here = λ v h less at_v. elim (cases_eq v n) [
     | inl here ↦
         let is : home ≡ h = same_Some home h (sym at ∙ (ap (λ (j : ℕ). slice_get homes (ports + j)) (sym here) ∙ at_v)) in
-        ap (λ (j : ℕ). unsent_at new h.receiver j) here ∙ (ap (λ (x : Home). unsent_at new x.receiver n) (sym is) ∙ (put.here ∙ (read ∙ (so_far.left n (omega arith) ∙ ap (λ (j : ℕ). get_or m.unsent j []) (sym here)))))
+        ap (λ (j : ℕ). unsent_at new h.receiver j) here
+        ∙ (ap (λ (x : Home). unsent_at new x.receiver n) (sym is) ∙ (put.here ∙ (read ∙ (so_far.left n (omega arith) ∙ ap (λ (j : ℕ). get_or m.unsent j []) (sym here)))))
     | inr other ↦ put.others h.receiver v (λ e. other e.1) ∙ so_far.here v h (omega (arith, less, other)) at_v
   ];
   others = λ s v not. put.others s v (λ e. not home (omega (arith, e.1)) (ap (λ (j : ℕ). slice_get homes (ports + j)) e.1 ∙ at) e.0) ∙ so_far.others s v (λ h less. not h (omega (arith, less)));
@@ -278,24 +285,26 @@ vertex_home m homes shares ports v fits is below =
     ap (λ (p : ℕ). slice_get homes (p + v)) (sym is) ∙ slice_get-get_or homes (ports + v) (record { sender = 0; receiver = 0 }) (home_inside m homes shares ports v fits is below)
 
 -- the share of its receiver is there
-pub receiver_there : (m : State) (homes : List Home) (start second now : List Share) (ports v : ℕ) → FitHomes m homes start → AreSameButEnds start second → AreSameButUnsent second now → ports ≡ length m.inputs → v < length m.unsent →
-    (get_or homes (ports + v) (record { sender = 0; receiver = 0 })).receiver < length now
+pub receiver_there : (m : State) (homes : List Home) (start second now : List Share) (ports v : ℕ) → FitHomes m homes start → AreSameButEnds start second → AreSameButUnsent second now →
+    ports ≡ length m.inputs → v < length m.unsent → (get_or homes (ports + v) (record { sender = 0; receiver = 0 })).receiver < length now
 receiver_there m homes start second now ports v fits ends unsent is below =
     subst (λ (k : ℕ). (get_or homes (ports + v) (record { sender = 0; receiver = 0 })).receiver < k) (sym (unsent.0 ∙ ends.0))
     (fits.receivers (ports + v) (record { sender = 0; receiver = 0 }) (home_inside m homes start ports v fits is below))
 
 -- a share has a place for each vertex
-pub unsent_wide : (m : State) (homes : List Home) (start second now : List Share) (k : ℕ) (t : Share) → FitHomes m homes start → AreSameButEnds start second → AreSameButUnsent second now → slice_get now k ≡ Some t →
-    length t.hold.unsent.items ≡ length m.unsent
+pub unsent_wide : (m : State) (homes : List Home) (start second now : List Share) (k : ℕ) (t : Share) → FitHomes m homes start → AreSameButEnds start second → AreSameButUnsent second now →
+    slice_get now k ≡ Some t → length t.hold.unsent.items ≡ length m.unsent
 unsent_wide m homes start second now k t fits ends unsent at =
     let within = slice_get_within now k t at in
     let long_b = unsent.0 in
     let s = slice_get_there start k (omega (arith, within, long_b, ends.0)) in
     let x = slice_get_there second k (omega (arith, within, long_b)) in
-    (unsent.1 k x.0 t x.1 at).unsent_long ∙ (ap (λ e. length e.items) (ends.1 k s.0 x.0 s.1 x.1).unsent ∙ All-at (λ (y : Share). length y.hold.unsent.items ≡ length m.unsent) start k s.0 fits.unsent_long s.1)
+    (unsent.1 k x.0 t x.1 at).unsent_long ∙ (ap (λ e. length e.items) (ends.1 k s.0 x.0 s.1 x.1).unsent
+    ∙ All-at (λ (y : Share). length y.hold.unsent.items ≡ length m.unsent) start k s.0 fits.unsent_long s.1)
 
 -- where the same is unsent in each share, it is at each place
-by_unsent : (a b : List Share) (s v : ℕ) → length b ≡ length a → ((k : ℕ) (x y : Share) → slice_get a k ≡ Some x → slice_get b k ≡ Some y → y.hold.unsent ≡ x.hold.unsent) → unsent_at b s v ≡ unsent_at a s v
+by_unsent : (a b : List Share) (s v : ℕ) → length b ≡ length a → ((k : ℕ) (x y : Share) → slice_get a k ≡ Some x → slice_get b k ≡ Some y → y.hold.unsent ≡ x.hold.unsent) →
+    unsent_at b s v ≡ unsent_at a s v
 by_unsent a b s v long each = by (slice_get b s) refl
   where
     by : (o : Option Share) → slice_get b s ≡ o → unsent_at b s v ≡ unsent_at a s v
@@ -323,7 +332,8 @@ record Parts (s t : Share) : Type 0 where
   deliveries : t.hold.deliveries ≡ s.hold.deliveries
 
 -- all that moved in
-pub moved_in : (m mid left : State) (homes : List Home) (runs : List ℕ) (queues vertices n k : ℕ) (start second third after : List Share) → HoldNothing runs queues vertices start → FitHomes m homes start → length homes ≤ n → length m.unsent ≤ k →
+pub moved_in : (m mid left : State) (homes : List Home) (runs : List ℕ) (queues vertices n k : ℕ) (start second third after : List Share) → HoldNothing runs queues vertices start →
+    FitHomes m homes start → length homes ≤ n → length m.unsent ≤ k →
     LanesTo m homes start n mid second → VerticesTo (length m.inputs) m homes second k left third → AreSameHolds third after → MovesIn m homes start left after
 moved_in m mid left homes runs queues vertices n k start second third after nothing fits past past_k lanes unsent same = record {
   same = unsent.same;
@@ -350,10 +360,12 @@ moved_in m mid left homes runs queues vertices n k start second third after noth
     here = λ v h at. unsent_still h.receiver v ∙ elim (cases_lt v k) [
       | inl less ↦ unsent.here v h less at
       | inr more ↦
-          unsent.others h.receiver v (λ g less. absurd (omega (arith, less, more))) ∙ (unsent_before h.receiver v ∙ (no_unsent runs queues vertices start h.receiver v nothing ∙ sym (get_or_past m.unsent v [] (omega (arith, more, past_k)))))
+          unsent.others h.receiver v (λ g less. absurd (omega (arith, less, more)))
+          ∙ (unsent_before h.receiver v ∙ (no_unsent runs queues vertices start h.receiver v nothing ∙ sym (get_or_past m.unsent v [] (omega (arith, more, past_k)))))
     ];
     nowhere_else = λ v h s at differs.
-        unsent_still s v ∙ (unsent.others s v (λ g less at_g here. differs (here ∙ ap (λ (x : Home). x.receiver) (same_Some g h (sym at_g ∙ at)))) ∙ (unsent_before s v ∙ no_unsent runs queues vertices start s v nothing));
+        unsent_still s v ∙ (unsent.others s v (λ g less at_g here. differs (here ∙ ap (λ (x : Home). x.receiver) (same_Some g h (sym at_g ∙ at))))
+        ∙ (unsent_before s v ∙ no_unsent runs queues vertices start s v nothing));
   };
 }
   where
@@ -425,7 +437,8 @@ moved_in m mid left homes runs queues vertices n k start second third after noth
 pub record OutTo (left : State) (homes : List Home) (start : List Share) (n : ℕ) (now : State) (shares : List Share) : Type 0 where
   pub same : SameButCopies left now
   pub unsent : now.unsent ≡ left.unsent
-  pub lanes : (q : ℕ) (h : Home) (a : WithRoom McCopy) → q < n → slice_get homes q ≡ Some h → h.sender ≡ h.receiver → end_at start h.sender q ≡ Some (Own a) → get_or (now.inputs ++ now.cores) q [] ≡ a.items
+  pub lanes : (q : ℕ) (h : Home) (a : WithRoom McCopy) → q < n → slice_get homes q ≡ Some h → h.sender ≡ h.receiver → end_at start h.sender q ≡ Some (Own a) →
+      get_or (now.inputs ++ now.cores) q [] ≡ a.items
   pub others : (q : ℕ) (h : Home) → slice_get homes q ≡ Some h → h.sender ≢ h.receiver → get_or (now.inputs ++ now.cores) q [] ≡ get_or (left.inputs ++ left.cores) q []
   pub ends : (s q : ℕ) → n ≤ q → end_at shares s q ≡ end_at start s q
   pub shares_same : AreSameButEnds start shares
@@ -441,8 +454,8 @@ out_none left homes start = record {
 }
 
 -- a queue between two shares stays
-pub out_apart : (left : State) (homes : List Home) (start : List Share) (n : ℕ) (now : State) (shares : List Share) (home : Home) → OutTo left homes start n now shares → slice_get homes n ≡ Some home → home.sender ≢ home.receiver →
-    OutTo left homes start (n + 1) now shares
+pub out_apart : (left : State) (homes : List Home) (start : List Share) (n : ℕ) (now : State) (shares : List Share) (home : Home) → OutTo left homes start n now shares →
+    slice_get homes n ≡ Some home → home.sender ≢ home.receiver → OutTo left homes start (n + 1) now shares
 out_apart left homes start n now shares home so_far at apart = record {
   same = so_far.same;
   unsent = so_far.unsent;
@@ -458,9 +471,10 @@ out_apart left homes start n now shares home so_far at apart = record {
 }
 
 -- a lane moves out
-pub out_lane : (left : State) (homes : List Home) (start : List Share) (n : ℕ) (now next : State) (shares new : List Share) (home : Home) (end : End) (copies : List McCopy) → OutTo left homes start n now shares → slice_get homes n ≡ Some home →
-    home.sender ≡ home.receiver → n < length (now.inputs ++ now.cores) → end_at shares home.sender n ≡ Some end → PutsEnd home.sender n Away shares new → ((a : WithRoom McCopy) → end ≡ Own a → copies ≡ a.items) → SetsQueue n copies now next →
-    OutTo left homes start (n + 1) next new
+pub out_lane : (left : State) (homes : List Home) (start : List Share) (n : ℕ) (now next : State) (shares new : List Share) (home : Home) (end : End) (copies : List McCopy) →
+    OutTo left homes start n now shares → slice_get homes n ≡ Some home →
+    home.sender ≡ home.receiver → n < length (now.inputs ++ now.cores) → end_at shares home.sender n ≡ Some end → PutsEnd home.sender n Away shares new →
+    ((a : WithRoom McCopy) → end ≡ Own a → copies ≡ a.items) → SetsQueue n copies now next → OutTo left homes start (n + 1) next new
 out_lane left homes start n now next shares new home end copies so_far at together below stood put is sets = record {
   same = state_on left now next so_far.same sets.same;
   unsent = sets.unsent ∙ so_far.unsent;
@@ -481,8 +495,8 @@ out_lane left homes start n now next shares new home end copies so_far at togeth
 }
 
 -- a queue stays, or moves out
-pub out_more : (left : State) (homes : List Home) (start : List Share) (n : ℕ) (now next : State) (shares new : List Share) (home : Home) → OutTo left homes start n now shares → slice_get homes n ≡ Some home → n < length now.inputs + length now.cores →
-    MayTakeLane home n now shares next new → OutTo left homes start (n + 1) next new
+pub out_more : (left : State) (homes : List Home) (start : List Share) (n : ℕ) (now next : State) (shares new : List Share) (home : Home) → OutTo left homes start n now shares →
+    slice_get homes n ≡ Some home → n < length now.inputs + length now.cores → MayTakeLane home n now shares next new → OutTo left homes start (n + 1) next new
 out_more left homes start n now next shares new home so_far at below (inl apart) =
     subst (λ (m : State). OutTo left homes start (n + 1) m new) (sym apart.1)
     (subst (λ (l : List Share). OutTo left homes start (n + 1) now l) (sym apart.2) (out_apart left homes start n now shares home so_far at apart.0))
@@ -508,9 +522,10 @@ unsent_out_none ports mid homes start = record {
   shares_same = unsent_self start;
 }
 
-pub unsent_out_more : (ports : ℕ) (mid : State) (homes : List Home) (start : List Share) (n : ℕ) (now next : State) (shares new : List Share) (home : Home) (copies gone : List McCopy) → UnsentOutTo ports mid homes start n now shares →
-    slice_get homes (ports + n) ≡ Some home → n < length now.unsent → copies ≡ unsent_at shares home.receiver n → PutsUnsent home.receiver n gone shares new → SameButCopies now next → next.inputs ≡ now.inputs → next.cores ≡ now.cores →
-    next.unsent ≡ set now.unsent n copies → UnsentOutTo ports mid homes start (n + 1) next new
+pub unsent_out_more : (ports : ℕ) (mid : State) (homes : List Home) (start : List Share) (n : ℕ) (now next : State) (shares new : List Share) (home : Home) (copies gone : List McCopy) →
+    UnsentOutTo ports mid homes start n now shares →
+    slice_get homes (ports + n) ≡ Some home → n < length now.unsent → copies ≡ unsent_at shares home.receiver n → PutsUnsent home.receiver n gone shares new → SameButCopies now next →
+    next.inputs ≡ now.inputs → next.cores ≡ now.cores → next.unsent ≡ set now.unsent n copies → UnsentOutTo ports mid homes start (n + 1) next new
 unsent_out_more ports mid homes start n now next shares new home copies gone so_far at below read put same inputs cores unsent = record {
   same = state_on mid now next so_far.same same;
   inputs = inputs ∙ so_far.inputs;
@@ -526,8 +541,8 @@ unsent_out_more ports mid homes start n now next shares new home copies gone so_
   shares_same = unsent_on start shares new so_far.shares_same put.same;
 }
 
-pub moved_out : (left mid m : State) (homes : List Home) (n k : ℕ) (start second third : List Share) → FitHomes left homes start → length homes ≤ n → length left.unsent ≤ k → OutTo left homes start n mid second →
-    UnsentOutTo (length left.inputs) mid homes second k m third → MovesOut homes start left m
+pub moved_out : (left mid m : State) (homes : List Home) (n k : ℕ) (start second third : List Share) → FitHomes left homes start → length homes ≤ n → length left.unsent ≤ k →
+    OutTo left homes start n mid second → UnsentOutTo (length left.inputs) mid homes second k m third → MovesOut homes start left m
 moved_out left mid m homes n k start second third fits past past_k lanes unsent = record {
   same = state_on left mid m lanes.same unsent.same;
   lanes = λ queues q h held at one.
@@ -569,8 +584,8 @@ nothing_none runs queues vertices shares none = subst (NothingTo runs queues ver
   hands = All-nil (λ s. IsEmptyHand queues vertices s.hold);
 })
 
-pub nothing_more : (runs : List ℕ) (queues vertices n from to : ℕ) (share : Share) (shares new : List Share) → NothingTo runs queues vertices n from shares → to ≡ get_or runs n 0 → share.from ≡ from → share.to ≡ to → IsEmptyHand queues vertices share.hold →
-    new ≡ shares ++ share ∷ [] → NothingTo runs queues vertices (n + 1) to new
+pub nothing_more : (runs : List ℕ) (queues vertices n from to : ℕ) (share : Share) (shares new : List Share) → NothingTo runs queues vertices n from shares → to ≡ get_or runs n 0 →
+    share.from ≡ from → share.to ≡ to → IsEmptyHand queues vertices share.hold → new ≡ shares ++ share ∷ [] → NothingTo runs queues vertices (n + 1) to new
 nothing_more runs queues vertices n from to share shares new so_far at from_is to_is empty is = subst (NothingTo runs queues vertices (n + 1) to) (sym is) (record {
   long = length_push shares share ∙ ap (λ k. k + 1) so_far.long;
   next = at ∙ sym (start_more runs n);

@@ -1,5 +1,6 @@
 -- What all shares did in a round, one share after the other.
-use Rattle.std.proofs.Common.{◌≡◌, ◌≢◌, ◌⊎◌, ℕ, zero, suc, ◌+◌, ◌<◌, ◌≤◌, Bool, true, false, ◌||◌, List, [], ◌∷◌, ◌++◌, length, take, get_or, Option, None, Some, refl, sym, ap, ◌∙◌, subst, arith, inl, inr, append-nil}
+use Rattle.std.proofs.Common.{◌≡◌, ◌≢◌, ◌⊎◌, ℕ, zero, suc, ◌+◌, ◌<◌, ◌≤◌, Bool, true, false, ◌||◌, List, [], ◌∷◌, ◌++◌, length}
+use Rattle.std.proofs.Common.{take, get_or, Option, None, Some, refl, sym, ap, ◌∙◌, subst, arith, inl, inr, append-nil}
 use Rattle.std.specs.List.{All, flat_map, list_any, slice_get, slice_index_or}
 use Rattle.std.proofs.lemmas.Bool.{cases_lt}
 use Rattle.std.proofs.lemmas.List.{get_or_default, take_all, take_more}
@@ -11,8 +12,7 @@ use Rattle.spin_base.specs.declared.copies.McCopy.{McCopy}
 use Rattle.spin_base.specs.WithRoom.{WithRoom}
 use Rattle.chip_node.specs.declared.ends.End.{End}
 use Rattle.chip_node.specs.declared.ends.End.TheVariants.{Away, Own, Sends, Takes}
-use Rattle.chip_node.specs.declared.ends.InEnd.{InEnd}
-use Rattle.chip_node.specs.declared.ends.OutEnd.{OutEnd}
+use Rattle.chip_node.specs.declared.ends.{InEnd.InEnd, OutEnd.OutEnd}
 use Rattle.chip_node.specs.Going.{EndGoes, Goes, LaneGoes, SenderGoes, TakerGoes}
 use Rattle.chip_node.specs.Items.{Item, entered, left, lost_at}
 use Rattle.chip_node.proofs.Stays.{end_before}
@@ -71,7 +71,8 @@ module _ (u : Setup) (n count : ℕ) (ends : List ℕ) (parts : List (List Item)
       let next : suc k ≡ k + 1 = omega arith in
       let last = get_or parts k [] in
       let is : joined (take (suc k) parts) ≡ joined (take k parts) ++ last =
-      ap (λ i. joined (take i parts)) next ∙ (ap joined (take_more parts k [] below) ∙ (flat_map-append (λ p. p) (take k parts) (last ∷ []) ∙ ap (λ l. joined (take k parts) ++ l) (append-nil last))) in
+      ap (λ i. joined (take i parts)) next ∙ (ap joined (take_more parts k [] below)
+      ∙ (flat_map-append (λ p. p) (take k parts) (last ∷ []) ∙ ap (λ l. joined (take k parts) ++ l) (append-nil last))) in
       let mine = own k [] below in
       record {
         turns = subst (AreTurns u n) (sym is) (turns_beside u n (joined (take k parts)) last (λ a. beside a h mine) h.turns (turns k [] below));

@@ -1,22 +1,13 @@
 -- A whole round of all shares: the ends of links dealt, turns played, ends collected, links at rest and logs gathered.
 use Rattle.std.proofs.Common.{◌≡◌, ℕ, ◌+◌, ◌*◌, ◌<◌, false, List, [], length, get_or, Some, ◌∙◌, subst, arith}
 use Rattle.std.specs.List.{list_any, slice_get, slice_index_or}
-use Rattle.std.proofs.lemmas.List.{get_or_default}
-use Rattle.std.proofs.lemmas.Option.{slice_get-get_or}
+use Rattle.std.proofs.lemmas.{List.get_or_default, Option.slice_get-get_or}
 use Rattle.spin_base.proofs.Places.{slice_get_there}
 use Rattle.chip_node.specs.Items.{Item}
 use Rattle.mesh_core.specs.State.{Setup, State, IsMesh}
-use Rattle.mesh_run.specs.declared.homes.Home.{Home}
-use Rattle.mesh_run.specs.declared.queues.Rested.{Rested}
-use Rattle.mesh_run.specs.declared.raised.RaisedMesh.{RaisedMesh}
-use Rattle.mesh_run.specs.declared.shares.Share.{Share}
-use Rattle.mesh_run.specs.declared.standing.Standing.{Standing}
+use Rattle.mesh_run.specs.declared.{homes.Home.Home, queues.Rested.Rested, raised.RaisedMesh.RaisedMesh, shares.Share.Share, standing.Standing.Standing}
 use Rattle.mesh_run.specs.Crossing.{Deals, HoldsCollected, IsUncut}
-use Rattle.mesh_run.specs.Gathering.{AreEmptied}
-use Rattle.mesh_run.specs.Homes.{run_start}
-use Rattle.mesh_run.specs.Played.{AreTurns}
-use Rattle.mesh_run.specs.Queues.{RestAll}
-use Rattle.mesh_run.specs.Raised.{IsRoomyFrom}
+use Rattle.mesh_run.specs.{Gathering.AreEmptied, Homes.run_start, Played.AreTurns, Queues.RestAll, Raised.IsRoomyFrom}
 use Rattle.mesh_run.specs.Shares.{AreOf, IsNoted, PlaysRound, SharePlays}
 use Rattle.mesh_run.specs.Split.{end_at}
 use Rattle.mesh_run.proofs.AfterDeal.{lane_uncut}

@@ -1,21 +1,18 @@
 -- Vertices have at most one placement.
 use Rattle.std.proofs.Common.{◌≡◌, ℕ, ◌≤◌, true, List, [], ◌∷◌, length, take, slice_get, Option, Some, None, MatchOption, filter, sym, ap, ◌∙◌, subst, inl, inr, arith, All}
-use Rattle.std.proofs.lemmas.Bool.{cases_lt}
-use Rattle.std.proofs.lemmas.Grind.{same_number_lists}
-use Rattle.std.proofs.lemmas.List.{take_all}
+use Rattle.std.proofs.lemmas.{Bool.cases_lt, Grind.same_number_lists, List.take_all}
 use Rattle.std.proofs.lemmas.List.Elements.{All-head, All-tail}
 use Rattle.std.proofs.lemmas.Option.{slice_get_cases, slice_get_within, get_or_from_slice_get}
 use Rattle.spin_base.proofs.Places.{slice_get_there}
 use Rattle.spin_base.proofs.Determined.{EachFollows, determined_begins}
-use Rattle.spin_base.specs.declared.chips.Chip.{Chip}
-use Rattle.spin_base.specs.declared.chips.Spot.{Spot}
+use Rattle.spin_base.specs.declared.chips.{Chip.Chip, Spot.Spot}
 use Rattle.machine_desc.specs.declared.trees.Edge.{Edge}
-use Rattle.machine_desc.specs.Description.{Description}
-use Rattle.machine_desc.specs.Live.{is_live_chip}
+use Rattle.machine_desc.specs.{Description.Description, Live.is_live_chip}
 use Rattle.machine_desc.proofs.Same.{same_spot}
 use Rattle.app_graph.specs.declared.graphs.Vertex.{Vertex}
 use Rattle.place_fit.specs.Curve.{hilbert, IsChipOrder}
-use Rattle.place_fit.specs.Placement.{core_spot, is_free_core, HasRoom, IsFirstChip, choices, IsCoreFor, HasDeviceRoom, device_spot, IsSpotFor, FindsNoRoom, AreFirstSpots, AreFirstMemories, memory_of, IsPlacement, HasNoRoom}
+use Rattle.place_fit.specs.Placement.{core_spot, is_free_core, HasRoom, IsFirstChip, choices, IsCoreFor, HasDeviceRoom, device_spot}
+use Rattle.place_fit.specs.Placement.{IsSpotFor, FindsNoRoom, AreFirstSpots, AreFirstMemories, memory_of, IsPlacement, HasNoRoom}
 
 one_order : (m : Description) (xs ys : List Chip) → IsChipOrder m xs → IsChipOrder m ys → xs ≡ ys
 one_order m xs ys a b =
@@ -50,7 +47,8 @@ one_core m order vs ss v s t a b =
 one_spot : (m : Description) (order : List Chip) (vs : List Vertex) (ss : List Spot) (v : Vertex) (s t : Spot) → IsSpotFor m order vs ss v s → IsSpotFor m order vs ss v t → s ≡ t
 one_spot m order vs ss v s t = by_device v.device
   where
-    by_device : (o : Option Edge) → MatchOption o (IsCoreFor m order vs ss v s) (λ d. HasDeviceRoom m d × (s ≡ device_spot d)) → MatchOption o (IsCoreFor m order vs ss v t) (λ d. HasDeviceRoom m d × (t ≡ device_spot d)) → s ≡ t
+    by_device : (o : Option Edge) → MatchOption o (IsCoreFor m order vs ss v s) (λ d. HasDeviceRoom m d × (s ≡ device_spot d)) →
+        MatchOption o (IsCoreFor m order vs ss v t) (λ d. HasDeviceRoom m d × (t ≡ device_spot d)) → s ≡ t
     by_device None a b = one_core m order vs ss v s t a b
     by_device (Some d) a b = a.1 ∙ sym b.1
 

@@ -8,8 +8,7 @@ use Rattle.std.proofs.lemmas.List.Folds.{list_any_at}
 use Rattle.std.proofs.lemmas.List.Elements.{All-filter, All-nil, All-cons}
 use Rattle.std.proofs.lemmas.Option.{slice_get_within, slice_get-get_or, get_or_from_slice_get}
 use Rattle.spin_base.proofs.Places.{slice_get_there, slice_get-push_cases, slice_get-append_left, slice_get-pushed}
-use Rattle.spin_base.specs.declared.chips.Chip.{Chip}
-use Rattle.spin_base.specs.declared.chips.Spot.{Spot}
+use Rattle.spin_base.specs.declared.chips.{Chip.Chip, Spot.Spot}
 use Rattle.spin_base.specs.Equality.{spot_eq}
 use Rattle.spin_base.proofs.Equality.{spot_eq_same}
 use Rattle.spin_base.specs.declared.chips.Dir.{Dir}
@@ -22,14 +21,14 @@ use Rattle.machine_desc.proofs.Same.{same_edge, same_dir, below_six}
 use Rattle.machine_desc.proofs.Sites.{usable_site}
 use Rattle.app_graph.specs.declared.graphs.Vertex.{Vertex}
 use Rattle.app_graph.specs.ValidGraph.{HaveDifferentDevices}
-use Rattle.place_fit.specs.declared.boards.Board.{Board}
-use Rattle.place_fit.specs.declared.boards.Placed.{Placed}
-use Rattle.place_fit.specs.Curve.{hilbert}
-use Rattle.place_fit.specs.Quarters.{curve_place}
+use Rattle.place_fit.specs.declared.boards.{Board.Board, Placed.Placed}
+use Rattle.place_fit.specs.{Curve.hilbert, Quarters.curve_place}
 use Rattle.place_fit.proofs.CurveLaws.{at_place}
 use Rattle.place_fit.specs.Boards.{IsPlaceWithRoom, HasNoRoomAt, HasNoPlace, HasFairRooms, IsFilled, IsPutOnCore, IsPutAtLink, IsPut, HasNoSpot}
-use Rattle.place_fit.specs.Placement.{core_spot, need_of, used_on, is_free_core, HasRoom, IsFirstChip, choices, IsCoreFor, HasDeviceRoom, device_spot, IsSpotFor, FindsNoRoom, AreFirstSpots, AreFirstMemories, memory_of}
-use Rattle.place_fit.proofs.Standing.{live_in, Stands, IsTold, free_parts, free_from, has_room, core_with_room, room_for, least_core, usable_parts, is_taken, need_of_core, need_of_device, stands_more as one_stands_more, stands_device}
+use Rattle.place_fit.specs.Placement.{core_spot, need_of, used_on, is_free_core, HasRoom, IsFirstChip, choices, IsCoreFor, HasDeviceRoom}
+use Rattle.place_fit.specs.Placement.{device_spot, IsSpotFor, FindsNoRoom, AreFirstSpots, AreFirstMemories, memory_of}
+use Rattle.place_fit.proofs.Standing.{live_in, Stands, IsTold, free_parts, free_from, has_room, core_with_room, room_for, least_core, usable_parts}
+use Rattle.place_fit.proofs.Standing.{is_taken, need_of_core, need_of_device, stands_more as one_stands_more, stands_device}
 
 -- the first item that passes is the first of those that pass a test, if it passes it
 first_from_place : (P : Chip → Type 0) (test : Chip → Bool) (xs : List Chip) (q : ℕ) (c : Chip) → slice_get xs q ≡ Some c → P c → test c ≡ true
@@ -152,7 +151,8 @@ module _ (m : Description) (vs : List Vertex) (ss : List Spot) (b : Board) (stan
         let none = need_of_device v device is in
         let high : 18 ≤ r.spot.core = subst (λ (s : Spot). 18 ≤ s.core) (sym put.spot) (omega arith) in
         record {
-          spot = subst (λ o. MatchOption o (IsCoreFor m (filter (is_live_chip m) (hilbert b.level)) vs ss v r.spot) (λ device. HasDeviceRoom m device × (r.spot ≡ device_spot device))) (sym is) (put.room, put.spot);
+          spot = subst (λ o. MatchOption o (IsCoreFor m (filter (is_live_chip m) (hilbert b.level)) vs ss v r.spot) (λ device. HasDeviceRoom m device × (r.spot ≡ device_spot device)))
+              (sym is) (put.room, put.spot);
           memory = put.memory ∙ sym (ap (λ n. cond (n == 0) 0 (used_on r.spot.chip vs ss)) none);
           stands_more = subst (Stands m (vs ++ v ∷ []) (ss ++ r.spot ∷ [])) (sym put.same) (stands_device m vs ss b v r.spot stands high none);
           level = ap (λ (x : Board). x.level) put.same;
@@ -256,7 +256,8 @@ module _ (m : Description) (order : List Chip) (vertices : List Vertex) (spots :
   core_usable : (vs : List Vertex) (ss : List Spot) (v : Vertex) (s : Spot) → IsCoreFor m order vs ss v s → IsUsable m s
   core_usable vs ss v s at = (free_parts m ss s at.free).0
 
-  site_of : (vs : List Vertex) (ss : List Spot) (v : Vertex) (s : Spot) (o : Option Edge) → MatchOption o (IsCoreFor m order vs ss v s) (λ device. HasDeviceRoom m device × (s ≡ device_spot device)) → IsSite m s
+  site_of : (vs : List Vertex) (ss : List Spot) (v : Vertex) (s : Spot) (o : Option Edge) →
+      MatchOption o (IsCoreFor m order vs ss v s) (λ device. HasDeviceRoom m device × (s ≡ device_spot device)) → IsSite m s
   site_of vs ss v s None at = usable_site m s (core_usable vs ss v s at)
   site_of vs ss v s (Some device) (room, is) = subst (IsSite m) (sym is) (device_site m device room)
 

@@ -3,13 +3,10 @@ use Rattle.std.proofs.Common.{◌≡◌, ◌≢◌, ℕ, ◌+◌, ◌-◌, ◌^�
 use Rattle.std.proofs.Common.{[], ◌∷◌, ◌++◌, length, set, get_or, refl, sym, ap, ◌∙◌, subst, Option, Some, None, is_none, slice_get, inl, inr, arith}
 use Rattle.std.specs.List.{list_any}
 use Rattle.std.proofs.lemmas.Bool.{cases_lt, cases_eq, cases_Bool, and_left, and_parts, and_right, and_from, or_left, or_right, both_ways, not-true, cond-true, cond-false}
-use Rattle.std.proofs.lemmas.Bool.Decides.{nat_tests}
-use Rattle.std.proofs.lemmas.List.Folds.{list_any-append}
-use Rattle.std.proofs.lemmas.Option.{get_or_from_slice_get}
+use Rattle.std.proofs.lemmas.{Bool.Decides.nat_tests, List.Folds.list_any-append, Option.get_or_from_slice_get}
 use Rattle.std.proofs.lemmas.List.{get_or-set_same, get_or-set_other, length-set, get_or_append_left, get_or_push, length_push}
 use Rattle.spin_base.proofs.Tests.{or_neither}
-use Rattle.spin_base.specs.declared.chips.Chip.{Chip}
-use Rattle.spin_base.specs.declared.chips.Spot.{Spot}
+use Rattle.spin_base.specs.declared.chips.{Chip.Chip, Spot.Spot}
 use Rattle.spin_base.specs.Equality.{chip_eq, spot_eq}
 use Rattle.spin_base.proofs.Equality.{chip_eq_true, chip_eq_same}
 use Rattle.machine_desc.specs.declared.trees.Edge.{Edge}
@@ -18,10 +15,8 @@ use Rattle.machine_desc.specs.Live.{is_live_chip, is_usable}
 use Rattle.machine_desc.proofs.Far.{live_inside, inside_parts}
 use Rattle.machine_desc.proofs.Same.{same_spot}
 use Rattle.app_graph.specs.declared.graphs.Vertex.{Vertex}
-use Rattle.place_fit.specs.declared.boards.Board.{Board}
-use Rattle.place_fit.specs.declared.boards.Placed.{Placed}
-use Rattle.place_fit.specs.Curve.{hilbert}
-use Rattle.place_fit.specs.Quarters.{curve_place}
+use Rattle.place_fit.specs.declared.boards.{Board.Board, Placed.Placed}
+use Rattle.place_fit.specs.{Curve.hilbert, Quarters.curve_place}
 use Rattle.place_fit.specs.Boards.{IsBoard, IsEmptyBoard, IsNextCore, IsFilled, first_room}
 use Rattle.place_fit.specs.Placement.{core_spot, need_of, used_on, is_free_core, HasRoom}
 use Rattle.place_fit.proofs.CurveLaws.{IsIn, place_at}
@@ -114,7 +109,8 @@ told_more m chips cores rooms i core room d long wide inside next is told q c lo
           let core_is : get_or (cores ++ core ∷ []) q 0 ≡ core = get_or_push cores core 0 q (long ∙ sym one) in
           let chip_is : get_or chips i d ≡ c = ap (λ n. get_or chips n d) (sym one) ∙ get_or_from_slice_get chips q c d at in (
             subst (IsNextCore m c 0) (sym core_is) (subst (λ z. IsNextCore m z 0 core) chip_is next),
-            ap (get_or (set rooms i room) q) refl ∙ (ap (λ n. get_or (set rooms i room) n 0) one ∙ (get_or-set_same rooms i room 0 (omega (arith, inside, wide)) ∙ (is ∙ ap (λ n. first_room n m.sdram) (sym core_is)))),
+            ap (get_or (set rooms i room) q) refl ∙ (ap (λ n. get_or (set rooms i room) n 0) one
+                ∙ (get_or-set_same rooms i room 0 (omega (arith, inside, wide)) ∙ (is ∙ ap (λ n. first_room n m.sdram) (sym core_is)))),
           )
           )
     ]
@@ -194,7 +190,8 @@ module _ (m : Description) (vs : List Vertex) (ss : List Spot) (same : length vs
   told_device s high none =
       let apart : (p : ℕ) → is_usable m (core_spot c p) ≡ true → is_taken (ss ++ s ∷ []) (core_spot c p) ≡ is_taken ss (core_spot c p) =
       λ p u. let low = (usable_parts m (core_spot c p) u).1 in
-      taken_push ss s (core_spot c p) ∙ or_neither (is_taken ss (core_spot c p)) (spot_eq (core_spot c p) s) (and_right (chip_eq c s.chip) (p == s.core) (let below : p < s.core = omega (arith, low, high) in grind (arith, nat_tests))) in
+      taken_push ss s (core_spot c p) ∙ or_neither (is_taken ss (core_spot c p)) (spot_eq (core_spot c p) s)
+      (and_right (chip_eq c s.chip) (p == s.core) (let below : p < s.core = omega (arith, low, high) in grind (arith, nat_tests))) in
       let used : used_on c (vs ++ v ∷ []) (ss ++ s ∷ []) ≡ used_on c vs ss + 0 =
       used_push c vs ss v s same ∙ ap (λ b. used_on c vs ss + b) (ap (λ n. cond (chip_eq c s.chip) n 0) none ∙ cond_same (chip_eq c s.chip) 0) in
       record {
@@ -216,12 +213,14 @@ module _ (m : Description) (vs : List Vertex) (ss : List Spot) (same : length vs
           | inl lower ↦ or_left (is_taken ss (core_spot c p)) (spot_eq (core_spot c p) s || false) (told.before p u lower)
           | inr upper ↦ elim (cases_lt core p) [
             | inl above ↦ absurd (both_ways _ (is_next.none p (omega (arith, above)) low) u)
-            | inr here ↦ or_last (is_taken ss (core_spot c p)) (spot_eq (core_spot c p) s) (and_from (chip_eq c c) (p == core) (chip_eq_same c) (let e : p ≡ core = omega (arith, upper, here) in grind (arith, nat_tests)))
+            | inr here ↦ or_last (is_taken ss (core_spot c p)) (spot_eq (core_spot c p) s)
+                (and_from (chip_eq c c) (p == core) (chip_eq_same c) (let e : p ≡ core = omega (arith, upper, here) in grind (arith, nat_tests)))
           ]
         ];
         after = λ p u from.
             taken_push ss s (core_spot c p)
-            ∙ or_neither (is_taken ss (core_spot c p)) (spot_eq (core_spot c p) s) (and_right (chip_eq c c) (p == core) (let low = is_next.low in let more : core < p = omega (arith, low, from) in grind (arith, nat_tests)))
+            ∙ or_neither (is_taken ss (core_spot c p)) (spot_eq (core_spot c p) s)
+            (and_right (chip_eq c c) (p == core) (let low = is_next.low in let more : core < p = omega (arith, low, from) in grind (arith, nat_tests)))
             ∙ told.after p u (omega (arith, is_next.low, from));
         next = is_next.usable;
         full = λ none. room_none next (room - 1 - v.sdram) none;
@@ -279,8 +278,10 @@ module _ (m : Description) (vs : List Vertex) (ss : List Spot) (old new : Board)
                   (subst (λ n. IsNextCore m r.spot.chip (n + 1) core) filled.core filled.is_next) in
                   let told_spot = subst (λ s. IsTold m (vs ++ v ∷ []) (ss ++ s ∷ []) r.spot.chip core room) spot_is told in
                   let told_chip = subst (λ z. IsTold m (vs ++ v ∷ []) (ss ++ r.spot ∷ []) z core room) chip_is told_spot in
-                  let core_is : get_or new.cores.items q 0 ≡ core = ap (λ l. get_or l q 0) filled.cores ∙ (ap (λ n. get_or (set old.cores.items place core) n 0) here ∙ get_or-set_same old.cores.items place core 0 (omega (arith, within, b.cores))) in
-                  let room_is : get_or new.rooms q 0 ≡ room = ap (λ l. get_or l q 0) filled.rooms ∙ (ap (λ n. get_or (set old.rooms place room) n 0) here ∙ get_or-set_same old.rooms place room 0 (omega (arith, within, b.rooms))) in
+                  let core_is : get_or new.cores.items q 0 ≡ core = ap (λ l. get_or l q 0) filled.cores
+                  ∙ (ap (λ n. get_or (set old.cores.items place core) n 0) here ∙ get_or-set_same old.cores.items place core 0 (omega (arith, within, b.cores))) in
+                  let room_is : get_or new.rooms q 0 ≡ room =
+                  ap (λ l. get_or l q 0) filled.rooms ∙ (ap (λ n. get_or (set old.rooms place room) n 0) here ∙ get_or-set_same old.rooms place room 0 (omega (arith, within, b.rooms))) in
                   subst (λ x. T x (get_or new.rooms q 0)) (sym core_is) (subst (T core) (sym room_is) told_chip)
                   )
               | inr there ↦ (
@@ -293,7 +294,8 @@ module _ (m : Description) (vs : List Vertex) (ss : List Spot) (old new : Board)
       }
 
 -- a device more leaves the board as it is
-pub stands_device : (m : Description) (vs : List Vertex) (ss : List Spot) (b : Board) (v : Vertex) (s : Spot) → Stands m vs ss b → 18 ≤ s.core → need_of v ≡ 0 → Stands m (vs ++ v ∷ []) (ss ++ s ∷ []) b
+pub stands_device : (m : Description) (vs : List Vertex) (ss : List Spot) (b : Board) (v : Vertex) (s : Spot) → Stands m vs ss b → 18 ≤ s.core → need_of v ≡ 0 →
+    Stands m (vs ++ v ∷ []) (ss ++ s ∷ []) b
 stands_device m vs ss b v s stands high none = record {
   board = stands.board;
   same = length_push vs v ∙ (ap (λ n. n + 1) stands.same ∙ sym (length_push ss s));

@@ -1,13 +1,12 @@
 -- A covered table is sound where the table was, and what holds of all blocks that it serves holds of all that the table served.
-use Rattle.std.proofs.Common.{◌≡◌, ℕ, suc, ◌+◌, ◌-◌, ◌<◌, ◌≤◌, ◌==◌, Bool, true, false, cond, not, List, [], ◌∷◌, length, get_or, take, drop, refl, sym, ap, ◌∙◌, subst, arith, inl, inr, length-take, length-drop, get_or-take, get_or-drop}
-use Rattle.std.specs.Prelude.{All}
-use Rattle.std.specs.List.{flat_map}
+use Rattle.std.proofs.Common.{◌≡◌, ℕ, suc, ◌+◌, ◌-◌, ◌<◌, ◌≤◌, ◌==◌, Bool, true, false, cond, not, List, [], ◌∷◌, length, get_or, take}
+use Rattle.std.proofs.Common.{drop, refl, sym, ap, ◌∙◌, subst, arith, inl, inr, length-take, length-drop, get_or-take, get_or-drop}
+use Rattle.std.specs.{Prelude.All, List.flat_map}
 use Rattle.std.proofs.lemmas.Bool.{cases_Bool, cases_lt, eqb-true, not_from_false}
 use Rattle.std.proofs.lemmas.List.{get_or_default}
 use Rattle.std.proofs.lemmas.List.Elements.{All-nil, All-cons, All-head, All-tail, All-map, All-weaker, All-filter}
 use Rattle.spin_base.specs.declared.routes.Route.{Route}
-use Rattle.tern_word.specs.declared.tables.Alias.{Alias}
-use Rattle.tern_word.specs.declared.tables.Row.{Row}
+use Rattle.tern_word.specs.declared.tables.{Alias.Alias, Row.Row}
 use Rattle.tern_word.specs.SoundTable.{IsSound, Original, served_by, served}
 use Rattle.cover_merge.specs.Merge.{has_row, kept, rows_at, merge_rows, merged_row, insert_place, after, IsLegal}
 use Rattle.cover_merge.proofs.Legal.{legal_from_checks}
@@ -79,7 +78,8 @@ module _ (P : Original → Type 0) where
 -- ---- the chosen merge
 
 -- all places of a route have its bits
-places_good : (all : List Row) (bits i : ℕ) (rows : List Row) → ((k : ℕ) (d : Row) → k < length rows → (i + k < length all) × (get_or all (i + k) d ≡ get_or rows k d)) → All (HasBits all bits) (places_of bits i rows)
+places_good : (all : List Row) (bits i : ℕ) (rows : List Row) → ((k : ℕ) (d : Row) → k < length rows → (i + k < length all) × (get_or all (i + k) d ≡ get_or rows k d)) →
+    All (HasBits all bits) (places_of bits i rows)
 places_good all bits i [] are = All-nil (HasBits all bits)
 places_good all bits i (r ∷ rows) are =
     by (r.route.bits == bits) refl (places_good all bits (suc i) rows (λ k d below.
@@ -91,7 +91,8 @@ places_good all bits i (r ∷ rows) are =
         let none : i + 0 ≡ i = omega arith in
         (subst (λ n. n < length all) none (are 0 r (omega arith)).0, λ d. ap (λ n. (get_or all n d).route.bits) (sym none) ∙ (ap (λ (x : Row). x.route.bits) (are 0 d (omega arith)).1 ∙ same))
 
-    by : (b : Bool) → (r.route.bits == bits) ≡ b → All (HasBits all bits) (places_of bits (suc i) rows) → All (HasBits all bits) (cond b (i ∷ places_of bits (suc i) rows) (places_of bits (suc i) rows))
+    by : (b : Bool) → (r.route.bits == bits) ≡ b → All (HasBits all bits) (places_of bits (suc i) rows) →
+        All (HasBits all bits) (cond b (i ∷ places_of bits (suc i) rows) (places_of bits (suc i) rows))
     by true hit rest = All-cons (HasBits all bits) i (places_of bits (suc i) rows) (first (eqb-true r.route.bits bits hit)) rest
     by false miss rest = rest
 

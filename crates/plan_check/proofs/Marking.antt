@@ -72,7 +72,8 @@ entered_none m root edges marks n p is many root_in at = record {
       ]);
 }
 
-module _ (m : Description) (root : Chip) (edges : List Edge) (i : ℕ) (e : Edge) (marks new : List Bool) (below : i < length edges) (read : e ≡ get_or edges i e) (so_far : EnteredSoFar m root edges i marks) where
+module _ (m : Description) (root : Chip) (edges : List Edge) (i : ℕ) (e : Edge) (marks new : List Bool) (below : i < length edges) (read : e ≡ get_or edges i e)
+    (so_far : EnteredSoFar m root edges i marks) where
   mine : (d : Edge) → get_or edges i d ≡ e
   mine d = get_or_default edges i d e below ∙ sym read
 

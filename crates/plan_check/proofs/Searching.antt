@@ -1,15 +1,13 @@
 -- A search that looks at the links of each chip that it has reached, one after the other.
-use Rattle.std.proofs.Common.{◌≡◌, ℕ, zero, suc, ◌+◌, ◌*◌, ◌/◌, ◌%◌, ◌<◌, ◌≤◌, ◌⊎◌, Bool, true, false, List, [], ◌∷◌, ◌++◌, length, get_or, set, replicate, Option, Some, None, refl, sym, ap, ◌∙◌, subst, arith, inl, inr}
+use Rattle.std.proofs.Common.{◌≡◌, ℕ, zero, suc, ◌+◌, ◌*◌, ◌/◌, ◌%◌, ◌<◌, ◌≤◌, ◌⊎◌, Bool, true, false, List, [], ◌∷◌, ◌++◌, length}
+use Rattle.std.proofs.Common.{get_or, set, replicate, Option, Some, None, refl, sym, ap, ◌∙◌, subst, arith, inl, inr}
 use Rattle.std.specs.Prelude.{All, if◌then◌else◌}
 use Rattle.std.specs.List.{sum_by}
 use Rattle.std.proofs.lemmas.Bool.{cases_eq, cases_lt, cases_Bool, cond-true, cond-false, false≢true}
 use Rattle.std.proofs.lemmas.List.{get_or-set_same, get_or-set_other, get_or-replicate, get_or_append_left, get_or_at, get_or_default, length-append, length-replicate, length-set}
 use Rattle.std.proofs.lemmas.List.Elements.{All-nil, All-cons, All-push}
-use Rattle.std.proofs.lemmas.List.Folds.{sum_by-replicate}
-use Rattle.std.proofs.lemmas.List.Sums.{sum_by-set}
-use Rattle.std.proofs.lemmas.Option.{none-some}
-use Rattle.spin_base.specs.declared.chips.Chip.{Chip}
-use Rattle.spin_base.specs.declared.chips.Dir.{Dir}
+use Rattle.std.proofs.lemmas.{List.Folds.sum_by-replicate, List.Sums.sum_by-set, Option.none-some}
+use Rattle.spin_base.specs.declared.chips.{Chip.Chip, Dir.Dir}
 use Rattle.spin_base.specs.Links.{dir_number, dir_at}
 use Rattle.spin_base.proofs.Spots.{dir_number-dir_at}
 use Rattle.machine_desc.specs.Description.{Description}
@@ -102,17 +100,22 @@ module _ (m : Description) (flags : List Bool) (root : Chip) where
       counted_first : (after before was : ℕ) → after + was ≡ before + free true → was ≡ 1 → before ≡ n → 1 + after ≡ m.width * m.height
       counted_first after before was change one sum = omega (arith, change, one, sum, many)
 
-  -- the chip and the link of a number
-  module _ (marks : List Bool) (queue : List Chip) (next : ℕ) (from : Chip) (link : Dir) (within : next < length queue * 6) (from_is : from ≡ get_or queue (next / 6) from)
-      (link_is : link ≡ dir_at (next % 6)) (now : Searching m flags root marks queue next) where
+  -- the chip and the link of the next number
+  pub record Looking (marks : List Bool) (queue : List Chip) (next : ℕ) (from : Chip) (link : Dir) : Type 0 where
+    pub within : next < length queue * 6
+    pub from_is : from ≡ get_or queue (next / 6) from
+    pub link_is : link ≡ dir_at (next % 6)
+    pub now : Searching m flags root marks queue next
+
+  module _ {marks : List Bool} {queue : List Chip} {next : ℕ} {from : Chip} {link : Dir} (looking : Looking marks queue next from link) where
     place : next / 6 < length queue
-    place = let parts : next ≡ next / 6 * 6 + next % 6 = omega arith in omega (arith, parts, within)
+    place = let parts : next ≡ next / 6 * 6 + next % 6 = omega arith in omega (arith, parts, looking.within)
 
     number : dir_number link ≡ next % 6
-    number = ap dir_number link_is ∙ dir_number-dir_at (next % 6) (omega arith)
+    number = ap dir_number looking.link_is ∙ dir_number-dir_at (next % 6) (omega arith)
 
     pub from_inside : IsInside m from
-    from_inside = subst (IsInside m) (sym from_is) (now.inside (next / 6) from place)
+    from_inside = subst (IsInside m) (sym looking.from_is) (looking.now.inside (next / 6) from place)
 
     -- a chip to which the link leads is in the grid
     pub to_inside : (to : Chip) → far_of m from link ≡ Some to → IsInside m to
@@ -129,22 +132,22 @@ module _ (m : Description) (flags : List Bool) (root : Chip) where
           let rest : next % 6 < 6 = omega arith in
           let same : k ≡ next / 6 = omega (arith, parts, six, rest, less, later) in
           let dirs : dir_number d ≡ next % 6 = omega (arith, parts, same, less, later) in
-          let is_from : c ≡ from = sym is_c ∙ (ap (λ n. get_or queue n c) same ∙ (get_or_default queue (next / 6) c from place ∙ sym from_is)) in
+          let is_from : c ≡ from = sym is_c ∙ (ap (λ n. get_or queue n c) same ∙ (get_or_default queue (next / 6) c from place ∙ sym looking.from_is)) in
           inr (is_from, same_dir d link (dirs ∙ sym number))
     ]
 
     -- the link leads to no chip without a mark
     pub search_past : ((e : Chip) → is_flagged m flags from link ≡ true → far_of m from link ≡ Some e → mark_at m marks e ≡ true) → Searching m flags root marks queue (next + 1)
     search_past here = record {
-      long = now.long;
-      counted = now.counted;
-      inside = now.inside;
-      reached = now.reached;
-      queued = now.queued;
-      known = now.known;
-      root_marked = now.root_marked;
+      long = looking.now.long;
+      counted = looking.now.counted;
+      inside = looking.now.inside;
+      reached = looking.now.reached;
+      queued = looking.now.queued;
+      known = looking.now.known;
+      root_marked = looking.now.root_marked;
       near = λ k d c e below is_c less flagged leads. elim (near_cases k d c below is_c less) [
-        | inl before ↦ now.near k d c e below is_c before flagged leads
+        | inl before ↦ looking.now.near k d c e below is_c before flagged leads
         | inr this ↦
             let flag : is_flagged m flags from link ≡ true = ap (λ (x : Dir). is_flagged m flags from x) (sym this.1) ∙ (ap (λ (x : Chip). is_flagged m flags x d) (sym this.0) ∙ flagged) in
             let goes : far_of m from link ≡ Some e = ap (λ (x : Dir). far_of m from x) (sym this.1) ∙ (ap (λ (x : Chip). far_of m x d) (sym this.0) ∙ leads) in
@@ -157,46 +160,51 @@ module _ (m : Description) (flags : List Bool) (root : Chip) where
         Searching m flags root (set marks p true) (queue ++ to ∷ []) (next + 1)
     search_push to p flag leads p_is clear =
         subst (λ n. Searching m flags root (set marks n true) (queue ++ to ∷ []) (next + 1)) (sym p_is) (record {
-          long = length-set marks (index_of m to) true ∙ now.long;
+          long = length-set marks (index_of m to) true ∙ looking.now.long;
           counted =
-              let below : index_of m to < length marks = subst (λ n. index_of m to < n) (sym now.long) (index_below m to to_in) in
-              let change : sum_by free (set marks (index_of m to) true) + free (get_or marks (index_of m to) false) ≡ sum_by free marks + free true = sum_by-set free marks (index_of m to) true false below in
+              let below : index_of m to < length marks = subst (λ n. index_of m to < n) (sym looking.now.long) (index_below m to to_in) in
+              let change : sum_by free (set marks (index_of m to) true) + free (get_or marks (index_of m to) false) ≡ sum_by free marks + free true =
+              sum_by-set free marks (index_of m to) true false below in
               let was : free (get_or marks (index_of m to) false) ≡ 1 = ap free (ap (λ n. get_or marks n false) (sym p_is) ∙ clear) in
               counted_more (sum_by free (set marks (index_of m to) true)) (sum_by free marks) (free (get_or marks (index_of m to) false)) (length queue) (length (queue ++ to ∷ []))
-              change was now.counted (length-append queue (to ∷ []));
-          inside = All-push (IsInside m) queue to now.inside to_in;
+              change was looking.now.counted (length-append queue (to ∷ []));
+          inside = All-push (IsInside m) queue to looking.now.inside to_in;
           reached = λ c c_in hit. elim (marked_cases marks to c to_in c_in hit) [
-            | inl same ↦ subst (IsReachedChip m flags root) (sym same) (by_link from to link (now.reached from from_inside (now.known (next / 6) from place (sym from_is))) flag leads)
-            | inr had ↦ now.reached c c_in had
+            | inl same ↦ subst (IsReachedChip m flags root) (sym same) (by_link from to link (looking.now.reached from from_inside (looking.now.known (next / 6) from place (sym looking.from_is))) flag leads)
+            | inr had ↦ looking.now.reached c c_in had
           ];
           queued = λ c c_in hit. elim (marked_cases marks to c to_in c_in hit) [
-            | inl same ↦ (length queue, (let longer : length (queue ++ to ∷ []) ≡ length queue + 1 = length-append queue (to ∷ []) in omega (arith, longer)), get_or_at queue to [] c (length queue) refl ∙ sym same)
+            | inl same ↦ (
+              length queue,
+              (let longer : length (queue ++ to ∷ []) ≡ length queue + 1 = length-append queue (to ∷ []) in omega (arith, longer)),
+              get_or_at queue to [] c (length queue) refl ∙ sym same,
+            )
             | inr had ↦
-                let before = now.queued c c_in had in (
+                let before = looking.now.queued c c_in had in (
                   before.0,
                   (let longer : length (queue ++ to ∷ []) ≡ length queue + 1 = length-append queue (to ∷ []) in omega (arith, longer, before.1)),
                   get_or_append_left queue (to ∷ []) c before.0 before.1 ∙ before.2,
                 )
           ];
           known = λ k c below is_c. elim (cases_lt k (length queue)) [
-            | inl short ↦ marked_still marks to c now.long to_in (now.known k c short (sym (get_or_append_left queue (to ∷ []) c k short) ∙ is_c))
+            | inl short ↦ marked_still marks to c looking.now.long to_in (looking.now.known k c short (sym (get_or_append_left queue (to ∷ []) c k short) ∙ is_c))
             | inr last ↦
                 let longer : length (queue ++ to ∷ []) ≡ length queue + 1 = length-append queue (to ∷ []) in
                 let at : k ≡ length queue = omega (arith, last, below, longer) in
-                marked_same marks to c now.long to_in (sym is_c ∙ get_or_at queue to [] c k (sym at))
+                marked_same marks to c looking.now.long to_in (sym is_c ∙ get_or_at queue to [] c k (sym at))
           ];
-          root_marked = marked_still marks to root now.long to_in now.root_marked;
+          root_marked = marked_still marks to root looking.now.long to_in looking.now.root_marked;
           near = λ k d c e below is_c less flagged goes. elim (cases_lt k (length queue)) [
             | inl short ↦
                 let is_old : get_or queue k c ≡ c = sym (get_or_append_left queue (to ∷ []) c k short) ∙ is_c in
                 elim (near_cases k d c short is_old less) [
-                  | inl before ↦ marked_still marks to e now.long to_in (now.near k d c e short is_old before flagged goes)
+                  | inl before ↦ marked_still marks to e looking.now.long to_in (looking.now.near k d c e short is_old before flagged goes)
                   | inr this ↦
                       let there : Some to ≡ Some e = sym leads ∙ (ap (λ (x : Dir). far_of m from x) (sym this.1) ∙ (ap (λ (x : Chip). far_of m x d) (sym this.0) ∙ goes)) in
                       let is : to ≡ e = cc in
-                      marked_same marks to e now.long to_in (sym is)
+                      marked_same marks to e looking.now.long to_in (sym is)
                 ]
-            | inr last ↦ absurd (omega (arith, last, less, within))
+            | inr last ↦ absurd (omega (arith, last, less, looking.within))
           ];
         })
       where

@@ -1,5 +1,6 @@
 -- What was found of edges and targets by marks and flags is what a routing tree has.
-use Rattle.std.proofs.Common.{◌≡◌, ℕ, ◌+◌, ◌*◌, ◌<◌, ◌↔◌, ◌⊎◌, IsTrue, Bool, true, false, List, [], ◌∷◌, ◌++◌, length, get_or, set, take, map, replicate, Some, refl, sym, ap, ◌∙◌, subst, arith, inl, inr}
+use Rattle.std.proofs.Common.{◌≡◌, ℕ, ◌+◌, ◌*◌, ◌<◌, ◌↔◌, ◌⊎◌, IsTrue, Bool, true, false, List, [], ◌∷◌, ◌++◌, length}
+use Rattle.std.proofs.Common.{get_or, set, take, map, replicate, Some, refl, sym, ap, ◌∙◌, subst, arith, inl, inr}
 use Rattle.std.specs.Prelude.{All, Any, Contains}
 use Rattle.std.proofs.lemmas.Bool.{cases_eq, false≢true}
 use Rattle.std.proofs.lemmas.Nat.{same_from_place}
@@ -7,8 +8,7 @@ use Rattle.std.proofs.lemmas.List.{get_or-set_same, get_or-set_other, get_or-rep
 use Rattle.std.proofs.lemmas.List.Elements.{All-nil, All-head, All-map, All-contains, Contains-append_left, Contains-push, Contains-push_cases}
 use Rattle.spin_base.proofs.Members.{Contains-none, Contains-first}
 use Rattle.spin_base.proofs.Pairs.{All-from_map}
-use Rattle.spin_base.specs.declared.chips.Chip.{Chip}
-use Rattle.spin_base.specs.declared.chips.Spot.{Spot}
+use Rattle.spin_base.specs.declared.chips.{Chip.Chip, Spot.Spot}
 use Rattle.spin_base.specs.Links.{dir_number}
 use Rattle.machine_desc.specs.declared.trees.Edge.{Edge}
 use Rattle.machine_desc.specs.Description.{Description}
@@ -60,10 +60,11 @@ routed_is_alone m root edges targets outside tree = by edges tree refl
         | inl any ↦ absurd (omega (arith, any.2))
         | inr has ↦ let below : has.0 < length targets = subst (λ n. has.0 < n) (length-map targets (λ (s : Spot). s.chip)) has.1 in omega (arith, below)
       ];
-      on_root = All-from_map (λ (c : Chip). c ≡ root) (λ (s : Spot). s.chip) targets (λ k d below. elim (tree_cases m root [] (get_or (map (λ (s : Spot). s.chip) targets) k d) (routed.has_targets k d below)) [
-        | inl at ↦ at
-        | inr into ↦ absurd (Contains-none into.0 into.1)
-      ]);
+      on_root = All-from_map (λ (c : Chip). c ≡ root) (λ (s : Spot). s.chip) targets
+          (λ k d below. elim (tree_cases m root [] (get_or (map (λ (s : Spot). s.chip) targets) k d) (routed.has_targets k d below)) [
+            | inl at ↦ at
+            | inr into ↦ absurd (Contains-none into.0 into.1)
+          ]);
     }
 
 pub alone_tells : (m : Description) (root : Chip) (edges : List Edge) (targets : List Spot) (inside b : Bool) → inside ≡ is_inside m root → inside ≡ false →

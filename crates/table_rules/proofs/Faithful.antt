@@ -1,19 +1,13 @@
 -- The table that is made of rows says what they say.
 use Rattle.std.proofs.Common.{◌≡◌, ℕ, ◌-◌, ◌^◌, ◌<◌, ◌≤◌, inl, inr, List, [], ◌∷◌, ◌++◌, length, get_or, map, Some, None, refl, sym, ap, ◌∙◌, subst, append_assoc, arith}
-use Rattle.std.specs.Prelude.{All}
-use Rattle.std.specs.List.{Contains}
-use Rattle.std.specs.List.Sorted.{IsPermutation}
+use Rattle.std.specs.{Prelude.All, List.Contains, List.Sorted.IsPermutation}
 use Rattle.std.proofs.lemmas.List.{append-nil, get_or-map, length-map}
 use Rattle.std.proofs.lemmas.List.Elements.{All-nil, All-map, Contains-get_or}
 use Rattle.std.proofs.lemmas.List.Sorted.{All-permutation, IsPermutation-sym}
 use Rattle.std.proofs.lemmas.Option.{none-some}
-use Rattle.spin_base.proofs.Members.{Contains-map}
-use Rattle.spin_base.proofs.Pairs.{AllPairs-nil}
-use Rattle.spin_base.specs.declared.blocks.Block.{Block}
-use Rattle.spin_base.specs.declared.routes.Route.{Route}
-use Rattle.spin_base.specs.declared.chips.Port.{Port}
-use Rattle.tern_word.specs.declared.tables.Alias.{Alias}
-use Rattle.tern_word.specs.declared.tables.Row.{Row}
+use Rattle.spin_base.proofs.{Members.Contains-map, Pairs.AllPairs-nil}
+use Rattle.spin_base.specs.declared.{blocks.Block.Block, routes.Route.Route, chips.Port.Port}
+use Rattle.tern_word.specs.declared.tables.{Alias.Alias, Row.Row}
 use Rattle.tern_word.specs.Ternary.{Matches, Intersects, LiesIn, generality}
 use Rattle.tern_word.specs.SoundTable.{HoldsItsAliases, IsSound, Misses, Original, served, served_by}
 use Rattle.cover_merge.specs.Merge.{place_for, rows_at}
@@ -123,7 +117,8 @@ faithful_put before rows given pieces next so_far are (left_out none) = with_non
 faithful_put before rows given pieces next so_far are (whole some stands) = with_whole before rows given pieces so_far are stands
 faithful_put before rows given pieces next so_far are (in_pieces some stands_not) = with_pieces before rows given pieces so_far are
 
-faithful_from : (room : ℕ) (before : List RoutedBlock) (rows : List Row) (given : List RoutedBlock) (table : List Row) → IsTableFrom room before rows given table → IsFaithful before rows → IsFaithful (before ++ given) table
+faithful_from : (room : ℕ) (before : List RoutedBlock) (rows : List Row) (given : List RoutedBlock) (table : List Row) → IsTableFrom room before rows given table → IsFaithful before rows →
+    IsFaithful (before ++ given) table
 faithful_from room before rows given table (done r b rs) so_far = subst (λ l. IsFaithful l rs) (sym (append-nil b)) so_far
 faithful_from room before rows given table (more r b rs g rest pieces next t cuts put from) so_far =
     subst (λ l. IsFaithful l t) (append_assoc b (g ∷ []) rest)
@@ -154,8 +149,8 @@ sent_on rows left k port route sound are small it =
     let way = subst (IsSentOn kept) it.among.2 (all_sent rows sound are.places are.kept it.among.0 it.original it.among.1) k small it.has in
     subst (λ l. LeaveBy l k port route) (sym are.are) (subst (LeaveBy kept k port) it.by (subst (λ p. LeaveBy kept k p it.original.route) it.comes way))
 
-pub keeps : (room : ℕ) (given : List RoutedBlock) (table rows : List Row) (left : List RoutedBlock) → IsTableMadeOf room given table → IsSound rows → IsPermutation (served table) (served rows) → AreLeft rows left
-    → KeepsRoutes given left
+pub keeps : (room : ℕ) (given : List RoutedBlock) (table rows : List Row) (left : List RoutedBlock) → IsTableMadeOf room given table → IsSound rows
+    → IsPermutation (served table) (served rows) → AreLeft rows left → KeepsRoutes given left
 keeps room given table rows left made sound same are k row small first = sent_on rows left k row.port row.route sound are small (is_served room given table rows made same k row small first)
 
 pub keeps_itself : (given : List RoutedBlock) → KeepsRoutes given given

@@ -1,8 +1,7 @@
 -- Which row has a key first.
 use Rattle.std.proofs.Common.{◌≡◌, ℕ, ◌⊎◌, true, false, cond, inl, inr, List, [], ◌∷◌, ◌++◌, Some, None, refl, sym, ap, ◌∙◌}
 use Rattle.std.specs.Prelude.{bit_and}
-use Rattle.std.proofs.lemmas.Bool.{eq-eqb}
-use Rattle.std.proofs.lemmas.Bool.Decides.{eqb_tells}
+use Rattle.std.proofs.lemmas.Bool.{eq-eqb, Decides.eqb_tells}
 use Rattle.std.proofs.lemmas.List.Elements.{All-nil, All-cons, All-head, All-tail}
 use Rattle.std.proofs.lemmas.Option.{none-some, same_Some}
 use Rattle.spin_base.specs.declared.blocks.Block.{Block}
@@ -62,7 +61,8 @@ pub not_none : (rows : List RoutedBlock) (g : RoutedBlock) (k : ℕ) → Matches
 not_none rows g k hit none = none-some g (sym none ∙ (first_next rows (g ∷ []) k (none_before rows (g ∷ []) k none) ∙ first_hit g [] k hit))
 
 -- the first row with one more: one of those before, or that one
-pub first_of_more : (rows : List RoutedBlock) (g x : RoutedBlock) (k : ℕ) → first_with (rows ++ g ∷ []) k ≡ Some x → (first_with rows k ≡ Some x) ⊎ ((first_with rows k ≡ None) × (g ≡ x) × Matches g.block k)
+pub first_of_more : (rows : List RoutedBlock) (g x : RoutedBlock) (k : ℕ) → first_with (rows ++ g ∷ []) k ≡ Some x →
+    (first_with rows k ≡ Some x) ⊎ ((first_with rows k ≡ None) × (g ≡ x) × Matches g.block k)
 first_of_more [] g x k first = elim (has_tells k g) [
   | inl hit ↦ inr (refl, same_Some g x (sym (first_hit g [] k hit.1) ∙ first), hit.1)
   | inr miss ↦ absurd (none-some x (sym (first_miss g [] k miss.1) ∙ first))

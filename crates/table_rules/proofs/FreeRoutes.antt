@@ -1,13 +1,10 @@
 -- From which number on all are among sorted ones, and what is free below it.
 use Rattle.std.proofs.Common.{◌≡◌, ℕ, ◌+◌, ◌-◌, ◌<◌, ◌≤◌, min, inl, inr, List, length, get_or, map, ap, ◌∙◌, subst, arith}
 use Rattle.std.specs.Prelude.{All, slice_index}
-use Rattle.std.specs.List.{Contains}
-use Rattle.std.specs.List.Sorted.{IsPermutation}
-use Rattle.std.proofs.lemmas.Bool.{cases_lt}
-use Rattle.std.proofs.lemmas.List.{get_or_default}
+use Rattle.std.specs.List.{Contains, Sorted.IsPermutation}
+use Rattle.std.proofs.lemmas.{Bool.cases_lt, List.get_or_default}
 use Rattle.std.proofs.lemmas.List.Sorted.{All-permutation, Contains-permutation, IsPermutation-sym}
-use Rattle.spin_base.proofs.Members.{Contains-unmap}
-use Rattle.spin_base.proofs.Pairs.{All-from_map}
+use Rattle.spin_base.proofs.{Members.Contains-unmap, Pairs.All-from_map}
 use Rattle.table_rules.specs.declared.rows.RoutedBlock.{RoutedBlock}
 use Rattle.table_rules.specs.Exact.{HasAllRoutes, IsFree}
 
@@ -35,9 +32,11 @@ module _ (bits : List ℕ) (routes full k next : ℕ) (k_in : k < length bits) (
 module _ (given : List RoutedBlock) (bits sorted : List ℕ) (of : bits ≡ map (λ (r : RoutedBlock). r.route.bits) given) (moved : IsPermutation bits sorted) where
   pub is_free : (b : ℕ) → All (λ x. x ≡ b → ⊥) sorted → IsFree given b
   is_free b none =
-      All-from_map (λ x. x ≡ b → ⊥) (λ (r : RoutedBlock). r.route.bits) given (subst (All (λ x. x ≡ b → ⊥)) of (All-permutation (λ x. x ≡ b → ⊥) sorted bits (IsPermutation-sym bits sorted moved) none))
+      All-from_map (λ x. x ≡ b → ⊥) (λ (r : RoutedBlock). r.route.bits) given
+      (subst (All (λ x. x ≡ b → ⊥)) of (All-permutation (λ x. x ≡ b → ⊥) sorted bits (IsPermutation-sym bits sorted moved) none))
 
   pub has_all : (routes : ℕ) → ((b : ℕ) → 0 ≤ b → b < routes → Contains sorted b) → HasAllRoutes routes given
   has_all routes all b within free =
-      let r = Contains-unmap (λ (r : RoutedBlock). r.route.bits) given b (subst (λ l. Contains l b) of (Contains-permutation sorted bits b (IsPermutation-sym bits sorted moved) (all b (omega arith) within))) in
+      let r = Contains-unmap (λ (r : RoutedBlock). r.route.bits) given b
+      (subst (λ l. Contains l b) of (Contains-permutation sorted bits b (IsPermutation-sym bits sorted moved) (all b (omega arith) within))) in
       subst (λ (x : RoutedBlock). x.route.bits ≡ b → ⊥) r.1.2 (free r.1.0 r.0 r.1.1) r.2

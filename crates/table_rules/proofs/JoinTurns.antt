@@ -2,14 +2,9 @@
 use Rattle.std.proofs.Common.{◌≡◌, ℕ, ◌+◌, ◌<◌, ◌≤◌, Bool, true, false, List, [], ◌∷◌, ◌++◌, length, get_or, map, set, take, drop, refl, sym, ap, ◌∙◌, append_assoc, arith}
 use Rattle.std.specs.Prelude.{filter, if◌then◌else◌, not}
 use Rattle.std.proofs.lemmas.List.{append-nil, drop_all, drop_more, map-append, map_push, take_more, take_all}
-use Rattle.std.proofs.lemmas.List.Concat.{flat_map-append}
-use Rattle.std.proofs.lemmas.List.Edits.{sets-eq}
-use Rattle.std.proofs.lemmas.List.Elements.{filter-append}
-use Rattle.std.proofs.lemmas.List.Sums.{fold-append}
-use Rattle.spin_base.specs.declared.blocks.Block.{Block}
-use Rattle.spin_base.specs.declared.routes.Route.{Route}
-use Rattle.tern_word.specs.declared.tables.Alias.{Alias}
-use Rattle.tern_word.specs.declared.tables.Row.{Row}
+use Rattle.std.proofs.lemmas.List.{Concat.flat_map-append, Edits.sets-eq, Elements.filter-append, Sums.fold-append}
+use Rattle.spin_base.specs.declared.{blocks.Block.Block, routes.Route.Route}
+use Rattle.tern_word.specs.declared.tables.{Alias.Alias, Row.Row}
 use Rattle.tern_word.specs.SoundTable.{Original, served, served_by}
 use Rattle.tern_word.specs.Ternary.{merge_two}
 use Rattle.table_rules.specs.declared.rows.RoutedBlock.{RoutedBlock}
@@ -46,8 +41,8 @@ module _ (behind : List RoutedBlock) (block : Block) (blocks all : List Block) (
 
 -- ---- blocks are joined
 
-pub joined_more : (behind : List RoutedBlock) (blocks : List Block) (i : ℕ) (block : Block) (old new : List Block) → i < length blocks → block ≡ get_or blocks i block → old ≡ joined_blocks behind (take i blocks)
-    → new ≡ with_block behind old block → new ≡ joined_blocks behind (take (i + 1) blocks)
+pub joined_more : (behind : List RoutedBlock) (blocks : List Block) (i : ℕ) (block : Block) (old new : List Block) → i < length blocks → block ≡ get_or blocks i block
+    → old ≡ joined_blocks behind (take i blocks) → new ≡ with_block behind old block → new ≡ joined_blocks behind (take (i + 1) blocks)
 joined_more behind blocks i block old new within read so_far put =
     put
     ∙ (ap (λ l. with_block behind l block) so_far
@@ -86,7 +81,8 @@ pieces_more rows i row old new within read so_far put =
     ∙ map-append (λ (o : Original). row_by o.route o.block) (served (take i rows)) (served_by row))))
 
 module _ (row : Row) (items : List Alias) (i : ℕ) (before old : List RoutedBlock) (so_far : old ≡ before ++ map (λ (a : Alias). row_by row.route a.block) (take i items)) where
-  pub aliases_more : (a : Alias) (new : List RoutedBlock) → i < length items → a ≡ get_or items i a → new ≡ old ++ row_by row.route a.block ∷ [] → new ≡ before ++ map (λ (x : Alias). row_by row.route x.block) (take (i + 1) items)
+  pub aliases_more : (a : Alias) (new : List RoutedBlock) → i < length items → a ≡ get_or items i a → new ≡ old ++ row_by row.route a.block ∷ [] →
+      new ≡ before ++ map (λ (x : Alias). row_by row.route x.block) (take (i + 1) items)
   aliases_more a new within read put =
       put
       ∙ (ap (λ l. l ++ row_by row.route a.block ∷ []) so_far

@@ -6,8 +6,7 @@ use Rattle.std.proofs.lemmas.Bool.Decides.{eqb_tells}
 use Rattle.std.proofs.lemmas.List.Elements.{All-head, All-tail}
 use Rattle.spin_base.proofs.Members.{Among, Contains-filter, Contains-map, among_any, among_contains, among_filter, any_among, contains_among}
 use Rattle.spin_base.proofs.RouteBits.{same_route}
-use Rattle.spin_base.specs.declared.blocks.Block.{Block}
-use Rattle.spin_base.specs.declared.routes.Route.{Route}
+use Rattle.spin_base.specs.declared.{blocks.Block.Block, routes.Route.Route}
 use Rattle.tern_word.specs.Ternary.{Intersects, LiesIn, Matches, merge_two}
 use Rattle.tern_word.proofs.BlockLaws.{LiesIn-merge}
 use Rattle.block_cuts.specs.Cuts.{meets}

@@ -1,13 +1,9 @@
 -- The rows of joined pieces say what the given rows say, and behind a wall no more.
 use Rattle.std.proofs.Common.{◌≡◌, ℕ, ◌<◌, ◌≤◌, ◌^◌, List, [], ◌∷◌, length, map, Some, refl, sym, ap, ◌∙◌, subst, arith}
-use Rattle.std.specs.Prelude.{not}
-use Rattle.std.specs.List.{Contains}
-use Rattle.std.specs.Option.{option_or}
-use Rattle.std.specs.List.Sorted.{IsPermutation}
+use Rattle.std.specs.{Prelude.not, List.Contains, Option.option_or, List.Sorted.IsPermutation}
 use Rattle.std.proofs.lemmas.List.Folds.{find-append}
 use Rattle.std.proofs.lemmas.List.Sums.{count_by-le-length, length-filter}
-use Rattle.std.proofs.lemmas.List.Sorted.{IsPermutation-refl}
-use Rattle.std.proofs.lemmas.Option.{same_Some}
+use Rattle.std.proofs.lemmas.{List.Sorted.IsPermutation-refl, Option.same_Some}
 use Rattle.spin_base.proofs.Members.{Among, among_contains, among_map, contains_among, map_among}
 use Rattle.spin_base.specs.declared.routes.Route.{Route}
 use Rattle.tern_word.specs.declared.tables.Row.{Row}
@@ -85,13 +81,15 @@ module _ (room : ℕ) (given : List RoutedBlock) (table : List Row) (made : IsTa
 
 -- what is shorter than the rows that cover a table, by the lists that the code has
 module _ (room : ℕ) (given : List RoutedBlock) (table rows : List Row) (made : IsTableMadeOf room given table) (sound : IsSound rows) (serves : IsPermutation (served table) (served rows)) where
-  pub short_keeps : (target : ℕ) (list : List Row) (pieces left new : List RoutedBlock) → list ≡ rows → AreLeft list left → pieces ≡ pieces_of table → IsShorterOf target pieces pieces left new → KeepsRoutes given new
+  pub short_keeps : (target : ℕ) (list : List Row) (pieces left new : List RoutedBlock) → list ≡ rows → AreLeft list left → pieces ≡ pieces_of table →
+      IsShorterOf target pieces pieces left new → KeepsRoutes given new
   short_keeps target list pieces left new same are pieces_are of =
       shorter_has (KeepsRoutes given) target pieces pieces left new of
       (keeps room given table rows left made sound serves (subst (λ l. AreLeft l left) same are))
       (λ joined joins. joined_keeps room given table made joined (subst (λ l. AreJoinedRows l l joined) pieces_are joins))
 
-module _ (room : ℕ) (given : List RoutedBlock) (route : Route) (table : List Row) (made : IsTableMadeOf room (walled given route) table) (rows : List RoutedBlock) (are : AreJoinedRows (others route (pieces_of table)) (pieces_of table) rows) where
+module _ (room : ℕ) (given : List RoutedBlock) (route : Route) (table : List Row) (made : IsTableMadeOf room (walled given route) table) (rows : List RoutedBlock)
+    (are : AreJoinedRows (others route (pieces_of table)) (pieces_of table) rows) where
   pub joined_keeps_within : IsFree given route.bits → KeepsRoutes given rows
   joined_keeps_within free k row small first =
       let it = piece_for room (walled given route) table made k row small (find-append (takes_key k) given (wall_of route ∷ []) ∙ ap (λ o. option_or o (first_with (wall_of route ∷ []) k)) first) in
@@ -115,7 +113,8 @@ module _ (room : ℕ) (given : List RoutedBlock) (route : Route) (table : List R
       (λ r among is. no_route_of_wall r among (sym is ∙ ap (λ (x : Route). x.bits) it.by))
 
 -- the same, by the lists that the code has
-module _ (room : ℕ) (given : List RoutedBlock) (route : Route) (table : List Row) (made : IsTableMadeOf room (walled given route) table) (own pieces joined : List RoutedBlock) (own_is : own ≡ others route (pieces_of table)) (pieces_are : pieces ≡ pieces_of table)
+module _ (room : ℕ) (given : List RoutedBlock) (route : Route) (table : List Row) (made : IsTableMadeOf room (walled given route) table) (own pieces joined : List RoutedBlock)
+    (own_is : own ≡ others route (pieces_of table)) (pieces_are : pieces ≡ pieces_of table)
     (are : AreJoinedRows own pieces joined) where
   are_joined : AreJoinedRows (others route (pieces_of table)) (pieces_of table) joined
   are_joined = subst (λ l. AreJoinedRows (others route (pieces_of table)) l joined) pieces_are (subst (λ l. AreJoinedRows l pieces joined) own_is are)

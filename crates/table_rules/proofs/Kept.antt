@@ -1,16 +1,12 @@
 -- The rows that default routing does not replace send the packets of all.
 use Rattle.std.proofs.Common.{◌≡◌, ℕ, suc, ◌^◌, ◌<◌, ◌≤◌, inl, inr, List, ◌∷◌, length, get_or, map, None, sym, ap, ◌∙◌, subst, arith}
-use Rattle.std.specs.Prelude.{All}
-use Rattle.std.specs.List.{cons_option}
+use Rattle.std.specs.{Prelude.All, List.cons_option}
 use Rattle.std.proofs.lemmas.Bool.{cases_lt}
 use Rattle.std.proofs.lemmas.List.Elements.{All-nil, All-cons, All-map}
 use Rattle.std.proofs.lemmas.Option.{get_or_from_slice_get, slice_get_within}
 use Rattle.spin_base.proofs.Pairs.{All-flat_map}
-use Rattle.spin_base.specs.declared.blocks.Block.{Block}
-use Rattle.spin_base.specs.declared.chips.Port.{Port}
-use Rattle.spin_base.specs.declared.routes.Route.{Route}
-use Rattle.tern_word.specs.declared.tables.Alias.{Alias}
-use Rattle.tern_word.specs.declared.tables.Row.{Row}
+use Rattle.spin_base.specs.declared.{blocks.Block.Block, chips.Port.Port, routes.Route.Route}
+use Rattle.tern_word.specs.declared.tables.{Alias.Alias, Row.Row}
 use Rattle.tern_word.specs.Ternary.{Matches}
 use Rattle.tern_word.specs.SoundTable.{IsSound, Original, served, served_by}
 use Rattle.cover_merge.specs.Merge.{rows_at}
@@ -84,4 +80,5 @@ module _ (rows : List Row) (sound : IsSound rows) where
       let P = IsSentOn (map routed (rows_at rows kept)) in
       All-flat_map P served_by rows (λ j d within.
       let r = get_or rows j d in
-      All-map P (λ (a : Alias). let o : Original = record { block = a.block; port = a.port; route = r.route } in o) r.aliases (λ m e inside k small hit. sent_from 0 kept are j d (omega arith) within m e inside k small hit))
+      All-map P (λ (a : Alias). let o : Original = record { block = a.block; port = a.port; route = r.route } in o) r.aliases
+      (λ m e inside k small hit. sent_from 0 kept are j d (omega arith) within m e inside k small hit))

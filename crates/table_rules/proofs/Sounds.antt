@@ -1,15 +1,14 @@
 -- A sound table with one row more, and with the pieces of a row, is sound; and a sound table routes its aliases.
-use Rattle.std.proofs.Common.{◌≡◌, ℕ, zero, suc, ◌+◌, ◌^◌, ◌<◌, ◌≤◌, inl, inr, List, [], ◌∷◌, ◌++◌, length, get_or, take, drop, map, refl, sym, ap, ◌∙◌, subst, take-append-drop, get_or-take, get_or-drop, length-take, length-drop, arith}
+use Rattle.std.proofs.Common.{◌≡◌, ℕ, zero, suc, ◌+◌, ◌^◌, ◌<◌, ◌≤◌, inl, inr, List, [], ◌∷◌, ◌++◌, length, get_or, take, drop, map, refl}
+use Rattle.std.proofs.Common.{sym, ap, ◌∙◌, subst, take-append-drop, get_or-take, get_or-drop, length-take, length-drop, arith}
 use Rattle.std.specs.Prelude.{All, AllPairs, insert}
 use Rattle.std.specs.List.{Contains}
-use Rattle.std.proofs.lemmas.Bool.{cases_lt}
-use Rattle.std.proofs.lemmas.List.Concat.{flat_map-append}
+use Rattle.std.proofs.lemmas.{Bool.cases_lt, List.Concat.flat_map-append}
 use Rattle.std.proofs.lemmas.List.Elements.{All-nil, All-append, All-cons, All-drop, All-head, All-map, All-tail, All-take, Contains-append_left, Contains-append_right, Contains-append_cases}
 use Rattle.std.proofs.lemmas.List.Kept.{AllPairs-cons}
 use Rattle.spin_base.proofs.Pairs.{All-flat_map, AllAcross, AllPairs-head, AllPairs-tail, AllPairs-append, AllPairs-left, AllPairs-right, AllPairs-across}
 use Rattle.spin_base.specs.declared.blocks.Block.{Block}
-use Rattle.tern_word.specs.declared.tables.Alias.{Alias}
-use Rattle.tern_word.specs.declared.tables.Row.{Row}
+use Rattle.tern_word.specs.declared.tables.{Alias.Alias, Row.Row}
 use Rattle.tern_word.specs.Ternary.{Matches, Intersects, LiesIn, generality}
 use Rattle.tern_word.specs.SoundTable.{HoldsItsAliases, IsSound, Misses, Original, served, served_by}
 use Rattle.cover_merge.specs.Merge.{place_for, PassesDown}
@@ -76,7 +75,8 @@ module _ (given : RoutedBlock) where
       sound_with_pieces pieces (with_row rows (piece_row given p))
       (sound_with rows (piece_row given p) sound
       (All-cons (λ (a : Alias). LiesIn a.block p) (alias_of given.port p) [] (λ k small m. m) (All-nil (λ (a : Alias). LiesIn a.block p)))
-      (λ k d within. All-cons (λ (a : Alias). Intersects (get_or rows k d).block a.block → ⊥) (alias_of given.port p) [] (here k d within) (All-nil (λ (a : Alias). Intersects (get_or rows k d).block a.block → ⊥)))
+      (λ k d within. All-cons (λ (a : Alias). Intersects (get_or rows k d).block a.block → ⊥) (alias_of given.port p) [] (here k d within)
+      (All-nil (λ (a : Alias). Intersects (get_or rows k d).block a.block → ⊥)))
       (λ r d from within m e inside met.
       here r d within (record { key = met.key; small = met.small; first = sound.inside r d within m e inside met.key met.small met.second; second = met.first })))
       (all_insert (λ (r : Row). All (λ (q : Block). Intersects r.block q → ⊥) pieces) rows (place_for rows (generality p)) (piece_row given p)
@@ -157,4 +157,5 @@ pub all_go : (rows : List Row) → IsSound rows → All (GoesWhere rows) (served
 all_go rows sound =
     All-flat_map (GoesWhere rows) served_by rows (λ j d within.
     let r = get_or rows j d in
-    All-map (GoesWhere rows) (λ (a : Alias). let o : Original = record { block = a.block; port = a.port; route = r.route } in o) r.aliases (λ i e inside k small hit. goes rows sound j d within i e inside k small hit))
+    All-map (GoesWhere rows) (λ (a : Alias). let o : Original = record { block = a.block; port = a.port; route = r.route } in o) r.aliases
+    (λ i e inside k small hit. goes rows sound j d within i e inside k small hit))

@@ -1,10 +1,8 @@
 -- One piece more, one row more.
 use Rattle.std.proofs.Common.{◌≡◌, ℕ, ◌+◌, ◌-◌, ◌<◌, ◌≤◌, ◌==◌, inl, inr, true, false, List, [], ◌∷◌, ◌++◌, length, get_or, map, take, drop, Some, None, refl, sym, ap, ◌∙◌, subst, arith}
-use Rattle.std.proofs.lemmas.Bool.{eq-eqb}
-use Rattle.std.proofs.lemmas.Bool.Decides.{eqb_tells}
+use Rattle.std.proofs.lemmas.Bool.{eq-eqb, Decides.eqb_tells}
 use Rattle.std.proofs.lemmas.List.{drop_all, drop_more, map_push, take_more}
-use Rattle.std.proofs.lemmas.List.Edits.{length-insert}
-use Rattle.std.proofs.lemmas.Option.{slice_get-get_or}
+use Rattle.std.proofs.lemmas.{List.Edits.length-insert, Option.slice_get-get_or}
 use Rattle.std.specs.Prelude.{All}
 use Rattle.spin_base.specs.declared.blocks.Block.{Block}
 use Rattle.tern_word.specs.declared.tables.Row.{Row}
@@ -14,8 +12,7 @@ use Rattle.cover_merge.specs.Covering.{Covers}
 use Rattle.cover_merge.proofs.Positions.{place_for-le, rows_at-push}
 use Rattle.block_cuts.specs.Cuts.{cut}
 use Rattle.table_rules.specs.declared.rows.RoutedBlock.{RoutedBlock}
-use Rattle.table_rules.specs.Rows.{routed}
-use Rattle.table_rules.specs.Pairs.{pieces_of}
+use Rattle.table_rules.specs.{Rows.routed, Pairs.pieces_of}
 use Rattle.table_rules.specs.Shortened.{AreLeft, IsCoveredFrom, IsShortFrom, IsShorterOf}
 use Rattle.table_rules.specs.Made.{HasTooManyPieces, IsTableFrom, IsTableMadeOf, IsRowAdded, StandsBefore, row_blocks, done, here, later, more, piece_row, with_row, with_rows}
 
@@ -60,7 +57,8 @@ module _ (left : ℕ) (given : List RoutedBlock) (i : ℕ) (rows : List Row) whe
       is_cut : cut left row.block (row_blocks (take i given)) ≡ Some pieces
       is_cut = ap (cut left row.block) (sym are) ∙ sym cuts
 
-      pub more_rows : (new table : List Row) → IsRowAdded rows row pieces new → IsTableFrom (left - length pieces) (take (i + 1) given) new (drop (i + 1) given) table → IsTableFrom left (take i given) rows (drop i given) table
+      pub more_rows : (new table : List Row) → IsRowAdded rows row pieces new → IsTableFrom (left - length pieces) (take (i + 1) given) new (drop (i + 1) given) table →
+          IsTableFrom left (take i given) rows (drop i given) table
       more_rows new table put from =
           subst (λ l. IsTableFrom left (take i given) rows l table) (sym behind)
           (more left (take i given) rows row (drop (i + 1) given) pieces new table is_cut put (subst (λ l. IsTableFrom (left - length pieces) l new (drop (i + 1) given) table) before from))
@@ -98,11 +96,13 @@ module _ (rows list other : List Row) (block : Block) (place g : ℕ) (same : li
 
 -- ---- covered rows
 
-module _ (target room : ℕ) (given : List RoutedBlock) (table rows : List Row) (sets : List (List ℕ)) (long : target < length given) (made : IsTableMadeOf room given table) (covers : Covers target table sets rows) where
+module _ (target room : ℕ) (given : List RoutedBlock) (table rows : List Row) (sets : List (List ℕ)) (long : target < length given) (made : IsTableMadeOf room given table)
+    (covers : Covers target table sets rows) where
   covered_from : IsCoveredFrom target room given rows
   covered_from = record { long = long; table = table; made = made; sets = sets; covered = covers }
 
-  pub is_short_from : (list : List Row) (pieces left new : List RoutedBlock) → list ≡ rows → AreLeft list left → pieces ≡ pieces_of table → IsShorterOf target pieces pieces left new → IsShortFrom target room given new
+  pub is_short_from : (list : List Row) (pieces left new : List RoutedBlock) → list ≡ rows → AreLeft list left → pieces ≡ pieces_of table → IsShorterOf target pieces pieces left new →
+      IsShortFrom target room given new
   unfolding covered_from
   is_short_from list pieces left new same are pieces_are of = record {
     rows = rows;

@@ -1,5 +1,6 @@
 -- Behind a wall no key is new: the rows of its route have all keys, and those before them have none of the wall's.
-use Rattle.std.proofs.Common.{◌≡◌, ℕ, take-append-drop, length-take, ◌-◌, ◌<◌, ◌≤◌, ◌^◌, ◌==◌, Bool, true, false, cond, inl, inr, List, [], ◌∷◌, ◌++◌, length, get_or, take, drop, map, Option, Some, None, refl, sym, ap, ◌∙◌, subst, length-append, arith}
+use Rattle.std.proofs.Common.{◌≡◌, ℕ, take-append-drop, length-take, ◌-◌, ◌<◌, ◌≤◌, ◌^◌, ◌==◌, Bool, true, false, cond, inl, inr, List, [], ◌∷◌}
+use Rattle.std.proofs.Common.{◌++◌, length, get_or, take, drop, map, Option, Some, None, refl, sym, ap, ◌∙◌, subst, length-append, arith}
 use Rattle.std.specs.Prelude.{All, AllPairs, nat_lt, bit_and, bit_xor, fold, nat_le, not, slice_get}
 use Rattle.std.specs.Int.{bit_at, bit_not, w32}
 use Rattle.std.specs.List.{Contains, cons_option, position, position_or_len}
@@ -16,11 +17,8 @@ use Rattle.std.proofs.lemmas.Nat.Bits.{bit_at-zero}
 use Rattle.std.proofs.lemmas.Option.{none-some, same_Some}
 use Rattle.spin_base.proofs.Pairs.{All-flat_map, AllPairs-head, AllPairs-left}
 use Rattle.spin_base.proofs.Places.{All-at}
-use Rattle.spin_base.specs.declared.chips.Port.{Port}
-use Rattle.spin_base.specs.declared.blocks.Block.{Block}
-use Rattle.spin_base.specs.declared.routes.Route.{Route}
-use Rattle.tern_word.specs.declared.tables.Row.{Row}
-use Rattle.tern_word.specs.declared.tables.Alias.{Alias}
+use Rattle.spin_base.specs.declared.{chips.Port.Port, blocks.Block.Block, routes.Route.Route}
+use Rattle.tern_word.specs.declared.tables.{Row.Row, Alias.Alias}
 use Rattle.tern_word.specs.Ternary.{Intersects, Matches, all_keys, generality, merge_two}
 use Rattle.tern_word.specs.SoundTable.{HoldsItsAliases, IsSound, Misses, Original, served, served_by}
 use Rattle.tern_word.proofs.BlockLaws.{generality-mono}
@@ -98,7 +96,8 @@ module _ (bits : ℕ) where
       let q = λ (k : ℕ). not (has_row places k) in
       All-append AreWide (kept places 0 (take p rows)) (merged_row rows places ∷ kept places p (drop p rows))
       (All-picked AreWide q 0 (take p rows) (All-take AreWide p rows all))
-      (All-cons AreWide (merged_row rows places) (kept places p (drop p rows)) (wide_merge (rows_at rows places) (at_places rows places all)) (All-picked AreWide q p (drop p rows) (All-drop AreWide p rows all)))
+      (All-cons AreWide (merged_row rows places) (kept places p (drop p rows)) (wide_merge (rows_at rows places) (at_places rows places all))
+      (All-picked AreWide q p (drop p rows) (All-drop AreWide p rows all)))
 
   wide_covered : (target : ℕ) (table : List Row) (sets : List (List ℕ)) (rows : List Row) → Covers target table sets rows → All AreWide table → All AreWide rows
   wide_covered target table sets rows (short r few) all = all
@@ -127,7 +126,8 @@ module _ (bits : ℕ) where
       all_with_rows AreWide (map (piece_row given) pieces) rows all
       (All-map AreWide (piece_row given) pieces (λ i d within is. absurd (stands_not (stands_last given.block rows (wide is)))))
 
-  wide_from : (room : ℕ) (before : List RoutedBlock) (rows : List Row) (given : List RoutedBlock) (table : List Row) → IsTableFrom room before rows given table → All AreWide rows → All IsWideGiven given → All AreWide table
+  wide_from : (room : ℕ) (before : List RoutedBlock) (rows : List Row) (given : List RoutedBlock) (table : List Row) → IsTableFrom room before rows given table → All AreWide rows →
+      All IsWideGiven given → All AreWide table
   wide_from room before rows given table (done n b r) all wide = all
   wide_from room before rows given table (more n b r g rest pieces next t cuts put from) all wide =
       wide_from (n - length pieces) (b ++ g ∷ []) next rest t from (wide_put r g pieces next put all (All-head IsWideGiven g rest wide)) (All-tail IsWideGiven g rest wide)
@@ -207,7 +207,8 @@ module _ (target room : ℕ) (given : List RoutedBlock) (route : Route) (rows : 
   wide_rows =
       wide_covered route.bits target within.covered.table within.covered.sets rows within.covered.covered
       (wide_from route.bits room [] [] (walled given route) within.covered.table within.covered.made (All-nil (AreWide route.bits))
-      (All-append (IsWideGiven route.bits) given (wall_of route ∷ []) (λ i d inside is. absurd (within.free i d inside is)) (All-cons (IsWideGiven route.bits) (wall_of route) [] (λ is. refl) (All-nil (IsWideGiven route.bits)))))
+      (All-append (IsWideGiven route.bits) given (wall_of route ∷ []) (λ i d inside is. absurd (within.free i d inside is))
+      (All-cons (IsWideGiven route.bits) (wall_of route) [] (λ is. refl) (All-nil (IsWideGiven route.bits)))))
 
   pub keeps_before : KeepsRoutes given left
   keeps_before k row small first =
@@ -250,7 +251,8 @@ module _ (bits : ℕ) (rows : List Row) (o : Option ℕ) (is : o ≡ position (�
       by_test true less found = absurd (none-some n (sym found))
       by_test false most found = ltb-false n (length rows) most
 
-module _ (target room : ℕ) (given : List RoutedBlock) (route : Route) (table rows : List Row) (sets : List (List ℕ)) (long : target < length given) (free : IsFree given route.bits) (made : IsTableMadeOf room (walled given route) table) (covers : Covers target table sets rows) where
+module _ (target room : ℕ) (given : List RoutedBlock) (route : Route) (table rows : List Row) (sets : List (List ℕ)) (long : target < length given)
+    (free : IsFree given route.bits) (made : IsTableMadeOf room (walled given route) table) (covers : Covers target table sets rows) where
   within : IsCoveredWithin target room given route rows
   within = record {
     long = long;
@@ -262,7 +264,8 @@ module _ (target room : ℕ) (given : List RoutedBlock) (route : Route) (table r
     before_wall : AreLeft (rows_before route.bits rows) left
     before_wall = subst (λ l. AreLeft l left) (is ∙ ap (rows_before route.bits) same) are
 
-    pub is_short_within : (own pieces new : List RoutedBlock) → own ≡ others route (pieces_of table) → pieces ≡ pieces_of table → IsShorterOf target own pieces left new → IsShortWithin target room given new
+    pub is_short_within : (own pieces new : List RoutedBlock) → own ≡ others route (pieces_of table) → pieces ≡ pieces_of table → IsShorterOf target own pieces left new →
+        IsShortWithin target room given new
     unfolding within
     is_short_within own pieces new own_is pieces_are of = record {
       route = route;
@@ -274,10 +277,9 @@ module _ (target room : ℕ) (given : List RoutedBlock) (route : Route) (table r
     }
 
     module _ (sound : IsSound rows) (serves : IsPermutation (served table) (served rows)) where
-      pub keeps_within : KeepsRoutes given left
+      pub says_within : KeepsRoutes given left × HasNoNewKeys given left
       unfolding within
-      keeps_within = keeps_before target room given route rows left within sound serves before_wall
-
-      pub keys_within : HasNoNewKeys given left
-      unfolding within
-      keys_within = no_new_keys target room given route rows left within sound serves before_wall
+      says_within = (
+        keeps_before target room given route rows left within sound serves before_wall,
+        no_new_keys target room given route rows left within sound serves before_wall,
+      )

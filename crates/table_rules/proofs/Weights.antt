@@ -5,9 +5,7 @@ use Rattle.std.specs.List.{Contains}
 use Rattle.std.proofs.lemmas.List.{map_push, take_more}
 use Rattle.std.proofs.lemmas.Nat.{mod_low}
 use Rattle.spin_base.proofs.Members.{Among, Contains-map, Contains-unmap, among_contains, among_map, contains_among}
-use Rattle.spin_base.proofs.Pairs.{AllPairs-from_map}
-use Rattle.spin_base.proofs.Places.{All-each}
-use Rattle.spin_base.proofs.RouteBits.{same_route}
+use Rattle.spin_base.proofs.{Pairs.AllPairs-from_map, Places.All-each, RouteBits.same_route}
 use Rattle.spin_base.specs.declared.routes.Route.{Route}
 use Rattle.table_rules.specs.declared.rows.RoutedBlock.{RoutedBlock}
 use Rattle.table_rules.specs.Pairs.{AreRoutesOf, goes_by, weight_of}
@@ -21,8 +19,8 @@ module _ (pieces : List RoutedBlock) where
   bits_told r = mod_low (count_by (goes_by r) pieces) 24 r.bits r.within
 
   -- each route that has the bits of a weight has that weight
-  same_weights : (routes : List Route) (weights : List ℕ) → map (λ (r : Route). r.bits) routes ≡ map (λ w. w % 2 ^ 24) weights → ((w : ℕ) → Among w weights → (p : RoutedBlock) × Among p pieces × (w ≡ weigh p))
-      → map (weight_of pieces) routes ≡ weights
+  same_weights : (routes : List Route) (weights : List ℕ) → map (λ (r : Route). r.bits) routes ≡ map (λ w. w % 2 ^ 24) weights
+      → ((w : ℕ) → Among w weights → (p : RoutedBlock) × Among p pieces × (w ≡ weigh p)) → map (weight_of pieces) routes ≡ weights
   same_weights [] [] same from = refl
   same_weights [] (w ∷ weights) same from = absurd (omega (arith, ap length same))
   same_weights (r ∷ routes) [] same from = absurd (omega (arith, ap length same))
@@ -58,7 +56,8 @@ module _ (pieces : List RoutedBlock) where
       rising = AllPairs-from_map (weight_of pieces) (λ a b. a < b) routes (subst (AllPairs (λ a b. a < b)) (sym all_weights) rising);
     }
 
-pub weights_more : (pieces : List RoutedBlock) (i : ℕ) (p : RoutedBlock) (old new : List ℕ) → i < length pieces → p ≡ get_or pieces i p → old ≡ map (λ (q : RoutedBlock). weight_of pieces q.route) (take i pieces)
+pub weights_more : (pieces : List RoutedBlock) (i : ℕ) (p : RoutedBlock) (old new : List ℕ) → i < length pieces → p ≡ get_or pieces i p
+    → old ≡ map (λ (q : RoutedBlock). weight_of pieces q.route) (take i pieces)
     → new ≡ old ++ weight_of pieces p.route ∷ [] → new ≡ map (λ (q : RoutedBlock). weight_of pieces q.route) (take (i + 1) pieces)
 weights_more pieces i p old new within read so_far put =
     put

@@ -9,12 +9,14 @@ loop-number-init c = let r = c.requires.ends in dealt_none c.args.cuts.now c.arg
 
 pub take_at-tx-requires : goal.take_at-tx-requires
 take_at-tx-requires c =
-    let e = next_link c.args.cuts.now c.args.standing.now c.loop-number.standing c.args.shares.now.items c.loop-number.shares.items c.loop-number.number c.loop-number.invariant c.loop-number-test.true in
+    let e = next_link c.args.cuts.now c.args.standing.now c.loop-number.standing c.args.shares.now.items c.loop-number.shares.items c.loop-number.number c.loop-number.invariant
+    c.loop-number-test.true in
     (e.0.tx, e.1)
 
 pub take_at-rx-requires : goal.take_at-rx-requires
 take_at-rx-requires c =
-    let e = next_link c.args.cuts.now c.args.standing.now c.loop-number.standing c.args.shares.now.items c.loop-number.shares.items c.loop-number.number c.loop-number.invariant c.loop-number-test.true in
+    let e = next_link c.args.cuts.now c.args.standing.now c.loop-number.standing c.args.shares.now.items c.loop-number.shares.items c.loop-number.number c.loop-number.invariant
+    c.loop-number-test.true in
     (e.0.rx, e.2)
 
 pub put_end-first-requires : goal.put_end-first-requires
@@ -29,14 +31,17 @@ put_end-second-requires c =
     let nothing : Cut = record { queue = 0; sender = 0; receiver = 0 } in
     let at = slice_get-get_or c.args.cuts.now c.loop-number.number nothing c.loop-number-test.true in
     let e = c.requires.cuts.receivers c.loop-number.number _ at in
-    end_still c.args.shares.now.items c.put_end-first.new.shares.items _ _ e.0 (same_on c.args.shares.now.items c.loop-number.shares.items c.put_end-first.new.shares.items c.loop-number.invariant.same c.put_end-first.ensures.put.same) e.1
+    end_still c.args.shares.now.items c.put_end-first.new.shares.items _ _ e.0
+    (same_on c.args.shares.now.items c.loop-number.shares.items c.put_end-first.new.shares.items c.loop-number.invariant.same c.put_end-first.ensures.put.same) e.1
 
 pub loop-number-preserved : goal.loop-number-preserved
 loop-number-preserved c =
     let nothing : Cut = record { queue = 0; sender = 0; receiver = 0 } in
     let at = slice_get-get_or c.args.cuts.now c.loop-number.number nothing c.loop-number-test.true in
-    dealt_more c.args.cuts.now c.args.standing.now c.loop-number.standing _ c.args.shares.now.items c.loop-number.shares.items c.put_end-first.new.shares.items c.put_end-second.new.shares.items c.loop-number.number _ c.take_at-tx.result c.take_at-rx.result
-    c.requires.cuts c.loop-number.invariant at c.take_at-tx.ensures.stood c.take_at-rx.ensures.stood refl refl c.take_at-tx.ensures.left c.take_at-rx.ensures.left c.put_end-first.ensures.put c.put_end-second.ensures.put
+    dealt_more c.args.cuts.now c.args.standing.now c.loop-number.standing _ c.args.shares.now.items c.loop-number.shares.items c.put_end-first.new.shares.items
+    c.put_end-second.new.shares.items c.loop-number.number _ c.take_at-tx.result c.take_at-rx.result
+    c.requires.cuts c.loop-number.invariant at c.take_at-tx.ensures.stood c.take_at-rx.ensures.stood refl refl c.take_at-tx.ensures.left c.take_at-rx.ensures.left
+    c.put_end-first.ensures.put c.put_end-second.ensures.put
 
 pub returns-clause-deals : goal.returns-clause-deals
 returns-clause-deals c = λ ends holds.

@@ -17,10 +17,13 @@ index_mut-requires-2 c =
 
 pub returns-clause-stood : goal.returns-clause-stood
 returns-clause-stood c =
-    let r = read_end c.args.shares.now.items c.args.share c.args.queue c.requires.0 c.index_mut-2.result.now c.index_mut.result.now c.requires.1 c.index_mut.ensures.value c.index_mut-2.ensures.value in
+    let r = read_end c.args.shares.now.items c.args.share c.args.queue c.requires.0 c.index_mut-2.result.now c.index_mut.result.now c.requires.1 c.index_mut.ensures.value
+    c.index_mut-2.ensures.value in
     ap (λ (o : Option Share). end_in o c.args.queue) r.0 ∙ (r.1 ∙ ap Some (sym c.replace.ensures.value))
 
 pub returns-clause-put : goal.returns-clause-put
 returns-clause-put c =
-    let r = read_end c.args.shares.now.items c.args.share c.args.queue c.requires.0 c.index_mut-2.result.now c.index_mut.result.now c.requires.1 c.index_mut.ensures.value c.index_mut-2.ensures.value in
-    end_set c.args.shares.now.items _ c.args.share c.args.queue c.index_mut.result.now _ c.index_mut-2.result.now c.args.end r.0 r.1 refl refl refl refl refl refl refl (ap (λ (e : End). set c.index_mut.result.now.hold.ends.items c.args.queue e) c.replace.ensures.after)
+    let r = read_end c.args.shares.now.items c.args.share c.args.queue c.requires.0 c.index_mut-2.result.now c.index_mut.result.now c.requires.1 c.index_mut.ensures.value
+    c.index_mut-2.ensures.value in
+    end_set c.args.shares.now.items _ c.args.share c.args.queue c.index_mut.result.now _ c.index_mut-2.result.now c.args.end r.0 r.1 refl refl refl refl refl refl refl
+    (ap (λ (e : End). set c.index_mut.result.now.hold.ends.items c.args.queue e) c.replace.ensures.after)

@@ -1,9 +1,7 @@
 use Rattle.std.proofs.Common.{◌++◌, ap, ◌∙◌, arith}
 use Rattle.std.specs.Option.{option_to_list}
 use Rattle.spin_base.specs.declared.chips.Chip.{Chip}
-use Rattle.machine_desc.specs.Description.{Description}
-use Rattle.machine_desc.specs.Live.{chip_of}
-use Rattle.machine_desc.specs.NetsOn.{vertex_at}
+use Rattle.machine_desc.specs.{Description.Description, Live.chip_of, NetsOn.vertex_at}
 use Rattle.mesh_run.proofs.FloorLaws.{vertices_all, vertices_more, vertices_none}
 use Rattle.mesh_run.proofs.floors.vertices_on.Goals as goal
 

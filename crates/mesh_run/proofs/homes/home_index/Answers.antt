@@ -1,7 +1,6 @@
 use Rattle.std.proofs.Common.{◌*◌, ◌<◌, List, get_or, sym, subst}
 use Rattle.spin_base.specs.declared.chips.Spot.{Spot}
-use Rattle.machine_desc.specs.Description.{Description}
-use Rattle.machine_desc.specs.Live.{IsInside}
+use Rattle.machine_desc.specs.{Description.Description, Live.IsInside}
 use Rattle.mesh_core.proofs.VertexTableLaws.{site_inside}
 use Rattle.mesh_run.proofs.homes.home_index.Goals as goal
 

@@ -1,7 +1,6 @@
 use Rattle.std.proofs.Common.{◌≡◌, ◌+◌, ◌*◌, ◌<◌, ℕ, length, subst, arith}
 use Rattle.std.proofs.lemmas.Option.{slice_get-get_or}
-use Rattle.mesh_run.specs.Floors.{grid_size}
-use Rattle.mesh_run.specs.Homes.{AreHomesTo}
+use Rattle.mesh_run.specs.{Floors.grid_size, Homes.AreHomesTo}
 use Rattle.mesh_run.proofs.HomeLaws.{homes_all, homes_none, ports_more, vertex_more}
 use Rattle.mesh_run.proofs.homes.homes_of.Goals as goal
 
@@ -15,8 +14,8 @@ loop-index-preserved c =
     let below = c.loop-index-test.true in
     let router : 2 * c.loop-index.index < length c.args.table.now = omega (arith, long, chips, below) in
     let bank : 2 * c.loop-index.index + 1 < length c.args.table.now = omega (arith, long, chips, below) in
-    ports_more c.args.table.now c.loop-index.index _ _ c.loop-index.homes.items c.push_ports.new.homes.items c.loop-index.invariant (slice_get-get_or c.args.table.now (2 * c.loop-index.index) 0 router)
-    (slice_get-get_or c.args.table.now (2 * c.loop-index.index + 1) 0 bank) c.in_ok-push_ports.ensures
+    ports_more c.args.table.now c.loop-index.index _ _ c.loop-index.homes.items c.push_ports.new.homes.items c.loop-index.invariant
+    (slice_get-get_or c.args.table.now (2 * c.loop-index.index) 0 router) (slice_get-get_or c.args.table.now (2 * c.loop-index.index + 1) 0 bank) c.in_ok-push_ports.ensures
 
 pub loop-vertex-init : goal.loop-vertex-init
 loop-vertex-init c =

@@ -17,8 +17,8 @@ set_sender-requires c = λ q is.
 pub loop-number-preserved : goal.loop-number-preserved
 loop-number-preserved c =
     let inside : 2 * c.args.index < length c.args.table.now = omega (arith, c.requires.below, c.requires.long) in
-    senders_more c.args.setup.now c.args.table.now c.args.index c.loop-number.number _ _ _ c.loop-number.homes.items c.set_sender.new.homes.items c.loop-number.invariant c.requires.live c.requires.below
-    c.out_at.ensures.output c.out_at.ensures.number c.behind_output-behind.ensures (slice_get-get_or c.args.table.now (2 * c.args.index) 0 inside) c.set_sender.ensures
+    senders_more c.args.setup.now c.args.table.now c.args.index c.loop-number.number _ _ _ c.loop-number.homes.items c.set_sender.new.homes.items c.loop-number.invariant c.requires.live
+    c.requires.below c.out_at.ensures.output c.out_at.ensures.number c.behind_output-behind.ensures (slice_get-get_or c.args.table.now (2 * c.args.index) 0 inside) c.set_sender.ensures
 
 pub returns : goal.returns
 returns c =

@@ -1,8 +1,7 @@
 use Rattle.std.proofs.Common.{◌≡◌, ◌≤◌, List, length}
 use Rattle.std.specs.List.{All}
 use Rattle.link_queue.specs.declared.links.LinkEnds.{LinkEnds}
-use Rattle.mesh_run.specs.Standing.{HoldsAll}
-use Rattle.mesh_run.specs.Queues.{AreEnds}
+use Rattle.mesh_run.specs.{Standing.HoldsAll, Queues.AreEnds}
 use Rattle.mesh_run.proofs.Holding.{DownFrom}
 use Rattle.mesh_run.proofs.queues.bring_down.Given as goal
 

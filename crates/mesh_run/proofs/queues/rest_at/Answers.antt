@@ -12,5 +12,8 @@ returns g c = λ ends old holds at.
     let r = c.requires in
     let link = c.rest-tx.ensures.link in
     let lacks = c.take_ends-tx.ensures.left ends holds in
-    rests_there ends r.0 c.args.place old r.1 c.args.standing.now c.take_ends-tx.new.self c.put_ends.new.self c.index.result.now c.take_ends-tx.result.0 c.rest-tx.result.tx c.take_ends-tx.result.1 c.rest-tx.result.rx
-    c.rest-tx.result.held holds at r.2 r.3 r.4 (c.take_ends-tx.ensures.ends ends old holds at) lacks c.index.ensures (subst (λ (l : Link). IsTx l c.rest-tx.result.tx) link c.rest-tx.result.sends) (subst (λ (l : Link). IsRx l c.rest-tx.result.rx) link c.rest-tx.result.takes) c.rest-tx.ensures.rests (c.put_ends.ensures ends old lacks at)
+    rests_there ends r.0 c.args.place old r.1 c.args.standing.now c.take_ends-tx.new.self c.put_ends.new.self c.index.result.now c.take_ends-tx.result.0 c.rest-tx.result.tx
+    c.take_ends-tx.result.1 c.rest-tx.result.rx
+    c.rest-tx.result.held holds at r.2 r.3 r.4 (c.take_ends-tx.ensures.ends ends old holds at) lacks c.index.ensures
+    (subst (λ (l : Link). IsTx l c.rest-tx.result.tx) link c.rest-tx.result.sends) (subst (λ (l : Link). IsRx l c.rest-tx.result.rx) link c.rest-tx.result.takes) c.rest-tx.ensures.rests
+    (c.put_ends.ensures ends old lacks at)

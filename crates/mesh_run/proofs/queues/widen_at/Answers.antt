@@ -1,9 +1,8 @@
 use Rattle.std.proofs.Common.{sym, ap, ◌∙◌, subst, arith}
-use Rattle.link_queue.specs.declared.links.Link.{Link}
-use Rattle.link_queue.specs.declared.links.Rx.{Rx}
-use Rattle.link_queue.specs.declared.links.Tx.{Tx}
+use Rattle.link_queue.specs.declared.links.{Link.Link, Rx.Rx, Tx.Tx}
 use Rattle.link_queue.specs.Ends.{IsTx, IsRx, sending}
-use Rattle.mesh_run.proofs.Resting.{held_short, lent_inside, lent_link, put_again, rest_count, rest_fits, rest_inside, rest_places, rest_sent, rest_stands, rest_took, rest_wide, rest_within, widened_up}
+use Rattle.mesh_run.proofs.Resting.{held_short, lent_inside, lent_link, put_again, rest_count, rest_fits, rest_inside, rest_places}
+use Rattle.mesh_run.proofs.Resting.{rest_sent, rest_stands, rest_took, rest_wide, rest_within, widened_up}
 use Rattle.mesh_run.proofs.queues.widen_at.Goals as goal
 
 pub index-requires : goal.index-requires
@@ -76,7 +75,8 @@ returns-in-Ok-clause-wide g c = λ ends old holds at up.
     let r = c.rest_at-held.ensures ends old holds at in
     let taken = c.take_ends-tx.ensures.ends _ r.now r.holds (rest_stands at r) in
     let made = c.in-Ok.ensures in
-    widened_up at r up c.args.places.turns (ap (λ (x : Tx). (sending x).first) taken.0) c.for_held-wider.ensures made.sending made.taking made.cap made.room (c.set.ensures _ (c.take_ends-tx.ensures.left _ r.holds))
+    widened_up at r up c.args.places.turns (ap (λ (x : Tx). (sending x).first) taken.0) c.for_held-wider.ensures made.sending made.taking made.cap made.room
+    (c.set.ensures _ (c.take_ends-tx.ensures.left _ r.holds))
 
 pub returns-in-Err-clause-back : goal.returns-in-Err-clause-back
 returns-in-Err-clause-back g c = λ ends old holds at up.

@@ -44,14 +44,17 @@ swap_unsent-requires-clause-share c =
     let ports = subst (λ (s : State). c.len-ports.result ≡ length s.inputs) c.parts.view_is (omega (arith, c.len-ports.ensures)) ∙ c.loop-place.invariant.same.inputs_long in
     let here = subst (λ (s : State). c.loop-vertex.vertex < length s.unsent) c.parts.view_is (omega (arith, c.len-vertex-end.ensures, c.loop-vertex-test.true)) in
     let below : c.loop-vertex.vertex < length m.unsent = subst (λ (k : ℕ). c.loop-vertex.vertex < k) c.loop-place.invariant.same.unsent_long here in
-    receiver_there m c.args.homes.now c.args.shares.now.items c.loop-place.shares.items c.loop-vertex.shares.items c.len-ports.result c.loop-vertex.vertex c.requires.4 c.loop-place.invariant.shares_same c.loop-vertex.invariant.shares_same ports below
+    receiver_there m c.args.homes.now c.args.shares.now.items c.loop-place.shares.items c.loop-vertex.shares.items c.len-ports.result c.loop-vertex.vertex c.requires.4
+    c.loop-place.invariant.shares_same c.loop-vertex.invariant.shares_same ports below
 
 pub swap_unsent-requires-clause-vertex : goal.swap_unsent-requires-clause-vertex
 swap_unsent-requires-clause-vertex c = λ s at.
     let m = c.args.parts.now in
     let here = subst (λ (s : State). c.loop-vertex.vertex < length s.unsent) c.parts.view_is (omega (arith, c.len-vertex-end.ensures, c.loop-vertex-test.true)) in
     let below : c.loop-vertex.vertex < length m.unsent = subst (λ (k : ℕ). c.loop-vertex.vertex < k) c.loop-place.invariant.same.unsent_long here in
-    subst (λ (k : ℕ). c.loop-vertex.vertex < k) (sym (unsent_wide m c.args.homes.now c.args.shares.now.items c.loop-place.shares.items c.loop-vertex.shares.items _ s c.requires.4 c.loop-place.invariant.shares_same c.loop-vertex.invariant.shares_same at)) below
+    subst (λ (k : ℕ). c.loop-vertex.vertex < k)
+    (sym (unsent_wide m c.args.homes.now c.args.shares.now.items c.loop-place.shares.items c.loop-vertex.shares.items _ s c.requires.4 c.loop-place.invariant.shares_same
+    c.loop-vertex.invariant.shares_same at)) below
 
 pub loop-vertex-preserved : goal.loop-vertex-preserved
 loop-vertex-preserved c =
@@ -59,7 +62,8 @@ loop-vertex-preserved c =
     let ports = subst (λ (s : State). c.len-ports.result ≡ length s.inputs) c.parts.view_is (omega (arith, c.len-ports.ensures)) ∙ c.loop-place.invariant.same.inputs_long in
     let here = subst (λ (s : State). c.loop-vertex.vertex < length s.unsent) c.parts.view_is (omega (arith, c.len-vertex-end.ensures, c.loop-vertex-test.true)) in
     let below : c.loop-vertex.vertex < length m.unsent = subst (λ (k : ℕ). c.loop-vertex.vertex < k) c.loop-place.invariant.same.unsent_long here in
-    vertices_to_more (length m.inputs) m c.args.homes.now c.loop-place.shares.items c.loop-vertex.vertex c.loop-vertex.parts c.swap_kept-copies.new.parts c.loop-vertex.shares.items c.swap_unsent.new.shares.items
+    vertices_to_more (length m.inputs) m c.args.homes.now c.loop-place.shares.items c.loop-vertex.vertex c.loop-vertex.parts c.swap_kept-copies.new.parts c.loop-vertex.shares.items
+    c.swap_unsent.new.shares.items
     _ c.swap_kept-copies.result _ c.loop-vertex.invariant (vertex_home m c.args.homes.now c.args.shares.now.items c.len-ports.result c.loop-vertex.vertex c.requires.4 ports below)
     c.swap_kept-copies.ensures.stood c.swap_kept-copies.ensures.stands.same c.swap_kept-copies.ensures.stands.unsent c.swap_unsent.ensures.put
 

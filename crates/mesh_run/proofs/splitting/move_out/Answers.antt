@@ -29,7 +29,8 @@ loop-place-preserved c =
     let cores = c.loop-place.invariant.same.cores_long in
     let below = c.loop-place-test.true in
     out_more c.args.parts.now c.args.homes.now c.args.shares.now.items c.loop-place.place c.loop-place.parts c.take_lane.new.parts c.loop-place.shares.items c.take_lane.new.shares.items
-    (get_or c.args.homes.now c.loop-place.place nothing) c.loop-place.invariant (slice_get-get_or c.args.homes.now c.loop-place.place nothing below) (omega (arith, long, inputs, cores, below)) c.take_lane.ensures
+    (get_or c.args.homes.now c.loop-place.place nothing) c.loop-place.invariant (slice_get-get_or c.args.homes.now c.loop-place.place nothing below)
+    (omega (arith, long, inputs, cores, below)) c.take_lane.ensures
 
 pub loop-vertex-init : goal.loop-vertex-init
 loop-vertex-init c = unsent_out_none (length c.args.parts.now.inputs) c.loop-place.parts c.args.homes.now c.loop-place.shares.items
@@ -40,14 +41,17 @@ swap_unsent-copies-requires-clause-share c =
     let ports = subst (λ (s : State). c.len-ports.result ≡ length s.inputs) c.parts.view_is (omega (arith, c.len-ports.ensures)) ∙ c.loop-place.invariant.same.inputs_long in
     let here = subst (λ (s : State). c.loop-vertex.vertex < length s.unsent) c.parts.view_is (omega (arith, c.len-vertex-end.ensures, c.loop-vertex-test.true)) in
     let below : c.loop-vertex.vertex < length m.unsent = subst (λ (k : ℕ). c.loop-vertex.vertex < k) c.loop-place.invariant.same.unsent_long here in
-    receiver_there m c.args.homes.now c.args.shares.now.items c.loop-place.shares.items c.loop-vertex.shares.items c.len-ports.result c.loop-vertex.vertex c.requires c.loop-place.invariant.shares_same c.loop-vertex.invariant.shares_same ports below
+    receiver_there m c.args.homes.now c.args.shares.now.items c.loop-place.shares.items c.loop-vertex.shares.items c.len-ports.result c.loop-vertex.vertex c.requires
+    c.loop-place.invariant.shares_same c.loop-vertex.invariant.shares_same ports below
 
 pub swap_unsent-copies-requires-clause-vertex : goal.swap_unsent-copies-requires-clause-vertex
 swap_unsent-copies-requires-clause-vertex c = λ s at.
     let m = c.args.parts.now in
     let here = subst (λ (s : State). c.loop-vertex.vertex < length s.unsent) c.parts.view_is (omega (arith, c.len-vertex-end.ensures, c.loop-vertex-test.true)) in
     let below : c.loop-vertex.vertex < length m.unsent = subst (λ (k : ℕ). c.loop-vertex.vertex < k) c.loop-place.invariant.same.unsent_long here in
-    subst (λ (k : ℕ). c.loop-vertex.vertex < k) (sym (unsent_wide m c.args.homes.now c.args.shares.now.items c.loop-place.shares.items c.loop-vertex.shares.items _ s c.requires c.loop-place.invariant.shares_same c.loop-vertex.invariant.shares_same at)) below
+    subst (λ (k : ℕ). c.loop-vertex.vertex < k)
+    (sym (unsent_wide m c.args.homes.now c.args.shares.now.items c.loop-place.shares.items c.loop-vertex.shares.items _ s c.requires c.loop-place.invariant.shares_same
+    c.loop-vertex.invariant.shares_same at)) below
 
 pub loop-vertex-preserved : goal.loop-vertex-preserved
 loop-vertex-preserved c =
@@ -56,9 +60,11 @@ loop-vertex-preserved c =
     let here = subst (λ (s : State). c.loop-vertex.vertex < length s.unsent) c.parts.view_is (omega (arith, c.len-vertex-end.ensures, c.loop-vertex-test.true)) in
     let below : c.loop-vertex.vertex < length m.unsent = subst (λ (k : ℕ). c.loop-vertex.vertex < k) c.loop-place.invariant.same.unsent_long here in
     let kept = c.swap_kept.ensures.stands in
-    unsent_out_more (length m.inputs) c.loop-place.parts c.args.homes.now c.loop-place.shares.items c.loop-vertex.vertex c.loop-vertex.parts c.swap_kept.new.parts c.loop-vertex.shares.items c.swap_unsent-copies.new.shares.items
+    unsent_out_more (length m.inputs) c.loop-place.parts c.args.homes.now c.loop-place.shares.items c.loop-vertex.vertex c.loop-vertex.parts c.swap_kept.new.parts c.loop-vertex.shares.items
+    c.swap_unsent-copies.new.shares.items
     _ c.swap_unsent-copies.result _ c.loop-vertex.invariant (vertex_home m c.args.homes.now c.args.shares.now.items c.len-ports.result c.loop-vertex.vertex c.requires ports below)
-    (subst (λ (k : ℕ). c.loop-vertex.vertex < k) (sym c.loop-vertex.invariant.same.unsent_long) here) c.swap_unsent-copies.ensures.stood c.swap_unsent-copies.ensures.put kept.same kept.inputs kept.cores kept.unsent
+    (subst (λ (k : ℕ). c.loop-vertex.vertex < k) (sym c.loop-vertex.invariant.same.unsent_long) here) c.swap_unsent-copies.ensures.stood c.swap_unsent-copies.ensures.put kept.same
+    kept.inputs kept.cores kept.unsent
 
 pub returns : goal.returns
 returns c =

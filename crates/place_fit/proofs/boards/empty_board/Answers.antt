@@ -1,10 +1,8 @@
 use Rattle.std.proofs.Common.{◌≡◌, ◌+◌, ◌*◌, ◌^◌, ℕ, ◌++◌, ◌∷◌, [], set, length, Some, slice_get, sym, ap, ◌∙◌, arith}
 use Rattle.std.proofs.lemmas.List.{length-replicate, length_push, length-set}
-use Rattle.std.proofs.lemmas.Nat.{pow-add}
-use Rattle.std.proofs.lemmas.Option.{slice_get_within}
+use Rattle.std.proofs.lemmas.{Nat.pow-add, Option.slice_get_within}
 use Rattle.place_fit.specs.Boards.{first_room}
-use Rattle.place_fit.proofs.CurveLaws.{hilbert_length}
-use Rattle.place_fit.proofs.Standing.{told_more}
+use Rattle.place_fit.proofs.{CurveLaws.hilbert_length, Standing.told_more}
 use Rattle.place_fit.proofs.boards.empty_board.Goals as goal
 
 pub loop-place-init : goal.loop-place-init
@@ -30,7 +28,8 @@ loop-place-preserved c =
     record {
       cores = ap length pushed ∙ (length_push c.loop-place.cores.items core ∙ ap (λ n. n + 1) v.cores);
       rooms = ap length written ∙ (length-set c.loop-place.rooms i room ∙ v.rooms);
-      told = rw (pushed, written) (told_more c.args.machine.now chips c.loop-place.cores.items c.loop-place.rooms i core room _ v.cores v.rooms c.loop-place-test.true c.next_core-core.ensures (c.room_with.ensures ∙ ap (first_room core) c.sdram.ensures) v.told);
+      told = rw (pushed, written) (told_more c.args.machine.now chips c.loop-place.cores.items c.loop-place.rooms i core room _ v.cores v.rooms c.loop-place-test.true
+          c.next_core-core.ensures (c.room_with.ensures ∙ ap (first_room core) c.sdram.ensures) v.told);
     }
 
 pub returns-clause-empty : goal.returns-clause-empty

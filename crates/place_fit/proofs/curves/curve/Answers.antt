@@ -1,6 +1,5 @@
 use Rattle.std.proofs.Common.{◌^◌, ◌≤◌, ◌++◌, ◌∷◌, [], List, All, refl, sym, ap, ◌∙◌, subst, arith}
-use Rattle.std.proofs.Math.Pow.{pow_mono}
-use Rattle.std.proofs.lemmas.Grind.{pow_more}
+use Rattle.std.proofs.{Math.Pow.pow_mono, lemmas.Grind.pow_more}
 use Rattle.spin_base.specs.declared.chips.Chip.{Chip}
 use Rattle.place_fit.specs.Curve.{four_quarters}
 use Rattle.place_fit.proofs.CurveLaws.{IsIn, hilbert-zero, hilbert-next, hilbert_inside}

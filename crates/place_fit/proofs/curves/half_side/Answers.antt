@@ -1,6 +1,5 @@
 use Rattle.std.proofs.Common.{◌≡◌, ◌*◌, ◌-◌, ◌%◌, ◌^◌, ◌≤◌, arith}
-use Rattle.std.proofs.Math.Pow.{pow_mono}
-use Rattle.std.proofs.lemmas.Nat.{one_shl}
+use Rattle.std.proofs.{Math.Pow.pow_mono, lemmas.Nat.one_shl}
 use Rattle.place_fit.proofs.curves.half_side.Goals as goal
 
 pub returns-clause-small : goal.returns-clause-small

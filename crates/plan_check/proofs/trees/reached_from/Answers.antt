@@ -1,11 +1,10 @@
-use Rattle.std.proofs.Common.{◌≡◌, ◌*◌, ◌<◌, ◌++◌, ◌∷◌, [], Some, true, false, length, sym, ap, ◌∙◌, subst, arith}
+use Rattle.std.proofs.Common.{◌≡◌, ◌*◌, ◌++◌, ◌∷◌, [], Some, true, false, sym, ap, ◌∙◌, subst, arith}
 use Rattle.spin_base.specs.declared.chips.Chip.{Chip}
-use Rattle.machine_desc.specs.Description.{Description}
-use Rattle.machine_desc.specs.Live.{index_of}
+use Rattle.machine_desc.specs.{Description.Description, Live.index_of}
 use Rattle.plan_check.specs.Marks.{mark_at}
-use Rattle.plan_check.proofs.Searching.{search_first, search_past, search_push, search_ended, from_inside, to_inside, flagged_goes, flagged_nowhere}
+use Rattle.plan_check.proofs.Searching.{Looking, search_first, search_past, search_push, search_ended, from_inside, to_inside, flagged_goes, flagged_nowhere}
 use Rattle.plan_check.proofs.trees.reached_from.Goals as goal
-use Rattle.plan_check.proofs.trees.reached_from.Goals.{in-Some+then-not-at+in_ok-push-2, in-Some+else-not-at, in_default}
+use Rattle.plan_check.proofs.trees.reached_from.Goals.{After-link_at-link, in-Some+then-not-at+in_ok-push-2, in-Some+else-not-at, in_default}
 
 pub set-requires : goal.set-requires
 set-requires c = rw (c.in_ok-marks.ensures.machine, c.machine.ensures) c.requires
@@ -20,44 +19,47 @@ loop-next-init c = (
       (c.in_ok-push.ensures.items ∙ ap (λ l. l ++ c.args.root ∷ []) c.new-queue.ensures.items),
 )
 
+-- the chip and the link that the search looks at
+looking : (c : After-link_at-link) → Looking c.args.flags.now.machine.now c.args.flags.now.flags.items c.args.root c.loop-next.marks.items.items c.loop-next.queue.items c.loop-next.next
+    c.index-from.result.now c.link_at-link.result
+looking c = record {
+  within = omega (arith, c.loop-next-test.true, c.len.ensures, c.loop-next.queue.ok);
+  from_is = c.index-from.ensures;
+  link_is = c.link_at-link.ensures;
+  now = c.loop-next.invariant.1;
+}
+
 pub at-requires : goal.at-requires
 at-requires c =
-    let within : c.loop-next.next < length c.loop-next.queue.items * 6 = omega (arith, c.loop-next-test.true, c.len.ensures, c.loop-next.queue.ok) in
     rw c.loop-next.invariant.0
-    (to_inside c.args.flags.now.machine.now c.args.flags.now.flags.items c.args.root c.loop-next.marks.items.items c.loop-next.queue.items c.loop-next.next c.index-from.result.now c.link_at-link.result within
-    c.index-from.ensures c.link_at-link.ensures c.loop-next.invariant.1 c.in-Some.to
-    (flagged_goes c.args.flags.now.machine.now c.args.flags.now.flags.items c.index-from.result.now c.link_at-link.result c.flagged_far.result c.in-Some.to c.flagged_far.ensures c.in-Some.is).1)
+    (to_inside _ _ _ (looking (goal.at.at-requires c).After-link_at-link) c.in-Some.to (flagged_goes _ _ _ _ c.flagged_far.result c.in-Some.to c.flagged_far.ensures c.in-Some.is).1)
 
 pub set-requires-then-not-at : goal.set-requires-then-not-at
 set-requires-then-not-at c =
-    let within : c.loop-next.next < length c.loop-next.queue.items * 6 = omega (arith, c.loop-next-test.true, c.len.ensures, c.loop-next.queue.ok) in
     rw c.loop-next.invariant.0
-    (to_inside c.args.flags.now.machine.now c.args.flags.now.flags.items c.args.root c.loop-next.marks.items.items c.loop-next.queue.items c.loop-next.next c.index-from.result.now c.link_at-link.result within
-    c.index-from.ensures c.link_at-link.ensures c.loop-next.invariant.1 c.in-Some.to
-    (flagged_goes c.args.flags.now.machine.now c.args.flags.now.flags.items c.index-from.result.now c.link_at-link.result c.flagged_far.result c.in-Some.to c.flagged_far.ensures c.in-Some.is).1)
+    (to_inside _ _ _ (looking (goal.at.set-requires-then-not-at c).After-link_at-link) c.in-Some.to
+    (flagged_goes _ _ _ _ c.flagged_far.result c.in-Some.to c.flagged_far.ensures c.in-Some.is).1)
 
 pub loop-next-preserved : goal.loop-next-preserved
 loop-next-preserved c =
-    let within : c.loop-next.next < length c.loop-next.queue.items * 6 = omega (arith, c.loop-next-test.true, c.len.ensures, c.loop-next.queue.ok) in
+    let here = looking (goal.at.loop-next-preserved c).After-link_at-link in
     elim c.match-flagged_far.branch [
       | in-Some+then-not-at+in_ok-push-2 w ↦
-          let leads = flagged_goes c.args.flags.now.machine.now c.args.flags.now.flags.items c.index-from.result.now c.link_at-link.result c.flagged_far.result w.in-Some.to c.flagged_far.ensures w.in-Some.is in
+          let leads = flagged_goes _ _ _ _ c.flagged_far.result w.in-Some.to c.flagged_far.ensures w.in-Some.is in
           let queue : w.push-then-not-at.new.self.items ≡ c.loop-next.queue.items ++ w.in-Some.to ∷ [] = w.in_ok-push-2.ensures.items in
           rw (w.marks-is, w.queue-is, queue) (
             w.set-then-not-at.ensures.machine ∙ c.loop-next.invariant.0,
             rw w.set-then-not-at.ensures.items
-                (search_push c.args.flags.now.machine.now c.args.flags.now.flags.items c.args.root c.loop-next.marks.items.items c.loop-next.queue.items c.loop-next.next c.index-from.result.now c.link_at-link.result within
-                c.index-from.ensures c.link_at-link.ensures c.loop-next.invariant.1 w.in-Some.to (index_of c.loop-next.marks.machine.now w.in-Some.to) leads.0 leads.1
+                (search_push _ _ _ here w.in-Some.to (index_of c.loop-next.marks.machine.now w.in-Some.to) leads.0 leads.1
                 (ap (λ (k : Description). index_of k w.in-Some.to) c.loop-next.invariant.0) (sym (w.at.ensures false) ∙ w.if-not-at.true)),
           )
       | in-Some+else-not-at w ↦
-          let leads = flagged_goes c.args.flags.now.machine.now c.args.flags.now.flags.items c.index-from.result.now c.link_at-link.result c.flagged_far.result w.in-Some.to c.flagged_far.ensures w.in-Some.is in
+          let leads = flagged_goes _ _ _ _ c.flagged_far.result w.in-Some.to c.flagged_far.ensures w.in-Some.is in
           let marked : mark_at c.args.flags.now.machine.now c.loop-next.marks.items.items w.in-Some.to ≡ true =
           rw c.loop-next.invariant.0 at (sym (w.at.ensures false) ∙ w.if-not-at.false) in
           rw (w.marks-is, w.queue-is) (
             c.loop-next.invariant.0,
-            search_past c.args.flags.now.machine.now c.args.flags.now.flags.items c.args.root c.loop-next.marks.items.items c.loop-next.queue.items c.loop-next.next c.index-from.result.now c.link_at-link.result within
-                c.index-from.ensures c.link_at-link.ensures c.loop-next.invariant.1
+            search_past _ _ _ here
                 (λ e flag goes. let same : Some w.in-Some.to ≡ Some e = sym leads.1 ∙ goes in
                 let one : w.in-Some.to ≡ e = cc in
                 subst (λ (x : Chip). mark_at c.args.flags.now.machine.now c.loop-next.marks.items.items x ≡ true) one marked),
@@ -65,9 +67,7 @@ loop-next-preserved c =
       | in_default w ↦
           rw (w.marks-is, w.queue-is) (
             c.loop-next.invariant.0,
-            search_past c.args.flags.now.machine.now c.args.flags.now.flags.items c.args.root c.loop-next.marks.items.items c.loop-next.queue.items c.loop-next.next c.index-from.result.now c.link_at-link.result within
-                c.index-from.ensures c.link_at-link.ensures c.loop-next.invariant.1
-                (λ e flag goes. absurd (flagged_nowhere c.args.flags.now.machine.now c.args.flags.now.flags.items c.index-from.result.now c.link_at-link.result c.flagged_far.result e c.flagged_far.ensures w.in_default.is flag goes)),
+            search_past _ _ _ here (λ e flag goes. absurd (flagged_nowhere _ _ _ _ c.flagged_far.result e c.flagged_far.ensures w.in_default.is flag goes)),
           )
     ]
 
@@ -77,7 +77,4 @@ returns-clause-marks c =
     (omega (arith, c.loop-next-test.false, c.len.ensures, c.loop-next.queue.ok)) c.requires c.loop-next.invariant.1
 
 pub flagged_far-requires : goal.flagged_far-requires
-flagged_far-requires c =
-    let within : c.loop-next.next < length c.loop-next.queue.items * 6 = omega (arith, c.loop-next-test.true, c.len.ensures, c.loop-next.queue.ok) in
-    from_inside c.args.flags.now.machine.now c.args.flags.now.flags.items c.args.root c.loop-next.marks.items.items c.loop-next.queue.items c.loop-next.next c.index-from.result.now c.link_at-link.result within
-    c.index-from.ensures c.link_at-link.ensures c.loop-next.invariant.1
+flagged_far-requires c = from_inside _ _ _ (looking (goal.at.flagged_far-requires c).After-link_at-link)

@@ -11,7 +11,8 @@ invariant_of-rows c = record {
 
 pub returns-in-Some : goal.returns-in-Some
 returns-in-Some c =
-    let below : c.loop-index.index < c.args.tables.now.machine.now.width * c.args.tables.now.machine.now.height = subst (λ n. c.loop-index.index < n) c.chips-index-end.ensures.total c.loop-index-test.true in
+    let below : c.loop-index.index < c.args.tables.now.machine.now.width * c.args.tables.now.machine.now.height =
+    subst (λ n. c.loop-index.index < n) c.chips-index-end.ensures.total c.loop-index-test.true in
     let in_ports : c.loop-index.index < length c.args.ports.now = subst (λ n. c.loop-index.index < n) (sym c.requires.ports_long) below in
     let in_routes : c.loop-index.index < length c.args.routes.now = subst (λ n. c.loop-index.index < n) (sym c.requires.routes_long) below in
     flaw_found c.args.tables.now.machine.now c.args.tables.now.image.now c.args.net.now c.requires.routed c.args.ports.now c.args.routes.now c.requires.comes_in c.requires.outputs
@@ -21,7 +22,8 @@ returns-in-Some c =
 
 pub loop-index-preserved : goal.loop-index-preserved
 loop-index-preserved c =
-    let below : c.loop-index.index < c.args.tables.now.machine.now.width * c.args.tables.now.machine.now.height = subst (λ n. c.loop-index.index < n) c.chips-index-end.ensures.total c.loop-index-test.true in
+    let below : c.loop-index.index < c.args.tables.now.machine.now.width * c.args.tables.now.machine.now.height =
+    subst (λ n. c.loop-index.index < n) c.chips-index-end.ensures.total c.loop-index-test.true in
     let in_ports : c.loop-index.index < length c.args.ports.now = subst (λ n. c.loop-index.index < n) (sym c.requires.ports_long) below in
     let in_routes : c.loop-index.index < length c.args.routes.now = subst (λ n. c.loop-index.index < n) (sym c.requires.routes_long) below in
     fine_more c.args.tables.now.machine.now c.args.tables.now.image.now c.args.net.now c.requires.routed c.args.ports.now c.args.routes.now c.requires.comes_in c.requires.outputs

@@ -11,5 +11,6 @@ returns-clause-rows c = record {
   route = c.args.route;
   free = c.requires.free;
   many = subst (HasTooManyPieces c.args.room []) (c.as_slice.ensures.value ∙ c.in_ok-walled.ensures)
-      (subst (λ o. MatchOption o (HasTooManyPieces c.args.room [] c.as_slice.result.now) (λ (t : Table). IsTableMadeOf c.args.room c.as_slice.result.now t.rows)) c.in-None.is c.in_ok-table.ensures.made);
+      (subst (λ o. MatchOption o (HasTooManyPieces c.args.room [] c.as_slice.result.now) (λ (t : Table). IsTableMadeOf c.args.room c.as_slice.result.now t.rows)) c.in-None.is
+      c.in_ok-table.ensures.made);
 }

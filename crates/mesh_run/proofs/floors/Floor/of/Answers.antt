@@ -11,4 +11,5 @@ loop-index-init c =
 pub returns : goal.returns
 returns c =
     let all : c.loop-index.index ≡ c.chips-count.result = omega arith in
-    floor_all c.args.setup.now c.loop-index.index c.loop-index.floor c.requires (all ∙ (c.chips-count.ensures.total ∙ ap (λ (m : Description). m.width * m.height) c.machine.ensures)) c.loop-index.invariant
+    floor_all c.args.setup.now c.loop-index.index c.loop-index.floor c.requires (all ∙ (c.chips-count.ensures.total ∙ ap (λ (m : Description). m.width * m.height) c.machine.ensures))
+    c.loop-index.invariant

@@ -4,8 +4,7 @@ use Rattle.mesh_core.specs.State.{State}
 use Rattle.mesh_run.specs.declared.homes.Home.{Home}
 use Rattle.mesh_run.specs.Floors.{IsFloorOf, grid_size}
 use Rattle.mesh_run.specs.Homes.{AreCutsOf, AreHomesOf, AreShareRuns, IsShareTable}
-use Rattle.mesh_run.proofs.PlanLaws.{few_homes}
-use Rattle.mesh_run.proofs.FloorLaws.{few_chips}
+use Rattle.mesh_run.proofs.{PlanLaws.few_homes, FloorLaws.few_chips}
 use Rattle.mesh_run.proofs.layout.Layout.of.Goals as goal
 
 pub of-requires : goal.of-requires
@@ -22,7 +21,8 @@ actors-requires c =
     omega (arith, few, c.in_ok-floor.ensures.chips_long)
 
 pub share_table-requires-clause-runs : goal.share_table-requires-clause-runs
-share_table-requires-clause-runs c = subst (λ n. AreShareRuns n c.deref.result.now) (sym c.actors.ensures) (subst (AreShareRuns (2 * length c.in_ok-floor.floor.chips.items)) (sym c.deref.ensures.value) c.in_ok-runs.ensures.runs)
+share_table-requires-clause-runs c = subst (λ n. AreShareRuns n c.deref.result.now) (sym c.actors.ensures)
+    (subst (AreShareRuns (2 * length c.in_ok-floor.floor.chips.items)) (sym c.deref.ensures.value) c.in_ok-runs.ensures.runs)
 
 pub share_table-requires-clause-few : goal.share_table-requires-clause-few
 share_table-requires-clause-few c =

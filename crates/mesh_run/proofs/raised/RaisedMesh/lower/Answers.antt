@@ -27,8 +27,8 @@ swap_queue-requires g c =
     let cuts = c.args.self.layout.now.cuts.items in
     let end = c.len-number-end.ensures ∙ c.args.self.layout.now.cuts.ok.0 in
     let below : c.loop-number.number < length cuts = omega (arith, end, c.loop-number-test.true) in
-    cut_inside r.0 0 c.loop-number.number c.args.self c.move_out.new.parts c.loop-number.parts c.bring_down.new.queues.items c.loop-number.crossing.items c.index.result.now r.1 r.2 c.move_out.ensures.same
-    c.loop-number.invariant (cut_at cuts c.loop-number.number c.index.result.now below c.index.ensures)
+    cut_inside r.0 0 c.loop-number.number c.args.self c.move_out.new.parts c.loop-number.parts c.bring_down.new.queues.items c.loop-number.crossing.items c.index.result.now r.1 r.2
+    c.move_out.ensures.same c.loop-number.invariant (cut_at cuts c.loop-number.number c.index.result.now below c.index.ensures)
 
 pub loop-number-preserved : goal.loop-number-preserved
 loop-number-preserved g c =
@@ -39,7 +39,8 @@ loop-number-preserved g c =
     let end = c.len-number-end.ensures ∙ c.args.self.layout.now.cuts.ok.0 in
     let below : n < length cuts = omega (arith, end, c.loop-number-test.true) in
     let at = cut_at cuts n c.index.result.now below c.index.ensures in
-    let inside = cut_inside r.0 0 n c.args.self c.move_out.new.parts c.loop-number.parts c.bring_down.new.queues.items left c.index.result.now r.1 r.2 c.move_out.ensures.same c.loop-number.invariant at in
+    let inside = cut_inside r.0 0 n c.args.self c.move_out.new.parts c.loop-number.parts c.bring_down.new.queues.items left c.index.result.now r.1 r.2 c.move_out.ensures.same
+    c.loop-number.invariant at in
     let long = c.loop-number.invariant.long ∙ (c.bring_down.ensures.long ∙ r.2.crossing) in
     let here : n < length left = subst (λ k. n < k) (sym long) below in
     let read = c.replace-copies.ensures.value ∙ (c.index_mut.ensures.value ∙ get_or_default left n _ [] here) in

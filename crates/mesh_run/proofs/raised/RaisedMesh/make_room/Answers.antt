@@ -2,8 +2,7 @@ use Rattle.std.proofs.Common.{◌≡◌, ◌+◌, ◌≤◌, List, refl, ap, sub
 use Rattle.std.proofs.lemmas.Result.{on_ok_weaker}
 use Rattle.mesh_core.specs.State.{IsMesh, Setup, State}
 use Rattle.mesh_run.specs.declared.shares.Share.{Share}
-use Rattle.mesh_run.specs.Gathering.{HasRoomForLogs}
-use Rattle.mesh_run.specs.Raised.{IsRaisedFrom}
+use Rattle.mesh_run.specs.{Gathering.HasRoomForLogs, Raised.IsRaisedFrom}
 use Rattle.mesh_run.proofs.Raising.{copies_self, known_up, with_links}
 use Rattle.mesh_run.proofs.Resting.{after_refusal}
 use Rattle.mesh_run.proofs.raised.RaisedMesh.make_room.Goals as goal
@@ -48,7 +47,8 @@ returns-clause-room g c =
     let s = record r { standing = c.widen_all.new.standing; shares = c.make_room_in_all.new.shares; logs = c.make_room.new.self } in
     let turns = c.places_of-places.ensures.turns in
     on_ok_weaker c.make_room.result (λ room m mesh raised. record {
-      raised = with_links m (c.places_of-places.result.turns + 1) (r.pace.turns + 1) r s c.places_of-places.result.cap raised (omega (arith, turns)) c.places_of-places.ensures.cap (c.in_ok-widen_all.ensures.wide raised.ends raised.holds)
+      raised = with_links m (c.places_of-places.result.turns + 1) (r.pace.turns + 1) r s c.places_of-places.result.cap raised (omega (arith, turns)) c.places_of-places.ensures.cap
+          (c.in_ok-widen_all.ensures.wide raised.ends raised.holds)
           (record { parts = refl; pace = refl; layout = refl; crossing = refl; delivered = c.make_room.ensures.delivered; dumped = c.make_room.ensures.dumped }) c.make_room_in_all.ensures;
       room = subst (λ (shares : List Share). HasRoomForLogs shares c.make_room.new.self) c.deref.ensures.value room;
     }) c.make_room.ensures.room

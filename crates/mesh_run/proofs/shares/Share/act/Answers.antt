@@ -22,23 +22,25 @@ returns-in-Some-clause-acts g c =
     let r = c.requires in
     let u = c.args.ground.setup.now in
     router_acts u c.args.ground.around.patience c.args.ground.around.capacity c.args.at (c.args.at / 2) c.in-Some.router c.args.self.now _ c.turn.result refl refl refl c.args.ground.capacity
-    (router_of u c.args.ground.floor.now (c.args.at / 2) c.in-Some.router r.floor (half_below c.args.at c.args.self.now.to _ r.below r.share.within) (live_some _ c.in-Some.ensures.none.1) c.in-Some.ensures.some)
+    (router_of u c.args.ground.floor.now (c.args.at / 2) c.in-Some.router r.floor (half_below c.args.at c.args.self.now.to _ r.below r.share.within)
+    (live_some _ c.in-Some.ensures.none.1) c.in-Some.ensures.some)
     (even_place c.args.at c.if-at-eq0.true) c.turn.ensures.acts
 
 pub returns-in-Some-clause-share : goal.returns-in-Some-clause-share
 returns-in-Some-clause-share g c =
-    router_keeps c.args.ground.setup.now c.args.ground.around.patience c.args.ground.around.links.now c.args.self.now _ c.args.ground.around.capacity (c.args.at / 2) c.in-Some.router c.turn.result refl refl
-    c.turn.ensures.acts c.turn.ensures.ends c.requires.share
+    router_keeps c.args.ground.setup.now c.args.ground.around.patience c.args.ground.around.links.now c.args.self.now _ c.args.ground.around.capacity
+    (c.args.at / 2) c.in-Some.router c.turn.result refl refl c.turn.ensures.acts c.turn.ensures.ends c.requires.share
 
 pub returns-then-is_live-clause-acts : goal.returns-then-is_live-clause-acts
 returns-then-is_live-clause-acts g c =
     let r = c.requires in
     let u = c.args.ground.setup.now in
-    bank_acts u c.args.ground.around.patience c.args.ground.around.capacity c.args.at (c.args.at / 2) c.bank-bank.result.now c.args.self.now _ c.turn-then-is_live.result refl refl refl c.args.ground.capacity
+    bank_acts u c.args.ground.around.patience c.args.ground.around.capacity c.args.at (c.args.at / 2) c.bank-bank.result.now c.args.self.now _ c.turn-then-is_live.result refl refl refl
+    c.args.ground.capacity
     (live_index u c.args.ground.floor.now (c.args.at / 2) (sym (c.is_live.ensures u r.floor) ∙ c.if-is_live.true)) (r.floor.banks (c.args.at / 2) c.bank-bank.result.now c.bank-bank.ensures)
     (odd_place c.args.at c.if-at-eq0.false) c.turn-then-is_live.ensures.acts
 
 pub returns-then-is_live-clause-share : goal.returns-then-is_live-clause-share
 returns-then-is_live-clause-share g c =
-    bank_keeps c.args.ground.setup.now c.args.ground.around.patience c.args.ground.around.links.now c.args.self.now _ c.args.ground.around.capacity c.bank-bank.result.now c.turn-then-is_live.result refl refl
-    c.turn-then-is_live.ensures.acts c.turn-then-is_live.ensures.ends c.requires.share
+    bank_keeps c.args.ground.setup.now c.args.ground.around.patience c.args.ground.around.links.now c.args.self.now _ c.args.ground.around.capacity c.bank-bank.result.now
+    c.turn-then-is_live.result refl refl c.turn-then-is_live.ensures.acts c.turn-then-is_live.ensures.ends c.requires.share

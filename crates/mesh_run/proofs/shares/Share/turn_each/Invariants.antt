@@ -1,6 +1,5 @@
 use Rattle.std.proofs.Common.{◌≤◌, ◌-◌}
-use Rattle.mesh_run.specs.Floors.{IsFloorOf}
-use Rattle.mesh_run.specs.Shares.{IsShareOf}
+use Rattle.mesh_run.specs.{Floors.IsFloorOf, Shares.IsShareOf}
 use Rattle.mesh_run.proofs.Acting.{OneEach}
 use Rattle.mesh_run.proofs.shares.Share.turn_each.Given as goal
 

@@ -3,8 +3,7 @@ use Rattle.spin_base.specs.declared.copies.McCopy.{McCopy}
 use Rattle.std.specs.List.{All}
 use Rattle.std.proofs.lemmas.List.{length-map}
 use Rattle.mesh_core.specs.State.{State}
-use Rattle.mesh_run.specs.Queues.{AreUp}
-use Rattle.mesh_run.specs.Split.{cut_queues}
+use Rattle.mesh_run.specs.{Queues.AreUp, Split.cut_queues}
 use Rattle.mesh_run.specs.Splitting.{AreInside, HoldNothing}
 use Rattle.mesh_run.proofs.PlanLaws.{cuts_fit, cuts_inside, plan_fits, plan_shared}
 use Rattle.mesh_run.proofs.splitting.SplitPlan.of.Goals as goal
@@ -24,7 +23,8 @@ bring_up-requires g c =
     let cuts = c.args.layout.now.cuts.items in
     let cap = subst (λ (s : State). c.capacity.result ≡ s.setup.capacity) c.parts.view_is c.capacity.ensures in
     let queues = c.deref-2.ensures.value ∙ (c.in_ok-crossing.ensures ∙ ap (cut_queues (m.inputs ++ m.cores)) c.deref.ensures.value) in
-    subst (λ (n : ℕ). All (λ (q : List McCopy). length q ≤ n) c.deref-2.result.now) (sym cap) (subst (All (λ (q : List McCopy). length q ≤ m.setup.capacity)) (sym queues) (cuts_fit m cuts c.requires.mesh))
+    subst (λ (n : ℕ). All (λ (q : List McCopy). length q ≤ n) c.deref-2.result.now) (sym cap)
+    (subst (All (λ (q : List McCopy). length q ≤ m.setup.capacity)) (sym queues) (cuts_fit m cuts c.requires.mesh))
 
 pub returns : goal.returns
 returns g c =
@@ -38,7 +38,8 @@ returns g c =
     let places : c.len.result ≡ length homes = omega (arith, c.len.ensures) in
     let vertices = subst (λ (s : State). c.len-2.result ≡ length s.unsent) is (omega (arith, c.len-2.ensures)) in
     let nothing = subst (λ (r : List ℕ). HoldNothing r (length homes) (length m.unsent) shares) c.deref-3.ensures.value
-    (subst (λ (n : ℕ). HoldNothing c.deref-3.result.now n (length m.unsent) shares) places (subst (λ (n : ℕ). HoldNothing c.deref-3.result.now c.len.result n shares) vertices c.in_ok-shares.ensures)) in
+    (subst (λ (n : ℕ). HoldNothing c.deref-3.result.now n (length m.unsent) shares) places
+    (subst (λ (n : ℕ). HoldNothing c.deref-3.result.now c.len.result n shares) vertices c.in_ok-shares.ensures)) in
     let cap = subst (λ (s : State). c.capacity.result ≡ s.setup.capacity) is c.capacity.ensures in
     let queues = c.deref-2.ensures.value ∙ (c.in_ok-crossing.ensures ∙ ap (cut_queues (m.inputs ++ m.cores)) c.deref.ensures.value) in
     let up = c.in_ok-standing.ensures in

@@ -1,8 +1,7 @@
 use Rattle.std.proofs.Common.{◌≡◌, ◌^◌, ℕ, true, length, slice_get, get_or, sym, ap, ap₂, ◌∙◌, arith}
 use Rattle.std.proofs.lemmas.Option.{slice_get_within}
 use Rattle.machine_desc.specs.Live.{is_live_chip}
-use Rattle.place_fit.specs.Curve.{hilbert}
-use Rattle.place_fit.specs.Quarters.{curve_place}
+use Rattle.place_fit.specs.{Curve.hilbert, Quarters.curve_place}
 use Rattle.place_fit.proofs.CurveLaws.{at_place, place_at}
 use Rattle.place_fit.proofs.Standing.{live_in}
 use Rattle.place_fit.proofs.boards.Board.named.Goals as goal

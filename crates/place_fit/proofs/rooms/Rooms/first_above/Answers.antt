@@ -1,8 +1,5 @@
 use Rattle.std.proofs.Common.{◌≡◌, ◌+◌, ◌*◌, ◌^◌, ◌<◌, ◌≤◌, All, get_or, subst, ap, ◌∙◌, arith}
-use Rattle.std.proofs.Math.Pow.{pow_mono}
-use Rattle.std.proofs.lemmas.Nat.{pow_pos}
-use Rattle.std.proofs.lemmas.Grind.{pow_more}
-use Rattle.std.proofs.lemmas.List.{get_or_default}
+use Rattle.std.proofs.{Math.Pow.pow_mono, lemmas.Nat.pow_pos, lemmas.Grind.pow_more, lemmas.List.get_or_default}
 use Rattle.place_fit.proofs.RoomLaws.{IsFound, none_above, found_left, found_right}
 use Rattle.place_fit.proofs.rooms.Rooms.first_above.Goals as goal
 use Rattle.place_fit.proofs.rooms.Rooms.first_above.Goals.{then-index-need-2, else-index-need-2}
@@ -12,7 +9,12 @@ returns-then-index-need-clause-none c =
     let r = c.self.inside in
     let t = r.tree.items in
     let some = pow_pos r.levels in
-    let root : get_or t 1 0 ≤ c.args.need = omega (arith, c.index.ensures, get_or_default t 1 0 c.index.result.now (omega (arith, some, c.self.invariant.leaves, c.self.invariant.is_tree.long)), c.if-index-need.true) in
+    let root : get_or t 1 0 ≤ c.args.need = omega (
+      arith,
+      c.index.ensures,
+      get_or_default t 1 0 c.index.result.now (omega (arith, some, c.self.invariant.leaves, c.self.invariant.is_tree.long)),
+      c.if-index-need.true,
+    ) in
     subst (All (λ room. room ≤ c.args.need)) c.self.view_is (none_above r.leaves t c.self.invariant.is_tree c.args.need (omega (arith, some, c.self.invariant.leaves)) root)
 
 pub index-requires-in-loop-step : goal.index-requires-in-loop-step
@@ -32,7 +34,8 @@ loop-step-preserved c =
     let inner : n < r.leaves = omega (arith, up, more, c.loop-step.invariant.to, c.self.invariant.leaves) in
     let twice : n * 2 ≡ 2 * n = omega arith in
     let read : c.index-in-loop-step.result.now ≡ get_or t (2 * n) 0 =
-    c.index-in-loop-step.ensures ∙ (ap (λ i. get_or t i c.index-in-loop-step.result.now) twice ∙ get_or_default t (2 * n) c.index-in-loop-step.result.now 0 (omega (arith, inner, c.self.invariant.is_tree.long))) in
+    c.index-in-loop-step.ensures ∙ (ap (λ i. get_or t i c.index-in-loop-step.result.now) twice ∙ get_or_default t (2 * n) c.index-in-loop-step.result.now 0
+    (omega (arith, inner, c.self.invariant.is_tree.long))) in
     let some = pow_pos c.loop-step.step in
     subst (λ z. IsFound t c.args.need z c.if-index-need-2.node) (omega (arith, more))
     (elim c.if-index-need-2.branch [
