@@ -22,6 +22,7 @@ use run_report::Refusal;
 use serde_json::Value;
 use spin_base::{ReadErr, Seq, Source, read_all};
 use std::alloc::Global;
+use std::mem;
 
 /// The most bytes of an input.
 const MOST_BYTES: u64 = 16_777_216;
@@ -149,7 +150,12 @@ fn input_of_parsed<I: Input>(alloc: Global, parsed: Result<Value, ParseErr>) -> 
     ensures sound { IfOk result I.IsSound }
 {
     match parsed {
-        Ok(value) => fitted(I::of_value(alloc, &value)),
+        Ok(value) => {
+            let read = I::of_value(alloc, &value);
+            // The system takes a value's many small parts back sooner than they are freed one by one.
+            mem::forget(value);
+            fitted(read)
+        }
         Err(error) => Err(unparsed(error)),
     }
 }
