@@ -36,8 +36,8 @@ pub(crate) fn triple(item: &Value) -> Option<(u64, u64, u64)>
     }
 }
 
-// The link of a number from 0 to 5.
-fn link(number: u8) -> Dir
+/// The link of a number from 0 to 5.
+pub fn link_of(number: u8) -> Dir
     ensures { result ≡ link_of number }
 {
     match number {
@@ -148,6 +148,6 @@ pub(crate) fn link_in(
     let (chip, number) = chip_and_number(alloc, item, path, width, height, 5)?;
     Ok(Edge {
         chip,
-        dir: link(number),
+        dir: link_of(number),
     })
 }

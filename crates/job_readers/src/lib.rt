@@ -22,6 +22,7 @@ mod names;
 mod run_parts;
 mod versions;
 
+pub use entries::link_of;
 pub use events::items_in;
 pub use graph_parts::graph_of;
 pub use items::{ItemReader, each_item};

@@ -4,14 +4,13 @@ ghost use Rattle.serde_json.specs.View.{view};
 ghost use Rattle.job_text.specs.Reading.{GivesOrFaults};
 ghost use Rattle.job_text.specs.Paths.{path_text};
 ghost use Rattle.job_readers.specs.Blocks.{block_at};
-ghost use Rattle.job_readers.specs.Entries.{link_of};
 ghost use Rattle.job_readers.specs.Members.{list_member, list_member_faults};
 ghost use Rattle.table_readers.specs.Asking.{HasFewRows, asked_faults, asked_value, chip_numbers, chip_numbers_faults, four_faults, four_value, numbers_faults, numbers_value, one_faults, one_value, rest_faults, rest_value, route_at, row_faults, row_value, rows_faults, rows_value, table_faults, table_value, tables_exact_faults, tables_exact_value, tables_faults, tables_value, tables_target_faults, tables_target_value, three_faults, three_value, two_faults, two_value};
 
-use job_readers::{ItemReader, each_item, items_in};
+use job_readers::{ItemReader, each_item, items_in, link_of};
 use job_text::{Path, TextErr, count_to, flag, list, member, number_in, range, shape};
 use serde_json::Value;
-use spin_base::{Block, Chip, Dir, Port, Route, Seq};
+use spin_base::{Block, Chip, Port, Route, Seq};
 use std::alloc::Global;
 use table_rules::RoutedBlock;
 
@@ -160,26 +159,12 @@ fn row_of_four(
         (four_value (view key.now) (view mask.now) (view route.now) (view link.now)) }
 {
     let row = row_of_three(alloc, key, mask, route, path)?;
-    let number = number_in(alloc, Some(link), path, 0, MOST_LINK, None)?;
+    let number = number_in(alloc, Some(link), path, 0, MOST_LINK, None)? as u8;
     Ok(RoutedBlock {
         block: row.block,
         route: row.route,
         port: Port::Link(link_of(number)),
     })
-}
-
-// The link of a number from 0 to 5.
-fn link_of(number: u64) -> Dir
-    ensures { result ≡ link_of number }
-{
-    match number {
-        0 => Dir::East,
-        1 => Dir::NorthEast,
-        2 => Dir::North,
-        3 => Dir::West,
-        4 => Dir::SouthWest,
-        _ => Dir::South,
-    }
 }
 
 // The row that a key, a mask and a route are.
