@@ -31,7 +31,7 @@ fn empty_memories(alloc: Global, count: usize) -> Result<Vec<Tcam>, Memory>
 {
     let mut memories = Vec::with_capacity(alloc, count)?;
     for _ in 0..count {
-        memories.push(Tcam::empty())?;
+        memories.push(Tcam::empty(alloc)?)?;
     }
     Ok(memories)
 }

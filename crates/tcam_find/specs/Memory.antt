@@ -1,5 +1,5 @@
 -- The lookup memory of a router.
-use Rattle.std.specs.Prelude.{◌≡◌, ℕ, ◌≤◌, ◌<◌, ◌/◌, ◌==◌, false, List, [], ◌∷◌, All, Some, bit_and, replicate, flat_map, slice_get, slice_index_or}
+use Rattle.std.specs.Prelude.{◌≡◌, ℕ, ◌-◌, ◌*◌, ◌<◌, ◌/◌, ◌==◌, false, List, [], ◌∷◌, ◌++◌, All, Some, bit_and, length, replicate, flat_map, slice_get, slice_index_or}
 use Rattle.spin_base.specs.declared.routes.Route.{Route}
 use Rattle.spin_base.specs.declared.sizes.TheConstants.{ROUTER_ENTRIES}
 use Rattle.spin_base.specs.declared.blocks.Entry.{Entry}
@@ -31,13 +31,13 @@ entries_in g = entries_of g.keys g.masks g.routes
 abbrev pub entries_of_groups : List Group → List Entry
 entries_of_groups groups = flat_map entries_in groups
 
+-- the entries of a memory of which these are the first groups: behind them none is used
+abbrev pub entries_held : List Group → List Entry
+entries_held groups = entries_of_groups groups ++ replicate (ROUTER_ENTRIES - 8 * length groups) unused
+
 -- no entry matches the key
 abbrev pub NoneMatches : ℕ → List Entry → Type 0
 NoneMatches key entries = All (λ e. matches e key ≡ false) entries
-
--- in no group from this one on an entry matches any key
-abbrev pub NoneMatchesFrom : ℕ → List Group → Type 0
-NoneMatchesFrom from groups = (i key : ℕ) (g : Group) → from ≤ i → slice_get groups i ≡ Some g → NoneMatches key (entries_in g)
 
 -- a key has other values at the bits that a place of two rows tells
 abbrev pub Misses : List ℕ → List ℕ → ℕ → ℕ → Type 0

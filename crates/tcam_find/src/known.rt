@@ -6,17 +6,15 @@ use crate::groups::{BLOCKS, GROUPS};
 use crate::lanes::{LANES, first_match};
 use spin_base::Entry;
 
-/// Behind which group no entry was set; of each group the bits that its entries have in common, and their values; and the same of each
-/// block of eight groups. A key that has other values misses the group, or the block. (The rows have eight words more than there are
-/// groups or blocks, so that eight can be read at each place.)
+/// Of each group the bits that its entries have in common, and their values; and the same of each block of eight groups. A key that has
+/// other values misses the group, or the block. (The rows have eight words more than there are groups or blocks, so that eight can be read
+/// at each place.)
 #[derive(Drop)]
 pub(crate) struct Known {
-    pub used: usize,
     common: [u32; GROUPS + LANES],
     values: [u32; GROUPS + LANES],
     block_common: [u32; BLOCKS + LANES],
     block_values: [u32; BLOCKS + LANES],
-    ghost few: { used ≤ 128 },
     ghost blocks: { TellOfGroups common values block_common block_values },
 }
 
@@ -26,11 +24,8 @@ impl Known {
     ghost use Rattle.tcam_find.specs.Memory.{Misses};
 
     /// No entry was set.
-    pub(crate) fn nothing() -> Known
-        ensures { result.used ≡ 0 }
-    {
+    pub(crate) fn nothing() -> Known {
         Known {
-            used: 0,
             common: [0; GROUPS + LANES],
             values: [u32::MAX; GROUPS + LANES],
             block_common: [0; BLOCKS + LANES],
@@ -45,7 +40,6 @@ impl Known {
             → matches e key ≡ false }
         ensures others { (i key : ℕ) → Misses self.new.common self.new.values i key
             → Misses self.old.common self.old.values i key }
-        ensures used { (group < self.new.used) × (self.old.used ≤ self.new.used) }
     {
         let (value, common) = in_common(self.values[group], self.common[group], e.key, e.mask);
         let block = group / LANES;
@@ -55,39 +49,40 @@ impl Known {
             value,
             common,
         );
-        self.used = self.used.max(group + 1);
         self.values[group] = value;
         self.common[group] = common;
         self.block_values[block] = block_value;
         self.block_common[block] = block_common;
     }
 
-    /// The first group from `from` on that the key doesn't miss, or one behind those used.
+    /// The first group from `from` on that the key doesn't miss, or one behind the `used` first.
     #[inline(always)]
-    pub(crate) fn next_group(&self, from: usize, key: u32) -> usize
+    pub(crate) fn next_group(&self, from: usize, used: usize, key: u32) -> usize
+        requires { used ≤ 128 }
         ensures ahead { from ≤ result }
         ensures others { (i : ℕ) → from ≤ i → i < result
             → Misses self.now.common self.now.values i key }
     {
         let mut at = from;
-        while at < self.used {
+        while at < used {
             let ahead = first_match(&self.values, &self.common, at, key);
             if ahead < LANES {
                 return at + ahead;
             }
-            at = self.next_block(at + LANES, key);
+            at = self.next_block(at + LANES, used, key);
         }
         at
     }
 
-    // The first group from `from` on whose block the key doesn't miss, or one behind those used.
+    // The first group from `from` on whose block the key doesn't miss, or one behind the `used` first.
     #[inline(always)]
-    fn next_block(&self, from: usize, key: u32) -> usize
+    fn next_block(&self, from: usize, used: usize, key: u32) -> usize
+        requires { used ≤ 128 }
         ensures ahead { from ≤ result }
         ensures others { (i : ℕ) → from ≤ i → i < result
             → Misses self.now.common self.now.values i key }
     {
-        if from >= self.used {
+        if from >= used {
             return from;
         }
         let ahead = next_place(

@@ -1,14 +1,14 @@
-use Rattle.std.proofs.Common.{◌∙◌, length, ap}
-use Rattle.tcam_find.proofs.MemoryLemmas.{empty_is, length_empty, none_of_empty, unused_matches}
+use Rattle.std.proofs.Common.{◌∙◌, length, ap, arith}
+use Rattle.tcam_find.proofs.MemoryLemmas.{common_empty, empty_is, length_empty}
 use Rattle.tcam_find.proofs.memory.Tcam.empty.Goals as goal
 
-pub returns : goal.returns
-returns c = record {
-  all_unused = empty_is c.empty.result c.empty.ensures;
-  size = ap length (empty_is c.empty.result c.empty.ensures) ∙ length_empty;
-  unused_matches_no_key = unused_matches;
-}
+pub returns-clause-all_unused : goal.returns-clause-all_unused
+returns-clause-all_unused c = empty_is _ c.in_ok-groups.ensures.items
+
+pub returns-clause-size : goal.returns-clause-size
+returns-clause-size c = ap length (empty_is _ c.in_ok-groups.ensures.items) ∙ length_empty
 
 pub invariant_of-result : goal.invariant_of-result
 invariant_of-result c =
-    (λ i key g far got. none_of_empty 128 c.empty.result c.empty.ensures i key g got, (λ i key g got apart. none_of_empty 128 c.empty.result c.empty.ensures i key g got, tt))
+    let items = c.in_ok-groups.ensures.items in
+    (omega (arith, ap length items), (omega (arith, c.in_ok-groups.ensures.exact), (common_empty _ c.nothing.result.common c.nothing.result.values items, tt)))
