@@ -34,7 +34,7 @@ impl CoreBank {
         ensures ends { AreEndsOf around.entry.links.now hold.new.ends.items }
     {
         let sent = self.send_marked(rt, around, hold, awake, number, all);
-        let got = self.collect(rt, around, hold, number);
+        let got = self.collect(rt, around, hold, awake, number, all);
         both(sent, got)
     }
 
@@ -101,7 +101,7 @@ impl CoreBank {
     }
 
     // Looks at the queues of the vertices, one after the other, until one gives a copy, and logs it.
-    fn collect<R: Wait>(&self, rt: &R, around: Around, hold: &mut Holdings, number: u32) -> Turn
+    fn collect<R: Wait>(&self, rt: &R, around: Around, hold: &mut Holdings, awake: &mut Flags, number: u32, all: bool) -> Turn
         requires { IsReadyBank around.links.now self.now hold.old }
         ensures acts { HalfActs around.entry.capacity around.entry.patience (GetsOne self.now)
             hold.old result hold.new }
@@ -112,15 +112,23 @@ impl CoreBank {
         if hold.deliveries.spare() == 0 {
             return Turn::Waits;
         }
+        let marks = awake.core_marks(self.index);
+        if !all && marks == 0 {
+            return Turn::Nothing;
+        }
         let count = self.vertices.len();
         let ring = Ring::of_turn(number, count);
-        for step in 0..count {
+        'queues: for step in 0..count {
             let vertex = self.vertices[ring.place_after(step)];
             let place = self.cores as usize + vertex as usize;
+            if !all && marks >> (place % 32) & 1 == 0 {
+                continue 'queues;
+            }
             if let Some(copy) = hold.ends[place].take(rt, around.links) {
                 hold.deliveries.put(Delivery { vertex, copy });
                 return Turn::Moved;
             }
+            awake.unmark_core(self.index, place);
         }
         Turn::Nothing
     }

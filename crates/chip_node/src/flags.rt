@@ -19,6 +19,7 @@ pub(crate) const UNSENT: u8 = 7;
 pub struct Flags {
     words: [u64; WORDS],
     marks: [u8; CHIPS],
+    cores: [u32; CHIPS],
 }
 
 impl Flags {
@@ -27,6 +28,7 @@ impl Flags {
         Flags {
             words: [u64::MAX; WORDS],
             marks: [u8::MAX; CHIPS],
+            cores: [u32::MAX; CHIPS],
         }
     }
 
@@ -35,6 +37,7 @@ impl Flags {
         Flags {
             words: [0; WORDS],
             marks: [0; CHIPS],
+            cores: [0; CHIPS],
         }
     }
 
@@ -88,6 +91,24 @@ impl Flags {
             let index = behind.taker / 2;
             let port = behind.place.wrapping_sub(index.wrapping_mul(Port::COUNT));
             self.mark(index, (port % 8) as u8);
+        } else {
+            let index = (behind.taker / 2) as usize;
+            if index < CHIPS {
+                self.cores[index] |= 1 << (behind.place % 32);
+            }
+        }
+    }
+
+    /// The marks of the queues of a chip's vertices, a bit each by the queue's place. It is a hint, and no promise rests on it.
+    pub(crate) fn core_marks(&self, index: u32) -> u32 {
+        self.cores.get(index as usize).copied().unwrap_or(0)
+    }
+
+    /// From now on the marks of these places don't stand. It is a hint, and no promise rests on it.
+    pub(crate) fn unmark_core(&mut self, index: u32, place: usize) {
+        let index = index as usize;
+        if index < CHIPS {
+            self.cores[index] &= !(1 << (place % 32));
         }
     }
 
