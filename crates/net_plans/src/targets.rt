@@ -1,9 +1,9 @@
 // The targets of a net, and their chips.
-ghost use Rattle.std.specs.Prelude.{◌≡◌, ◌<◌, All, map, length, slice_index_or, IfOk, IsTrue};
+ghost use Rattle.std.specs.Prelude.{◌≡◌, ◌+◌, ◌*◌, ◌/◌, ◌%◌, ◌<◌, All, map, length, slice_index_or, IfOk, IsTrue};
 ghost use Rattle.spin_base.specs.declared.chips.Spot.{Spot};
 ghost use Rattle.machine_desc.specs.Live.{IsInside};
-ghost use Rattle.net_plans.specs.Targets.{spot_key, AreTargets, AreTargetChips};
-ghost use Rattle.net_plans.specs.Keys.{nowhere, spot_at, chip_of_key, AreChipKeys, IsChipOfOne};
+ghost use Rattle.net_plans.specs.Targets.{AreTargets, AreTargetChips};
+ghost use Rattle.net_plans.specs.Keys.{nowhere, spot_numbered, chip_of_key, AreNumbersOf, AreChipKeys, IsChipOfOne};
 
 use crate::orders::each_once;
 use machine_desc::Machine;
@@ -25,9 +25,9 @@ pub fn targets_of(
     requires { All (λ v. v < length spots.now) vertices.now }
     ensures { IfOk result (λ targets. AreTargets spots.now vertices.now targets) }
 {
-    let mut keys = spot_keys(alloc, spots, vertices)?;
-    each_once(&mut keys);
-    spots_at(alloc, &keys)
+    let mut numbers = spot_numbers(alloc, spots, vertices)?;
+    each_once(&mut numbers);
+    spots_of(alloc, &numbers)
 }
 
 /// The chips of these targets, each once, in the order of their distance from the root, then x, then y.
@@ -54,33 +54,49 @@ pub fn target_chips(
     chips_at(alloc, &keys)
 }
 
-// Of each target vertex the x, y and core.
-fn spot_keys(
-    alloc: Global,
-    spots: &Seq<Spot>,
-    vertices: &Seq<u32>,
-) -> Result<Vec<(u8, u8, u8)>, Memory>
-    requires { All (λ v. v < length spots.now) vertices.now }
-    ensures { IfOk result (λ keys. keys.items
-        ≡ map (λ v. spot_key (slice_index_or spots.now v nowhere)) vertices.now) }
+// The number by which targets are put in order: to compare one number takes less than x, y and core.
+fn spot_number(x: u8, y: u8, core: u8) -> u32
+    ensures value { result ≡ x * 65536 + y * 256 + core }
+    ensures x_back { result / 65536 % 256 ≡ x }
+    ensures y_back { result / 256 % 256 ≡ y }
+    ensures core_back { result % 256 ≡ core }
 {
-    let mut keys = Vec::with_capacity(alloc, vertices.len())?;
+    u32::from(x) * 65536 + u32::from(y) * 256 + u32::from(core)
+}
+
+// The core that has this number.
+fn spot_numbered(number: u32) -> Spot
+    ensures { result ≡ spot_numbered number }
+{
+    let chip = Chip {
+        x: (number / 65536 % 256) as u8,
+        y: (number / 256 % 256) as u8,
+    };
+    let core = (number % 256) as u8;
+    Spot { chip, core }
+}
+
+// The numbers of the target vertices' cores.
+fn spot_numbers(alloc: Global, spots: &Seq<Spot>, vertices: &Seq<u32>) -> Result<Vec<u32>, Memory>
+    requires { All (λ v. v < length spots.now) vertices.now }
+    ensures { IfOk result (λ numbers. AreNumbersOf (map (λ v. slice_index_or spots.now v nowhere)
+        vertices.now) numbers.items) }
+{
+    let mut numbers = Vec::with_capacity(alloc, vertices.len())?;
     for i in 0..vertices.len() {
         let vertex = *vertices.get(i);
         let Spot { chip, core } = *spots.get(vertex as usize);
-        keys.push((chip.x, chip.y, core))?;
+        numbers.push(spot_number(chip.x, chip.y, core))?;
     }
-    Ok(keys)
+    Ok(numbers)
 }
 
-fn spots_at(alloc: Global, keys: &[(u8, u8, u8)]) -> Result<Seq<Spot>, Memory>
-    ensures { IfOk result (λ spots. spots ≡ map spot_at keys.now) }
+fn spots_of(alloc: Global, numbers: &[u32]) -> Result<Seq<Spot>, Memory>
+    ensures { IfOk result (λ spots. spots ≡ map spot_numbered numbers.now) }
 {
-    let mut spots = Vec::with_capacity(alloc, keys.len())?;
-    for key in keys {
-        let (x, y, core) = *key;
-        let chip = Chip { x, y };
-        spots.push(Spot { chip, core })?;
+    let mut spots = Vec::with_capacity(alloc, numbers.len())?;
+    for number in numbers {
+        spots.push(spot_numbered(*number))?;
     }
     Ok(Seq::from_vec(spots))
 }

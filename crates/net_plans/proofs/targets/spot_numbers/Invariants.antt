@@ -1,0 +1,8 @@
+use Rattle.std.proofs.Common.{take}
+use Rattle.net_plans.specs.Keys.{AreNumbersOf}
+use Rattle.net_plans.proofs.TargetLaws.{cores_of}
+use Rattle.net_plans.proofs.targets.spot_numbers.Given as goal
+
+-- the numbers of the vertices so far
+abbrev pub invariant-loop-i : goal.invariant-loop-i
+invariant-loop-i l = AreNumbersOf (cores_of l.spots (take l.i l.vertices)) l.numbers.items
