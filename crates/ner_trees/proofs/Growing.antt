@@ -3,9 +3,10 @@ use Rattle.std.proofs.Common.{◌≡◌, ◌≢◌, ℕ, ◌+◌, ◌*◌, ◌<�
 use Rattle.std.specs.Prelude.{if◌then◌else◌}
 use Rattle.std.specs.List.{Contains, All, AllPairs, Any, sum_by}
 use Rattle.std.specs.List.Sorted.{IsPermutation}
+use Rattle.std.proofs.Math.Logic.{∥∥₁_map}
 use Rattle.std.proofs.lemmas.Bool.{cases_eq, cases_order, true≢false, and_from, eq-eqb}
 use Rattle.std.proofs.lemmas.List.{append-nil, append_assoc, take_more, take_all, map_push, get_or-set_same, get_or-set_other, get_or-replicate, length-replicate}
-use Rattle.std.proofs.lemmas.List.Elements.{All-contains, Contains-get_or, Contains-append_cases, Contains-append_right, All-append}
+use Rattle.std.proofs.lemmas.List.Elements.{All-contains, Contains-get_or, Contains-append_cases, Contains-append_left, Contains-append_right, Contains-push, All-append, All-push}
 use Rattle.std.proofs.lemmas.List.Sorted.{IsPermutation-sym, Contains-permutation, length_permutation}
 use Rattle.spin_base.specs.declared.chips.Chip.{Chip}
 use Rattle.spin_base.specs.declared.chips.Dir.{Dir}
@@ -22,7 +23,7 @@ use Rattle.ner_trees.specs.Geometry.{displacement_of, distance_of}
 use Rattle.ner_trees.specs.LongestFirst.{ldf_of}
 use Rattle.ner_trees.specs.Growth.{or_stay, next_of, IsNear, IsAdded, IsJoinedBy, Grows, IsGrown, IsWithoutDead, distance_sum}
 use Rattle.machine_desc.specs.EdgeOrder.{IsEdgeBefore}
-use Rattle.ner_trees.specs.Search.{is_on, IsNearestOn, IsNoneOn, IsCutAt, IsMarkedBy, TellsTree}
+use Rattle.ner_trees.specs.Search.{AreAllOn, AreOn, is_on, IsNearestOn, IsNoneOn, IsCutAt, IsMarkedBy, TellsTree}
 use Rattle.machine_desc.proofs.TreeLemmas.{tree_end, tree_cases, more_chips}
 use Rattle.spin_base.proofs.Pairs.{AllPairs-permutation}
 use Rattle.ner_trees.proofs.Trees.{spanning_root, Outcome, grown}
@@ -101,6 +102,32 @@ tells_more m root old new tree links whole is tells marked = subst (λ es. Tells
   where
     lists_right : (e : Edge) → Contains links e → Contains (tree ++ links) e
     lists_right e has = Contains-append_right tree links e has
+
+-- where no chip is marked, all are in any list
+pub none_listed : (m : Description) (on : List Bool) (chips : List Chip) → on ≡ replicate (m.width * m.height) false → AreAllOn m on chips
+none_listed m on chips blank c c_in is =
+    let below : index_of m c < m.width * m.height = index_below m c c_in in
+    let off : is_on m on c ≡ false = ap (λ l. get_or l (index_of m c) false) blank ∙ get_or-replicate (m.width * m.height) (index_of m c) false false below in
+    absurd (true≢false (sym is ∙ off))
+
+-- one chip more is marked, and listed
+module _ (m : Description) (on : List Bool) (chips : List Chip) (d : Chip) (d_in : IsInside m d) where
+  pub one_listed : length on ≡ m.width * m.height → AreOn m on chips → AreOn m (set on (index_of m d) true) (chips ++ d ∷ [])
+  one_listed long listed =
+      let i : ℕ = index_of m d in
+      let here : is_on m (set on i true) d ≡ true = get_or-set_same on i true false (let below : index_of m d < m.width * m.height = index_below m d d_in in omega (arith, below, long)) in
+      let stay : (k : ℕ) → get_or on k false ≡ true → get_or (set on i true) k false ≡ true = λ k was. elim (cases_eq k i) [
+        | inl same ↦ ap (λ n. get_or (set on i true) n false) same ∙ here
+        | inr other ↦ get_or-set_other on i k true false other ∙ was
+      ] in
+      All-push (λ c. IsInside m c × (is_on m (set on i true) c ≡ true)) chips d (λ k e within. let was = listed k e within in (was.0, stay (index_of m (get_or chips k e)) was.1)) (d_in, here)
+
+  pub one_all_listed : AreAllOn m on chips → AreAllOn m (set on (index_of m d) true) (chips ++ d ∷ [])
+  one_all_listed listed c c_in is = elim (cases_eq (index_of m c) (index_of m d)) [
+    | inl same ↦ ∣ subst (Contains (chips ++ d ∷ [])) (sym (same_index m c d c_in d_in same)) (Contains-push chips d) ∣₁
+    | inr other ↦
+        ∥∥₁_map (listed c c_in (sym (get_or-set_other on (index_of m d) (index_of m c) true false other) ∙ is)) (Contains-append_left chips (d ∷ []) c)
+  ]
 
 -- the table that has the root alone
 pub root_tells : (m : Description) (root : Chip) (on : List Bool) (i : ℕ) → IsInside m root → on ≡ replicate (m.width * m.height) false → i ≡ index_of m root →

@@ -1,22 +1,22 @@
--- The nearest chip of a tree, found by going over its edges: each edge on brings one chip more.
-use Rattle.std.proofs.Common.{◌≡◌, ℕ, ◌+◌, ◌*◌, ◌%◌, ◌<◌, ◌≤◌, ◌⊎◌, List, [], ◌∷◌, ◌++◌, length, get_or, take, min, Some, None, refl, sym, ap, ◌∙◌, subst, inl, inr, arith}
-use Rattle.std.specs.List.{All}
+-- The nearest chip of a tree, found by going over its chips.
+use Rattle.std.proofs.Common.{◌≡◌, ℕ, ◌+◌, ◌*◌, ◌%◌, ◌<◌, ◌≤◌, ◌⊎◌, List, [], ◌∷◌, ◌++◌, Bool, true, length, get_or, take, min, refl, sym, ◌∙◌, subst, inl, inr, arith}
+use Rattle.std.proofs.Math.Logic.{∥∥₁_elim}
+use Rattle.std.proofs.Props.{props}
+use Rattle.std.specs.List.{All, Contains}
 use Rattle.std.proofs.lemmas.Bool.{cases_eq, cases_lt}
 use Rattle.std.proofs.lemmas.List.{take_more}
-use Rattle.std.proofs.lemmas.List.Elements.{Contains-push, Contains-push_cases}
+use Rattle.std.proofs.lemmas.List.Elements.{All-contains, Contains-append_left, Contains-push, Contains-push_cases}
 use Rattle.std.proofs.lemmas.Nat.{mul-le}
-use Rattle.std.proofs.lemmas.Option.{none-some, same_Some}
 use Rattle.spin_base.specs.declared.chips.Chip.{Chip}
 use Rattle.machine_desc.specs.declared.trees.Edge.{Edge}
 use Rattle.machine_desc.specs.Description.{Description, HasSize}
 use Rattle.machine_desc.specs.Live.{IsInside, index_of}
-use Rattle.machine_desc.specs.RoutingTree.{end_of, IsTreeChip}
+use Rattle.machine_desc.specs.RoutingTree.{IsTreeChip}
 use Rattle.machine_desc.proofs.Far.{index_below, same_index}
-use Rattle.machine_desc.proofs.TreeLemmas.{tree_end, tree_cases, more_chips}
-use Rattle.spin_base.proofs.Members.{Contains-none}
+use Rattle.spin_base.proofs.Members.{Contains-none, Contains-first, Contains-later, Contains-cases}
 use Rattle.ner_trees.specs.Geometry.{distance_of}
-use Rattle.ner_trees.specs.Growth.{IsNotFarther, IsTreeChipWithin, IsNear}
-use Rattle.ner_trees.specs.Search.{IsLeastNearness, nearness}
+use Rattle.ner_trees.specs.Growth.{IsNear}
+use Rattle.ner_trees.specs.Search.{AreAllOn, AreOn, IsLeastNearness, TellsTree, is_on, nearness}
 use Rattle.ner_trees.proofs.Growing.{on_inside}
 
 one_is : (a b n : ℕ) → n ≡ min a b → (n ≡ a) ⊎ (n ≡ b)
@@ -44,70 +44,60 @@ too_great d i n low p near = omega (arith, low, p, near)
 last_digit : (d i n : ℕ) → n ≡ d * 4096 + i → i < 4096 → n % 4096 ≡ i
 last_digit d i n e p = omega (arith, e, p)
 
+-- the least number of some chips
+pub record IsLeastOf (m : Description) (t : Chip) (chips : List Chip) (least : ℕ) : Type 0 where
+  pub chip : Chip
+  pub among : Contains chips chip
+  pub is : least ≡ nearness m t chip
+  pub first : (e : Chip) → Contains chips e → least ≤ nearness m t e
+
 module _ (m : Description) (root t : Chip) where
   -- the root alone
-  pub least_start : (least : ℕ) → least ≡ nearness m t root → IsLeastNearness m root [] t least
+  pub least_start : (least : ℕ) → least ≡ nearness m t root → IsLeastOf m t (root ∷ []) least
   least_start least is = record {
     chip = root;
-    on = inl refl;
+    among = Contains-first root [];
     is = is;
-    first = λ e on. elim (tree_cases m root [] e on) [
-      | inl at ↦ subst (λ (c : Chip). least ≤ nearness m t c) (sym at) (subst (λ n. least ≤ n) is (omega arith))
-      | inr into ↦ absurd (Contains-none into.0 into.1)
+    first = λ e has. elim (Contains-cases root [] e has) [
+      | inl here ↦ subst (λ (c : Chip). least ≤ nearness m t c) here (subst (λ n. least ≤ n) is (omega arith))
+      | inr none ↦ absurd (Contains-none e none)
     ];
   }
 
-  module _ (tree : List Edge) (e : Edge) where
-    abbrev whole : List Edge
-    whole = tree ++ e ∷ []
+  -- one chip more
+  least_with : (chips : List Chip) (c : Chip) (old new : ℕ) → IsLeastOf m t chips old → new ≡ min old (nearness m t c) → IsLeastOf m t (chips ++ c ∷ []) new
+  least_with chips c old new known is = elim (one_is old (nearness m t c) new is) [
+    | inl same ↦ record { chip = known.chip; among = Contains-append_left chips (c ∷ []) known.chip known.among; is = same ∙ known.is; first = first }
+    | inr same ↦ record { chip = c; among = Contains-push chips c; is = same; first = first }
+  ]
+    where
+      first : (e : Chip) → Contains (chips ++ c ∷ []) e → new ≤ nearness m t e
+      first e has = elim (Contains-push_cases chips c e has) [
+        | inl was ↦ let low : old ≤ nearness m t e = known.first e was in let less : new ≤ old = not_above_first old (nearness m t c) new is in omega (arith, low, less)
+        | inr now ↦ subst (λ (x : Chip). new ≤ nearness m t x) now (not_above_second old (nearness m t c) new is)
+      ]
 
-    -- an edge that leads to a chip
-    least_with : (chip : Chip) (old new : ℕ) → end_of m e ≡ Some chip → IsLeastNearness m root tree t old → new ≡ min old (nearness m t chip) → IsLeastNearness m root whole t new
-    least_with chip old new leads known is = elim (one_is old (nearness m t chip) new is) [
-      | inl same ↦ record { chip = known.chip; on = more_chips m root tree (e ∷ []) known.chip known.on; is = same ∙ known.is; first = first }
-      | inr same ↦ record { chip = chip; on = tree_end m root whole e chip (Contains-push tree e) leads; is = same; first = first }
-    ]
-      where
-        before : (c : Chip) → IsTreeChip m root tree c → new ≤ nearness m t c
-        before c on = let low : old ≤ nearness m t c = known.first c on in let less : new ≤ old = not_above_first old (nearness m t chip) new is in omega (arith, low, less)
+  pub least_more : (chips : List Chip) (i : ℕ) (d : Chip) (old new : ℕ) → i < length chips → IsLeastOf m t (root ∷ take i chips) old → new ≡ min old (nearness m t (get_or chips i d)) →
+      IsLeastOf m t (root ∷ take (i + 1) chips) new
+  least_more chips i d old new within known is =
+      subst (λ (cs : List Chip). IsLeastOf m t (root ∷ cs) new) (sym (take_more chips i d within)) (least_with (root ∷ take i chips) (get_or chips i d) old new known is)
 
-        first : (c : Chip) → IsTreeChip m root whole c → new ≤ nearness m t c
-        first c on = elim (tree_cases m root whole c on) [
-          | inl at ↦ before c (inl at)
-          | inr into ↦ elim (Contains-push_cases tree e into.0 into.1) [
-            | inl was ↦ before c (tree_end m root tree into.0 c was into.2)
-            | inr now ↦
-                subst (λ (x : Chip). new ≤ nearness m t x) (same_Some chip c (sym leads ∙ (ap (end_of m) now ∙ into.2)))
-                (not_above_second old (nearness m t chip) new is)
-          ]
-        ]
+  -- of the chips that a table has, this is the least number of the tree
+  pub least_of_tree : (tree : List Edge) (on : List Bool) (chips : List Chip) (least : ℕ) → IsInside m root → All (λ e. IsInside m e.chip) tree → TellsTree m root on tree → AreOn m on chips →
+      AreAllOn m on chips → IsLeastOf m t (root ∷ chips) least → IsLeastNearness m root tree t least
+  least_of_tree tree on chips least root_in inside tells listed all_listed known = record {
+    chip = known.chip;
+    on = elim (Contains-cases root chips known.chip known.among) [
+      | inl here ↦ inl (sym here)
+      | inr later ↦ let at = All-contains (λ c. IsInside m c × (is_on m on c ≡ true)) chips known.chip listed later in (tells known.chip at.0).0 at.1
+    ];
+    is = known.is;
+    first = λ e there.
+        let e_in : IsInside m e = on_inside m root tree root_in inside e there in
+        ∥∥₁_elim (all_listed e e_in ((tells e e_in).1 there)) (search props) (λ has. known.first e (Contains-later root chips e has));
+  }
 
-    -- an edge that leads nowhere
-    least_without : (least : ℕ) → end_of m e ≡ None → IsLeastNearness m root tree t least → IsLeastNearness m root whole t least
-    least_without least nowhere known = record {
-      chip = known.chip;
-      on = more_chips m root tree (e ∷ []) known.chip known.on;
-      is = known.is;
-      first = λ c on. elim (tree_cases m root whole c on) [
-        | inl at ↦ known.first c (inl at)
-        | inr into ↦ elim (Contains-push_cases tree e into.0 into.1) [
-          | inl was ↦ known.first c (tree_end m root tree into.0 c was into.2)
-          | inr now ↦ absurd (none-some c (sym nowhere ∙ (ap (end_of m) now ∙ into.2)))
-        ]
-      ];
-    }
-
-  pub least_more : (edges : List Edge) (i : ℕ) (d : Edge) (chip : Chip) (old new : ℕ) → i < length edges → end_of m (get_or edges i d) ≡ Some chip →
-      IsLeastNearness m root (take i edges) t old → new ≡ min old (nearness m t chip) → IsLeastNearness m root (take (i + 1) edges) t new
-  least_more edges i d chip old new within leads known is =
-      subst (λ (es : List Edge). IsLeastNearness m root es t new) (sym (take_more edges i d within)) (least_with (take i edges) (get_or edges i d) chip old new leads known is)
-
-  pub least_past : (edges : List Edge) (i : ℕ) (d : Edge) (least : ℕ) → i < length edges → end_of m (get_or edges i d) ≡ None → IsLeastNearness m root (take i edges) t least →
-      IsLeastNearness m root (take (i + 1) edges) t least
-  least_past edges i d least within nowhere known =
-      subst (λ (es : List Edge). IsLeastNearness m root es t least) (sym (take_more edges i d within)) (least_without (take i edges) (get_or edges i d) least nowhere known)
-
-  -- once all edges are through, the least number tells the chip to which the target is joined
+  -- The least number tells the chip to which the target is joined
   module _ (tree : List Edge) (least : ℕ) (size : HasSize m) (root_in : IsInside m root) (inside : All (λ e. IsInside m e.chip) tree)
       (known : IsLeastNearness m root tree t least) where
     index_few : (c : Chip) → IsTreeChip m root tree c → index_of m c < 4096

@@ -1,6 +1,6 @@
 -- The search of a ring: what it has seen, and that it sees enough.
-use Rattle.std.proofs.Common.{◌≡◌, ℕ, suc, ◌+◌, ◌-◌, ◌*◌, ◌%◌, ◌<◌, ◌≤◌, max, Bool, true, false, cond, ltb, List, Option, Some, None, refl, sym, ap, ◌∙◌, subst, arith, inl, inr, ◌⊎◌}
-use Rattle.std.proofs.lemmas.Bool.{cases_lt, cases_eq, cond-true, cond-false, lt-ltb, le-ltb}
+use Rattle.std.proofs.Common.{◌≡◌, ℕ, suc, ◌+◌, ◌-◌, ◌*◌, ◌%◌, ◌<◌, ◌≤◌, max, Bool, true, false, ◌||◌, cond, ltb, List, Option, Some, None, refl, sym, ap, ◌∙◌, subst, arith, inl, inr, ◌⊎◌}
+use Rattle.std.proofs.lemmas.Bool.{cases_lt, cases_eq, cond-true, cond-false, lt-ltb, le-ltb, or_left, or_right}
 use Rattle.std.proofs.lemmas.Nat.{mod-mul-add}
 use Rattle.std.specs.Option.{IfSome, IfNone}
 use Rattle.std.specs.Prelude.{ℤ, pos, negsuc}
@@ -12,7 +12,7 @@ use Rattle.machine_desc.proofs.Far.{inside_from}
 use Rattle.ner_trees.specs.declared.displacements.Disp.{Disp}
 use Rattle.ner_trees.specs.Geometry.{forth, back, ahead_by, displacement_of, distance_of}
 use Rattle.ner_trees.specs.Growth.{IsNotFarther}
-use Rattle.ner_trees.specs.Search.{place_at, offset_chip, AtOffsets, AtStep, IsOnWithin, IsNearestOn, IsNoneOn, IsNoneNearer, IsBetter}
+use Rattle.ner_trees.specs.Search.{is_on, is_there, place_at, offset_chip, AtOffsets, AtStep, IsOnWithin, IsNearestOn, IsNoneOn, IsNoneNearer, IsBetter}
 use Rattle.ner_trees.proofs.Axis.{ahead_cases, Reaches}
 use Rattle.ner_trees.proofs.Signed.{length_is}
 use Rattle.ner_trees.proofs.Walking.{reaches}
@@ -23,13 +23,10 @@ chip_inside m None y px py = px
 chip_inside m (Some x) None px py = py
 chip_inside m (Some x) (Some y) px py = inside_from m (record { x = x; y = y }) px py
 
-pub offset_is : (m : Description) (t : Chip) (wrap too : Bool) (w h r column row : ℕ) (x y : Option ℕ) → wrap ≡ m.wrap → too ≡ m.wrap → w ≡ m.width → h ≡ m.height →
-    x ≡ place_at wrap w t.x r column → y ≡ place_at too h t.y r row → chip_at x y ≡ offset_chip m t r column row
+offset_is : (m : Description) (t : Chip) (r column row : ℕ) (x y : Option ℕ) → x ≡ place_at m.wrap m.width t.x r column → y ≡ place_at m.wrap m.height t.y r row →
+    chip_at x y ≡ offset_chip m t r column row
 unfolding offset_chip
-offset_is m t wrap too w h r column row x y ewrap etoo ew eh ex ey =
-    let fx : x ≡ place_at m.wrap m.width t.x r column = ex ∙ (ap (λ (b : Bool). place_at b w t.x r column) ewrap ∙ ap (λ n. place_at m.wrap n t.x r column) ew) in
-    let fy : y ≡ place_at m.wrap m.height t.y r row = ey ∙ (ap (λ (b : Bool). place_at b h t.y r row) etoo ∙ ap (λ n. place_at m.wrap n t.y r row) eh) in
-    ap (λ (z : Option ℕ). chip_at z y) fx ∙ ap (λ (z : Option ℕ). chip_at (place_at m.wrap m.width t.x r column) z) fy
+offset_is m t r column row x y ex ey = ap (λ (z : Option ℕ). chip_at z y) ex ∙ ap (λ (z : Option ℕ). chip_at (place_at m.wrap m.width t.x r column) z) ey
 
 -- a place of a ring without a division: as many times round as it takes
 pub round_is : (k w n sum : ℕ) → sum ≡ k * w + n → n < w → sum % w ≡ n
@@ -186,6 +183,16 @@ module _ (m : Description) (on : List Bool) (t : Chip) (r : ℕ) where
   pub better_past : (At : Chip → Type 0) (best : Option Chip) → ((e : Chip) → At e → IsOnWithin m on t r e → ⊥) → IsBetter m on t r At best best
   better_past At best none = record { keeps = λ e before. before; has = λ e at is. absurd (none e at is) }
 
+  -- two chips on the ring are as far from its centre
+  pub as_far : (best : Option Chip) (c : Chip) → IsNoneNearer m on t r → IfSome best (IsOnWithin m on t r) → IsInside m c → is_on m on c ≡ true → distance_of m c t ≤ r →
+      IfSome best (λ b. distance_of m b t ≡ distance_of m c t)
+  as_far None c none is c_in c_on near = tt
+  as_far (Some b) c none is c_in c_on near =
+      let low : r ≤ distance_of m b t = none b is.inside is.on_it in
+      let high : distance_of m b t ≤ r = is.near in
+      let also : r ≤ distance_of m c t = none c c_in c_on in
+      omega (arith, low, high, also, near)
+
   pub found_more : (best : Option Chip) (c n : Chip) → IsOnWithin m on t r c → IfNone best (n ≡ c) →
       IfSome best (λ b. ((n ≡ b) × IsNotFarther m t b c) ⊎ ((n ≡ c) × IsNotFarther m t c b)) → IfSome best (IsOnWithin m on t r) → IsOnWithin m on t r n
   found_more None c n is first later known = subst (λ (x : Chip). IsOnWithin m on t r x) (sym first) is
@@ -215,6 +222,47 @@ module _ (m : Description) (on : List Bool) (t : Chip) (r : ℕ) where
       | inr b ↦ two.has e b is
     ];
   }
+
+  -- the chip of two coordinates is the one at their offsets
+  pub at_offsets : (column row : ℕ) (x y : Option ℕ) (best result : Option Chip) → x ≡ place_at m.wrap m.width t.x r column → y ≡ place_at m.wrap m.height t.y r row →
+      IsBetter m on t r (λ e. chip_at x y ≡ Some e) best result → IsBetter m on t r (AtOffsets m t r column row) best result
+  at_offsets column row x y best result ex ey is = subst (λ (o : Option Chip). IsBetter m on t r (λ e. o ≡ Some e) best result) (offset_is m t r column row x y ex ey) is
+
+  -- a test tells of the chip at offsets whether the table has it
+  abbrev pub Sees : ℕ → ℕ → Bool → Type 0
+  Sees column row b = (c : Chip) → AtOffsets m t r column row c → is_on m on c ≡ true → b ≡ true
+
+  pub sees : (column row : ℕ) (x y : Option ℕ) (b : Bool) → x ≡ place_at m.wrap m.width t.x r column → y ≡ place_at m.wrap m.height t.y r row → b ≡ is_there m on (chip_at x y) →
+      Sees column row b
+  sees column row x y b ex ey is c at has = is ∙ (ap (is_there m on) (offset_is m t r column row x y ex ey ∙ at) ∙ has)
+
+  -- such tests of one chip on each side of the ring tell whether the table has any of them
+  pub sees_any : (s : ℕ) (a b c d e f : Bool) → Sees 0 s a → Sees s 0 b → Sees s (r + s) c → Sees (r + s) s d → Sees (r + s) (2 * r) e → Sees (2 * r) (r + s) f →
+      (chip : Chip) → AtStep m t r s chip → is_on m on chip ≡ true → (((((a || b) || c) || d) || e) || f) ≡ true
+  sees_any s a b c d e f at_a at_b at_c at_d at_e at_f chip at has =
+      let any : Bool = (((((a || b) || c) || d) || e) || f) in
+      let five : ((((a || b) || c) || d) || e) ≡ true → any ≡ true = λ is. or_left ((((a || b) || c) || d) || e) f is in
+      let four : (((a || b) || c) || d) ≡ true → any ≡ true = λ is. five (or_left (((a || b) || c) || d) e is) in
+      let three : ((a || b) || c) ≡ true → any ≡ true = λ is. four (or_left ((a || b) || c) d is) in
+      let two : (a || b) ≡ true → any ≡ true = λ is. three (or_left (a || b) c is) in
+      elim at [
+        | inl i ↦ two (or_left a b (at_a chip i has))
+        | inr (inl i) ↦ two (or_right a b (at_b chip i has))
+        | inr (inr (inl i)) ↦ three (or_right (a || b) c (at_c chip i has))
+        | inr (inr (inr (inl i))) ↦ four (or_right ((a || b) || c) d (at_d chip i has))
+        | inr (inr (inr (inr (inl i)))) ↦ five (or_right (((a || b) || c) || d) e (at_e chip i has))
+        | inr (inr (inr (inr (inr i)))) ↦ or_right ((((a || b) || c) || d) || e) f (at_f chip i has)
+      ]
+
+  -- one chip on each side of the ring
+  pub all_sides : (s : ℕ) (best one two three four five six : Option Chip) → IsBetter m on t r (AtOffsets m t r 0 s) best one → IsBetter m on t r (AtOffsets m t r s 0) one two →
+      IsBetter m on t r (AtOffsets m t r s (r + s)) two three → IsBetter m on t r (AtOffsets m t r (r + s) s) three four → IsBetter m on t r (AtOffsets m t r (r + s) (2 * r)) four five →
+      IsBetter m on t r (AtOffsets m t r (2 * r) (r + s)) five six → IsBetter m on t r (AtStep m t r s) best six
+  all_sides s best one two three four five six a b c d e f =
+      both (AtOffsets m t r 0 s) _ best one six a
+      (both (AtOffsets m t r s 0) _ one two six b
+      (both (AtOffsets m t r s (r + s)) _ two three six c
+      (both (AtOffsets m t r (r + s) s) _ three four six d (both (AtOffsets m t r (r + s) (2 * r)) (AtOffsets m t r (2 * r) (r + s)) four five six e f))))
 
   -- what the search of a ring has found after so many steps
   abbrev pub Stepped : ℕ → Chip → Type 0

@@ -1,5 +1,5 @@
 -- The search for the chip of a tree that is nearest to a target, in a window round the target.
-use Rattle.std.specs.Prelude.{◌≡◌, ℕ, ◌+◌, ◌-◌, ◌*◌, ◌%◌, ◌<◌, ◌≤◌, Bool, true, false, nat_lt, if◌then◌else◌, List, ◌++◌, Option, Some, None, All, Any, ◌⊎◌, ◌↔◌, IfSome, slice_index_or}
+use Rattle.std.specs.Prelude.{◌≡◌, ℕ, ◌+◌, ◌-◌, ◌*◌, ◌%◌, ◌≤◌, Bool, true, false, nat_lt, if◌then◌else◌, List, ◌++◌, Option, Some, None, All, Any, Contains, ◌⊎◌, ◌↔◌, slice_index_or}
 use Rattle.std.specs.Option.{IsSomeAnd}
 use Rattle.spin_base.specs.declared.chips.Chip.{Chip}
 use Rattle.spin_base.specs.declared.chips.Dir.{Dir}
@@ -8,11 +8,23 @@ use Rattle.machine_desc.specs.Description.{Description}
 use Rattle.machine_desc.specs.Live.{chip_at, index_of, IsInside}
 use Rattle.machine_desc.specs.RoutingTree.{end_of, IsTreeChip}
 use Rattle.ner_trees.specs.Geometry.{distance_of}
-use Rattle.ner_trees.specs.Growth.{IsNotFarther, IsTreeChipWithin, end_of_walk, links_of, next_of}
+use Rattle.ner_trees.specs.Growth.{IsNotFarther, end_of_walk, links_of, next_of}
 
 -- what a table with a place for each chip says of a chip
 abbrev pub is_on : Description → List Bool → Chip → Bool
 is_on m on c = slice_index_or on (index_of m c) false
+
+-- and of the chip of two coordinates, where there is one
+abbrev pub is_there : Description → List Bool → Option Chip → Bool
+is_there m on None = false
+is_there m on (Some c) = is_on m on c
+
+-- the table has the chips of a list, and no others
+abbrev pub AreOn : Description → List Bool → List Chip → Type 0
+AreOn m on chips = All (λ c. IsInside m c × (is_on m on c ≡ true)) chips
+
+abbrev pub AreAllOn : Description → List Bool → List Chip → Type 0
+AreAllOn m on chips = (c : Chip) → IsInside m c → is_on m on c ≡ true → ∥ Contains chips c ∥₁
 
 -- the table has the chips of the tree
 abbrev pub TellsTree : Description → Chip → List Bool → List Edge → Type 0
@@ -61,13 +73,13 @@ abbrev pub IsNoneNearer : Description → List Bool → Chip → ℕ → Type 0
 IsNoneNearer m on t radius = (e : Chip) → IsInside m e → is_on m on e ≡ true → radius ≤ distance_of m e t
 
 -- What a search has found comes before this chip, in the order of nearness.
-abbrev pub IsBefore : Description → Chip → Option Chip → Chip → Type 0
-IsBefore m t best e = IsSomeAnd best (λ c. IsNotFarther m t c e)
+abbrev pub IsFoundBefore : Description → Chip → Option Chip → Chip → Type 0
+IsFoundBefore m t best e = IsSomeAnd best (λ c. IsNotFarther m t c e)
 
 -- what a search has found, once it has looked at some chips more
 pub record IsBetter (m : Description) (on : List Bool) (t : Chip) (radius : ℕ) (looked_at : Chip → Type 0) (best result : Option Chip) : Type 0 where
-  pub keeps : (e : Chip) → IsBefore m t best e → IsBefore m t result e
-  pub has : (e : Chip) → looked_at e → IsOnWithin m on t radius e → IsBefore m t result e
+  pub keeps : (e : Chip) → IsFoundBefore m t best e → IsFoundBefore m t result e
+  pub has : (e : Chip) → looked_at e → IsOnWithin m on t radius e → IsFoundBefore m t result e
 
 -- a walk, cut at the last of its chips that the table has
 pub record IsCutAt (m : Description) (on : List Bool) (near : Chip) (walk : List Dir) (start : Chip) (added : List Edge) : Type 0 where

@@ -1,5 +1,5 @@
 // Walks from a tree to a target, and what of them is added.
-ghost use Rattle.std.specs.Prelude.{◌≡◌, true, IfOk, All};
+ghost use Rattle.std.specs.Prelude.{◌≡◌, true, IfOk, OnOk, All};
 ghost use Rattle.machine_desc.specs.Live.{IsInside};
 ghost use Rattle.ner_trees.specs.Growth.{next_of};
 ghost use Rattle.ner_trees.specs.Search.{is_on, IsCutAt, IsMarkedBy};
@@ -54,15 +54,17 @@ pub fn new_branch(alloc: Global, on: &Marks, near: Chip, walk: &[Dir]) -> Result
 }
 
 // Notes in the table the chips where links lead.
-pub fn mark(on: &mut Marks, links: &[Edge])
+pub fn mark(on: &mut Marks, links: &[Edge]) -> Result<(), Memory>
     requires { All (λ e. IsInside on.old.machine.now e.chip) links.now }
     ensures machine { on.new.machine.now ≡ on.old.machine.now }
-    ensures marked { IsMarkedBy on.old.machine.now on.old.items.items on.new.items.items links.now }
+    ensures marked { OnOk result (IsMarkedBy on.old.machine.now on.old.items.items
+        on.new.items.items links.now) }
 {
     let machine = on.machine();
     for link in links {
         if let Some(chip) = machine.far(link.chip, link.dir) {
-            on.set(chip);
+            on.set(chip)?;
         }
     }
+    Ok(())
 }

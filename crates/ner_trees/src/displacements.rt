@@ -93,6 +93,7 @@ pub struct OnAxis {
 }
 
 // How many places `to` is ahead of `from`, on an axis that is closed to a ring.
+#[inline(always)]
 fn ahead_by(from: OnAxis, to: u8) -> OnAxis
     requires { to < from.places }
     ensures places { result.places ≡ from.places }
@@ -127,6 +128,7 @@ fn on_torus(across: OnAxis, up: OnAxis) -> Disp
 }
 
 // The length of that displacement: the least of the lengths of the four.
+#[inline(always)]
 fn length_on_torus(across: OnAxis, up: OnAxis) -> u32
     ensures value { result ≡
         length_of (on_torus across.places up.places across.place up.place) }
@@ -170,6 +172,7 @@ pub fn displacement(machine: &Machine, p: Chip, q: Chip) -> Disp
 }
 
 /// The number of links from `p` to `q` where none is dead: the length of the displacement, 0 to 128.
+#[inline(always)]
 pub fn distance(machine: &Machine, p: Chip, q: Chip) -> u32
     requires from_inside { IsInside machine.now p }
     requires to_inside { IsInside machine.now q }

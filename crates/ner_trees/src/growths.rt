@@ -64,7 +64,7 @@ fn add_target(alloc: Global, tree: &mut GrowingTree, target: Chip) -> Result<Joi
     let near = near_chip(tree, target);
     let walk = ldf(alloc, displacement(tree.on.machine(), near, target))?;
     let branch = new_branch(alloc, &tree.on, near, walk.as_slice())?;
-    mark(&mut tree.on, &branch.links);
+    mark(&mut tree.on, &branch.links)?;
     tree.edges.extend_from_slice(&branch.links)?;
     Ok(Join {
         target,
@@ -82,7 +82,7 @@ fn tree_of_root(alloc: Global, machine: &Machine, root: Chip) -> Result<GrowingT
     ensures on_is { IfOk result (λ t. TellsTree machine.now root t.on.items.items []) }
 {
     let mut on = Marks::none(alloc, machine)?;
-    on.set(root);
+    on.set(root)?;
     Ok(GrowingTree {
         root,
         edges: Vec::new(alloc),

@@ -1,22 +1,27 @@
 // The chips of a machine that a tree has.
 ghost use Rattle.std.specs.Prelude.{◌≡◌, ◌*◌, length};
 ghost use Rattle.machine_desc.specs.Description.{HasSize};
+ghost use Rattle.ner_trees.specs.Search.{AreAllOn, AreOn};
 
 use machine_desc::Machine;
 use spin_base::{Chip, Memory};
 use std::alloc::Global;
 
-// A mark for each chip of a machine, in the order of the chips' indices. To make them costs no turn for each chip.
+// A mark for each chip of a machine, in the order of the chips' indices, and a list of the chips that are marked. To make them
+// costs no turn for each chip.
 #[derive(Drop)]
 pub struct Marks<'m> {
     machine: &'m Machine,
     items: Vec<bool>,
+    chips: Vec<Chip>,
     pub ghost size: { HasSize machine.now },
     pub ghost long: { length items.items ≡ machine.now.width * machine.now.height },
+    pub ghost listed: { AreOn machine.now items.items chips.items },
+    pub ghost all_listed: { AreAllOn machine.now items.items chips.items },
 }
 
 impl<'m> Marks<'m> {
-    ghost use Rattle.std.specs.Prelude.{Bool, IfOk, replicate, slice_index_or, slice_set, false, true};
+    ghost use Rattle.std.specs.Prelude.{Bool, IfOk, OnOk, replicate, slice_index_or, slice_set, false, true};
     ghost use Rattle.machine_desc.specs.Live.{IsInside, index_of};
 
     // No chip is marked.
@@ -26,7 +31,12 @@ impl<'m> Marks<'m> {
             t.items.items ≡ replicate (machine.now.width * machine.now.height) false) }
     {
         let items = vec![in alloc; false; machine.chips()]?;
-        Ok(Marks { machine, items })
+        let chips = Vec::with_capacity(alloc, 64)?;
+        Ok(Marks {
+            machine,
+            items,
+            chips,
+        })
     }
 
     // The machine whose chips these are.
@@ -45,14 +55,23 @@ impl<'m> Marks<'m> {
         self.items[self.machine.index(chip) as usize]
     }
 
+    // The chips that are marked.
+    pub fn chips(&self) -> &[Chip]
+        ensures { result.now ≡ self.now.chips.items }
+    {
+        &self.chips
+    }
+
     // Marks a chip.
-    pub fn set(&mut self, chip: Chip)
+    pub fn set(&mut self, chip: Chip) -> Result<(), Memory>
         requires { IsInside self.old.machine.now chip }
         ensures machine { self.new.machine.now ≡ self.old.machine.now }
-        ensures items { self.new.items.items ≡
-            slice_set self.old.items.items (index_of self.old.machine.now chip) true }
+        ensures items { OnOk result (self.new.items.items ≡
+            slice_set self.old.items.items (index_of self.old.machine.now chip) true) }
     {
         let place = self.machine.index(chip) as usize;
+        self.chips.push(chip)?;
         self.items[place] = true;
+        Ok(())
     }
 }

@@ -1,14 +1,15 @@
 // The chip of a tree that is nearest to a target.
-ghost use Rattle.std.specs.Prelude.{◌≡◌, ◌+◌, ◌-◌, ◌*◌, ◌%◌, ◌<◌, ◌≤◌, ◌⊎◌, true, Some, IfSome, IfNone, MatchBool};
+ghost use Rattle.std.specs.Prelude.{◌≡◌, ◌+◌, ◌-◌, ◌*◌, ◌%◌, ◌<◌, ◌≤◌, ◌⊎◌, true, Some, IfSome, IfNone};
 ghost use Rattle.machine_desc.specs.Live.{IsInside, chip_at};
+ghost use Rattle.ner_trees.specs.Geometry.{distance_of};
 ghost use Rattle.ner_trees.specs.Growth.{IsNotFarther, IsNear};
-ghost use Rattle.ner_trees.specs.Search.{place_at, offset_chip, AtOffsets, AtStep, IsOnWithin, IsNearestOn, IsNoneNearer, IsBetter, IsLeastNearness, TellsTree, is_on, nearness};
+ghost use Rattle.ner_trees.specs.Search.{place_at, AtStep, IsOnWithin, IsNearestOn, IsNoneNearer, IsBetter, IsLeastNearness, TellsTree, is_on, is_there, nearness};
 ghost use Rattle.spin_base.specs.declared.chips.Chip.{Chip};
 
 use crate::displacements::{OnAxis, distance};
 use crate::marks::Marks;
 use crate::partial_trees::{GrowingTree, Radius};
-use machine_desc::{Edge, Machine};
+use machine_desc::Machine;
 use spin_base::Chip;
 
 // The place on a ring that is `offset` places past the one that lies `radius` places before the centre, by a division.
@@ -91,45 +92,38 @@ struct Search<'t, 'm> {
     ghost inside: { IsInside on.now.machine.now target },
 }
 
-// The chip at offsets from the corner of the window of `radius` chips to each side of the target.
+// The column at an offset of the window of `radius` chips to each side of the target.
 #[inline(always)]
-fn offset_chip(search: Search<'_, '_>, radius: Radius, column: u8, row: u8) -> Option<Chip>
-    requires column { column ≤ 2 * radius.chips }
-    requires row { row ≤ 2 * radius.chips }
-    ensures value { result ≡ offset_chip search.entry.on.now.machine.now
-        search.entry.target radius.chips column row }
-    ensures inside { IfSome result (IsInside search.entry.on.now.machine.now) }
-{
-    let (machine, centre) = (search.on.machine(), search.target);
-    let (wrap, places, place) = (machine.wrap(), machine.width(), centre.x);
-    let x = place_at(wrap, OnAxis { places, place }, radius, column);
-    let (places, place) = (machine.height(), centre.y);
-    let y = place_at(wrap, OnAxis { places, place }, radius, row);
-    chip_at(x, y)
-}
-
-// Whether the first chip comes before the second in the order of distance to the target, then x, then y.
-fn is_nearer(search: Search<'_, '_>, c: Chip, e: Chip) -> bool
-    requires this_inside { IsInside search.on.now.machine.now c }
-    requires that_inside { IsInside search.on.now.machine.now e }
-    ensures { MatchBool result
-        (IsNotFarther search.entry.on.now.machine.now search.entry.target c e)
-        (IsNotFarther search.entry.on.now.machine.now search.entry.target e c) }
+fn column_at(search: Search<'_, '_>, radius: Radius, offset: u8) -> Option<u8>
+    requires { offset ≤ 2 * radius.chips }
+    ensures value { result ≡ place_at search.entry.on.now.machine.now.wrap
+        search.entry.on.now.machine.now.width search.entry.target.x radius.chips offset }
+    ensures inside { IfSome result (λ n. n < search.entry.on.now.machine.now.width) }
 {
     let machine = search.on.machine();
-    let one = distance(machine, c, search.target);
-    let other = distance(machine, e, search.target);
-    if one == other {
-        machine.index(c) < machine.index(e)
-    } else {
-        one < other
-    }
+    let (places, place) = (machine.width(), search.target.x);
+    place_at(machine.wrap(), OnAxis { places, place }, radius, offset)
 }
 
-// The chip that comes first in the order of distance to the target, then x, then y.
+// The row at an offset of this window.
+#[inline(always)]
+fn row_at(search: Search<'_, '_>, radius: Radius, offset: u8) -> Option<u8>
+    requires { offset ≤ 2 * radius.chips }
+    ensures value { result ≡ place_at search.entry.on.now.machine.now.wrap
+        search.entry.on.now.machine.now.height search.entry.target.y radius.chips offset }
+    ensures inside { IfSome result (λ n. n < search.entry.on.now.machine.now.height) }
+{
+    let machine = search.on.machine();
+    let (places, place) = (machine.height(), search.target.y);
+    place_at(machine.wrap(), OnAxis { places, place }, radius, offset)
+}
+
+// Of two chips from which the target is as far, the one that comes first in the order of x, then y.
 fn nearer(search: Search<'_, '_>, best: Option<Chip>, chip: Chip) -> Chip
     requires best_inside { IfSome best (IsInside search.on.now.machine.now) }
     requires inside { IsInside search.on.now.machine.now chip }
+    requires as_far { IfSome best (λ b. distance_of search.on.now.machine.now b search.target
+        ≡ distance_of search.on.now.machine.now chip search.target) }
     ensures first { IfNone best (result ≡ chip) }
     ensures nearer { IfSome best (λ b.
         ((result ≡ b)
@@ -137,9 +131,10 @@ fn nearer(search: Search<'_, '_>, best: Option<Chip>, chip: Chip) -> Chip
         ⊎ ((result ≡ chip)
         × IsNotFarther search.entry.on.now.machine.now search.entry.target chip b)) }
 {
+    let machine = search.on.machine();
     match best {
         None => chip,
-        Some(other) => if is_nearer(search, chip, other) {
+        Some(other) => if machine.index(chip) < machine.index(other) {
             chip
         } else {
             other
@@ -157,6 +152,8 @@ fn better_with(
 ) -> Option<Chip>
     requires inside { IsInside search.on.now.machine.now chip }
     requires on_it { is_on search.on.now.machine.now search.on.now.items.items chip ≡ true }
+    requires none { IsNoneNearer search.on.now.machine.now search.on.now.items.items search.target
+        radius.chips }
     requires best { IfSome best (IsOnWithin search.on.now.machine.now
         search.on.now.items.items search.target radius.chips) }
     ensures found { IfSome result (IsOnWithin search.entry.on.now.machine.now
@@ -172,27 +169,27 @@ fn better_with(
     }
 }
 
-// The nearest of the best so far and the chip at these offsets.
+// The nearest of the best so far and the chip of these coordinates.
 #[inline(always)]
 fn better(
     search: Search<'_, '_>,
     radius: Radius,
-    column: u8,
-    row: u8,
+    x: Option<u8>,
+    y: Option<u8>,
     best: Option<Chip>,
 ) -> Option<Chip>
-    requires column { column ≤ 2 * radius.chips }
-    requires row { row ≤ 2 * radius.chips }
+    requires x_inside { IfSome x (λ n. n < search.on.now.machine.now.width) }
+    requires y_inside { IfSome y (λ n. n < search.on.now.machine.now.height) }
+    requires none { IsNoneNearer search.on.now.machine.now search.on.now.items.items search.target
+        radius.chips }
     requires best { IfSome best (IsOnWithin search.on.now.machine.now
         search.on.now.items.items search.target radius.chips) }
     ensures found { IfSome result (IsOnWithin search.entry.on.now.machine.now
         search.entry.on.now.items.items search.entry.target radius.chips) }
     ensures better { IsBetter search.entry.on.now.machine.now search.entry.on.now.items.items
-        search.entry.target radius.chips
-        (AtOffsets search.entry.on.now.machine.now search.entry.target radius.chips column row)
-        best result }
+        search.entry.target radius.chips (λ e. chip_at x y ≡ Some e) best result }
 {
-    match offset_chip(search, radius, column, row) {
+    match chip_at(x, y) {
         None => best,
         Some(chip) => if search.on.at(chip) {
             better_with(search, radius, best, chip)
@@ -210,6 +207,8 @@ fn better_at_step(
     best: Option<Chip>,
 ) -> Option<Chip>
     requires step { step ≤ radius.chips }
+    requires none { IsNoneNearer search.on.now.machine.now search.on.now.items.items search.target
+        radius.chips }
     requires best { IfSome best (IsOnWithin search.on.now.machine.now
         search.on.now.items.items search.target radius.chips) }
     ensures found { IfSome result (IsOnWithin search.entry.on.now.machine.now
@@ -220,12 +219,61 @@ fn better_at_step(
         best result }
 {
     let (side, end) = (radius.chips + step, 2 * radius.chips);
-    let one = better(search, radius, 0, step, best);
-    let two = better(search, radius, step, 0, one);
-    let three = better(search, radius, step, side, two);
-    let four = better(search, radius, side, step, three);
-    let five = better(search, radius, side, end, four);
-    better(search, radius, end, side, five)
+    let first_x = column_at(search, radius, 0);
+    let step_x = column_at(search, radius, step);
+    let side_x = column_at(search, radius, side);
+    let end_x = column_at(search, radius, end);
+    let first_y = row_at(search, radius, 0);
+    let step_y = row_at(search, radius, step);
+    let side_y = row_at(search, radius, side);
+    let end_y = row_at(search, radius, end);
+    let one = better(search, radius, first_x, step_y, best);
+    let two = better(search, radius, step_x, first_y, one);
+    let three = better(search, radius, step_x, side_y, two);
+    let four = better(search, radius, side_x, step_y, three);
+    let five = better(search, radius, side_x, end_y, four);
+    better(search, radius, end_x, side_y, five)
+}
+
+// Whether the tree has the chip of these coordinates.
+#[inline(always)]
+fn is_there(search: Search<'_, '_>, x: Option<u8>, y: Option<u8>) -> bool
+    requires x_inside { IfSome x (λ n. n < search.on.now.machine.now.width) }
+    requires y_inside { IfSome y (λ n. n < search.on.now.machine.now.height) }
+    ensures { result ≡ is_there search.entry.on.now.machine.now search.entry.on.now.items.items
+        (chip_at x y) }
+{
+    match chip_at(x, y) {
+        None => false,
+        Some(chip) => search.on.at(chip),
+    }
+}
+
+// Whether the tree has one of the six chips of the ring that are `step` chips along its sides. Few steps have any, so there is
+// no way out at the first.
+fn is_any_at_step(search: Search<'_, '_>, radius: Radius, step: u8) -> bool
+    requires { step ≤ radius.chips }
+    ensures { (c : Chip)
+        → AtStep search.entry.on.now.machine.now search.entry.target radius.chips step c
+        → is_on search.entry.on.now.machine.now search.entry.on.now.items.items c ≡ true
+        → result ≡ true }
+{
+    let (side, end) = (radius.chips + step, 2 * radius.chips);
+    let first_x = column_at(search, radius, 0);
+    let step_x = column_at(search, radius, step);
+    let side_x = column_at(search, radius, side);
+    let end_x = column_at(search, radius, end);
+    let first_y = row_at(search, radius, 0);
+    let step_y = row_at(search, radius, step);
+    let side_y = row_at(search, radius, side);
+    let end_y = row_at(search, radius, end);
+    let one = is_there(search, first_x, step_y);
+    let two = is_there(search, step_x, first_y);
+    let three = is_there(search, step_x, side_y);
+    let four = is_there(search, side_x, step_y);
+    let five = is_there(search, side_x, end_y);
+    let six = is_there(search, end_x, side_y);
+    one | two | three | four | five | six
 }
 
 // The nearest chip of the tree, where it is one of those from which the target is exactly `radius` links away.
@@ -239,7 +287,9 @@ fn nearest_on_ring(search: Search<'_, '_>, radius: Radius) -> Option<Chip>
 {
     let mut best = None;
     for step in 0..radius.chips + 1 {
-        best = better_at_step(search, radius, step, best);
+        if is_any_at_step(search, radius, step) {
+            best = better_at_step(search, radius, step, best);
+        }
     }
     best
 }
@@ -254,26 +304,28 @@ fn nearness(machine: &Machine, target: Chip, chip: Chip) -> u32
     distance(machine, chip, target) * 4096 + machine.index(chip)
 }
 
-// The least of these numbers, of the chips of a tree, found by going over its edges.
+// The least of these numbers, of the chips of a tree.
 fn least_nearness(tree: &GrowingTree, target: Chip) -> u32
-    requires { IsInside tree.now.on.machine.now target }
+    requires inside { IsInside tree.now.on.machine.now target }
+    requires on_is { TellsTree tree.now.on.machine.now tree.now.root
+        tree.now.on.items.items tree.now.edges.items }
     ensures { IsLeastNearness tree.now.on.machine.now tree.now.root tree.now.edges.items target
         result }
 {
     let machine = tree.on.machine();
-    let edges: &[Edge] = &tree.edges;
+    let chips = tree.on.chips();
     let mut least = nearness(machine, target, tree.root);
-    for edge in edges {
-        if let Some(chip) = machine.far(edge.chip, edge.dir) {
-            least = least.min(nearness(machine, target, chip));
-        }
+    for chip in chips {
+        least = least.min(nearness(machine, target, *chip));
     }
     least
 }
 
 // The nearest chip of the tree within 20 links of the target, and the root where there is none.
 fn nearest_of_all(tree: &GrowingTree, target: Chip) -> Chip
-    requires { IsInside tree.now.on.machine.now target }
+    requires inside { IsInside tree.now.on.machine.now target }
+    requires on_is { TellsTree tree.now.on.machine.now tree.now.root
+        tree.now.on.items.items tree.now.edges.items }
     ensures { IsNear tree.now.on.machine.now tree.now.root tree.now.edges.items target result }
 {
     let least = least_nearness(tree, target);
@@ -285,7 +337,8 @@ fn nearest_of_all(tree: &GrowingTree, target: Chip) -> Chip
 }
 
 // The chip of the tree to which a target is joined: the nearest within 20 links, and the root where there is none. Rings
-// round the target are looked through from the target outwards, and once these are longer than the tree, its edges.
+// round the target are looked through from the target outwards. Once these are longer than the tree, and where a tree has so
+// few of the machine's chips that none near the target is to be expected, all its chips are compared.
 pub fn near_chip(tree: &GrowingTree, target: Chip) -> Chip
     requires inside { IsInside tree.now.on.machine.now target }
     requires on_is { TellsTree tree.now.on.machine.now tree.now.root
@@ -297,9 +350,10 @@ pub fn near_chip(tree: &GrowingTree, target: Chip) -> Chip
         target,
     };
     let edges = tree.edges.len();
+    let few = tree.on.machine().chips() / 64;
     for chips in 0..21 {
         let far = usize::from(chips);
-        if edges < 3 * far * far {
+        if edges < few + 3 * far * far {
             return nearest_of_all(tree, target);
         }
         if let Some(chip) = nearest_on_ring(search, Radius { chips }) {

@@ -5,7 +5,7 @@ use Rattle.machine_desc.specs.RoutingTree.{end_of}
 use Rattle.machine_desc.proofs.Far.{far_inside}
 use Rattle.ner_trees.proofs.Cutting.{marked_more, marked_past}
 use Rattle.ner_trees.proofs.cuts.mark.Goals as goal
-use Rattle.ner_trees.proofs.cuts.mark.Goals.{in-Some, in_default}
+use Rattle.ner_trees.proofs.cuts.mark.Goals.{in-Some+in_ok-set, in_default}
 
 pub far-requires : goal.far-requires
 far-requires c = rw c.machine-machine.ensures (c.requires _ _ c.loop-link-test.true)
@@ -19,13 +19,13 @@ pub loop-link-preserved : goal.loop-link-preserved
 loop-link-preserved c =
     let m = c.args.on.now.machine.now in
     elim c.match-far.branch [
-      | in-Some w ↦
+      | in-Some+in_ok-set w ↦
           let long : length c.loop-link.on.items.items ≡ m.width * m.height =
           subst (λ (k : Description). length c.loop-link.on.items.items ≡ k.width * k.height) c.loop-link.invariant.0 c.loop-link.on.long in
           let leads : end_of m (get_or c.args.links.now c.loop-link.link-index _) ≡ Some w.in-Some.chip = rw c.machine-machine.ensures at (sym c.far.ensures ∙ w.in-Some.is) in
           rw w.on-is (
             w.set.ensures.machine ∙ c.loop-link.invariant.0,
-            rw (w.set.ensures.items, c.loop-link.invariant.0)
+            rw (w.in_ok-set.ensures.items, c.loop-link.invariant.0)
                 (marked_more m c.args.on.now.items.items c.loop-link.on.items.items c.args.links.now c.loop-link.link-index _ w.in-Some.chip c.loop-link-test.true long
                 (c.requires _ _ c.loop-link-test.true) leads c.loop-link.invariant.1),
           )

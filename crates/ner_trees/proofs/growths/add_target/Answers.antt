@@ -37,6 +37,11 @@ mark-requires c =
 pub invariant_of-tree : goal.invariant_of-tree
 invariant_of-tree c =
     let t = c.args.tree.now in
+    record { root_inside = rw c.mark.ensures.machine t.root_inside; edges_inside = rw c.mark.ensures.machine t.edges_inside }
+
+pub invariant_of-tree-2 : goal.invariant_of-tree-2
+invariant_of-tree-2 c =
+    let t = c.args.tree.now in
     let m = t.on.machine.now in
     let those : All (λ e. IsInside m e.chip) c.deref-2.result.now =
     subst (λ (es : List Edge). All (λ e. IsInside m e.chip) es) (sym c.deref-2.ensures.value) c.in_ok-branch.ensures.added_inside in
@@ -57,7 +62,7 @@ returns c =
     let whole : c.extend_from_slice.new.self.items ≡ t.edges.items ++ links =
     c.in_ok-extend_from_slice.ensures.items ∙ ap (λ (es : List Edge). t.edges.items ++ es) c.deref-2.ensures.value in
     let marked : IsMarkedBy m t.on.items.items c.mark.new.on.items.items links =
-    subst (λ (es : List Edge). IsMarkedBy m t.on.items.items c.mark.new.on.items.items es) c.deref.ensures.value c.mark.ensures.marked in
+    subst (λ (es : List Edge). IsMarkedBy m t.on.items.items c.mark.new.on.items.items es) c.deref.ensures.value c.in_ok-mark.ensures.marked in
     let cut : IsCutAt m t.on.items.items near c.in_ok-walk.walk c.in_ok-branch.branch.start links =
     subst (λ (ds : List Dir). IsCutAt m t.on.items.items near ds c.in_ok-branch.branch.start links) c.as_slice.ensures c.in_ok-branch.ensures in
     let walk : c.in_ok-walk.walk ≡ ldf_of (displacement_of m near c.args.target) =

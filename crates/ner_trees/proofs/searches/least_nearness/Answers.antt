@@ -1,28 +1,30 @@
-use Rattle.std.proofs.Common.{ap, min, sym, ◌∙◌}
-use Rattle.std.specs.List.{All}
-use Rattle.machine_desc.specs.declared.trees.Edge.{Edge}
-use Rattle.machine_desc.specs.Live.{IsInside}
-use Rattle.machine_desc.proofs.Far.{far_inside}
-use Rattle.ner_trees.proofs.Nearest.{least_start, least_more, least_past}
+use Rattle.std.proofs.Common.{◌∷◌, List, ap, min, subst, take_all, ◌∙◌}
+use Rattle.spin_base.specs.declared.chips.Chip.{Chip}
+use Rattle.machine_desc.specs.Description.{Description}
+use Rattle.ner_trees.specs.Search.{AreOn}
+use Rattle.ner_trees.proofs.Nearest.{IsLeastOf, least_start, least_more, least_of_tree}
 use Rattle.ner_trees.proofs.searches.least_nearness.Goals as goal
-use Rattle.ner_trees.proofs.searches.least_nearness.Goals.{in-Some, in_default}
 
 pub nearness-requires-clause-inside : goal.nearness-requires-clause-inside
 nearness-requires-clause-inside c =
-    let inside : All (λ (e : Edge). IsInside c.machine-machine.result.now e.chip) c.deref-edges.result.now = rw (c.machine-machine.ensures, c.deref-edges.ensures.value) c.args.tree.now.edges_inside in
-    far_inside c.machine-machine.result.now _ c.in-Some.chip _ (inside _ _ c.loop-edge-test.true) (sym c.far.ensures ∙ c.in-Some.is)
+    let on = c.args.tree.now.on in
+    let listed : AreOn c.machine-machine.result.now on.items.items c.chips-chips.result.now = rw (c.machine-machine.ensures, c.chips-chips.ensures) on.listed in
+    (listed _ _ c.loop-chip-test.true).0
 
-pub loop-edge-init : goal.loop-edge-init
-loop-edge-init c = least_start c.machine-machine.result.now c.args.tree.now.root c.args.target c.nearness-least.result c.nearness-least.ensures
+pub loop-chip-init : goal.loop-chip-init
+loop-chip-init c = least_start c.machine-machine.result.now c.args.tree.now.root c.args.target c.nearness-least.result c.nearness-least.ensures
 
-pub loop-edge-preserved : goal.loop-edge-preserved
-loop-edge-preserved c = elim c.match-far.branch [
-  | in-Some w ↦
-      least_more c.machine-machine.result.now c.args.tree.now.root c.args.target c.deref-edges.result.now c.loop-edge.edge-index _ w.in-Some.chip c.loop-edge.least _
-      c.loop-edge-test.true (sym c.far.ensures ∙ w.in-Some.is) c.loop-edge.invariant
-      (w.least-is ∙ (w.min-least.ensures ∙ ap (λ n. min c.loop-edge.least n) w.nearness.ensures))
-  | in_default w ↦
-      rw w.least-is
-      (least_past c.machine-machine.result.now c.args.tree.now.root c.args.target c.deref-edges.result.now c.loop-edge.edge-index _ c.loop-edge.least c.loop-edge-test.true
-      (sym c.far.ensures ∙ w.in_default.is) c.loop-edge.invariant)
-]
+pub loop-chip-preserved : goal.loop-chip-preserved
+loop-chip-preserved c =
+    least_more c.machine-machine.result.now c.args.tree.now.root c.args.target c.chips-chips.result.now c.loop-chip.chip-index _ c.loop-chip.least _
+    c.loop-chip-test.true c.loop-chip.invariant (c.min-least.ensures ∙ ap (λ n. min c.loop-chip.least n) c.nearness.ensures)
+
+pub returns : goal.returns
+returns c =
+    let tree = c.args.tree.now in
+    let seen : IsLeastOf tree.on.machine.now c.args.target (tree.root ∷ tree.on.chips.items) c.loop-chip.least =
+    subst (λ (m : Description). IsLeastOf m c.args.target (tree.root ∷ tree.on.chips.items) c.loop-chip.least) c.machine-machine.ensures
+    (subst (λ (chips : List Chip). IsLeastOf c.machine-machine.result.now c.args.target (tree.root ∷ chips) c.loop-chip.least)
+    (take_all c.loop-chip.chip-index c.chips-chips.result.now c.loop-chip-test.false ∙ c.chips-chips.ensures) c.loop-chip.invariant) in
+    least_of_tree tree.on.machine.now tree.root c.args.target tree.edges.items tree.on.items.items tree.on.chips.items c.loop-chip.least tree.root_inside tree.edges_inside
+    c.requires.on_is tree.on.listed tree.on.all_listed seen

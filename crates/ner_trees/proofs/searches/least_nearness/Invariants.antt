@@ -1,7 +1,7 @@
-use Rattle.std.proofs.Common.{take}
-use Rattle.ner_trees.specs.Search.{IsLeastNearness}
+use Rattle.std.proofs.Common.{◌∷◌, take}
+use Rattle.ner_trees.proofs.Nearest.{IsLeastOf}
 use Rattle.ner_trees.proofs.searches.least_nearness.Given as goal
 
--- of the root and the edges so far, the least number
-abbrev pub invariant-loop-edge : goal.invariant-loop-edge
-invariant-loop-edge l = IsLeastNearness l.machine l.tree.root (take l.edge-index l.edges) l.target l.least
+-- of the root and the chips so far, the least number
+abbrev pub invariant-loop-chip : goal.invariant-loop-chip
+invariant-loop-chip l = IsLeastOf l.machine l.target (l.tree.root ∷ take l.chip-index l.chips) l.least

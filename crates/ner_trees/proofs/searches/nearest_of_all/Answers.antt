@@ -1,4 +1,4 @@
-use Rattle.std.proofs.Common.{ap, sym, ◌∙◌, ◌<◌, ◌≡◌, ◌%◌, ◌*◌, subst}
+use Rattle.std.proofs.Common.{◌≡◌, ◌%◌, subst}
 use Rattle.machine_desc.specs.Description.{Description}
 use Rattle.machine_desc.specs.Live.{IsInside, index_of}
 use Rattle.ner_trees.proofs.Nearest.{index_owed, near_chip_is, near_root_is}
