@@ -1,5 +1,5 @@
 // Walks from a tree to a target, and what of them is added.
-ghost use Rattle.std.specs.Prelude.{◌≡◌, true, IfOk, OnOk, All};
+ghost use Rattle.std.specs.Prelude.{◌≡◌, [], true, IfOk, OnOk, All};
 ghost use Rattle.machine_desc.specs.Live.{IsInside};
 ghost use Rattle.ner_trees.specs.Growth.{next_of};
 ghost use Rattle.ner_trees.specs.Search.{is_on, IsCutAt, IsMarkedBy};
@@ -7,14 +7,6 @@ ghost use Rattle.ner_trees.specs.Search.{is_on, IsCutAt, IsMarkedBy};
 use crate::marks::Marks;
 use machine_desc::{Edge, Machine};
 use spin_base::{Chip, Dir, Memory};
-use std::alloc::Global;
-
-// A new branch: the chip where it starts, and its links.
-#[derive(Drop)]
-pub struct Branch {
-    pub start: Chip,
-    pub links: Vec<Edge>,
-}
 
 // The chip where a step leads, and the same chip where the link leads nowhere.
 fn next(machine: &Machine, at: Chip, dir: Dir) -> Chip
@@ -28,17 +20,23 @@ fn next(machine: &Machine, at: Chip, dir: Dir) -> Chip
     }
 }
 
-// The part of a walk after the last of its chips that is in the tree.
-pub fn new_branch(alloc: Global, on: &Marks, near: Chip, walk: &[Dir]) -> Result<Branch, Memory>
+// The part of a walk after the last of its chips that is in the tree: its links are put into an empty list, and the chip where it
+// starts is the result.
+pub fn new_branch(
+    on: &Marks,
+    near: Chip,
+    walk: &[Dir],
+    links: &mut Vec<Edge>,
+) -> Result<Chip, Memory>
     requires inside { IsInside on.now.machine.now near }
     requires on_tree { is_on on.now.machine.now on.now.items.items near ≡ true }
-    ensures { IfOk result (λ b.
-        IsCutAt on.now.machine.now on.now.items.items near walk.now b.start b.links.items) }
+    requires empty { links.old.items ≡ [] }
+    ensures { IfOk result (λ start.
+        IsCutAt on.now.machine.now on.now.items.items near walk.now start links.new.items) }
 {
     let machine = on.machine();
     let mut at = near;
     let mut start = near;
-    let mut links = Vec::with_capacity(alloc, walk.len())?;
     for dir in walk {
         links.push(Edge {
             chip: at,
@@ -50,7 +48,7 @@ pub fn new_branch(alloc: Global, on: &Marks, near: Chip, walk: &[Dir]) -> Result
             links.clear();
         }
     }
-    Ok(Branch { start, links })
+    Ok(start)
 }
 
 // Notes in the table the chips where links lead.

@@ -13,9 +13,9 @@ use crate::displacements::displacement;
 use crate::marks::Marks;
 use crate::partial_trees::GrowingTree;
 use crate::searches::near_chip;
-use crate::walks::ldf;
+use crate::walks::walk_anew;
 use machine_desc::{Edge, Machine, Tree};
-use spin_base::{Chip, Memory, Seq, Shared};
+use spin_base::{Chip, Dir, Memory, Seq, Shared};
 use std::alloc::Global;
 
 /// How a target came to a tree: the chip of the tree that is near it, and the chip where its branch starts, which is the
@@ -46,8 +46,13 @@ fn in_order(edges: Vec<Edge>) -> Result<Vec<Edge>, Memory>
     Ok(sorted)
 }
 
-// Joins a target to the tree.
-fn add_target(alloc: Global, tree: &mut GrowingTree, target: Chip) -> Result<Join, Memory>
+// Joins a target to the tree. The walk to it and the links of its branch are put where those of the target before are.
+fn add_target(
+    tree: &mut GrowingTree,
+    walk: &mut Vec<Dir>,
+    links: &mut Vec<Edge>,
+    target: Chip,
+) -> Result<Join, Memory>
     requires target_inside { IsInside tree.old.on.machine.now target }
     requires on_is { TellsTree tree.old.on.machine.now tree.old.root
         tree.old.on.items.items tree.old.edges.items }
@@ -62,14 +67,15 @@ fn add_target(alloc: Global, tree: &mut GrowingTree, target: Chip) -> Result<Joi
         tree.new.edges.items) }
 {
     let near = near_chip(tree, target);
-    let walk = ldf(alloc, displacement(tree.on.machine(), near, target))?;
-    let branch = new_branch(alloc, &tree.on, near, walk.as_slice())?;
-    mark(&mut tree.on, &branch.links)?;
-    tree.edges.extend_from_slice(&branch.links)?;
+    walk_anew(walk, displacement(tree.on.machine(), near, target))?;
+    links.clear();
+    let start = new_branch(&tree.on, near, walk, links)?;
+    mark(&mut tree.on, links)?;
+    tree.edges.extend_from_slice(links)?;
     Ok(Join {
         target,
         near,
-        start: branch.start,
+        start,
     })
 }
 
@@ -120,8 +126,10 @@ pub fn ner(
 {
     let mut tree = tree_of_root(alloc, machine, root)?;
     let mut joins = Seq::new(alloc);
+    let mut walk = Vec::new(alloc);
+    let mut links = Vec::new(alloc);
     for target in targets.as_slice() {
-        joins.push(add_target(alloc, &mut tree, *target)?)?;
+        joins.push(add_target(&mut tree, &mut walk, &mut links, *target)?)?;
     }
     Ok(Grown {
         tree: Tree {

@@ -77,8 +77,17 @@ pub fn ldf(alloc: Global, d: Disp) -> Result<Seq<Dir>, Memory>
     ensures adds_up { IfOk result (λ s. sum_of s ≡ d) }
 {
     let mut walk = Vec::with_capacity(alloc, d.length() as usize)?;
-    for next in runs(d) {
-        add_run(&mut walk, next)?;
-    }
+    walk_anew(&mut walk, d)?;
     Ok(Seq::from_vec(walk))
+}
+
+// Puts the steps of a displacement, in this order, in place of those of a walk.
+pub(crate) fn walk_anew(walk: &mut Vec<Dir>, d: Disp) -> Result<(), Memory>
+    ensures { IfOk result (λ _. walk.new.items ≡ ldf_of d) }
+{
+    walk.clear();
+    for next in runs(d) {
+        add_run(walk, next)?;
+    }
+    Ok(())
 }

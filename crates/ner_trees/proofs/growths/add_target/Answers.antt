@@ -32,7 +32,7 @@ new_branch-requires-clause-on_tree c =
 
 pub mark-requires : goal.mark-requires
 mark-requires c =
-    subst (λ (es : List Edge). All (λ e. IsInside c.args.tree.now.on.machine.now e.chip) es) (sym c.deref.ensures.value) c.in_ok-branch.ensures.added_inside
+    subst (λ (es : List Edge). All (λ e. IsInside c.args.tree.now.on.machine.now e.chip) es) (sym c.deref-2.ensures.value) c.in_ok-start.ensures.added_inside
 
 pub invariant_of-tree : goal.invariant_of-tree
 invariant_of-tree c =
@@ -43,13 +43,13 @@ pub invariant_of-tree-2 : goal.invariant_of-tree-2
 invariant_of-tree-2 c =
     let t = c.args.tree.now in
     let m = t.on.machine.now in
-    let those : All (λ e. IsInside m e.chip) c.deref-2.result.now =
-    subst (λ (es : List Edge). All (λ e. IsInside m e.chip) es) (sym c.deref-2.ensures.value) c.in_ok-branch.ensures.added_inside in
+    let those : All (λ e. IsInside m e.chip) c.deref-3.result.now =
+    subst (λ (es : List Edge). All (λ e. IsInside m e.chip) es) (sym c.deref-3.ensures.value) c.in_ok-start.ensures.added_inside in
     record {
       root_inside = rw c.mark.ensures.machine t.root_inside;
       edges_inside =
           rw c.mark.ensures.machine
-          (extended_inside m (is_ok c.extend_from_slice.result) t.edges.items c.deref-2.result.now c.extend_from_slice.new.self.items c.extend_from_slice.ensures.items
+          (extended_inside m (is_ok c.extend_from_slice.result) t.edges.items c.deref-3.result.now c.extend_from_slice.new.self.items c.extend_from_slice.ensures.items
           t.edges_inside those);
     }
 
@@ -58,15 +58,17 @@ returns c =
     let t = c.args.tree.now in
     let m = t.on.machine.now in
     let near = c.near_chip-near.result in
-    let links : List Edge = c.in_ok-branch.branch.links.items in
+    let start = c.in_ok-start.start in
+    let links : List Edge = c.new_branch.new.links.items in
+    let steps : List Dir = c.walk_anew.new.walk.items in
     let whole : c.extend_from_slice.new.self.items ≡ t.edges.items ++ links =
-    c.in_ok-extend_from_slice.ensures.items ∙ ap (λ (es : List Edge). t.edges.items ++ es) c.deref-2.ensures.value in
+    c.in_ok-extend_from_slice.ensures.items ∙ ap (λ (es : List Edge). t.edges.items ++ es) c.deref-3.ensures.value in
     let marked : IsMarkedBy m t.on.items.items c.mark.new.on.items.items links =
-    subst (λ (es : List Edge). IsMarkedBy m t.on.items.items c.mark.new.on.items.items es) c.deref.ensures.value c.in_ok-mark.ensures.marked in
-    let cut : IsCutAt m t.on.items.items near c.in_ok-walk.walk c.in_ok-branch.branch.start links =
-    subst (λ (ds : List Dir). IsCutAt m t.on.items.items near ds c.in_ok-branch.branch.start links) c.as_slice.ensures c.in_ok-branch.ensures in
-    let walk : c.in_ok-walk.walk ≡ ldf_of (displacement_of m near c.args.target) =
-    c.in_ok-walk.ensures.steps ∙ ap ldf_of (c.displacement.ensures.value ∙ ap (λ (k : Description). displacement_of k near c.args.target) c.machine.ensures) in
+    subst (λ (es : List Edge). IsMarkedBy m t.on.items.items c.mark.new.on.items.items es) c.deref-2.ensures.value c.in_ok-mark.ensures.marked in
+    let cut : IsCutAt m t.on.items.items near steps start links =
+    subst (λ (ds : List Dir). IsCutAt m t.on.items.items near ds start links) c.deref.ensures.value c.in_ok-start.ensures in
+    let walk : steps ≡ ldf_of (displacement_of m near c.args.target) =
+    c.in_ok-walk_anew.ensures ∙ ap ldf_of (c.displacement.ensures.value ∙ ap (λ (k : Description). displacement_of k near c.args.target) c.machine.ensures) in
     record {
       machine = c.mark.ensures.machine;
       root = refl;
@@ -76,8 +78,7 @@ returns c =
         c.near_chip-near.ensures,
         (
           links,
-          added_is m t.root t.on.items.items t.edges.items (record { target = c.args.target; near = near; start = c.in_ok-branch.branch.start }) c.in_ok-walk.walk links
-              c.requires.on_is walk cut,
+          added_is m t.root t.on.items.items t.edges.items (record { target = c.args.target; near = near; start = start }) steps links c.requires.on_is walk cut,
           whole,
         ),
       );

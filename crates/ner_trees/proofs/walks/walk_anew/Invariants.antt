@@ -1,7 +1,7 @@
 use Rattle.std.proofs.Common.{◌≡◌, take}
 use Rattle.std.specs.List.{flat_map}
 use Rattle.ner_trees.specs.LongestFirst.{run_links, longest_first, runs_of}
-use Rattle.ner_trees.proofs.walks.ldf.Given as goal
+use Rattle.ner_trees.proofs.walks.walk_anew.Given as goal
 
 -- the steps of the runs so far
 abbrev pub invariant-loop-next : goal.invariant-loop-next
