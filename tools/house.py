@@ -25,10 +25,10 @@ ALONE = r"\((Tests alone|No command)"
 MOST = {
     "conditions a function, in hundredths": 64,
     "conditions of one function": 5,
-    "lines of proofs": 83608,
-    "lines of proofs longer than 200 characters": 908,
+    "lines of proofs": 83962,
+    "lines of proofs longer than 200 characters": 907,
     "lines of proofs longer than 300 characters": 9,
-    "lines of definitions": 13549,
+    "lines of definitions": 13580,
     "lines of definitions that docs/definitions.md lists": 8547,
 }
 PROMISES, LAWS = "| promise | carried by | broken by |", "| law or lemma | stands as |"

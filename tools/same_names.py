@@ -17,7 +17,6 @@ WORDS = {"use", "mod", "abbrev", "record", "data", "unfoldable", "opaque"}
 
 # name: why it stands twice
 ALLOWED = {
-    "IsFresh": "cover_merge: the times of a row that was not tried since it changed; a set that was refined for this merge",
     "Misses": "tern_word: a block meets no alias of a row; tcam_find: a key lacks the values that entries have in common",
 }
 

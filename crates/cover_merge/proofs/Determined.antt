@@ -57,7 +57,7 @@ module _ (rows : List Row) where
     ]
   ]
 
-  met_fails : (b : Block) (p : ℕ) (met : Block) → IsFirstMetFrom rows b p met → PassesDown rows b p → ⊥
+  pub met_fails : (b : Block) (p : ℕ) (met : Block) → IsFirstMetFrom rows b p met → PassesDown rows b p → ⊥
   met_fails b p met first passes =
       met_not_missed b first.row met first.first (subst (Misses b) (met_row b p met first first.row) (passes first.at first.row first.from (slice_get_within rows first.at first.row first.found)))
 

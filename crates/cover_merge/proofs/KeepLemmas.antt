@@ -14,7 +14,7 @@ use Rattle.cover_merge.specs.Refinement.{IsDownStep, Refines, ends_empty}
 use Rattle.cover_merge.specs.Kept.{IsKept, IsGone, LeadsWithin, RefinesWithin}
 use Rattle.cover_merge.specs.Covering.{places_of, IsNoRival, IsLargest, HasNoLargest}
 use Rattle.cover_merge.specs.Links.{place_of_route, IsEachOnce, AreLinks, AreNumbers, IsFirstOfRoute}
-use Rattle.cover_merge.specs.Known.{AreAllKept, AreRoutesKept, AreStillKept, IsApart, IsFresh, MissesAllOf, IsMostBefore}
+use Rattle.cover_merge.specs.Known.{AreAllKept, AreRoutesKept, AreStillKept, IsApart, IsFreshlyRefined, MissesAllOf, IsMostBefore}
 use Rattle.cover_merge.specs.declared.choosing.Fresh.{Fresh}
 use Rattle.cover_merge.specs.declared.keeping.Kept.{Kept}
 use Rattle.cover_merge.specs.declared.keeping.Most.{Most}
@@ -183,8 +183,8 @@ all_known kept c own all k less = by_case (cases_eq k c)
 -- ---- the set that was refined last
 
 pub fresh_more : (routes : List ℕ) (rows : List Row) (c : ℕ) (found : List ℕ) (outer : Block) (low : ℕ) → RefinesWithin rows outer low (places_of (get_or routes c 0) 0 rows) found → (old new : Fresh) → (new ≡ old) ⊎ ((new.number ≡ c) × (new.set ≡ found))
-    → IsFresh routes rows old → IsFresh routes rows new
-fresh_more routes rows c found outer low refined old new (inl same) before = subst (IsFresh routes rows) (sym same) before
+    → IsFreshlyRefined routes rows old → IsFreshlyRefined routes rows new
+fresh_more routes rows c found outer low refined old new (inl same) before = subst (IsFreshlyRefined routes rows) (sym same) before
 fresh_more routes rows c found outer low refined old new (inr own) before = λ some.
     (outer, low, subst (λ k. RefinesWithin rows outer low (places_of (get_or routes k 0) 0 rows) new.set) (sym own.0) (subst (RefinesWithin rows outer low (places_of (get_or routes c 0) 0 rows)) (sym own.1) refined))
 

@@ -17,6 +17,7 @@ mod RivalAfter
 mod RivalLemmas
 mod ReplaceLemmas
 mod SiftLemmas
+mod SpanLemmas
 mod TriedLemmas
 mod PairLemmas
 mod PutInLemmas

@@ -13,6 +13,7 @@ use Rattle.tern_word.specs.SoundTable.{IsSound, Misses}
 use Rattle.tern_word.specs.Ternary.{generality}
 use Rattle.cover_merge.specs.Merge.{has_row, merge_rows, merged_row, merged_block, place_for, insert_place, after, IsMergeSet, IsLegal}
 use Rattle.cover_merge.specs.Rivals.{AreMet, AreRivalsAt, AreRivalsAfter, HasSerial, IsPutIn, IsRivalBehind, IsRivalOf, IsRivaled, MeetsAliasOf, MeetsNone, is_at_one, rivals_left}
+use Rattle.cover_merge.specs.Spans.{AreSpansOf}
 use Rattle.cover_merge.specs.declared.rivals.Rival.{Rival}
 use Rattle.cover_merge.specs.declared.rivals.Rivals.{Rivals}
 use Rattle.cover_merge.proofs.Legal.{narrower_misses, member_lies}
@@ -420,10 +421,12 @@ module _ (rows : List Row) (places : List ℕ) (sound : IsSound rows) (set : IsM
 
       -- ---- all rows
 
-      -- The lists are those of the numbers, and that of the merged row is the last.
+      -- The lists and the spans are those of the numbers, and those of the merged row are the last.
       pub rivaled_after : length rows < 2 ^ 32 → (of : List (List Rival)) (own : List Rival) (rivals : Rivals) → length of ≡ n → ((s : ℕ) → s < length rows → AreRivalsAfter rows serials places (merged_block rows places) merged s (get_or of (get_or serials s 0) []))
-          → AreRivalsAt new carried at own → rivals.serials.items ≡ carried → rivals.of.items ≡ of ++ own ∷ [] → IsRivaled new rivals
-      rivaled_after few of own rivals many was last serials_are of_is = record {
+          → AreRivalsAt new carried at own → rivals.serials.items ≡ carried → rivals.of.items ≡ of ++ own ∷ []
+          → (spans : List (List Block)) (its : List Block) → length spans ≡ n → ((s : ℕ) (d : Row) → s < length rows → AreSpansOf (get_or rows s d).aliases (get_or spans (get_or serials s 0) []))
+          → ((d : Row) → AreSpansOf (get_or new at d).aliases its) → rivals.spans.items ≡ spans ++ its ∷ [] → IsRivaled new rivals
+      rivaled_after few of own rivals many was last serials_are of_is spans its one_span spanned own_spans spans_are = record {
         few = omega (arith, few, shorter rows places set);
         sound = legal;
         one_each = ap length serials_are ∙ carried_length;
@@ -431,6 +434,9 @@ module _ (rows : List Row) (places : List ℕ) (sound : IsSound rows) (set : IsM
         apart = subst (λ l. (i j : ℕ) → i < length new → j < length new → get_or l i 0 ≡ get_or l j 0 → i ≡ j) (sym serials_are) carried_apart;
         each = λ s inside. subst (λ l. AreRivalsAt new l s (get_or rivals.of.items (get_or l s 0) [])) (sym serials_are)
             (subst (λ l. AreRivalsAt new carried s (get_or l (get_or carried s 0) [])) (sym of_is) (by_place s (came_from s inside)));
+        as_many = ap length spans_are ∙ length-append spans (its ∷ []) ∙ ap (λ m. m + 1) one_span ∙ sym longer;
+        spanned = λ s d inside. subst (λ l. AreSpansOf (get_or new s d).aliases (get_or rivals.spans.items (get_or l s 0) [])) (sym serials_are)
+            (subst (λ l. AreSpansOf (get_or new s d).aliases (get_or l (get_or carried s 0) [])) (sym spans_are) (spans_by_place s d (came_from s inside)));
       }
         where
           longer : length rivals.of.items ≡ n + 1
@@ -444,3 +450,13 @@ module _ (rows : List Row) (places : List ℕ) (sound : IsSound rows) (set : IsM
           by_place s (inr is) =
               subst (λ x. AreRivalsAt new carried x (get_or (of ++ own ∷ []) (get_or carried x 0) [])) (sym is)
               (subst (AreRivalsAt new carried at) (sym (ap (λ m. get_or (of ++ own ∷ []) m []) (serial_at ∙ sym many) ∙ get_or-append_seam of own [] [])) last)
+
+          spans_by_place : (s : ℕ) (d : Row) → CameFrom s → AreSpansOf (get_or new s d).aliases (get_or (spans ++ its ∷ []) (get_or carried s 0) [])
+          spans_by_place s d (inl (k, inside, out, is)) =
+              subst (λ x. AreSpansOf (get_or new x d).aliases (get_or (spans ++ its ∷ []) (get_or carried x 0) [])) is
+              (subst (λ (r : Row). AreSpansOf r.aliases (get_or (spans ++ its ∷ []) (get_or carried (to k) 0) [])) (sym (row_to k d inside out))
+              (subst (AreSpansOf (get_or rows k d).aliases) (sym (ap (λ m. get_or (spans ++ its ∷ []) m []) (serial_to k inside out) ∙ get_or_append_left spans (its ∷ []) [] (get_or serials k 0) (omega (arith, in_use k inside, one_span))))
+              (spanned k d inside)))
+          spans_by_place s d (inr is) =
+              subst (λ x. AreSpansOf (get_or new x d).aliases (get_or (spans ++ its ∷ []) (get_or carried x 0) [])) (sym is)
+              (subst (AreSpansOf (get_or new at d).aliases) (sym (ap (λ m. get_or (spans ++ its ∷ []) m []) (serial_at ∙ sym one_span) ∙ get_or-append_seam spans its [] [])) (own_spans d))

@@ -23,6 +23,7 @@ use Rattle.cover_merge.proofs.Legal.{up_from_legal, down_from_legal, legal_from_
 use Rattle.cover_merge.specs.declared.rivals.Rival.{Rival}
 use Rattle.cover_merge.specs.declared.rivals.Rivals.{Rivals}
 use Rattle.cover_merge.specs.Rivals.{AreJoined, AreRivalsAt, HasSerial, IsOriginal, IsRivalBehind, IsRivalOf, IsRivaled, MeetsAliasOf, MeetsNone, is_at_one}
+use Rattle.cover_merge.specs.Spans.{AreSpansOf, AreSpansOfAll}
 
 -- ---- the rows of a set
 
@@ -444,8 +445,8 @@ module _ (rows : List Row) (n : ℕ) (serials : List ℕ) (of : List (List Rival
         k less;
   }
 
-pub numbered_all : (rows : List Row) (n : ℕ) (rivals : Rivals) → AreNumberedTo rows n rivals.serials.items rivals.of.items → n ≡ length rows → length rows < 2 ^ 32 → IsSound rows → IsRivaled rows rivals
-numbered_all rows n rivals are all few sound = record {
+pub numbered_all : (rows : List Row) (n : ℕ) (rivals : Rivals) → AreNumberedTo rows n rivals.serials.items rivals.of.items → n ≡ length rows → length rows < 2 ^ 32 → IsSound rows → AreSpansOfAll rows rivals.spans.items → IsRivaled rows rivals
+numbered_all rows n rivals are all few sound spans = record {
   few = few;
   sound = sound;
   one_each = are.as_many ∙ all;
@@ -454,6 +455,8 @@ numbered_all rows n rivals are all few sound = record {
       omega (arith, get_or_default rivals.serials.items i d 0 within, are.is_place i less, less, are.lists);
   apart = λ i j in_i in_j same. sym (place i in_i) ∙ same ∙ place j in_j;
   each = λ s inside. subst (λ i. AreRivalsAt rows rivals.serials.items s (get_or rivals.of.items i [])) (sym (place s inside)) (are.each s [] (omega (arith, inside, all)) rivals.serials.items (are.as_many ∙ all) place);
+  as_many = spans.one_each ∙ sym all ∙ sym are.lists;
+  spanned = λ s d inside. subst (λ i. AreSpansOf (get_or rows s d).aliases (get_or rivals.spans.items i [])) (sym (place s inside)) (spans.each s d inside);
 }
   where
     place : (k : ℕ) → k < length rows → get_or rivals.serials.items k 0 ≡ k

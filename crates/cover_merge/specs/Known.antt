@@ -73,6 +73,6 @@ pub record IsMostBefore (routes : List ℕ) (kept : List (Option Kept)) (k : ℕ
   pub smaller : (c : ℕ) (it : Kept) → c < k → slice_index_or kept c None ≡ Some it → 0 < most.size → slice_index routes c < most.bits → it.size < most.size
 
 -- the set, where it has places, is one to which the rows of its route are refined
-abbrev pub IsFresh : List ℕ → List Row → Fresh → Type 0
-IsFresh routes rows fresh =
+abbrev pub IsFreshlyRefined : List ℕ → List Row → Fresh → Type 0
+IsFreshlyRefined routes rows fresh =
     0 < length fresh.set → (outer : Block) × (low : ℕ) × (RefinesWithin rows outer low (places_of (slice_index routes fresh.number) 0 rows) fresh.set)

@@ -10,4 +10,5 @@ pub mod Links
 pub mod Merges
 pub mod Refinement
 pub mod Rivals
+pub mod Spans
 pub mod Tried

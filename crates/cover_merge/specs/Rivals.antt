@@ -7,6 +7,7 @@ use Rattle.tern_word.specs.declared.tables.Row.{Row}
 use Rattle.tern_word.specs.Ternary.{generality}
 use Rattle.tern_word.specs.SoundTable.{IsSound, Misses}
 use Rattle.cover_merge.specs.Merge.{has_row}
+use Rattle.cover_merge.specs.Spans.{AreSpansOf}
 use Rattle.cover_merge.specs.declared.rivals.Rival.{Rival}
 use Rattle.cover_merge.specs.declared.rivals.Rivals.{Rivals}
 
@@ -44,7 +45,7 @@ pub record AreRivalsAt (rows : List Row) (serials : List ℕ) (s : ℕ) (list : 
   pub each : All (IsRivalBehind rows serials s) list
   pub all : (r : ℕ) → s < r → r < length rows → (MeetsNone rows r s) ⊎ (HasSerial list (slice_index serials r))
 
--- A sound table of fewer than 2^32 rows: each has a number of its own, by which its rivals are found.
+-- A sound table of fewer than 2^32 rows: each has a number of its own, by which its rivals and its spans are found.
 pub record IsRivaled (rows : List Row) (rivals : Rivals) : Type 0 where
   pub few : length rows < 2 ^ 32
   pub sound : IsSound rows
@@ -52,6 +53,8 @@ pub record IsRivaled (rows : List Row) (rivals : Rivals) : Type 0 where
   pub below : All (λ k. k < length rivals.of.items) rivals.serials.items
   pub apart : (i j : ℕ) → i < length rows → j < length rows → slice_index rivals.serials.items i ≡ slice_index rivals.serials.items j → i ≡ j
   pub each : (s : ℕ) → s < length rows → AreRivalsAt rows rivals.serials.items s (slice_index_or rivals.of.items (slice_index rivals.serials.items s) [])
+  pub as_many : length rivals.spans.items ≡ length rivals.of.items
+  pub spanned : (s : ℕ) (d : Row) → s < length rows → AreSpansOf (slice_index_or rows s d).aliases (slice_index_or rivals.spans.items (slice_index rivals.serials.items s) [])
 
 -- whether the row of this number stands at one of the places
 abbrev pub is_at_one : List ℕ → List ℕ → ℕ → Bool

@@ -13,6 +13,7 @@ use crate::applying::{apply, replace_all};
 use crate::knowing::Known;
 use crate::merged_block;
 use crate::rivals::{Rival, Rivals, is_at_one, is_missed, place_in, rivals_behind};
+use crate::spans::push_spans;
 use crate::times::{Times, changed};
 use spin_base::{Block, Memory, Seq};
 use std::alloc::Global;
@@ -180,6 +181,7 @@ pub(crate) fn merge_rows(
     let at = place as usize - members.len();
     let list = rivals_behind(alloc, table.rows.as_slice(), &rivals.serials, at)?;
     rivals.of.push(list)?;
+    push_spans(alloc, table.rows.as_slice(), &mut rivals.spans, at)?;
     Ok(())
 }
 
@@ -213,6 +215,7 @@ fn renew_all(
     requires merged { (merged.serial ≡ length rivals.old.of.items) × (merged.general ≡ generality (merged_block rows.now places.now)) }
     ensures serials { OnOk result (rivals.new.serials.items ≡ rivals.old.serials.items) }
     ensures one_each { OnOk result (length rivals.new.of.items ≡ length rivals.old.of.items) }
+    ensures spans { OnOk result (rivals.new.spans.items ≡ rivals.old.spans.items) }
     ensures after { OnOk result ((s : ℕ) → s < length rows.now
         → AreRivalsAfter rows.now rivals.old.serials.items places.now (merged_block rows.now places.now) merged s
         (slice_index_or rivals.new.of.items (slice_index rivals.old.serials.items s) [])) }
@@ -237,6 +240,7 @@ fn renew(
     requires ordered { AllPairs (λ v w. v.general ≤ w.general) (slice_index_or rivals.old.of.items (slice_index rivals.old.serials.items s) []) }
     ensures serials { rivals.new.serials.items ≡ rivals.old.serials.items }
     ensures one_each { length rivals.new.of.items ≡ length rivals.old.of.items }
+    ensures spans { rivals.new.spans.items ≡ rivals.old.spans.items }
     ensures own { OnOk result (IsPutIn merged (rivals_left rivals.old.serials.items places.now
         (slice_index_or rivals.old.of.items (slice_index rivals.old.serials.items s) []))
         (slice_index_or rivals.new.of.items (slice_index rivals.old.serials.items s) [])) }

@@ -7,7 +7,7 @@ ghost use Rattle.cover_merge.specs.declared.times.Times.{Times as ATimes};
 ghost use Rattle.tern_word.specs.declared.tables.Row.{Row as ARow};
 ghost use Rattle.cover_merge.specs.Links.{AreLinks, AreNexts, IsFirstOfRoute};
 ghost use Rattle.cover_merge.specs.Kept.{RefinesWithin};
-ghost use Rattle.cover_merge.specs.Known.{AreAllKept, IsFresh, IsKnown};
+ghost use Rattle.cover_merge.specs.Known.{AreAllKept, IsFreshlyRefined, IsKnown};
 ghost use Rattle.cover_merge.specs.Changes.{AreChanges};
 ghost use Rattle.cover_merge.specs.Covering.{places_of, IsFirstPartner, IsLargest, HasNoLargest, IsLegalPair, HasNoLegalPair, IsFirstLegalPair, IsChosen, HasNoChosen};
 
@@ -61,7 +61,7 @@ fn keep_all(alloc: Global, table: &Table, known: &mut Known, links: &Links) -> R
         links.now.heads.items }
     ensures known { OnOk result (IsKnown table.now.rows known.new) }
     ensures all { OnOk result (AreAllKept known.new.routes.items known.new.kept.items) }
-    ensures fresh { IfOk result (IsFresh known.new.routes.items table.now.rows) }
+    ensures fresh { IfOk result (IsFreshlyRefined known.new.routes.items table.now.rows) }
     ensures times { OnOk result (known.new.times.items ≡ known.old.times.items) }
     ensures routes { OnOk result (known.new.routes.items ≡ known.old.routes.items) }
 {
@@ -133,7 +133,7 @@ fn largest(
     requires all { AreAllKept known.now.routes.items known.now.kept.items }
     requires links { AreLinks known.now.routes.items table.now.rows links.now.next.items
         links.now.heads.items }
-    requires fresh { IsFresh known.now.routes.items table.now.rows fresh }
+    requires fresh { IsFreshlyRefined known.now.routes.items table.now.rows fresh }
     ensures { IfOk result (λ found. MatchOption found (HasNoLargest table.now.rows) (λ set.
         IsLargest table.now.rows set)) }
 {

@@ -26,6 +26,7 @@ mod links;
 mod meeting;
 mod refining;
 mod rivals;
+mod spans;
 mod times;
 
 pub use applying::apply;

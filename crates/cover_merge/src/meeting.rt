@@ -1,11 +1,15 @@
-// The down-check of pairs. A pair often meets an alias that one before it met. So the places of such aliases are remembered,
-// and looked at first.
-ghost use Rattle.std.specs.Prelude.{◌≡◌, ◌↔◌, ◌<◌, ◌^◌, All, IsTrue, MatchOption, length};
-ghost use Rattle.tern_word.specs.SoundTable.{HoldsItsAliases, IsOrdered, Misses};
+// The down-check: the first alias behind that a block meets. A pair often meets one that a pair before it met. So the places of
+// such aliases are remembered, and looked at first.
+ghost use Rattle.std.specs.Prelude.{◌≡◌, ◌↔◌, ◌<◌, All, IsTrue, MatchOption, length, slice_index_or};
+ghost use Rattle.tern_word.specs.SoundTable.{IsOrdered, Misses};
 ghost use Rattle.tern_word.specs.Ternary.{Intersects, generality};
+ghost use Rattle.tern_word.specs.declared.tables.Row.{Row as ARow};
 ghost use Rattle.cover_merge.specs.Merge.{PassesDown, place_for};
+ghost use Rattle.cover_merge.specs.Refinement.{IsFirstMet, IsFirstMetFrom};
+ghost use Rattle.cover_merge.specs.Rivals.{IsRivaled};
 
-use crate::rivals::place_in;
+use crate::rivals::{Rivals, place_in};
+use crate::spans::first_met;
 use spin_base::Block;
 use tern_word::{Alias, Row, generality, intersects};
 
@@ -17,6 +21,13 @@ const REMEMBERED: usize = 16;
 struct AliasPlace {
     row: usize,
     alias: usize,
+}
+
+/// An alias that a block meets: where it stands, and its block.
+#[derive(Clone, Copy)]
+pub(crate) struct Met {
+    place: AliasPlace,
+    pub(crate) block: Block,
 }
 
 /// Places of aliases that pairs met, that of the last first. They may be any: each is looked at before it counts.
@@ -38,18 +49,22 @@ pub(crate) fn none_met() -> LastMet {
 }
 
 /// Whether the block meets no alias of a row that is more general than `general`.
-pub(crate) fn passes_behind(rows: &[Row], block: Block, general: u32, last: &mut LastMet) -> bool
-    requires few { length rows.now < 2 ^ 32 }
-    requires ordered { IsOrdered rows.now }
-    requires holds { All HoldsItsAliases rows.now }
+pub(crate) fn passes_behind(
+    rows: &[Row],
+    rivals: &Rivals,
+    block: Block,
+    general: u32,
+    last: &mut LastMet,
+) -> bool
+    requires { IsRivaled rows.now rivals.now }
     ensures { IsTrue result ↔ PassesDown rows.now block (place_for rows.now general) }
 {
     if meets_again(rows, block, general, last) {
         return false;
     }
-    match first_behind(rows, block, place_in(rows, general)) {
+    match first_met_from(rows, rivals, block, place_in(rows, general)) {
         Some(met) => {
-            remember(last, met);
+            remember(last, met.place);
             false
         }
         None => true,
@@ -120,39 +135,39 @@ fn meets_alias(aliases: &[Alias], block: Block, k: usize) -> bool
     intersects(block, aliases[k].block)
 }
 
-// The place of the first alias that the block meets, of a row at or after place `p`.
-fn first_behind(rows: &[Row], block: Block, p: u32) -> Option<AliasPlace>
-    requires { All HoldsItsAliases rows.now }
-    ensures { MatchOption result (PassesDown rows.now block p) (λ met. PassesDown rows.now block p → ⊥) }
+/// The first alias that the block meets, of the first row from place `p` on that has one.
+pub(crate) fn first_met_from(rows: &[Row], rivals: &Rivals, block: Block, p: u32) -> Option<Met>
+    requires { IsRivaled rows.now rivals.now }
+    ensures { MatchOption result (PassesDown rows.now block p) (λ met.
+        IsFirstMetFrom rows.now block p met.block) }
 {
     for r in p as usize..rows.len() {
-        if let Some(met) = first_of_row(&rows[r], block) {
-            return Some(AliasPlace { row: r, alias: met });
+        if let Some(met) = first_met_in(rows, rivals, r, block) {
+            return Some(met);
         }
     }
     None
 }
 
-// The number of the first of the row's aliases that the block meets: none lies outside the row's block.
-fn first_of_row(row: &Row, block: Block) -> Option<usize>
-    requires { HoldsItsAliases row.now }
-    ensures { MatchOption result (Misses block row.now) (λ met. Misses block row.now → ⊥) }
+// The first alias of row `r` that the block meets: none lies outside the row's block.
+fn first_met_in(rows: &[Row], rivals: &Rivals, r: usize, block: Block) -> Option<Met>
+    requires rivaled { IsRivaled rows.now rivals.now }
+    requires inside { r < length rows.now }
+    ensures { MatchOption result ((d : ARow) → Misses block (slice_index_or rows.now r d)) (λ met.
+        (d : ARow) → IsFirstMet block (slice_index_or rows.now r d).aliases met.block) }
 {
+    let row = &rows[r];
     if !intersects(block, row.block) {
         return None;
     }
-    first_of(row.aliases.as_slice(), block)
-}
-
-// The number of the first of the aliases that the block meets.
-fn first_of(aliases: &[Alias], block: Block) -> Option<usize>
-    ensures { MatchOption result (All (λ a. ¬ (Intersects block a.block)) aliases.now) (λ met.
-        All (λ a. ¬ (Intersects block a.block)) aliases.now → ⊥) }
-{
-    for k in 0..aliases.len() {
-        if intersects(block, aliases[k].block) {
-            return Some(k);
-        }
+    let serial = rivals.serials[r];
+    let spans = rivals.spans[serial].as_slice();
+    let aliases = row.aliases.as_slice();
+    match first_met(aliases, spans, block) {
+        Some(alias) => Some(Met {
+            place: AliasPlace { row: r, alias },
+            block: aliases[alias].block,
+        }),
+        None => None,
     }
-    None
 }

@@ -2,19 +2,20 @@
 ghost use Rattle.std.specs.Prelude.{◌≡◌, true, ◌<◌, ◌≤◌, ◌^◌, ◌↔◌, ◌⊎◌, [], IsTrue, IfOk, MatchOption, MatchBool, All, length, filter, not, ◌==◌, ◌+◌, ℕ, List, take, drop, ◌++◌, slice_index, slice_index_or, if◌then◌else◌};
 ghost use Rattle.std.specs.Int.{bit_at};
 ghost use Rattle.spin_base.specs.declared.blocks.Block.{Block as ABlock};
-ghost use Rattle.tern_word.specs.Ternary.{Intersects, all_keys};
-ghost use Rattle.tern_word.specs.SoundTable.{HoldsItsAliases, IsOrdered, IsSound, Misses};
+ghost use Rattle.tern_word.specs.Ternary.{all_keys};
+ghost use Rattle.tern_word.specs.SoundTable.{IsSound};
 ghost use Rattle.cover_merge.specs.Merge.{has_row, IsOneRoute, IsMergeSet, IsLegal, merged_block, insert_place, place_for, PassesUp, PassesUpCheck, PassesDown, PassesDownCheck};
 ghost use Rattle.cover_merge.specs.Rivals.{IsRivaled};
 ghost use Rattle.cover_merge.specs.Kept.{LeadsWithin, RefinesWithin};
-ghost use Rattle.cover_merge.specs.Refinement.{AreMerges, IsLastFailing, IsFirstMet, IsFirstMetFrom, can_choose, keeps, parts, kept_by, kept_count, IsBestBit, IsNarrowed, IsDownStep, Refines};
+ghost use Rattle.cover_merge.specs.Refinement.{AreMerges, can_choose, keeps, parts, kept_by, kept_count, IsBestBit, IsNarrowed, IsDownStep, Refines};
 
 use crate::keeping::Kept;
+use crate::meeting::first_met_from;
 use crate::merged_block;
 use crate::rivals::{Rivals, passes, place_in, rivals_of};
 use spin_base::{Block, Memory, Seq};
 use std::alloc::Global;
-use tern_word::{Alias, Row, Table, generality, intersects, merge_two};
+use tern_word::{Row, Table, generality, merge_two};
 
 /// The places of the set that can be merged. With fewer than two places there are none. Where the up-check fails, the
 /// greatest place for which it fails is taken out; where the down-check fails, the first alias that the merge would
@@ -65,7 +66,7 @@ pub(crate) fn refine_within(
         if let Some(merged) = sifted(alloc, rows, rivals, &mut set)? {
             outer = outermost(outer, low, merged);
             low = generality(merged);
-            if narrow(rows, &mut set, merged) {
+            if narrow(rows, rivals, &mut set, merged) {
                 return Ok(with_bounds(set, outer, low));
             }
         }
@@ -228,9 +229,8 @@ fn merge_from(rows: &[Row], merges: &[Block], front: &[u32], back: &[u32]) -> Bl
 }
 
 // Narrows the set where the down-check fails. Whether it was true, and the set stays as it was.
-fn narrow(rows: &[Row], set: &mut Vec<u32>, merged: Block) -> bool
-    requires few { length rows.now < 2 ^ 32 }
-    requires sound { IsSound rows.now }
+fn narrow(rows: &[Row], rivals: &Rivals, set: &mut Vec<u32>, merged: Block) -> bool
+    requires rivaled { IsRivaled rows.now rivals.now }
     requires set { IsMergeSet rows.now set.old.items }
     requires merged { merged ≡ merged_block rows.now set.old.items }
     requires up { PassesUpCheck rows.now set.old.items }
@@ -238,51 +238,14 @@ fn narrow(rows: &[Row], set: &mut Vec<u32>, merged: Block) -> bool
         × (set.new.items ≡ set.old.items)) ((IsDownStep rows.now set.old.items set.new.items)
         × (length set.new.items < length set.old.items)) }
 {
-    match first_met_from(rows, merged, place_in(rows, generality(merged))) {
+    let place = place_in(rows, generality(merged));
+    match first_met_from(rows, rivals, merged, place) {
         Some(met) => {
-            choose(rows, set, merged, met);
+            choose(rows, set, merged, met.block);
             false
         }
         None => true,
     }
-}
-
-// The block of the first alias that the block meets, of the first row from place `p` on that has one.
-fn first_met_from(rows: &[Row], block: Block, p: u32) -> Option<Block>
-    requires { All HoldsItsAliases rows.now }
-    ensures { MatchOption result (PassesDown rows.now block p) (λ met.
-        IsFirstMetFrom rows.now block p met) }
-{
-    for r in p as usize..rows.len() {
-        if let Some(met) = first_met_in(&rows[r], block) {
-            return Some(met);
-        }
-    }
-    None
-}
-
-// The block of the first of the row's aliases that the block meets: none lies outside the row's block.
-fn first_met_in(row: &Row, block: Block) -> Option<Block>
-    requires { HoldsItsAliases row.now }
-    ensures { MatchOption result (Misses block row.now) (λ met. IsFirstMet block row.now.aliases met) }
-{
-    if !intersects(block, row.block) {
-        return None;
-    }
-    first_met(row.aliases.as_slice(), block)
-}
-
-// The block of the first of the aliases that the block meets.
-fn first_met(aliases: &[Alias], block: Block) -> Option<Block>
-    ensures { MatchOption result (All (λ a. ¬ (Intersects block a.block)) aliases.now) (λ met.
-        IsFirstMet block aliases.now met) }
-{
-    for alias in aliases {
-        if intersects(block, alias.block) {
-            return Some(alias.block);
-        }
-    }
-    None
 }
 
 // Keeps the places that the best bit keeps, and none where no bit keeps one.

@@ -7,6 +7,7 @@ ghost use Rattle.cover_merge.specs.Rivals.{AreJoined, AreRivalsAt, IsOriginal, I
 
 use crate::meeting::{LastMet, passes_behind};
 use crate::merged_block;
+use crate::spans::spans_of_all;
 use spin_base::{Block, Memory, Seq};
 use std::alloc::Global;
 use tern_word::{Row, Table, generality, intersects, misses};
@@ -20,12 +21,13 @@ pub(crate) struct Rival {
     pub(crate) bits: u32,
 }
 
-/// The number of each row of a table, which stays with it, and of each number the row's rivals, in order of generality.
-/// Those of rows that were merged away say nothing.
+/// The number of each row of a table, which stays with it; and of each number the row's rivals, in order of generality, and its
+/// spans. Those of rows that were merged away say nothing.
 #[derive(Drop)]
 pub(crate) struct Rivals {
     pub(crate) serials: Vec<usize>,
     pub(crate) of: Vec<Seq<Rival>>,
+    pub(crate) spans: Vec<Seq<Block>>,
 }
 
 /// The rivals of all rows, which are numbered in their order.
@@ -41,7 +43,8 @@ pub(crate) fn rivals_of(alloc: Global, rows: &[Row]) -> Result<Rivals, Memory>
         serials.push(s)?;
         of.push(rivals_among(alloc, rows, &joined, s)?)?;
     }
-    Ok(Rivals { serials, of })
+    let spans = spans_of_all(alloc, rows)?;
+    Ok(Rivals { serials, of, spans })
 }
 
 // The places of rows that are not original, ascending.
@@ -215,5 +218,5 @@ pub(crate) fn is_legal_pair(
     if !passes(rows, rivals, &[i, j], j, general) {
         return false;
     }
-    passes_behind(rows, merged, general, last)
+    passes_behind(rows, rivals, merged, general, last)
 }

@@ -6,6 +6,7 @@ use Rattle.tern_word.specs.SoundTable.{IsOrdered}
 use Rattle.tern_word.specs.Ternary.{generality}
 use Rattle.cover_merge.specs.Merge.{after, merged_block, insert_place}
 use Rattle.cover_merge.specs.Rivals.{AreRivalsAfter, AreRivalsAt, IsRivaled}
+use Rattle.cover_merge.specs.Spans.{AreSpansOf}
 use Rattle.cover_merge.specs.declared.rivals.Rivals.{Rivals}
 use Rattle.cover_merge.proofs.ApplyLemmas.{left, members_before}
 use Rattle.cover_merge.proofs.KeptLemmasMoved.{merged_at}
@@ -60,6 +61,15 @@ rivals_behind-requires-clause-inside c =
       at_inside c.args.table.now.rows c.args.places.now c.requires.rivaled.sound c.requires.merge.set c.args.rivals.now.serials.items c.requires.rivaled.one_each (length c.args.rivals.now.of.items),
     )
 
+pub push_spans-requires : goal.push_spans-requires
+push_spans-requires c =
+    omega (
+      arith,
+      stands_here (goal.at.push_spans-requires c).After-place_in-place,
+      ap length (c.as_slice-5.ensures ∙ c.in_ok-apply.ensures.ok),
+      at_inside c.args.table.now.rows c.args.places.now c.requires.rivaled.sound c.requires.merge.set c.args.rivals.now.serials.items c.requires.rivaled.one_each (length c.args.rivals.now.of.items),
+    )
+
 pub returns-clause-rivaled : goal.returns-clause-rivaled
 returns-clause-rivaled c =
     let rows = c.args.table.now.rows in
@@ -71,7 +81,7 @@ returns-clause-rivaled c =
     let told = c.merged_rival-merged.ensures in
     let of = c.renew_all.new.rivals.of.items in
     let list = c.in_ok-list.list in
-    let rivals : Rivals = record { serials = c.replace_all.new.items; of = c.push.new.self } in
+    let rivals : Rivals = record { serials = c.replace_all.new.items; of = c.push.new.self; spans = c.push_spans.new.spans } in
     let numbers = serials_here (goal.at.returns-clause-rivaled c).After-replace_all in
     let stands = stands_here (goal.at.returns-clause-rivaled c).After-place_in-place in
     let after_is = c.in_ok-apply.ensures.ok in
@@ -91,6 +101,13 @@ returns-clause-rivaled c =
     subst (λ (m : ℕ). AreRivalsAt new carried m list) at_is
     (subst (λ (l : List ℕ). AreRivalsAt new l (c.place_in-place.result - length c.as_slice-members.result.now) list) (c.deref.ensures.value ∙ numbers)
     (subst (λ (l : List Row). AreRivalsAt l c.deref.result.now (c.place_in-place.result - length c.as_slice-members.result.now) list) read c.in_ok-list.ensures)) in
+    let its = c.in_ok-push_spans.ensures in
+    let spans = c.renew_all.new.rivals.spans.items in
+    let same_spans = c.in_ok-renew_all.ensures.spans in
+    let own_spans : (d : Row) → AreSpansOf (get_or new (merged_at rows places) d).aliases its.0 =
+    subst (λ (m : ℕ). (d : Row) → AreSpansOf (get_or new m d).aliases its.0) at_is
+    (subst (λ (l : List Row). (d : Row) → AreSpansOf (get_or l (c.place_in-place.result - length c.as_slice-members.result.now) d).aliases its.0) (c.as_slice-5.ensures ∙ after_is) its.2) in
     subst (λ (l : List Row). IsRivaled l rivals) (sym after_is)
     (rivaled_after rows places old.sound c.requires.merge.set serials old.one_each n c.requires.merge.legal old.below old.apart merged told.serial general bits old.few of list rivals
-    c.in_ok-renew_all.ensures.one_each renewed own numbers c.in_ok-push.ensures.items)
+    c.in_ok-renew_all.ensures.one_each renewed own numbers c.in_ok-push.ensures.items spans its.0 (ap length same_spans ∙ old.as_many)
+    (subst (λ l. (s : ℕ) (d : Row) → s < length rows → AreSpansOf (get_or rows s d).aliases (get_or l (get_or serials s 0) [])) (sym same_spans) old.spanned) own_spans its.1)

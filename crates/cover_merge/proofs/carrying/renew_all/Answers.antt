@@ -11,6 +11,7 @@ pub loop-k-init : goal.loop-k-init
 loop-k-init c = record {
   serials = refl;
   one_each = refl;
+  spans = refl;
   lists = none_renewed c.args.rows.now c.args.rivals.now.serials.items c.args.places.now (merged_block c.args.rows.now c.args.places.now) c.args.merged c.args.met.now c.args.rivals.now.of.items;
 }
 
@@ -49,6 +50,7 @@ loop-k-preserved c =
     let s = get_or c.args.met.now c.loop-k.k 0 in record {
       serials = now.serials ∙ so_far.serials;
       one_each = now.one_each ∙ so_far.one_each;
+      spans = now.spans ∙ so_far.spans;
       lists =
           one_renewed rows c.args.rivals.now.serials.items places (merged_block rows places) c.args.merged c.args.met.now c.requires.met c.args.rivals.now.of.items
           old.each old.apart c.requires.set c.loop-k.k c.loop-k.rivals.of.items c.renew.new.rivals.of.items c.loop-k-test.true so_far.lists
@@ -61,6 +63,9 @@ returns-clause-serials c = c.loop-k.invariant.serials
 
 pub returns-clause-one_each : goal.returns-clause-one_each
 returns-clause-one_each c = c.loop-k.invariant.one_each
+
+pub returns-clause-spans : goal.returns-clause-spans
+returns-clause-spans c = c.loop-k.invariant.spans
 
 pub returns-clause-after : goal.returns-clause-after
 returns-clause-after c =

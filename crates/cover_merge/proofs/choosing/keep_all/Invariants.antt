@@ -1,7 +1,7 @@
 -- Of each route passed something is kept.
 use Rattle.std.proofs.Common.{◌≡◌, ◌<◌, ℕ, get_or}
 use Rattle.std.specs.Prelude.{Some, None}
-use Rattle.cover_merge.specs.Known.{IsFresh, IsKnown}
+use Rattle.cover_merge.specs.Known.{IsFreshlyRefined, IsKnown}
 use Rattle.cover_merge.specs.declared.keeping.Kept.{Kept}
 use Rattle.cover_merge.proofs.choosing.keep_all.Given as goal
 
@@ -10,6 +10,6 @@ invariant-loop-c l = record {
   told : IsKnown l.table.rows l.known;
   times : l.known.times.items ≡ l.fn.known.times.items;
   routes : l.known.routes.items ≡ l.fn.known.routes.items;
-  fresh : IsFresh l.known.routes.items l.table.rows l.fresh;
+  fresh : IsFreshlyRefined l.known.routes.items l.table.rows l.fresh;
   all : (k : ℕ) → k < l.c → (it : Kept) × (get_or l.known.kept.items k None ≡ Some it);
 }

@@ -14,6 +14,9 @@ use Rattle.cover_merge.proofs.refining.refine_within.Goals as goal
 pub sifted-requires-clause-rivaled : goal.sifted-requires-clause-rivaled
 sifted-requires-clause-rivaled c = subst (λ l. IsRivaled l c.args.rivals.now) (sym c.as_slice-rows.ensures) c.requires.rivaled
 
+pub narrow-requires-clause-rivaled : goal.narrow-requires-clause-rivaled
+narrow-requires-clause-rivaled c = subst (λ l. IsRivaled l c.args.rivals.now) (sym c.as_slice-rows.ensures) c.requires.rivaled
+
 pub loop-rows-init : goal.loop-rows-init
 loop-rows-init c = record {
   set = subst (λ l. IsOneRoute c.as_slice-rows.result.now l) (sym c.into_vec-set.ensures) (subst (λ l. IsOneRoute l c.args.places) (sym c.as_slice-rows.ensures) c.requires.set);

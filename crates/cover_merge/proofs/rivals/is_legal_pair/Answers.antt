@@ -1,7 +1,6 @@
 -- A pair is legal where both rows pass the up-check, and the merge the down-check.
 use Rattle.std.proofs.Common.{◌<◌, ◌∷◌, [], length, arith, refl, sym, subst}
 use Rattle.std.specs.Prelude.{All}
-use Rattle.tern_word.specs.SoundTable.{HoldsItsAliases}
 use Rattle.cover_merge.proofs.Positions.{has-at}
 use Rattle.cover_merge.specs.Rivals.{IsRivaled}
 use Rattle.cover_merge.specs.Merge.{SameRoute, place_for}
@@ -44,8 +43,8 @@ merged_block-merged-requires-clause-in_range c =
 pub passes-requires-clause-inside : goal.passes-requires-clause-inside
 passes-requires-clause-inside c = subst (λ l. c.args.i < length l) (sym c.as_slice-rows.ensures) (c.requires.set.set.in_range 0 0 (omega arith))
 
-pub passes_behind-requires-clause-holds : goal.passes_behind-requires-clause-holds
-passes_behind-requires-clause-holds c = subst (All HoldsItsAliases) (sym c.as_slice-rows.ensures) c.requires.rivaled.sound.inside
+pub passes_behind-requires : goal.passes_behind-requires
+passes_behind-requires c = subst (λ l. IsRivaled l c.args.rivals.now) (sym c.as_slice-rows.ensures) c.requires.rivaled
 
 pub passes-requires-2-clause-inside : goal.passes-requires-2-clause-inside
 passes-requires-2-clause-inside c = subst (λ l. c.args.j < length l) (sym c.as_slice-rows.ensures) (c.requires.set.set.in_range 1 0 (omega arith))

@@ -13,4 +13,5 @@ loop-s-preserved c =
 
 pub returns : goal.returns
 returns c =
-    numbered_all c.args.rows.now c.loop-s.s record { serials = c.loop-s.serials; of = c.loop-s.of } c.loop-s.invariant (omega (arith, c.loop-s-test.false, c.loop-s.auto.s-end)) c.requires.few c.requires.sound
+    numbered_all c.args.rows.now c.loop-s.s record { serials = c.loop-s.serials; of = c.loop-s.of; spans = c.in_ok-spans.spans } c.loop-s.invariant
+    (omega (arith, c.loop-s-test.false, c.loop-s.auto.s-end)) c.requires.few c.requires.sound c.in_ok-spans.ensures

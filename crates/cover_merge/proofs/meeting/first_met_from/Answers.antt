@@ -1,0 +1,15 @@
+-- The row that was read is the first with an alias that the block meets.
+use Rattle.std.proofs.Common.{[], get_or}
+use Rattle.std.proofs.lemmas.Option.{slice_get-get_or}
+use Rattle.cover_merge.specs.Merge.{merge_rows}
+use Rattle.cover_merge.proofs.meeting.first_met_from.Goals as goal
+
+pub returns-in-Some : goal.returns-in-Some
+returns-in-Some c = record {
+  at = c.loop-r.r;
+  row = get_or c.args.rows.now c.loop-r.r (merge_rows []);
+  from = c.loop-r.auto.r;
+  found = slice_get-get_or c.args.rows.now c.loop-r.r (merge_rows []) c.loop-r-test.true;
+  first = c.in-Some.ensures (merge_rows []);
+  before = c.loop-r.invariant;
+}

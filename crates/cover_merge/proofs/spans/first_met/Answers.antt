@@ -1,0 +1,37 @@
+-- A span that is missed has no alias that is met.
+use Rattle.std.proofs.Common.{◌+◌, ◌*◌, length, subst, arith}
+use Rattle.std.specs.Prelude.{MatchOption}
+use Rattle.tern_word.specs.Ternary.{Intersects}
+use Rattle.cover_merge.specs.Spans.{IsFirstAt, IsFreeUpTo}
+use Rattle.cover_merge.proofs.Answering.{fails}
+use Rattle.cover_merge.proofs.SpanLemmas.{first_behind, free_more, free_span, rest_tells}
+use Rattle.cover_merge.proofs.spans.first_met.Goals as goal
+
+pub loop-k-init : goal.loop-k-init
+loop-k-init c i a begins ends meets = omega (arith, ends)
+
+pub loop-k-preserved-then-not-intersects : goal.loop-k-preserved-then-not-intersects
+loop-k-preserved-then-not-intersects c =
+    let k = c.loop-k.k in
+    let span = c.index-spans-k.result in
+    free_more c.args.block c.args.aliases.now 0 (k * 32) ((k + 1) * 32) c.loop-k.invariant
+    (free_span c.args.block c.args.aliases.now c.args.spans.now c.requires k span c.loop-k-test.true
+    (subst (λ b. Intersects c.args.block b → ⊥) c.index-spans-k.is (fails (Intersects c.args.block span) c.intersects.result c.intersects.ensures c.if-not-intersects.true)))
+
+pub returns-in-Some : goal.returns-in-Some
+returns-in-Some c =
+    let from = c.loop-k.k * 32 in
+    first_behind c.args.block c.args.aliases.now from (from + 32) (length c.args.aliases.now) c.in-Some.met c.loop-k.invariant (omega (arith, c.requires.enough, c.loop-k-test.true)) c.in-Some.ensures
+
+pub loop-k-preserved : goal.loop-k-preserved
+loop-k-preserved c =
+    let aliases = c.args.aliases.now in
+    let from = c.loop-k.k * 32 in
+    let none : IsFreeUpTo c.args.block aliases from (from + 32) =
+    subst (λ o. MatchOption o (IsFreeUpTo c.args.block aliases from (from + 32)) (IsFirstAt c.args.block aliases from (from + 32))) c.in_default.is c.first_between.ensures in
+    free_more c.args.block aliases 0 from ((c.loop-k.k + 1) * 32) c.loop-k.invariant (λ i a begins ends. none i a begins (omega (arith, ends)))
+
+pub returns : goal.returns
+returns c =
+    rest_tells c.args.block c.args.aliases.now (length c.args.spans.now * 32) c.first_between-2.result
+    (λ i a begins ends. c.loop-k.invariant i a begins (omega (arith, ends, c.loop-k-test.false))) c.first_between-2.ensures

@@ -1,0 +1,11 @@
+-- The rows so far have their spans.
+use Rattle.std.proofs.Common.{◌≡◌, ℕ, ◌<◌, [], length, get_or}
+use Rattle.tern_word.specs.declared.tables.Row.{Row}
+use Rattle.cover_merge.specs.Spans.{AreSpansOf}
+use Rattle.cover_merge.proofs.spans.spans_of_all.Given as goal
+
+abbrev pub invariant-loop-s : goal.invariant-loop-s
+invariant-loop-s l = record {
+  many : length l.spans.items ≡ l.s;
+  each : (s : ℕ) (d : Row) → s < l.s → AreSpansOf (get_or l.rows s d).aliases (get_or l.spans.items s []);
+}
