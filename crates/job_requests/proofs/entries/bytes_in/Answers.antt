@@ -12,7 +12,9 @@ returns-in_err-byte c =
     let p = err_from_is_err_and c.from_residual-in_err-byte.result c.from_residual-in_err-byte.ensures.1 in
     let xs = c.args.items.now in
     let f = byte_faults in
-    rw (p.1, p.2) (items-fail view xs c.loop-i.i c.index-items-i.result (omega arith) c.index-items-i.is f (path_text c.args.path.now) (item_at (path_text c.args.path.now) c.loop-i.i) (items_faults f (path_text c.args.path.now) 0 (map view xs)) c.in_err-byte.field-0.0 refl c.in_err-byte.ensures c.loop-i.invariant.left)
+    rw (p.1, p.2) (items-fail view xs c.loop-i.i c.index-items-i.result (omega arith) c.index-items-i.is f (path_text c.args.path.now)
+    (item_at (path_text c.args.path.now) c.loop-i.i) (items_faults f (path_text c.args.path.now) 0 (map view xs))
+    c.in_err-byte.field-0.0 refl c.in_err-byte.ensures c.loop-i.invariant.left)
 
 pub loop-i-preserved : goal.loop-i-preserved
 loop-i-preserved c =

@@ -14,7 +14,9 @@ pub returns-in_err-step_in-clause-read : goal.returns-in_err-step_in-clause-read
 returns-in_err-step_in-clause-read c =
     let p = err_from_is_err_and c.from_residual.result c.from_residual.ensures.1 in
     let xs = c.args.items.now in
-    rw (p.1, p.2) (items-fail view xs c.loop-i.i c.index-items-i.result (omega arith) c.index-items-i.is step_faults (path_text c.args.path.now) (item_at (path_text c.args.path.now) c.loop-i.i) (items_faults step_faults (path_text c.args.path.now) 0 (map view xs)) c.in_err-step_in.field-0.0 refl c.in_err-step_in.ensures.read c.loop-i.invariant.left)
+    rw (p.1, p.2) (items-fail view xs c.loop-i.i c.index-items-i.result (omega arith) c.index-items-i.is step_faults (path_text c.args.path.now)
+    (item_at (path_text c.args.path.now) c.loop-i.i) (items_faults step_faults (path_text c.args.path.now) 0 (map view xs))
+    c.in_err-step_in.field-0.0 refl c.in_err-step_in.ensures.read c.loop-i.invariant.left)
 
 pub loop-i-preserved : goal.loop-i-preserved
 loop-i-preserved c =

@@ -74,7 +74,10 @@ with_detours-requires c =
       grown = record {
         root_lives = subst (IsLiveChip c.args.machine.now) (sym c.in_ok-grown.ensures.root) (source_lives c.args.machine.now c.args.spots.now c.args.net.now.source c.get-source.result.now c.requires.sites c.get-source.ensures);
         some_target = some;
-        targets_inside = of_chips (IsInside c.args.machine.now) c.args.machine.now c.get-source.result.now.chip c.in_ok-targets.targets c.in_ok-chips.chips c.in_ok-chips.ensures (of_targets (λ s. IsInside c.args.machine.now s.chip) c.args.spots.now c.args.net.now.targets c.in_ok-targets.targets c.in_ok-targets.ensures (all_inside c.args.machine.now c.args.spots.now c.requires.sites));
+        targets_inside =
+            of_chips (IsInside c.args.machine.now) c.args.machine.now c.get-source.result.now.chip c.in_ok-targets.targets c.in_ok-chips.chips c.in_ok-chips.ensures
+            (of_targets (λ s. IsInside c.args.machine.now s.chip) c.args.spots.now c.args.net.now.targets c.in_ok-targets.targets c.in_ok-targets.ensures
+            (all_inside c.args.machine.now c.args.spots.now c.requires.sites));
         none_into_root = subst (λ (r : Chip). All (λ e. end_of m e ≢ Some r) edges) (sym root) c.in_ok-grown.ensures.none_into_root;
         one_into_each = c.in_ok-grown.ensures.one_into_each;
         in_order = λ i j d less short.

@@ -37,7 +37,8 @@ returns-then-len-given-clause-routes c =
     shorter_has (KeepsRoutes c.args.given.now) c.args.target c.as_slice-own.result.now c.as_slice-all.result.now c.in_ok-left.left c.in_ok-shorter.shorter c.in_ok-shorter.ensures
     (keeps_within c.args.target c.args.room c.args.given.now c.args.route c.args.table.rows c.in_ok-covered.covered.table.rows _ c.requires.long c.requires.free c.requires.made c.in_ok-covered.ensures.covered
     c.as_slice-covering.result.now c.rows_before-before.result.now c.in_ok-left.left c.as_slice-covering.ensures c.rows_before-before.ensures c.in_ok-left.ensures c.in_ok-covered.ensures.sound c.in_ok-covered.ensures.serves)
-    (λ joined are. keeps_joined c.args.room c.args.given.now c.args.route c.args.table.rows c.requires.made c.as_slice-own.result.now c.as_slice-all.result.now joined (c.as_slice-own.ensures.value ∙ (c.in_ok-rest.ensures ∙ ap (others c.args.route) (c.as_slice-all.ensures.value ∙ (c.in_ok-pieces.ensures ∙ ap pieces_of c.as_slice.ensures))))
+    (λ joined are. keeps_joined c.args.room c.args.given.now c.args.route c.args.table.rows c.requires.made c.as_slice-own.result.now c.as_slice-all.result.now joined
+    (c.as_slice-own.ensures.value ∙ (c.in_ok-rest.ensures ∙ ap (others c.args.route) (c.as_slice-all.ensures.value ∙ (c.in_ok-pieces.ensures ∙ ap pieces_of c.as_slice.ensures))))
     (c.as_slice-all.ensures.value ∙ (c.in_ok-pieces.ensures ∙ ap pieces_of c.as_slice.ensures)) are c.requires.free)
 
 pub returns-then-len-given-clause-keys : goal.returns-then-len-given-clause-keys
@@ -45,7 +46,8 @@ returns-then-len-given-clause-keys c =
     shorter_has (HasNoNewKeys c.args.given.now) c.args.target c.as_slice-own.result.now c.as_slice-all.result.now c.in_ok-left.left c.in_ok-shorter.shorter c.in_ok-shorter.ensures
     (keys_within c.args.target c.args.room c.args.given.now c.args.route c.args.table.rows c.in_ok-covered.covered.table.rows _ c.requires.long c.requires.free c.requires.made c.in_ok-covered.ensures.covered
     c.as_slice-covering.result.now c.rows_before-before.result.now c.in_ok-left.left c.as_slice-covering.ensures c.rows_before-before.ensures c.in_ok-left.ensures c.in_ok-covered.ensures.sound c.in_ok-covered.ensures.serves)
-    (λ joined are. no_more_joined c.args.room c.args.given.now c.args.route c.args.table.rows c.requires.made c.as_slice-own.result.now c.as_slice-all.result.now joined (c.as_slice-own.ensures.value ∙ (c.in_ok-rest.ensures ∙ ap (others c.args.route) (c.as_slice-all.ensures.value ∙ (c.in_ok-pieces.ensures ∙ ap pieces_of c.as_slice.ensures))))
+    (λ joined are. no_more_joined c.args.room c.args.given.now c.args.route c.args.table.rows c.requires.made c.as_slice-own.result.now c.as_slice-all.result.now joined
+    (c.as_slice-own.ensures.value ∙ (c.in_ok-rest.ensures ∙ ap (others c.args.route) (c.as_slice-all.ensures.value ∙ (c.in_ok-pieces.ensures ∙ ap pieces_of c.as_slice.ensures))))
     (c.as_slice-all.ensures.value ∙ (c.in_ok-pieces.ensures ∙ ap pieces_of c.as_slice.ensures)) are)
 
 pub returns-clause-rows : goal.returns-clause-rows
