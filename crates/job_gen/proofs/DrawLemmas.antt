@@ -38,8 +38,7 @@ pub length-draws : {A : Type 0} (f : ℕ → List ℕ → A × List ℕ) (n : �
 unfolding draws
 length-draws f zero g = refl
 length-draws {A} f (suc n) g =
-    let before = length-draws f n g in
-    omega (arith, before, length-append {A = A})
+    omega (arith, length-draws f n g, length-append {A = A})
 
 -- what each draw gives, each item has
 pub draws_each : {A : Type 0} (P : A → Type 0) (f : ℕ → List ℕ → A × List ℕ) (n : ℕ) (g : List ℕ)

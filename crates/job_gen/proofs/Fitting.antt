@@ -1,6 +1,5 @@
 -- Generated jobs have room, keys and ways.
-use Rattle.std.proofs.Common.{◌≡◌, ℕ, ◌+◌, ◌<◌, ◌≤◌, List, [], ◌∷◌, length, take, All, Option, Some, None, MatchOption, slice_get, refl, sym, ap, ◌∙◌, subst, arith}
-use Rattle.std.specs.List.{filter_map}
+use Rattle.std.proofs.Common.{◌≡◌, ℕ, ◌+◌, ◌<◌, ◌≤◌, List, [], ◌∷◌, length, take, All, Some, MatchOption, slice_get, refl, sym, ◌∙◌, subst, arith}
 use Rattle.std.proofs.lemmas.Bool.{and_parts}
 use Rattle.std.proofs.lemmas.List.{length-map}
 use Rattle.std.proofs.lemmas.List.Elements.{All-nil, All-cons, All-head, All-tail}
@@ -8,13 +7,11 @@ use Rattle.std.proofs.lemmas.Option.{slice_get_within}
 use Rattle.spin_base.proofs.Places.{All-at, slice_get_there}
 use Rattle.spin_base.specs.declared.chips.Chip.{Chip}
 use Rattle.spin_base.specs.declared.chips.Spot.{Spot}
-use Rattle.machine_desc.specs.Description.{Description}
 use Rattle.machine_desc.specs.Live.{is_live_chip, IsLiveChip}
-use Rattle.app_graph.specs.declared.graphs.Vertex.{Vertex}
 use Rattle.app_graph.specs.declared.graphs.Net.{Net}
 use Rattle.place_fit.specs.Placement.{IsCoreFor, HasDeviceRoom, device_spot, IsPlacement, HasNoRoom}
 use Rattle.key_alloc.specs.KeyBlocks.{fixed_of, AreKeysOut}
-use Rattle.net_plans.specs.CutOffTargets.{IsCutOffIn, IsFirstNetCutOff}
+use Rattle.net_plans.specs.CutOffTargets.{IsFirstNetCutOff}
 use Rattle.job_gen.specs.declared.draws.DrawnNet.{DrawnNet}
 use Rattle.job_gen.specs.declared.draws.Drawn.{Drawn}
 use Rattle.job_gen.specs.Draws.{drawn}

@@ -1,21 +1,20 @@
 -- Fewer than 816 vertices of at most 1,048,576 bytes find room on the board: some chip has fewer than seventeen of them, and so
 -- a free core and the memory.
-use Rattle.std.proofs.Common.{◌≡◌, ℕ, zero, suc, ◌+◌, ◌-◌, ◌*◌, ◌^◌, ◌<◌, ◌≤◌, ◌==◌, List, [], ◌∷◌, ◌++◌, length, take, map, filter, All, Bool, true, false, not, ◌&&◌, ◌||◌, cond, if◌then◌else◌, Option, Some, None, MatchOption, slice_get, get_or, inl, inr, ◌⊎◌, refl, sym, ap, ◌∙◌, subst, arith}
+use Rattle.std.proofs.Common.{◌≡◌, ℕ, zero, suc, ◌+◌, ◌-◌, ◌*◌, ◌<◌, ◌≤◌, List, [], ◌∷◌, length, take, filter, All, Bool, true, false, not, ◌&&◌, ◌||◌, if◌then◌else◌, Option, Some, None, MatchOption, slice_get, inl, inr, ◌⊎◌, refl, sym, ap, ◌∙◌, subst, arith}
 use Rattle.std.specs.Prelude.{is_none}
 use Rattle.std.specs.List.{list_any, list_all}
-use Rattle.std.proofs.lemmas.Bool.{cases_lt, cases_Bool, and_parts, and_from, not-true, not_from_false, not_from_true, true≢false, eqb-true, ne_eqb, le-leb, or_left, or_right, or_cases, cond-true, cond-false}
-use Rattle.std.proofs.lemmas.List.Elements.{All-head, All-tail, All-same, filter_passes, All-take}
+use Rattle.std.proofs.lemmas.Bool.{cases_lt, cases_Bool, and_parts, and_from, not-true, not_from_false, true≢false, ne_eqb, le-leb, or_left, or_right, or_cases}
+use Rattle.std.proofs.lemmas.List.Elements.{All-head, All-tail, filter_passes, All-take}
 use Rattle.std.proofs.lemmas.Option.{slice_get_within}
 use Rattle.spin_base.specs.declared.chips.Chip.{Chip}
 use Rattle.spin_base.specs.declared.chips.Spot.{Spot}
 use Rattle.spin_base.specs.Equality.{chip_eq, spot_eq}
-use Rattle.spin_base.proofs.Equality.{chip_eq_same, chip_eq_true, spot_eq_same, spot_eq_true, nat_eq_same}
+use Rattle.spin_base.proofs.Equality.{chip_eq_same, chip_eq_true, spot_eq_same, spot_eq_true}
 use Rattle.machine_desc.specs.declared.trees.Edge.{Edge}
-use Rattle.machine_desc.specs.Description.{Description}
 use Rattle.machine_desc.specs.Live.{is_live_chip, is_usable, IsLiveChip}
 use Rattle.app_graph.specs.declared.graphs.Vertex.{Vertex}
 use Rattle.place_fit.specs.Curve.{hilbert, IsCurveLevel, IsChipOrder}
-use Rattle.place_fit.specs.Placement.{core_spot, need_of, used_on, is_free_core, HasRoom, IsFirstChip, choices, IsCoreFor, HasDeviceRoom, device_spot, IsSpotFor, AreFirstSpots, FindsNoRoom, HasNoRoom, IsPlacement}
+use Rattle.place_fit.specs.Placement.{core_spot, need_of, used_on, is_free_core, HasRoom, choices, HasDeviceRoom, HasNoRoom}
 use Rattle.job_gen.specs.Values.{dead_pairs}
 use Rattle.job_gen.specs.Board.{generated_board}
 
@@ -45,8 +44,7 @@ unfolding on one_if
 used_few c [] ss small = omega arith
 used_few c (v ∷ vs) [] small = omega arith
 used_few c (v ∷ vs) (s ∷ ss) small =
-    let one = All-head IsSmall v vs small in
-    let need : need_of v ≤ 1048576 = need_few v.device v.sdram one.sdram in
+    let need : need_of v ≤ 1048576 = need_few v.device v.sdram (All-head IsSmall v vs small).sdram in
     let rest = used_few c vs ss (All-tail IsSmall v vs small) in
     elim (chip_eq c s.chip) as (λ b. (if b then need_of v else 0) + used_on c vs ss ≤ 1048576 * (one_if b + on c ss)) [
       | true ↦ omega (arith, need, rest)
@@ -78,9 +76,8 @@ on_without s (t ∷ ss) there =
     elim (spot_eq s t) as (λ b. spot_eq s t ≡ b → (b || list_any (spot_eq s) ss) ≡ true → on s.chip (if b then without s ss else t ∷ without s ss) + 1 ≤ one_if (chip_eq s.chip t.chip) + on s.chip ss) [
       | true ↦ λ same was. (
           let here : chip_eq s.chip t.chip ≡ true = (and_parts (chip_eq s.chip t.chip) _ same).0 in
-          let rest = on_without_le s ss in
           let one : one_if (chip_eq s.chip t.chip) ≡ 1 = ap one_if here in
-          omega (arith, rest, one)
+          omega (arith, on_without_le s ss, one)
           )
       | false ↦ λ other was. (let rest = on_without s ss was in omega (arith, rest))
     ] refl there
@@ -159,8 +156,7 @@ full : (c : Chip) (vs : List Vertex) (ss : List Spot) (v : Vertex) → IsLiveChi
 full c vs ss v live small one none = elim (cases_lt (on c ss) 17) [
   | inl few ↦ (
       let core = free_core c ss live few in
-      let used = used_few c vs ss small in
-      absurd (none (record { core = core.0; free = core.1; memory = memory_left (used_on c vs ss) (on c ss) v.sdram used few one.sdram }))
+      absurd (none (record { core = core.0; free = core.1; memory = memory_left (used_on c vs ss) (on c ss) v.sdram (used_few c vs ss small) few one.sdram }))
       )
   | inr many ↦ many
 ]

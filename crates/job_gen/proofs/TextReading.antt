@@ -16,7 +16,7 @@ use Rattle.json.proofs.Printed.Tokens.{tokens-print}
 use Rattle.json.proofs.Printed.Trees.{ArePrintable-json_tokens, value-json_tokens}
 use Rattle.json.proofs.Printed.Utf8.{IsUtf8-are_ascii, IsUtf8-quoted}
 use Rattle.serde_json.specs.Data.{Data, null, boolean, number, string, array, object, unsigned, Items, no_items, item, Members, no_members, member, depth, items_depth, members_depth}
-use Rattle.serde_json.specs.Read.{of_items, of_json, of_members, read}
+use Rattle.serde_json.specs.Read.{of_items, of_json, of_members}
 use Rattle.serde_json.specs.View.{items_of}
 use Rattle.serde_json.specs.Written.{compact_text, items_outline, items_text, members_outline, members_text, outline}
 use Rattle.serde_json.proofs.Numbers.{number_of-decimal}
@@ -183,10 +183,9 @@ net_back : (i : ℕ) (net : DrawnNet) → i < 1000 → IsDrawnNet net → ReadsB
 unfolding net_data
 net_back i net small is =
     let few = is.few_keys in
-    let source = is.source in
     let keys = number_back net.keys (omega (arith, few)) in
     let name = text_back (generated_net_name i) (net_name i (omega (arith, small))) in
-    let from = name_back net.source source in
+    let from = name_back net.source is.source in
     let to = array_back (items_of (map name_data net.targets)) (mapped_back (λ t. t < 200) name_data name_back net.targets is.targets) in
     let last : Members = member (codes "targets") (array (items_of (map name_data net.targets))) no_members in
     let third : Members = member (codes "source") (name_data net.source) last in
@@ -201,15 +200,13 @@ net_back i net small is =
 packet_back : (nets : List DrawnNet) (p : DrawnPacket) → p.index < 2 ^ 64 → IsDrawnPacket nets p → ReadsBack (packet_data p)
 unfolding packet_data
 packet_back nets p low is =
-    let of = is.net in
     let payload = is.payload in
-    let index = number_back p.index low in
-    let name = text_back (generated_net_name p.net) (net_name p.net (omega (arith, of))) in
+    let name = text_back (generated_net_name p.net) (net_name p.net (omega (arith, is.net))) in
     let carried = number_back p.payload (omega (arith, payload)) in
     let last : Members = member (codes "payload") (number (unsigned p.payload)) no_members in
     let second : Members = member (codes "net") (string (generated_net_name p.net)) last in
     object_back (member (codes "index") (number (unsigned p.index)) second)
-    (one_more (codes "index") (number (unsigned p.index)) second (IsUtf8-are_ascii (codes "index") refl) index
+    (one_more (codes "index") (number (unsigned p.index)) second (IsUtf8-are_ascii (codes "index") refl) (number_back p.index low)
     (one_more (codes "net") (string (generated_net_name p.net)) last (IsUtf8-are_ascii (codes "net") refl) name
     (one_more (codes "payload") (number (unsigned p.payload)) no_members (IsUtf8-are_ascii (codes "payload") refl) carried no_more)))
     (rw (number_of-decimal p.index low, number_of-decimal p.payload (omega (arith, payload))) refl)
@@ -220,11 +217,9 @@ IsSmallPair p = (p.0 < 8) × (p.1 < 8)
 
 pair_back : (p : ℕ × ℕ) → IsSmallPair p → ReadsBack (pair_data p)
 pair_back p is =
-    let x = is.0 in
-    let y = is.1 in
     array_back (item (number (unsigned p.0)) (item (number (unsigned p.1)) no_items))
-    (item_back (number (unsigned p.0)) (item (number (unsigned p.1)) no_items) (number_back p.0 (omega (arith, x)))
-    (item_back (number (unsigned p.1)) no_items (number_back p.1 (omega (arith, y))) none_back))
+    (item_back (number (unsigned p.0)) (item (number (unsigned p.1)) no_items) (number_back p.0 (omega (arith, is.0)))
+    (item_back (number (unsigned p.1)) no_items (number_back p.1 (omega (arith, is.1))) none_back))
 
 small_pairs : All IsSmallPair dead_pairs
 unfolding dead_pairs
@@ -295,11 +290,8 @@ packets_back job is = mapped_back (IsDrawnPacket job.nets) packet_data (λ p of.
   where
     small : (p : DrawnPacket) → IsDrawnPacket job.nets p → p.index < 2 ^ 64
     small p of =
-        let net = of.net in
-        let many = is.number_of_nets in
-        let few = keys_few job.nets p.net is.nets (omega (arith, net, many)) in
-        let index = of.index in
-        omega (arith, few, index)
+        let few = keys_few job.nets p.net is.nets (omega (arith, of.net, is.number_of_nets)) in
+        omega (arith, few, of.index)
 
 value_back : (n : ℕ) → ReadsBack (gen_value n)
 unfolding gen_value
