@@ -7,11 +7,10 @@ use Rattle.spin_base.proofs.Members.{Among, Contains-only}
 use Rattle.spin_base.specs.declared.chips.Chip.{Chip}
 use Rattle.spin_base.specs.declared.chips.Port.{Port}
 use Rattle.spin_base.specs.declared.chips.Port.TheVariants.{Link as ByLink, Local}
-use Rattle.spin_base.specs.declared.chips.Dir.TheVariants.{East, NorthEast, North, West, SouthWest, South}
+use Rattle.spin_base.specs.declared.chips.Dir.TheVariants.{East, West}
 use Rattle.spin_base.specs.declared.routes.Out.{Out}
-use Rattle.spin_base.specs.declared.routes.Out.TheVariants.{Link, Core}
+use Rattle.spin_base.specs.declared.routes.Out.TheVariants.{Link}
 use Rattle.spin_base.specs.declared.routes.Route.{Route}
-use Rattle.spin_base.specs.declared.blocks.Entry.{Entry}
 use Rattle.spin_base.specs.Equality.{out_eq}
 use Rattle.spin_base.specs.Outputs.{has, all_outs, link_outs, core_outs, IsOutput}
 use Rattle.spin_base.specs.Lookup.{lookup, matches}
@@ -25,7 +24,7 @@ use Rattle.machine_desc.specs.declared.nets.NetPlan.{NetPlan}
 use Rattle.machine_desc.specs.Outputs.{is_wanted}
 use Rattle.machine_desc.specs.RightTables.{IsKeyOf, RoutesByTree, AreRight, table_at}
 use Rattle.mesh_core.proofs.Counting.{counted}
-use Rattle.mesh_example.specs.Board.{two_chip_board, left_chip, right_chip, east, targets, device, net, other_net, nets, tables, wrong_tables, right_table, block, other_block, left_route, right_route, east_route, entry_of_key}
+use Rattle.mesh_example.specs.Board.{two_chip_board, left_chip, right_chip, east, targets, net, other_net, nets, tables, wrong_tables, right_table, block, other_block, left_route, right_route, east_route, entry_of_key}
 
 is_first : (route : Route) (key : ℕ) → IsKeyOf block key → matches (entry_of_key 0 route) key ≡ true
 is_first route key k = ap (λ (n : ℕ). n == 0) k.matches
