@@ -26,10 +26,8 @@ module _ (m : Description) (graph : Graph) where
   none_routed : (p : Placement) (ns : List NetPlan) → IsRoutingOf m graph p ns → (i : ℕ) (net : Net) → slice_get graph.nets i ≡ Some net → HasNoneCutOff m p.spots net
   none_routed p ns is i net at =
       let within = slice_get_within graph.nets i net at in
-      let plans_long = is.planned.one_plan_each in
-      let blocks_long = is.blocks.all in
-      let b = slice_get_there (blocks_of ns) i (omega (arith, within, blocks_long)) in
-      let n = slice_get_there ns i (omega (arith, within, plans_long)) in
+      let b = slice_get_there (blocks_of ns) i (omega (arith, within, is.blocks.all)) in
+      let n = slice_get_there ns i (omega (arith, within, is.planned.one_plan_each)) in
       let planned = is.planned.each i net b.0 n.0 at b.1 n.1 in
       let tree : IsRoutingTree m n.0.tree.root n.0.tree.edges n.0.targets = All-at (λ (x : NetPlan). IsRoutingTree m x.tree.root x.tree.edges x.targets) ns i n.0 is.stand.trees n.1 in
       none_cut_off m p.spots net n.0.source n.0.targets n.0.tree.edges planned.source planned.targets

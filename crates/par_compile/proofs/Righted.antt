@@ -91,8 +91,7 @@ module _ (m : Description) (nets : List NetPlan) (target : ℕ) (lists : List (L
   finals_within =
       let long : length finals ≡ length (take (length finals) lists) = AllZip-long (IsFinalFor target) (take (length finals) lists) finals each in
       let within = taken_within (length finals) lists in
-      let all = are.long in
-      omega (arith, long, within, all)
+      omega (arith, long, within, are.long)
 
   -- what holds of the final table of a chip's original blocks holds of each final table
   each_final : (P : Final → Type 0) → ((c : Chip) (f : Final) (marks : List Mark) → AreOriginals m c nets (map original_of marks) → IsFinalFor target marks f → P f) → All P finals
@@ -111,10 +110,7 @@ module _ (m : Description) (nets : List NetPlan) (target : ℕ) (lists : List (L
   pub few_entries : All (λ (f : Final). length f.entries ≤ length nets) finals
   few_entries = each_final (λ f. length f.entries ≤ length nets) (λ c f marks originals is.
       let plain : length is.table.rows ≤ length nets = few_rows m nets c marks is.table originals is.plain in
-      let covered = is.stands.shortened.no_more in
-      let kept = is.stands.shortened.places.few in
-      let one_each = is.stands.shortened.one_each in
-      omega (arith, plain, covered, kept, one_each))
+      omega (arith, plain, is.stands.shortened.no_more, is.stands.shortened.places.few, is.stands.shortened.one_each))
 
   -- the entries have outputs, since the rows of the plain table have
   pub all_keep : AreRoutedApart m nets → All KeepsRows finals

@@ -90,9 +90,8 @@ is_more fs i t first at = ltb-true 1024 (length t.entries) (long_at fs i t first
 pub long_has_many : (nets fits : ℕ) (fs : List Final) (i : ℕ) (t : Final) → nets ≡ fits → All (λ (f : Final). length f.entries ≤ nets) fs → position is_long fs ≡ Some i → slice_get fs i ≡ Some t →
     1024 < fits
 long_has_many nets fits fs i t same few first at =
-    let more = is_more fs i t first at in
     let fewer : length t.entries ≤ nets = All-at (λ (f : Final). length f.entries ≤ nets) fs i t few at in
-    omega (arith, more, fewer, same)
+    omega (arith, is_more fs i t first at, fewer, same)
 
 -- so covering has come to its end there
 pub long_has_no_pair : (target : ℕ) (table : List Row) (fs : List Final) (i : ℕ) (t : Final) → target ≤ 1024 → position is_long fs ≡ Some i → slice_get fs i ≡ Some t →
@@ -144,8 +143,7 @@ module _ (m : Description) (graph : Graph) where
     not_before : (c d : Chip) (t u : Final) → HasLongTable m graph target c t → HasLongTable m graph target d u → index_of m c < index_of m d → ⊥
     not_before c d t u a b less =
         let first = position-Some is_long b.finals (index_of m d) u b.first in
-        let inside = first.0 in
-        let there = slice_get_there b.finals (index_of m c) (omega (arith, less, inside)) in
+        let there = slice_get_there b.finals (index_of m c) (omega (arith, less, first.0)) in
         let same : t ≡ there.0 =
         same_final a.placement b.placement a.nets b.nets a.finals b.finals a.routing b.routing a.are b.are c t there.0 a.inside a.at there.1
         in
