@@ -140,10 +140,8 @@ at_load (Some g) job h on = ap (λ (x : Host). x.packets) (sym (same_Some g h on
 
 load_packets : (h : Host) (number : ℕ) (job : AppJob) (answer : LoadAnswer) (new : Host) → IsValidJob job → IsLoadAnswer h number job answer new → new.packets ≤ h.packets + 65536
 load_packets h number job Done new valid is =
-    let more = is.loaded.packets in
     let same : length is.plan.packets ≡ length job.run.packets = ap length is.is.packets in
-    let few = valid.run.few_packets in
-    omega (arith, more, same, few)
+    omega (arith, is.loaded.packets, same, valid.run.few_packets)
 load_packets h number job (Refused Loaded) new valid is = let same = ap (λ (x : Host). x.packets) is.1 in omega (arith, same)
 load_packets h number job (NoRoom vertex) new valid is = let same = ap (λ (x : Host). x.packets) is.2 in omega (arith, same)
 load_packets h number job (CutOff net target) new valid is = let same = ap (λ (x : Host). x.packets) is.2 in omega (arith, same)
@@ -161,22 +159,17 @@ pub packets_more : (step : Step) (before : Option Host) (old new : List ℕ) (af
     packet_count_of after ≤ packet_count_of before + 65536
 packets_more (Load number job) before old new after valid told =
     let is = told.answers in
-    let left = ap packet_count_of is.left in
     let more = load_packets is.host number job is.answer is.new valid is.is in
-    let first = at_load before job is.host is.on in
-    omega (arith, left, more, first)
+    omega (arith, ap packet_count_of is.left, more, at_load before job is.host is.on)
 packets_more (Unload number) None old new after valid told = let left = ap packet_count_of told.answers.1 in omega (arith, left)
 packets_more (Unload number) (Some h) old new after valid told =
     let is = told.answers in
-    let left = ap packet_count_of is.left in
-    let same = unload_packets h number is.answer is.new is.is in
-    omega (arith, left, same)
+    omega (arith, ap packet_count_of is.left, unload_packets h number is.answer is.new is.is)
 packets_more Run None old new after valid told = let left = ap packet_count_of told.answers.1 in omega (arith, left)
 packets_more Run (Some h) old new after valid told =
     let is = told.answers.1 in
-    let left = ap packet_count_of is.1 in
     let same = ap (λ (x : Host). x.packets) is.2.moved.others in
-    omega (arith, left, same)
+    omega (arith, ap packet_count_of is.1, same)
 
 -- ---- one step told
 

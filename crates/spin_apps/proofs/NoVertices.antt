@@ -45,9 +45,7 @@ least_level wide high (suc k) is_wide is_high = elim (cases_lt (2 ^ k) wide) [
 
 some_order : (m : Description) → HasSize m → (order : List Chip) × IsChipOrder m order
 some_order m size =
-    let wide = size.width_to_64 in
-    let high = size.height_to_64 in
-    let found = least_level m.width m.height 6 (omega (arith, wide)) (omega (arith, high)) in (
+    let found = least_level m.width m.height 6 (omega (arith, size.width_to_64)) (omega (arith, size.height_to_64)) in (
       filter (is_live_chip m) (hilbert found.level),
       record {
         level = found.level;

@@ -13,10 +13,8 @@ use Rattle.app_loads.specs.Claims.{AreFirstServed, AreServed, IsLeastOpenRange, 
 module _ (m : Description) (taken : List Range) (claims : List Claim) where
   one_least : (before : List Range) (claim : Claim) (r s : Range) → IsLeastOpenRange m before claim r → IsLeastOpenRange m before claim s → r ≡ s
   one_least before claim r s a b =
-      let up = a.least s.place b.may in
-      let down = b.least r.place a.may in
       let region : r.region ≡ s.region = a.region ∙ sym b.region in
-      let place : r.place ≡ s.place = omega (arith, up, down) in
+      let place : r.place ≡ s.place = omega (arith, a.least s.place b.may, b.least r.place a.may) in
       let size : r.size ≡ s.size = a.size ∙ sym b.size in
       λ i. record { region = region i; place = place i; size = size i }
 
@@ -57,8 +55,7 @@ module _ (m : Description) (taken : List Range) (claims : List Claim) where
   pub served_not_refused : (refusal : LoadRefusal) (rs : List Range) → AreServed m taken claims rs → IsRefusalDue m taken claims refusal → ⊥
   served_not_refused refusal rs served due =
       let within = slice_get_within claims (length due.ranges) due.claim due.is in
-      let all = served.all in
-      refused_not_served refusal due rs served.first (omega (arith, within, all))
+      refused_not_served refusal due rs served.first (omega (arith, within, served.all))
 
   pub one_refusal : (e f : LoadRefusal) → IsRefusalDue m taken claims e → IsRefusalDue m taken claims f → e ≡ f
   one_refusal e f a b = elim (cases_order (length a.ranges) (length b.ranges)) [

@@ -151,11 +151,8 @@ module _ (h g new other : Host) (n : ℕ) (job : AppJob) (valid : IsValidJob job
     apps = a.loaded.apps
         ∙ (ap (λ (l : List LoadedApp). l ++ one ∷ []) alike.apps ∙ (ap (λ (x : LoadedApp). g.apps ++ x ∷ []) same_app ∙ sym b.loaded.apps));
     packets =
-        let first = a.loaded.packets in
-        let second = b.loaded.packets in
-        let before = alike.packets in
         let more : length a.plan.packets ≡ length b.plan.packets = ap (λ (p : AppPlan). length p.packets) same_job_plan in
-        omega (arith, first, second, before, more);
+        omega (arith, a.loaded.packets, b.loaded.packets, alike.packets, more);
     unsent = same_unsent;
     quiet = same_quiet h.mesh new.mesh (ap (λ (m : State). m.inputs) a.loaded.mesh) (ap (λ (m : State). m.hands) a.loaded.mesh) (ap (λ (m : State). m.cores) a.loaded.mesh) (ap (λ (m : State). m.dumped) a.loaded.mesh) alike.quiet;
     other_quiet = same_quiet g.mesh other.mesh (ap (λ (m : State). m.inputs) b.loaded.mesh) (ap (λ (m : State). m.hands) b.loaded.mesh) (ap (λ (m : State). m.cores) b.loaded.mesh) (ap (λ (m : State). m.dumped) b.loaded.mesh) alike.other_quiet;

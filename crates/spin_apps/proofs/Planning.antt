@@ -25,12 +25,8 @@ use Rattle.app_loads.specs.declared.plans.AppPlan.{AppPlan}
 use Rattle.app_loads.specs.Host.{Host, is_spot_taken}
 use Rattle.app_loads.specs.Plans.{IsAppNet, IsPacketOfApp, IsPlan, MayLoad}
 use Rattle.job_requests.specs.Valid.{IsValidJob}
-use Rattle.app_loads.specs.declared.answers.LoadRefusal.TheVariants.{Loaded, MemoryOut, KeysOut, RowsOut}
 use Rattle.job_requests.specs.declared.steps.AppJob.{AppJob}
-use Rattle.spin_apps.specs.declared.hosts.LoadAnswer.{LoadAnswer}
-use Rattle.spin_apps.specs.declared.hosts.LoadAnswer.TheVariants.{Done, NoRoom, CutOff, Refused}
-use Rattle.spin_apps.specs.Answers.{IsLoadAnswer}
-use Rattle.spin_apps.specs.Hosting.{IsTaken}
+use Rattle.spin_apps.specs.declared.hosts.LoadAnswer.TheVariants.{NoRoom, CutOff}
 use Rattle.spin_apps.specs.Free.{free_machine}
 use Rattle.spin_apps.specs.Making.{IsPlaced, unplaced, unrouted, unrouted_net}
 use Rattle.spin_apps.specs.Plans.{IsNetFor, IsPlanFor, IsWhyUnplanned}
@@ -115,8 +111,7 @@ packets_are m spots nets apps packets are all = All-weaker (IsRunPacket nets) (I
         let net = slice_get_there nets p.net is.0 in
         let app = AllZip-at_first (IsNetFor m spots) nets apps are p.net net.0 net.1 in
         let keys : app.0.keys ≡ key_count_of nets p.net = app.2.keys ∙ keys_of-at nets p.net net.0 net.1 in
-        let below = is.1 in
-        (app.0, app.1, omega (arith, keys, below))
+        (app.0, app.1, omega (arith, keys, is.1))
 
 -- nets of a graph with so many vertices are nets on so many spots
 pub nets_on : (n : ℕ) (spots : List Spot) (nets : List Net) → length spots ≡ n → All (IsValidNet n) nets → All (IsValidNet (length spots)) nets
@@ -174,14 +169,3 @@ may_load h job plan planned valid free numbers = record {
   free = free;
   numbers = (let same = ap length planned.packets in omega (arith, same, numbers));
 }
-
--- what a plan of the job is answered is what the job is answered
-pub taken_answer : (h : Host) (number : ℕ) (job : AppJob) (plan : AppPlan) (answer : LoadAnswer) (new : Host) → IsPlanFor h job plan → IsTaken h number plan answer new →
-    IsLoadAnswer h number job answer new
-taken_answer h number job plan Done new planned taken = record { plan = plan; is = planned; loaded = taken }
-taken_answer h number job plan (NoRoom vertex) new planned taken = absurd taken
-taken_answer h number job plan (CutOff net target) new planned taken = absurd taken
-taken_answer h number job plan (Refused Loaded) new planned taken = taken
-taken_answer h number job plan (Refused (MemoryOut vertex)) new planned taken = record { plan = plan; is = planned; due = taken.0; same = taken.1 }
-taken_answer h number job plan (Refused (KeysOut net)) new planned taken = record { plan = plan; is = planned; due = taken.0; same = taken.1 }
-taken_answer h number job plan (Refused (RowsOut chip)) new planned taken = record { plan = plan; is = planned; due = taken.0; same = taken.1 }
