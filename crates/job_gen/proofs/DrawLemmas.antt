@@ -69,7 +69,11 @@ net_from i source more keys targets g0 g1 g2 g3 g4 one two three four =
     ap (λ (p : ℕ × List ℕ). (net_with source targets (1 + p.0), p.1)) four
     ∙ ap (λ (p : List ℕ × List ℕ). (net_with source p.0 (1 + (draw 16 p.1).0), (draw 16 p.1).1)) three
     ∙ ap (λ (p : ℕ × List ℕ). (net_with source (draws drawn_target (1 + p.0) p.1).0 (1 + (draw 16 (draws drawn_target (1 + p.0) p.1).1).0), (draw 16 (draws drawn_target (1 + p.0) p.1).1).1)) two
-    ∙ ap (λ (p : ℕ × List ℕ). (net_with p.0 (draws drawn_target (1 + (draw 8 p.1).0) (draw 8 p.1).1).0 (1 + (draw 16 (draws drawn_target (1 + (draw 8 p.1).0) (draw 8 p.1).1).1).0), (draw 16 (draws drawn_target (1 + (draw 8 p.1).0) (draw 8 p.1).1).1).1)) one
+    ∙ ap (λ (p : ℕ × List ℕ). (
+      net_with p.0 (draws drawn_target (1 + (draw 8 p.1).0) (draw 8 p.1).1).0 (1 + (draw 16 (draws drawn_target (1 + (draw 8 p.1).0) (draw 8 p.1).1).1).0),
+      (draw 16
+          (draws drawn_target (1 + (draw 8 p.1).0) (draw 8 p.1).1).1).1,
+    )) one
 
 -- the keys of the net at a place
 pub keys_there : (nets : List DrawnNet) (k : ℕ) (d : DrawnNet) → k < length nets → (get_or nets k d).keys ≡ keys_at nets k

@@ -61,17 +61,20 @@ module _ (job : Drawn) (is : IsDrawn job) where
       (omega (arith, length-numbered net_of 0 job.nets, is.number_of_nets))
 
   -- a spot of a placement is on a live chip
-  live_spot : (spots : List Spot) (memory : List ℕ) → IsPlacement generated_board (numbered generated_vertex 0 job.sdrams) spots memory → (i : ℕ) (s : Spot) → slice_get spots i ≡ Some s → IsLiveChip generated_board s.chip
+  live_spot : (spots : List Spot) (memory : List ℕ) → IsPlacement generated_board (numbered generated_vertex 0 job.sdrams) spots memory → (i : ℕ) (s : Spot) → slice_get spots i ≡ Some s →
+      IsLiveChip generated_board s.chip
   live_spot spots memory placed i s at =
       let below : i < length spots = slice_get_within spots i s at in
       let vertex = slice_get_there (numbered generated_vertex 0 job.sdrams) i (omega (arith, below, placed.all)) in
       let small : IsSmall vertex.0 = All-at IsSmall (numbered generated_vertex 0 job.sdrams) i vertex.0 vertices_small vertex.1 in
       let core : IsCoreFor generated_board placed.order (take i (numbered generated_vertex 0 job.sdrams)) (take i spots) vertex.0 s =
-      subst (λ o. MatchOption o (IsCoreFor generated_board placed.order (take i (numbered generated_vertex 0 job.sdrams)) (take i spots) vertex.0 s) (λ device. HasDeviceRoom generated_board device × (s ≡ device_spot device)))
+      subst (λ o. MatchOption o (IsCoreFor generated_board placed.order (take i (numbered generated_vertex 0 job.sdrams)) (take i spots) vertex.0 s)
+      (λ device. HasDeviceRoom generated_board device × (s ≡ device_spot device)))
       small.device (placed.first.each i vertex.0 s vertex.1 at) in
       (and_parts (is_live_chip generated_board s.chip) _ (and_parts _ _ core.free).0).0
 
-  joined : (i : ℕ) (spots : List Spot) (memory : List ℕ) (target : Chip) → IsPlacement generated_board (numbered generated_vertex 0 job.sdrams) spots memory → (nets : List Net) → IsFirstNetCutOff generated_board spots nets i target → ⊥
+  joined : (i : ℕ) (spots : List Spot) (memory : List ℕ) (target : Chip) → IsPlacement generated_board (numbered generated_vertex 0 job.sdrams) spots memory → (nets : List Net) →
+      IsFirstNetCutOff generated_board spots nets i target → ⊥
   joined i spots memory target placed nets cut =
       let here = cut.target.is in
       not_cut_off cut.target.source.chip target

@@ -16,8 +16,10 @@ use Rattle.job_readers.specs.Entries.{chip_faults, chip_value}
 use Rattle.job_readers.specs.Places.{name_place_in, reference_faults, reference_value}
 use Rattle.job_readers.specs.Job.{job_own_faults, version_faults, version_value}
 use Rattle.job_readers.specs.MachinePart.{entries_faults, machine_members_faults, machine_members, machine_faults, machine_value}
-use Rattle.job_readers.specs.GraphPart.{name_value, vertex_value, next_vertex_faults, vertices_faults, vertices_value, net_value, next_net_faults, net_names, nets_faults, nets_value, graph_members_faults, graph_members, graph_faults, graph_value}
-use Rattle.job_readers.specs.RunPart.{packet_net_faults, packet_net, packet_faults, packet_value, packets_faults, packets_value, events_faults, events_value, places_faults, run_members_faults, run_members, run_faults, run_value}
+use Rattle.job_readers.specs.GraphPart.{name_value, vertex_value, next_vertex_faults, vertices_faults, vertices_value, net_value, next_net_faults}
+use Rattle.job_readers.specs.GraphPart.{net_names, nets_faults, nets_value, graph_members_faults, graph_members, graph_faults, graph_value}
+use Rattle.job_readers.specs.RunPart.{packet_net_faults, packet_net, packet_faults, packet_value, packets_faults, packets_value, events_faults}
+use Rattle.job_readers.specs.RunPart.{events_value, places_faults, run_members_faults, run_members, run_faults, run_value}
 use Rattle.job_readers.specs.WholeJob.{job_faults, job_value}
 use Rattle.job_gen.specs.declared.draws.DrawnNet.{DrawnNet}
 use Rattle.job_gen.specs.declared.draws.DrawnPacket.{DrawnPacket}
@@ -39,7 +41,8 @@ few_faults path limit count few = ap (λ (b : Bool). if b then [] else TooMany p
 -- ---- the machine
 
 machine_clean : (path : List ℕ) (job : Drawn) → machine_faults path (job_data job) ≡ []
-unfolding machine_faults machine_members_faults entries_faults number_member_faults number_member flag_member_faults long_list_member_faults list_member items_faults chip_faults job_data graph_data machine_data run_data dead_pairs
+unfolding machine_faults machine_members_faults entries_faults number_member_faults number_member flag_member_faults long_list_member_faults list_member items_faults chip_faults
+    job_data graph_data machine_data run_data dead_pairs
 machine_clean path job = refl
 
 machine_is : (job : Drawn) → machine_value (job_data job) ≡ generated_board

@@ -1,5 +1,6 @@
 -- The chips of the board are joined by live links.
-use Rattle.std.proofs.Common.{◌≡◌, ℕ, zero, suc, ◌+◌, ◌<◌, ◌≤◌, List, [], ◌∷◌, ◌++◌, Bool, true, false, not, ◌&&◌, ◌||◌, Option, Some, None, if◌then◌else◌, inl, inr, ◌⊎◌, refl, sym, ap, ◌∙◌, subst, arith}
+use Rattle.std.proofs.Common.{◌≡◌, ℕ, zero, suc, ◌+◌, ◌<◌, ◌≤◌, List, [], ◌∷◌, ◌++◌, Bool, true, false, not, ◌&&◌, ◌||◌}
+use Rattle.std.proofs.Common.{Option, Some, None, if◌then◌else◌, inl, inr, ◌⊎◌, refl, sym, ap, ◌∙◌, subst, arith}
 use Rattle.std.specs.Prelude.{nat_lt}
 use Rattle.std.proofs.lemmas.Bool.{agree_below, agree_below_at, and_parts, or_cases, ltb-true, not-true, false≢true}
 use Rattle.spin_base.specs.declared.chips.Chip.{Chip}
@@ -64,7 +65,8 @@ pub record IsNearer (c : Chip) : Type 0 where
   pub live : IsLiveChip generated_board next
   pub less : steps_of next < steps_of c
 
-nearer_at : (c e : Chip) (d : Dir) → IsLiveChip generated_board c → IsLiveLink generated_board c d → far_of generated_board c d ≡ Some e → IsLiveChip generated_board e → is_nearer c (far_of generated_board c d) ≡ true → IsNearer c
+nearer_at : (c e : Chip) (d : Dir) → IsLiveChip generated_board c → IsLiveLink generated_board c d → far_of generated_board c d ≡ Some e → IsLiveChip generated_board e →
+    is_nearer c (far_of generated_board c d) ≡ true → IsNearer c
 nearer_at c e d live link far live_e less =
     let fewer : is_nearer c (Some e) ≡ true = ap (is_nearer c) (sym far) ∙ less in
     record {

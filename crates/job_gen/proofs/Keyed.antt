@@ -1,5 +1,6 @@
 -- Nets that need at most 16 keys each, and have none fixed: the first i nets take keys below 16 * i, so a range is left.
-use Rattle.std.proofs.Common.{◌≡◌, ℕ, zero, suc, ◌+◌, ◌-◌, ◌*◌, ◌%◌, ◌^◌, ◌<◌, ◌≤◌, List, [], ◌∷◌, ◌++◌, length, take, Some, None, MatchOption, slice_get, inl, inr, ◌⊎◌, refl, sym, ap, ◌∙◌, subst, arith}
+use Rattle.std.proofs.Common.{◌≡◌, ℕ, zero, suc, ◌+◌, ◌-◌, ◌*◌, ◌%◌, ◌^◌, ◌<◌, ◌≤◌, List, [], ◌∷◌, ◌++◌, length, take}
+use Rattle.std.proofs.Common.{Some, None, MatchOption, slice_get, inl, inr, ◌⊎◌, refl, sym, ap, ◌∙◌, subst, arith}
 use Rattle.std.specs.Int.{IsPowerOfTwo}
 use Rattle.std.proofs.lemmas.Bool.{cases_lt}
 use Rattle.spin_base.specs.declared.blocks.Block.{Block}
@@ -25,7 +26,8 @@ power_cases : (p : ℕ) → IsPowerOfTwo p → (p ≡ 1) ⊎ ((p ≡ 2) ⊎ ((p 
 power_cases p (k, is) = subst (λ n. (n ≡ 1) ⊎ ((n ≡ 2) ⊎ ((n ≡ 4) ⊎ ((n ≡ 8) ⊎ (16 ≤ n))))) (sym is) (powers k)
 
 -- a size that no smaller power of two can take the place of
-least_size : (keys size : ℕ) → IsPowerOfTwo size → keys ≤ size → ((size ≡ 1) × (1 ≤ keys)) ⊎ (((size ≡ 2) × (2 ≤ keys)) ⊎ (((size ≡ 4) × (3 ≤ keys)) ⊎ (((size ≡ 8) × (5 ≤ keys)) ⊎ ((size ≡ 16) × (9 ≤ keys))))) → IsSizeFor keys size
+least_size : (keys size : ℕ) → IsPowerOfTwo size → keys ≤ size →
+    ((size ≡ 1) × (1 ≤ keys)) ⊎ (((size ≡ 2) × (2 ≤ keys)) ⊎ (((size ≡ 4) × (3 ≤ keys)) ⊎ (((size ≡ 8) × (5 ≤ keys)) ⊎ ((size ≡ 16) × (9 ≤ keys))))) → IsSizeFor keys size
 least_size keys size power enough which = record {
   power = power;
   enough = enough;

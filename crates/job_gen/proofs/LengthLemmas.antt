@@ -16,7 +16,8 @@ use Rattle.job_gen.specs.declared.draws.DrawnPacket.{DrawnPacket}
 use Rattle.job_gen.specs.declared.draws.Drawn.{Drawn}
 use Rattle.job_gen.specs.Draws.{keys_at, drawn}
 use Rattle.job_gen.specs.DrawnFacts.{IsDrawnNet, IsDrawnPacket, IsDrawn}
-use Rattle.job_gen.specs.Values.{generated_vertex_name, generated_net_name, vertex_data, name_data, net_data, packet_data, pair_data, dead_pairs, machine_data, graph_data, run_data, job_data, gen_value, gen_text_of, numbered}
+use Rattle.job_gen.specs.Values.{generated_vertex_name, generated_net_name, vertex_data, name_data, net_data, packet_data, pair_data}
+use Rattle.job_gen.specs.Values.{dead_pairs, machine_data, graph_data, run_data, job_data, gen_value, gen_text_of, numbered}
 use Rattle.job_gen.proofs.DrawnLaws.{is_drawn}
 
 -- ---- strings
@@ -54,7 +55,8 @@ record AreShort (ms : Members) (n : ℕ) : Type 0 where
 none_short : AreShort no_members 1
 none_short = record { text = λ later. omega arith }
 
-member_short : (k : List ℕ) (d : Data) (few long : ℕ) {ms : Members} {rest : ℕ} → length k ≤ few → length (compact_text d) ≤ long → AreShort ms rest → AreShort (member k d ms) (6 * few + 4 + long + rest)
+member_short : (k : List ℕ) (d : Data) (few long : ℕ) {ms : Members} {rest : ℕ} → length k ≤ few → length (compact_text d) ≤ long → AreShort ms rest →
+    AreShort (member k d ms) (6 * few + 4 + long + rest)
 member_short k d few long {ms} {rest} name value others = record {
   text = λ later.
       let after : length (members_text true ms) ≤ rest = others.text true in

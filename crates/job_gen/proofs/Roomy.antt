@@ -1,6 +1,7 @@
 -- Fewer than 816 vertices of at most 1,048,576 bytes find room on the board: some chip has fewer than seventeen of them, and so
 -- a free core and the memory.
-use Rattle.std.proofs.Common.{◌≡◌, ℕ, zero, suc, ◌+◌, ◌-◌, ◌*◌, ◌<◌, ◌≤◌, List, [], ◌∷◌, length, take, filter, All, Bool, true, false, not, ◌&&◌, ◌||◌, if◌then◌else◌, Option, Some, None, MatchOption, slice_get, inl, inr, ◌⊎◌, refl, sym, ap, ◌∙◌, subst, arith}
+use Rattle.std.proofs.Common.{◌≡◌, ℕ, zero, suc, ◌+◌, ◌-◌, ◌*◌, ◌<◌, ◌≤◌, List, [], ◌∷◌, length, take, filter, All, Bool, true, false, not, ◌&&◌}
+use Rattle.std.proofs.Common.{◌||◌, if◌then◌else◌, Option, Some, None, MatchOption, slice_get, inl, inr, ◌⊎◌, refl, sym, ap, ◌∙◌, subst, arith}
 use Rattle.std.specs.Prelude.{is_none}
 use Rattle.std.specs.List.{list_any, list_all}
 use Rattle.std.proofs.lemmas.Bool.{cases_lt, cases_Bool, and_parts, and_from, not-true, not_from_false, true≢false, ne_eqb, le-leb, or_left, or_right, or_cases}
@@ -73,7 +74,8 @@ on_without : (s : Spot) (ss : List Spot) → list_any (spot_eq s) ss ≡ true �
 unfolding on one_if without
 on_without s [] there = absurd cc
 on_without s (t ∷ ss) there =
-    elim (spot_eq s t) as (λ b. spot_eq s t ≡ b → (b || list_any (spot_eq s) ss) ≡ true → on s.chip (if b then without s ss else t ∷ without s ss) + 1 ≤ one_if (chip_eq s.chip t.chip) + on s.chip ss) [
+    elim (spot_eq s t) as (λ b. spot_eq s t ≡ b → (b || list_any (spot_eq s) ss) ≡ true →
+    on s.chip (if b then without s ss else t ∷ without s ss) + 1 ≤ one_if (chip_eq s.chip t.chip) + on s.chip ss) [
       | true ↦ λ same was. (
           let here : chip_eq s.chip t.chip ≡ true = (and_parts (chip_eq s.chip t.chip) _ same).0 in
           let one : one_if (chip_eq s.chip t.chip) ≡ 1 = ap one_if here in
@@ -116,7 +118,8 @@ taken c (suc n) ss all =
     omega (arith, one, rest)
 
 -- one of the cores 1 to n that none of the spots is, or all are taken
-pick : (c : Chip) (n : ℕ) (ss : List Spot) → ((p : ℕ) × ((1 ≤ p) × (p ≤ n)) × (list_any (spot_eq (core_spot c p)) ss ≡ false)) ⊎ ((p : ℕ) → 1 ≤ p → p ≤ n → list_any (spot_eq (core_spot c p)) ss ≡ true)
+pick : (c : Chip) (n : ℕ) (ss : List Spot) → ((p : ℕ) × ((1 ≤ p) × (p ≤ n)) × (list_any (spot_eq (core_spot c p)) ss ≡ false))
+    ⊎ ((p : ℕ) → 1 ≤ p → p ≤ n → list_any (spot_eq (core_spot c p)) ss ≡ true)
 pick c zero ss = inr (λ p some few. absurd (omega arith))
 pick c (suc n) ss = elim (cases_Bool (list_any (spot_eq (core_spot c (suc n))) ss)) [
   | inr free ↦ inl (suc n, (omega arith, omega arith), free)
@@ -126,7 +129,8 @@ pick c (suc n) ss = elim (cases_Bool (list_any (spot_eq (core_spot c (suc n))) s
   ]
 ]
   where
-    up_to : (p : ℕ) → 1 ≤ p → p ≤ suc n → ((q : ℕ) → 1 ≤ q → q ≤ n → list_any (spot_eq (core_spot c q)) ss ≡ true) → list_any (spot_eq (core_spot c (suc n))) ss ≡ true → list_any (spot_eq (core_spot c p)) ss ≡ true
+    up_to : (p : ℕ) → 1 ≤ p → p ≤ suc n → ((q : ℕ) → 1 ≤ q → q ≤ n → list_any (spot_eq (core_spot c q)) ss ≡ true) → list_any (spot_eq (core_spot c (suc n))) ss ≡ true →
+        list_any (spot_eq (core_spot c p)) ss ≡ true
     up_to p some few all used = elim (cases_lt p (suc n)) [
       | inl less ↦ all p some (omega arith)
       | inr more ↦ (let same : suc n ≡ p = omega arith in subst (λ q. list_any (spot_eq (core_spot c q)) ss ≡ true) same used)
@@ -254,7 +258,8 @@ order_live : All (IsLiveChip generated_board) chip_order
 unfolding chip_order
 order_live = filter_passes (is_live_chip generated_board) (hilbert 3)
 
-all_full : (cs : List Chip) (vs : List Vertex) (ss : List Spot) (v : Vertex) → All IsSmall vs → IsSmall v → All (IsLiveChip generated_board) cs → All (λ c. HasRoom generated_board vs ss v c → ⊥) cs → AreFull cs ss
+all_full : (cs : List Chip) (vs : List Vertex) (ss : List Spot) (v : Vertex) → All IsSmall vs → IsSmall v → All (IsLiveChip generated_board) cs →
+    All (λ c. HasRoom generated_board vs ss v c → ⊥) cs → AreFull cs ss
 unfolding AreFull
 all_full [] vs ss v small one live none = tt
 all_full (c ∷ cs) vs ss v small one live none = (
@@ -273,7 +278,8 @@ room_is_left vertices i few small none =
     let below : i < length vertices = slice_get_within vertices i none.vertex none.is in
     let one : IsSmall none.vertex = small_at vertices i none.vertex small none.is in
     let nowhere : All (λ c. HasRoom generated_board (take i vertices) none.spots none.vertex c → ⊥) (choices none.order none.vertex.at) =
-    subst (λ o. MatchOption o (All (λ c. HasRoom generated_board (take i vertices) none.spots none.vertex c → ⊥) (choices none.order none.vertex.at)) (λ device. HasDeviceRoom generated_board device → ⊥)) one.device none.none in
+    subst (λ o. MatchOption o (All (λ c. HasRoom generated_board (take i vertices) none.spots none.vertex c → ⊥) (choices none.order none.vertex.at))
+    (λ device. HasDeviceRoom generated_board device → ⊥)) one.device none.none in
     let anywhere : All (λ c. HasRoom generated_board (take i vertices) none.spots none.vertex c → ⊥) none.order =
     subst (λ o. All (λ c. HasRoom generated_board (take i vertices) none.spots none.vertex c → ⊥) (choices none.order o)) one.at nowhere in
     no_room_nowhere (take i vertices) none.spots none.vertex (All-take IsSmall i vertices small) one (omega (arith, below, few, none.here))

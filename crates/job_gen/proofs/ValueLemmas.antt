@@ -28,7 +28,8 @@ numbered_push f i xs d vs new v below pushed is so_far =
     ∙ numbered_more f 0 i xs d below
     ∙ ap (λ j. numbered f 0 (take j xs)) (sym (add-one i))
 
-pub numbered_all : {A : Type 0} (f : ℕ → A → Data) (i : ℕ) (xs : List A) (vs : List Value) → length xs ≤ i → map view vs ≡ numbered f 0 (take i xs) → items_of (map view vs) ≡ items_of (numbered f 0 xs)
+pub numbered_all : {A : Type 0} (f : ℕ → A → Data) (i : ℕ) (xs : List A) (vs : List Value) → length xs ≤ i → map view vs ≡ numbered f 0 (take i xs) →
+    items_of (map view vs) ≡ items_of (numbered f 0 xs)
 numbered_all f i xs vs end is = ap items_of (is ∙ ap (numbered f 0) (take_all i xs end))
 
 -- The same where the value of an item does not depend on its place.

@@ -1,16 +1,12 @@
 -- The tables of the example are right for its nets, and tables that lack a row are not.
 use Rattle.std.proofs.Common.{◌≡◌, ℕ, ◌==◌, List, [], ◌∷◌, map, Bool, true, false, Some, refl, sym, ap, ◌∙◌, subst, arith, inl, inr}
 use Rattle.std.specs.List.{Contains}
-use Rattle.std.proofs.lemmas.Bool.{false≢true}
-use Rattle.std.proofs.lemmas.List.Elements.{All-from_recursion}
+use Rattle.std.proofs.lemmas.{Bool.false≢true, List.Elements.All-from_recursion}
 use Rattle.spin_base.proofs.Members.{Among, Contains-only}
-use Rattle.spin_base.specs.declared.chips.Chip.{Chip}
-use Rattle.spin_base.specs.declared.chips.Port.{Port}
+use Rattle.spin_base.specs.declared.chips.{Chip.Chip, Port.Port}
 use Rattle.spin_base.specs.declared.chips.Port.TheVariants.{Link as ByLink, Local}
 use Rattle.spin_base.specs.declared.chips.Dir.TheVariants.{East, West}
-use Rattle.spin_base.specs.declared.routes.Out.{Out}
-use Rattle.spin_base.specs.declared.routes.Out.TheVariants.{Link}
-use Rattle.spin_base.specs.declared.routes.Route.{Route}
+use Rattle.spin_base.specs.declared.routes.{Out.Out, Out.TheVariants.Link, Route.Route}
 use Rattle.spin_base.specs.Equality.{out_eq}
 use Rattle.spin_base.specs.Outputs.{has, all_outs, link_outs, core_outs, IsOutput}
 use Rattle.spin_base.specs.Lookup.{lookup, matches}
@@ -24,7 +20,8 @@ use Rattle.machine_desc.specs.declared.nets.NetPlan.{NetPlan}
 use Rattle.machine_desc.specs.Outputs.{is_wanted}
 use Rattle.machine_desc.specs.RightTables.{IsKeyOf, RoutesByTree, AreRight, table_at}
 use Rattle.mesh_core.proofs.Counting.{counted}
-use Rattle.mesh_example.specs.Board.{two_chip_board, left_chip, right_chip, east, targets, net, other_net, nets, tables, wrong_tables, right_table, block, other_block, left_route, right_route, east_route, entry_of_key}
+use Rattle.mesh_example.specs.Board.{two_chip_board, left_chip, right_chip, east, targets, net, other_net, nets, tables, wrong_tables}
+use Rattle.mesh_example.specs.Board.{right_table, block, other_block, left_route, right_route, east_route, entry_of_key}
 
 is_first : (route : Route) (key : ℕ) → IsKeyOf block key → matches (entry_of_key 0 route) key ≡ true
 is_first route key k = ap (λ (n : ℕ). n == 0) k.matches
@@ -98,7 +95,8 @@ unfolding IsRightAt
 other_right c port key o (inl root) k valid =
     subst (IsRightAt other_net key port o) (sym root.0)
     (right_by other_net key port o left_chip east_route
-    (lookup_miss (entry_of_key 0 left_route) (entry_of_key 1 east_route ∷ []) key port (is_not_first left_route key k) ∙ lookup_hit (entry_of_key 1 east_route) [] key port (is_second east_route key k)) other_left_outs valid)
+    (lookup_miss (entry_of_key 0 left_route) (entry_of_key 1 east_route ∷ []) key port (is_not_first left_route key k)
+    ∙ lookup_hit (entry_of_key 1 east_route) [] key port (is_second east_route key k)) other_left_outs valid)
 other_right c port key o (inr h) k valid =
     let there = at_end c h.0 h.1 h.2 in
     let by_west : port ≡ ByLink West = h.3 ∙ ap (λ (e : Edge). ByLink (opposite_of e.dir)) (sym there.0) in

@@ -1,5 +1,6 @@
 -- What is left of all ways of all packets: a bag of moves leaves less by what its moves take.
-use Rattle.std.proofs.Common.{◌≡◌, ℕ, zero, suc, ◌+◌, ◌*◌, ◌<◌, ◌≤◌, ◌==◌, ◌&&◌, cond, if◌then◌else◌, refl, ap, sym, ◌∙◌, subst, arith, inl, inr, ◌⊎◌, List, [], ◌∷◌, length, Bool, true, false, count_by}
+use Rattle.std.proofs.Common.{◌≡◌, ℕ, zero, suc, ◌+◌, ◌*◌, ◌<◌, ◌≤◌, ◌==◌, ◌&&◌, cond, if◌then◌else◌, refl, ap, sym}
+use Rattle.std.proofs.Common.{◌∙◌, subst, arith, inl, inr, ◌⊎◌, List, [], ◌∷◌, length, Bool, true, false, count_by}
 use Rattle.std.specs.List.{sum_by, Contains}
 use Rattle.std.proofs.lemmas.Bool.{cases_order, eqb-true}
 use Rattle.std.proofs.lemmas.List.Sums.{sum_by-append, sum_by-cons}
@@ -46,7 +47,8 @@ module _ (s t : State) (nets : List NetPlan) (labels : ℕ → Label) (mesh : Is
 
   there_or_came : (k : Mark) → 1 ≤ count_by (mark_eq k) (marks_of s) + count_by (mark_eq k) (all_come bag.moves) → Among k (marks_of s) ⊎ Among k (all_come bag.moves)
   there_or_came k some = elim (cases_order (count_by (mark_eq k) (marks_of s)) 0) [
-    | inl none ↦ (let found = counted (mark_eq k) (all_come bag.moves) (omega (arith, some, none)) in inr (subst (λ (m : Mark). Among m (all_come bag.moves)) (sym (mark_eq_true k found.0 found.2)) found.1))
+    | inl none ↦ (let found = counted (mark_eq k) (all_come bag.moves)
+        (omega (arith, some, none)) in inr (subst (λ (m : Mark). Among m (all_come bag.moves)) (sym (mark_eq_true k found.0 found.2)) found.1))
     | inr (inl below) ↦ absurd (omega (arith, below))
     | inr (inr more) ↦ (let found = counted (mark_eq k) (marks_of s) (omega (arith, more)) in inl (subst (λ (m : Mark). Among m (marks_of s)) (sym (mark_eq_true k found.0 found.2)) found.1))
   ]
@@ -88,7 +90,8 @@ module _ (s t : State) (nets : List NetPlan) (labels : ℕ → Label) (mesh : Is
 
         same_packet : (y : Mark) → Among y v.come → y.copy.packet ≡ v.leaves.copy.packet
         same_packet y b =
-            (move_comes s r.net (stands s t nets labels mesh right ledger r.net r.in_nets) r.trail.target r.trail.branch r.trail.from r.trail.to r.trail.way v.leaves v.come v.is_move r.is_key r.trail.on y b).packet
+            (move_comes s r.net (stands s t nets labels mesh right ledger r.net r.in_nets) r.trail.target r.trail.branch r.trail.from r.trail.to r.trail.way v.leaves v.come v.is_move
+            r.is_key r.trail.on y b).packet
 
         by_packet : (same : Bool) → (v.leaves.copy.packet == n) ≡ same → sum_by left_there v.come + taken_there v ≤ left_there v.leaves
         by_packet false other =

@@ -11,12 +11,7 @@ use Rattle.std.proofs.lemmas.Option.{slice_get_within, get_or_from_slice_get}
 use Rattle.spin_base.proofs.Counts.{count_by-append}
 use Rattle.spin_base.proofs.Members.{Among, among_contains, contains_among, map_among, among_left, among_right, among_either, Contains-filter}
 use Rattle.spin_base.proofs.Places.{slice_get_there}
-use Rattle.spin_base.specs.declared.chips.Chip.{Chip}
-use Rattle.spin_base.specs.declared.chips.Spot.{Spot}
-use Rattle.spin_base.specs.declared.routes.Out.{Out}
-use Rattle.spin_base.specs.declared.copies.McCopy.{McCopy}
-use Rattle.spin_base.specs.declared.copies.DumpRec.{DumpRec}
-use Rattle.spin_base.specs.declared.copies.Packet.{Packet}
+use Rattle.spin_base.specs.declared.{chips.Chip.Chip, chips.Spot.Spot, routes.Out.Out, copies.McCopy.McCopy, copies.DumpRec.DumpRec, copies.Packet.Packet}
 use Rattle.spin_base.specs.Equality.{chip_eq, out_eq}
 use Rattle.spin_base.specs.Outputs.{IsOutput}
 use Rattle.spin_base.proofs.Equality.{nat_eq_same, chip_eq_same, out_eq_same}
@@ -41,8 +36,7 @@ use Rattle.mesh_round.specs.Work.{moves_left, to_go}
 use Rattle.mesh_round.proofs.Arrivals.{Right, held_right, arrived_right, crossing_right, on_behind, somewhere}
 use Rattle.mesh_core.proofs.Counting.{counted}
 use Rattle.mesh_round.proofs.CountSums.{one_if, sum_within, part_of_sum_at, counts}
-use Rattle.mesh_round.proofs.Entered.{station_of}
-use Rattle.mesh_round.proofs.Nearer.{move_nears}
+use Rattle.mesh_round.proofs.{Entered.station_of, Nearer.move_nears}
 use Rattle.mesh_round.proofs.PassedOnce.{here, before, passed_once}
 use Rattle.mesh_round.proofs.RoundBag.{bag_of_round, in_parts, crossing_comes}
 use Rattle.mesh_round.proofs.FlowLaw.{round_keeps, rounds_stand}
@@ -62,7 +56,8 @@ HasOneWay = (m : Description) (spots : List Spot) (nets : List NetPlan) (net : N
 few_numbers : {X : Type 0} (number : X → ℕ) (n : ℕ) (xs : List X) → ((x : X) → Among x xs → number x < n) → ((i : ℕ) → i < n → count_by (λ x. number x == i) xs ≤ 1) → length xs ≤ n
 few_numbers {X} number n xs below each =
     let all = ones xs in
-    let spread = sum_agree one (λ x. sum_by (λ i. one_if (number x == i)) (range_with_len 0 n)) xs (λ x a. sym (once_in_range (number x) 0 n (omega arith) (let low = below x a in omega (arith, low)))) in
+    let spread = sum_agree one (λ x. sum_by (λ i. one_if (number x == i)) (range_with_len 0 n)) xs
+    (λ x a. sym (once_in_range (number x) 0 n (omega arith) (let low = below x a in omega (arith, low)))) in
     let swapped = sum_swap (λ x i. one_if (number x == i)) xs (range_with_len 0 n) in
     let within = sum_within (λ i. sum_by (λ x. one_if (number x == i)) xs) (λ i. 1) (range_with_len 0 n) (λ i a. each i (let low = (range_parts 0 n i a).1 in omega (arith, low))) in
     let long = many 0 n in
@@ -122,7 +117,8 @@ module _ (m : State) (f : Flow) (n : State) (nets : List NetPlan) (packets : Lis
       let both : Some s.trail.target ≡ Some r.trail.target = sym on_s ∙ (ap (slice_get u.spots) ends ∙ on_r) in
       let target : s.trail.target ≡ r.trail.target = cc in
       let its_way = subst (λ (t : Spot). IsWayOn u.machine u.spots r.net t s.trail.branch s.trail.from s.trail.to) target way in
-      let branch = (one_way u.machine u.spots nets r.net r.trail.target s.trail.branch r.trail.branch s.trail.from r.trail.from s.trail.to r.trail.to ledger.nets_stand r.in_nets its_way r.trail.way).0 in
+      let branch = (one_way u.machine u.spots nets r.net r.trail.target s.trail.branch r.trail.branch s.trail.from r.trail.from s.trail.to r.trail.to ledger.nets_stand r.in_nets its_way
+      r.trail.way).0 in
       eqb-true y.hop (length s.trail.branch) b.1 ∙ (ap length branch ∙ sym (eqb-true x.hop (length r.trail.branch) a.1))
 
   -- and so have two in one queue
@@ -132,7 +128,8 @@ module _ (m : State) (f : Flow) (n : State) (nets : List NetPlan) (packets : Lis
       let way = subst (λ (k : NetPlan). IsWayOn u.machine u.spots k s.trail.target s.trail.branch s.trail.from s.trail.to) net s.trail.way in
       let a = comes_parts r.trail.branch x.hop (chip_of u.machine (i / 7)) (port_of (i % 7)) r.trail.on in
       let b = comes_parts s.trail.branch y.hop (chip_of u.machine (i / 7)) (port_of (i % 7)) s.trail.on in
-      (one_place m r.net (stand r.net r.in_nets) s.trail.target r.trail.target s.trail.branch r.trail.branch way.is_branch r.trail.way.is_branch y.hop x.hop b.exit a.exit b.at a.at (b.chip ∙ sym a.chip)).0
+      (one_place m r.net (stand r.net r.in_nets) s.trail.target r.trail.target s.trail.branch r.trail.branch way.is_branch r.trail.way.is_branch y.hop x.hop b.exit a.exit b.at a.at
+      (b.chip ∙ sym a.chip)).0
   same_hop (core v) x y r s same = vertex_hop v x y r s same
   same_hop nowhere x y r s same = vertex_hop 0 x y r s same
 
@@ -244,8 +241,10 @@ module _ (m : State) (f : Flow) (n : State) (nets : List NetPlan) (packets : Lis
       dumped_here : Among k (dumped_at f c o)
       dumped_here =
           let r : DumpRec = record { chip = c; out = o; copy = k } in
-          let mine = Contains-filter (λ (e : DumpRec). chip_eq e.chip c && out_eq e.out o) f.dumped r (among_contains r f.dumped in_flow) (and_from (chip_eq c c) (out_eq o o) (chip_eq_same c) (out_eq_same o)) in
-          map_among (λ (e : DumpRec). e.copy) r (filter (λ (e : DumpRec). chip_eq e.chip c && out_eq e.out o) f.dumped) (contains_among r (filter (λ (e : DumpRec). chip_eq e.chip c && out_eq e.out o) f.dumped) mine)
+          let mine = Contains-filter (λ (e : DumpRec). chip_eq e.chip c && out_eq e.out o) f.dumped r (among_contains r f.dumped in_flow)
+          (and_from (chip_eq c c) (out_eq o o) (chip_eq_same c) (out_eq_same o)) in
+          map_among (λ (e : DumpRec). e.copy) r (filter (λ (e : DumpRec). chip_eq e.chip c && out_eq e.out o) f.dumped)
+          (contains_among r (filter (λ (e : DumpRec). chip_eq e.chip c && out_eq e.out o) f.dumped) mine)
 
       in_all : Among (onward k) (f.entered (behind u c o) ++ map onward (dumped_at f c o))
       in_all = among_right (onward k) (f.entered (behind u c o)) (map onward (dumped_at f c o)) (map_among onward k (dumped_at f c o) dumped_here)
@@ -271,7 +270,8 @@ module _ (m : State) (f : Flow) (n : State) (nets : List NetPlan) (packets : Lis
           on_it =
               let net = (same_net (mark k (in_hand c o)) (mark (onward k) at) hand ghost refl).0 in
               let way = subst (λ (e : NetPlan). IsWayOn u.machine u.spots e ghost.trail.target ghost.trail.branch ghost.trail.from ghost.trail.to) net ghost.trail.way in
-              let kept = move_counts m hand.net (stand hand.net hand.in_nets) hand.trail.target ghost.trail.target hand.trail.branch ghost.trail.branch hand.trail.from ghost.trail.from hand.trail.to ghost.trail.to hand.trail.way way
+              let kept = move_counts m hand.net (stand hand.net hand.in_nets) hand.trail.target ghost.trail.target hand.trail.branch ghost.trail.branch hand.trail.from ghost.trail.from
+              hand.trail.to ghost.trail.to hand.trail.way way
               (mark k (in_hand c o)) (mark (onward k) at ∷ []) (inr (on_behind m f n nets labels mesh passes right ledger c o live k hand)) hand.is_key hand.trail.on in
               let single = sum_by-cons (λ y. one_if (on y)) (mark (onward k) at) [] in
               let there : one_if (on (mark (onward k) at)) ≡ 1 = ap one_if ghost.trail.on in
@@ -322,7 +322,8 @@ module _ (m : State) (f : Flow) (n : State) (nets : List NetPlan) (packets : Lis
                 let found = counted (λ (j : McCopy). j.packet == i) all_in (omega (arith, some)) in
                 let number : found.0.packet ≡ i = eqb-true found.0.packet i found.2 in
                 let once = copies_once found.0 (right_in found.0 found.1) in
-                let its : count_by (λ (j : McCopy). j.packet == found.0.packet) all_in ≡ count_by (λ (j : McCopy). j.packet == i) all_in = ap (λ l. count_by (λ (j : McCopy). j.packet == l) all_in) number in
+                let its : count_by (λ (j : McCopy). j.packet == found.0.packet) all_in ≡ count_by (λ (j : McCopy). j.packet == i) all_in =
+                ap (λ l. count_by (λ (j : McCopy). j.packet == l) all_in) number in
                 omega (arith, once, its)
             | inr none ↦ omega (arith, none)
           ]

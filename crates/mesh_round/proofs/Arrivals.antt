@@ -3,20 +3,14 @@
 use Rattle.std.proofs.Common.{◌≡◌, ◌≢◌, ℕ, ◌+◌, ◌<◌, ◌≤◌, zero, suc, true, List, [], ◌∷◌, ◌++◌, map, filter, Some, None, length, refl, ap, sym, ◌∙◌, subst, arith, inl, inr}
 use Rattle.std.specs.List.{slice_index_or, Contains}
 use Rattle.std.proofs.lemmas.Bool.{cases_Bool, cases_lt}
-use Rattle.std.proofs.lemmas.List.{get_or_past}
-use Rattle.std.proofs.lemmas.List.Elements.{All-contains}
-use Rattle.std.proofs.lemmas.List.Sorted.{All-permutation}
+use Rattle.std.proofs.lemmas.List.{get_or_past, Elements.All-contains, Sorted.All-permutation}
 use Rattle.std.proofs.lemmas.Option.{slice_get_within, get_or_from_slice_get, none-some}
 use Rattle.spin_base.proofs.Gathering.{among_gathered, gathered_among}
 use Rattle.spin_base.proofs.Members.{Among, among_contains, contains_among, among_map, map_among, among_filter, any_among, among_left, among_either}
 use Rattle.spin_base.proofs.Places.{All-each, slice_get_there}
-use Rattle.spin_base.specs.declared.chips.Chip.{Chip}
-use Rattle.spin_base.specs.declared.chips.Dir.{Dir}
-use Rattle.spin_base.specs.declared.chips.Spot.{Spot}
-use Rattle.spin_base.specs.declared.chips.Port.{Port}
+use Rattle.spin_base.specs.declared.chips.{Chip.Chip, Dir.Dir, Spot.Spot, Port.Port}
 use Rattle.spin_base.specs.declared.chips.Port.TheVariants.{Link as ByLink, Local}
-use Rattle.spin_base.specs.declared.routes.Out.{Out}
-use Rattle.spin_base.specs.declared.routes.Out.TheVariants.{Link}
+use Rattle.spin_base.specs.declared.routes.Out.{Out, TheVariants.Link}
 use Rattle.spin_base.specs.declared.copies.McCopy.{McCopy}
 use Rattle.spin_base.specs.Links.{opposite_of}
 use Rattle.spin_base.specs.Equality.{chip_eq, out_eq}
@@ -149,7 +143,8 @@ module _ (m : State) (f : Flow) (n : State) (nets : List NetPlan) (labels : ℕ 
             let found = any_among (out_eq o) (outputs u c port k) left.1 in
             let given : Among o (outputs u c port k) = subst (λ p. Among p (outputs u c port k)) (sym (out_eq_true o found.0 found.2)) found.1 in
             let was = before port k left.0 (omega (arith, small, less)) in
-            let held = come_right (mark k (in_queue c port)) was (map (λ p. mark k (in_hand c p)) (outputs u c port k)) refl (mark k (in_hand c o)) (map_among (λ p. mark k (in_hand c p)) o (outputs u c port k) given) in
+            let held = come_right (mark k (in_queue c port)) was (map (λ p. mark k (in_hand c p)) (outputs u c port k)) refl (mark k (in_hand c o))
+            (map_among (λ p. mark k (in_hand c p)) o (outputs u c port k) given) in
             let same : back (onward k) ≡ k = back_onward k less in
             (subst (λ d. Right (mark d (in_hand c o))) (sym same) held, ap onward same)
 
@@ -162,7 +157,8 @@ module _ (m : State) (f : Flow) (n : State) (nets : List NetPlan) (labels : ℕ 
     queue_right : IsLiveChip u.machine c → (j : McCopy) → Right (mark (back j) (in_hand c o)) × (onward (back j) ≡ j) → Right (mark j (station_of u (behind u c o)))
     queue_right live j (r, same) =
         subst (λ d. Right (mark d (station_of u (behind u c o)))) same
-        (come_right (mark (back j) (in_hand c o)) r (mark (onward (back j)) (station_of u (behind u c o)) ∷ []) (inr (on_behind live (back j) r)) (mark (onward (back j)) (station_of u (behind u c o))) (inl refl))
+        (come_right (mark (back j) (in_hand c o)) r (mark (onward (back j)) (station_of u (behind u c o)) ∷ []) (inr (on_behind live (back j) r))
+        (mark (onward (back j)) (station_of u (behind u c o))) (inl refl))
 
   -- ---- all input queues
 
@@ -211,7 +207,8 @@ module _ (m : State) (f : Flow) (n : State) (nets : List NetPlan) (labels : ℕ 
     | inr dead ↦ absurd (nothing k (f.entered (at_port u c (ByLink g))) (passes.dead_ports c g inside dead) came)
   ]
 
-  port_right : (b : ℕ) (c : Chip) (port : Port) → IsInside u.machine c → (k : McCopy) → Among k (held_in m (at_port u c port) ++ f.entered (at_port u c port)) → k.hop < b → Right (mark k (in_queue c port))
+  port_right : (b : ℕ) (c : Chip) (port : Port) → IsInside u.machine c → (k : McCopy) → Among k (held_in m (at_port u c port) ++ f.entered (at_port u c port)) → k.hop < b →
+      Right (mark k (in_queue c port))
   port_right zero c port inside k a low = absurd (omega (arith, low))
   port_right (suc b) c port inside k a low = elim (among_either k (held_in m (at_port u c port)) (f.entered (at_port u c port)) a) [
     | inl held ↦ subst (λ st. Right (mark k st)) (station_is u c port inside) (held_right (at_port u c port) k held)

@@ -1,14 +1,13 @@
 -- Of each packet each way has so much left; each round in which a copy moves takes at least one. So there are few such rounds.
-use Rattle.std.proofs.Common.{◌≡◌, ℕ, zero, suc, ◌+◌, ◌*◌, ◌≤◌, ◌==◌, ◌&&◌, cond, refl, ap, sym, ◌∙◌, subst, arith, inl, inr, List, [], ◌∷◌, ◌++◌, length, map, Bool, true, Option, Some, None, count_by}
+use Rattle.std.proofs.Common.{◌≡◌, ℕ, zero, suc, ◌+◌, ◌*◌, ◌≤◌, ◌==◌, ◌&&◌, cond, refl, ap, sym, ◌∙◌, subst, arith}
+use Rattle.std.proofs.Common.{inl, inr, List, [], ◌∷◌, ◌++◌, length, map, Bool, true, Option, Some, None, count_by}
 use Rattle.std.specs.List.{All, Contains, slice_get, sum_by}
 use Rattle.std.proofs.lemmas.Bool.{and_from, eq-eqb, true≢false}
 use Rattle.std.proofs.lemmas.List.Elements.{All-contains}
 use Rattle.std.proofs.lemmas.List.Sums.{sum_by-append, sum_by-cons}
 use Rattle.std.proofs.lemmas.Option.{none-some, same_Some}
 use Rattle.spin_base.proofs.Members.{Among, among_either, among_left, among_map, among_right, map_among}
-use Rattle.spin_base.specs.declared.chips.Spot.{Spot}
-use Rattle.spin_base.specs.declared.copies.McCopy.{McCopy}
-use Rattle.spin_base.specs.declared.copies.Packet.{Packet}
+use Rattle.spin_base.specs.declared.{chips.Spot.Spot, copies.McCopy.McCopy, copies.Packet.Packet}
 use Rattle.machine_desc.specs.Branch.{Exit}
 use Rattle.machine_desc.specs.NetsOn.{AreNetsOn, IsWayOn}
 use Rattle.machine_desc.specs.RightTables.{AreRight, IsKeyOf}
@@ -24,8 +23,7 @@ use Rattle.mesh_core.proofs.LedgerLaw.{Bag, IsRight, Moved, one_net}
 use Rattle.mesh_round.specs.Bound.{MoveEach, most_moves, moves_of_packet, rounds_in}
 use Rattle.mesh_round.specs.RoundFlow.{Flow, HasMoved, HasRounds, Passes, none, more}
 use Rattle.mesh_round.proofs.Ahead.{Counted, counted_from, is_step, is_step_at, left_for, left_most, left_of, sum_of_passing, taken_at, taken_for}
-use Rattle.mesh_round.proofs.Ample.{HasOneWay}
-use Rattle.mesh_round.proofs.FlowLaw.{rounds_stand}
+use Rattle.mesh_round.proofs.{Ample.HasOneWay, FlowLaw.rounds_stand}
 use Rattle.mesh_round.proofs.AheadMoves.{leaves_right, left_among, way_takes}
 use Rattle.mesh_round.proofs.CountSums.{part_of_sum, sum_within}
 use Rattle.mesh_round.proofs.Lighter.{all_left, left_counts}
@@ -240,7 +238,8 @@ module _ (m n : State) (f : Flow) (nets : List NetPlan) (packets : List Packet) 
           let found = some_sends u.machine u.spots net (tree_of u nets packets stand net has) (source_of u nets packets stand net has) (targets_of u nets packets stand net has) w in_ws in
           record { way = found.0; among = found.1; on = ap (λ i. (q == i) && (k.hop == 0)) found.3 ∙ on; one = found.2 }
       by_station w in_ws k (in_queue c port) steps on =
-          let found = some_counts u.machine u.spots net (tree_of u nets packets stand net has) (source_of u nets packets stand net has) (targets_of u nets packets stand net has) k.hop c port w in_ws on in
+          let found = some_counts u.machine u.spots net (tree_of u nets packets stand net has) (source_of u nets packets stand net has)
+          (targets_of u nets packets stand net has) k.hop c port w in_ws on in
           record { way = found.0; among = found.1; on = found.2; one = found.3 }
       by_station w in_ws k (in_hand c o) steps on = absurd (true≢false (sym steps))
       by_station w in_ws k (at_core q) steps on = record { way = w; among = in_ws; on = on; one = refl }
@@ -254,7 +253,8 @@ module _ (m n : State) (f : Flow) (nets : List NetPlan) (packets : List Packet) 
           subst (λ (s : Setup). IsWayOn s.machine s.spots net trail.target trail.branch trail.from trail.to) same
           (subst (λ (x : NetPlan). IsWayOn m.setup.machine m.setup.spots x trail.target trail.branch trail.from trail.to) is trail.way)
           in
-          let w = way_there u.machine u.spots net (tree_of u nets packets stand net has) (source_of u nets packets stand net has) (targets_of u nets packets stand net has) trail.target own.is_target in
+          let w = way_there u.machine u.spots net (tree_of u nets packets stand net has) (source_of u nets packets stand net has) (targets_of u nets packets stand net has) trail.target
+          own.is_target in
           let one = one_way u.machine u.spots nets net trail.target trail.branch w.0.branch trail.from w.0.from trail.to w.0.to stand has own w.2 in
           let on : on_trail w.0.from w.0.to w.0.branch v.leaves.copy.hop v.leaves.station ≡ true =
           subst (λ i. on_trail i w.0.to w.0.branch v.leaves.copy.hop v.leaves.station ≡ true) one.1

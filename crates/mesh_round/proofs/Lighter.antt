@@ -3,13 +3,11 @@ use Rattle.std.proofs.Common.{◌≡◌, ℕ, zero, suc, ◌+◌, ◌*◌, ◌-�
 use Rattle.std.specs.List.{sum_by}
 use Rattle.std.proofs.Math.Nat.{mul-le-mul_left}
 use Rattle.std.proofs.lemmas.List.Sums.{sum_by-append, sum_by-cons}
-use Rattle.spin_base.proofs.Counts.{count_by-append}
-use Rattle.spin_base.proofs.Members.{Among}
+use Rattle.spin_base.proofs.{Counts.count_by-append, Members.Among}
 use Rattle.spin_base.specs.declared.copies.McCopy.{McCopy}
 use Rattle.mesh_core.specs.State.{State, IsMesh}
 use Rattle.mesh_core.specs.Trail.{Station, unsent, in_queue, in_hand, at_core, delivered, dumped, Mark}
-use Rattle.mesh_core.specs.Ledger.{marks_of}
-use Rattle.mesh_core.specs.Heavy.{heavy}
+use Rattle.mesh_core.specs.{Ledger.marks_of, Heavy.heavy}
 use Rattle.mesh_core.proofs.Moves.{IsMoveOf}
 use Rattle.mesh_core.proofs.LedgerLaw.{Bag, Moved, count_left, count_come}
 use Rattle.mesh_round.specs.RoundFlow.{Flow, Passes, HasMoved}

@@ -1,29 +1,23 @@
 -- The ways of a net, one for each target. A place counts where no way before it comes in there: so each chip of the tree counts once.
-use Rattle.std.proofs.Common.{◌≡◌, ◌≢◌, ℕ, zero, suc, ◌+◌, ◌-◌, ◌<◌, ◌≤◌, cond, refl, ap, sym, ◌∙◌, subst, arith, inl, inr, ◌⊎◌, List, [], ◌∷◌, ◌++◌, length, map, get_or, Bool, true, false, Option, Some, None}
+use Rattle.std.proofs.Common.{◌≡◌, ◌≢◌, ℕ, zero, suc, ◌+◌, ◌-◌, ◌<◌, ◌≤◌, cond, refl, ap, sym, ◌∙◌, subst, arith, inl, inr}
+use Rattle.std.proofs.Common.{◌⊎◌, List, [], ◌∷◌, ◌++◌, length, map, get_or, Bool, true, false, Option, Some, None}
 use Rattle.std.specs.List.{All, Contains, list_any, slice_get, sum_by}
 use Rattle.std.proofs.lemmas.Bool.{and_from, true≢false}
 use Rattle.std.proofs.lemmas.List.{get_or_default, length-append}
-use Rattle.std.proofs.lemmas.List.Elements.{All-contains}
-use Rattle.std.proofs.lemmas.List.Sums.{sum_by-cons}
+use Rattle.std.proofs.lemmas.List.{Elements.All-contains, Sums.sum_by-cons}
 use Rattle.spin_base.proofs.Equality.{chip_eq_same, port_eq_same}
 use Rattle.spin_base.proofs.Members.{Among, Contains-map, among_any, among_contains, among_either, any_among, contains_among}
 use Rattle.spin_base.proofs.Tests.{answers_none}
 use Rattle.spin_base.specs.Equality.{chip_eq, port_eq}
-use Rattle.spin_base.specs.declared.chips.Chip.{Chip}
-use Rattle.spin_base.specs.declared.chips.Port.{Port}
-use Rattle.spin_base.specs.declared.chips.Port.TheVariants.{Local}
-use Rattle.spin_base.specs.declared.chips.Spot.{Spot}
+use Rattle.spin_base.specs.declared.chips.{Chip.Chip, Port.Port, Port.TheVariants.Local, Spot.Spot}
 use Rattle.machine_desc.specs.Branch.{Exit, IsBranch, arrival_at}
-use Rattle.machine_desc.specs.Description.{Description}
-use Rattle.machine_desc.specs.NetsOn.{IsWayOn}
+use Rattle.machine_desc.specs.{Description.Description, NetsOn.IsWayOn}
 use Rattle.machine_desc.specs.RoutingTree.{IsRoutingTree, IsTreeChip, end_of}
-use Rattle.machine_desc.specs.declared.nets.NetPlan.{NetPlan}
-use Rattle.machine_desc.specs.declared.trees.Edge.{Edge}
+use Rattle.machine_desc.specs.declared.{nets.NetPlan.NetPlan, trees.Edge.Edge}
 use Rattle.machine_desc.proofs.Branches.{ComesBy, comes_by, length_le_from_apart, same_place, target_on_branch, way_first}
 use Rattle.machine_desc.proofs.TreeLemmas.{tree_end}
 use Rattle.mesh_core.specs.Trail.{comes_in_there}
-use Rattle.mesh_core.proofs.Law.{comes_parts}
-use Rattle.mesh_core.proofs.Ways.{vertex_there}
+use Rattle.mesh_core.proofs.{Law.comes_parts, Ways.vertex_there}
 use Rattle.mesh_round.proofs.Ahead.{Counted, counted_from, counted_in}
 
 -- ---- which places count
@@ -200,7 +194,8 @@ module _ (m : Description) (spots : List Spot) (net : NetPlan) (tree : IsRouting
     pub target : Spot
     pub is_way : IsWayOn m spots net target w.branch w.from w.to
 
-  way_to : (earlier : List Counted) (t : Spot) → Contains net.targets t → (w : Counted) × IsWayOn m spots net t w.branch w.from w.to × ((w.counted ≡ is_new earlier w.branch) × (w.sending ≡ first_of earlier))
+  way_to : (earlier : List Counted) (t : Spot) → Contains net.targets t →
+      (w : Counted) × IsWayOn m spots net t w.branch w.from w.to × ((w.counted ≡ is_new earlier w.branch) × (w.sending ≡ first_of earlier))
   way_to earlier t has =
       let branch = target_on_branch m root edges chips tree t (Contains-map (λ (s : Spot). s.chip) net.targets t has) in
       let from = vertex_there spots net.source source in
@@ -389,7 +384,8 @@ module _ (m : Description) (spots : List Spot) (net : NetPlan) (tree : IsRouting
 
   -- ---- what counts once
 
-  none_sends : (e : Counted) (earlier : List Counted) (ts : List Spot) (within : (t : Spot) → Among t ts → Contains net.targets t) → sum_by (λ (w : Counted). w.sending) (ways_to (e ∷ earlier) ts within) ≡ 0
+  none_sends : (e : Counted) (earlier : List Counted) (ts : List Spot) (within : (t : Spot) → Among t ts → Contains net.targets t) →
+      sum_by (λ (w : Counted). w.sending) (ways_to (e ∷ earlier) ts within) ≡ 0
   unfolding ways_to
   none_sends e earlier [] within = refl
   none_sends e earlier (t ∷ ts) within =
@@ -437,7 +433,8 @@ module _ (m : Description) (spots : List Spot) (net : NetPlan) (tree : IsRouting
   unfolding ways_to
   first_at hop c port earlier [] within none w a comes = absurd a
   first_at hop c port earlier (t ∷ ts) within none w a comes =
-      by_test (comes_at hop c port first) refl (λ off found. first_at hop c port (first ∷ earlier) ts (λ u b. within u (inr b)) (none_of_both (comes_at hop c port) first earlier off none) w found comes) a
+      by_test (comes_at hop c port first) refl (λ off found. first_at hop c port (first ∷ earlier) ts (λ u b. within u (inr b)) (none_of_both (comes_at hop c port) first earlier off none)
+      w found comes) a
     where
       it : (w : Counted) × IsWayOn m spots net t w.branch w.from w.to × ((w.counted ≡ is_new earlier w.branch) × (w.sending ≡ first_of earlier))
       it = way_to earlier t (within t (inl refl))

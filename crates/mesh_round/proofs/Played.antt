@@ -6,8 +6,7 @@ use Rattle.spin_base.specs.declared.wants.Memory.{Memory}
 use Rattle.chip_node.specs.Items.{Item}
 use Rattle.mesh_core.specs.State.{State, IsMesh}
 use Rattle.mesh_core.specs.Expected.{IsAtRest}
-use Rattle.mesh_run.specs.declared.paces.Pace.{Pace}
-use Rattle.mesh_run.specs.declared.raised.RaisedMesh.{RaisedMesh}
+use Rattle.mesh_run.specs.declared.{paces.Pace.Pace, raised.RaisedMesh.RaisedMesh}
 use Rattle.mesh_run.specs.Played.{IsPlayedBy}
 use Rattle.mesh_run.specs.Raised.{IsRaisedFrom, PlaysTo}
 use Rattle.mesh_run.specs.Shares.{IsNoted}

@@ -6,10 +6,8 @@ use Rattle.std.proofs.Math.Seq.{drop-append_seam, take-append_seam}
 use Rattle.std.proofs.lemmas.List.{append-nil, get_or_append_left, get_or-append-add, get_or_default, length-append, same_lists}
 use Rattle.std.proofs.lemmas.Option.{get_or_from_slice_get, slice_get_within, slice_get-get_or}
 use Rattle.spin_base.proofs.Members.{Among, among_contains}
-use Rattle.spin_base.proofs.Pairs.{All-right}
-use Rattle.spin_base.proofs.Places.{both_none}
-use Rattle.spin_base.specs.declared.chips.Chip.{Chip}
-use Rattle.spin_base.specs.declared.chips.Port.{Port}
+use Rattle.spin_base.proofs.{Pairs.All-right, Places.both_none}
+use Rattle.spin_base.specs.declared.chips.{Chip.Chip, Port.Port}
 use Rattle.spin_base.specs.declared.chips.Port.TheVariants.{Link as ByLink, Local}
 use Rattle.spin_base.specs.declared.copies.McCopy.{McCopy}
 use Rattle.machine_desc.specs.Live.{chip_of, index_of, IsInside}

@@ -8,25 +8,21 @@ use Rattle.std.proofs.lemmas.Option.{slice_get_within}
 use Rattle.spin_base.proofs.Members.{Among, among_contains}
 use Rattle.spin_base.proofs.Pairs.{All-flat_map, All-from_flat_map, All-left, All-right}
 use Rattle.spin_base.proofs.Places.{All-each}
-use Rattle.spin_base.specs.declared.chips.Chip.{Chip}
-use Rattle.spin_base.specs.declared.chips.Port.{Port}
-use Rattle.spin_base.specs.declared.copies.McCopy.{McCopy}
-use Rattle.spin_base.specs.declared.copies.Delivery.{Delivery}
-use Rattle.spin_base.specs.declared.copies.DumpRec.{DumpRec}
+use Rattle.spin_base.specs.declared.{chips.Chip.Chip, chips.Port.Port, copies.McCopy.McCopy, copies.Delivery.Delivery, copies.DumpRec.DumpRec}
 use Rattle.spin_base.specs.Hops.{last_hop, onward}
 use Rattle.spin_base.specs.Outputs.{IsOutput}
 use Rattle.machine_desc.specs.Live.{chip_of, IsLiveChip}
 use Rattle.chip_node.specs.declared.ends.Served.{Served}
 use Rattle.chip_node.specs.declared.ends.Served.TheVariants.{Sent, Dumped}
-use Rattle.chip_node.specs.Items.{Item, Service, took, served, sent, got, brought, recorded, where_same, where_there, port_place, entered, left, entered_by, left_by, sent_in, taking_of, service_of, delivered_of, dumped_of, records, sent_by, services, takings}
+use Rattle.chip_node.specs.Items.{Item, Service, took, served, sent, got, brought, recorded, where_same, where_there, port_place, entered, left, entered_by}
+use Rattle.chip_node.specs.Items.{left_by, sent_in, taking_of, service_of, delivered_of, dumped_of, records, sent_by, services, takings}
 use Rattle.mesh_core.specs.State.{Setup, FitsQueue, Queue}
 use Rattle.mesh_core.proofs.Changes.{queue_at-below}
 use Rattle.mesh_run.specs.Played.{held_at, port_count, IsDoneOn, IsLiveIndex}
 use Rattle.mesh_round.specs.RoundFlow.{WasFullAt, capacity_of, held_in}
 use Rattle.mesh_run.proofs.Apart.{first_here, here}
 use Rattle.mesh_round.proofs.Done.{inside_of, place_is}
-use Rattle.mesh_round.proofs.Joined.{among_into}
-use Rattle.mesh_round.proofs.Serving.{served_fits}
+use Rattle.mesh_round.proofs.{Joined.among_into, Serving.served_fits}
 use Rattle.mesh_round.proofs.TheFlow.{Round, Stands, found, beyond, dark, stands, by_place, goes, flow_of, nowhere_fulls}
 
 abbrev IsSmall : McCopy → Type 0
@@ -161,7 +157,8 @@ module _ (r : Round) where
           let place = place_is u j p in
           let low = queue_at-below u.machine (chip_of u.machine j) p (inside_of u j (chip_of u.machine j) live refl) in
           let q = port_place j p in
-          let small : k.hop ≤ last_hop = one_here IsSmall q k (All-contains (λ x. All IsSmall (left_by q x)) r.items (took j p k) (All-from_flat_map IsSmall (left_by q) r.items (small_left q (omega (arith, place, low)))) has) in
+          let small : k.hop ≤ last_hop = one_here IsSmall q k
+          (All-contains (λ x. All IsSmall (left_by q x)) r.items (took j p k) (All-from_flat_map IsSmall (left_by q) r.items (small_left q (omega (arith, place, low)))) has) in
           fits_same P j i ((p, k) ∷ []) (All-cons P (p, k) [] small (All-nil P))
       by (served j c place s) has = All-nil P
       by (sent j v k) has = All-nil P

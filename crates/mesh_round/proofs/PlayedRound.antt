@@ -9,27 +9,20 @@ use Rattle.std.proofs.lemmas.List.Sorted.{IsPermutation-map, IsPermutation-trans
 use Rattle.std.proofs.lemmas.List.Sums.{count_by-le-length, length-filter}
 use Rattle.std.proofs.lemmas.Option.{slice_get_within}
 use Rattle.spin_base.specs.Gathered.{gathered}
-use Rattle.spin_base.specs.declared.chips.Chip.{Chip}
-use Rattle.spin_base.specs.declared.chips.Dir.{Dir}
-use Rattle.spin_base.specs.declared.chips.Port.{Port}
+use Rattle.spin_base.specs.declared.chips.{Chip.Chip, Dir.Dir, Port.Port}
 use Rattle.spin_base.specs.declared.chips.Port.TheVariants.{Link as ByLink, Local}
-use Rattle.spin_base.specs.declared.routes.Out.{Out}
-use Rattle.spin_base.specs.declared.copies.McCopy.{McCopy}
-use Rattle.spin_base.specs.declared.copies.Delivery.{Delivery}
-use Rattle.spin_base.specs.declared.copies.DumpRec.{DumpRec}
+use Rattle.spin_base.specs.declared.{routes.Out.Out, copies.McCopy.McCopy, copies.Delivery.Delivery, copies.DumpRec.DumpRec}
 use Rattle.spin_base.specs.Equality.{chip_eq, out_eq}
-use Rattle.spin_base.specs.Hops.{onward}
-use Rattle.spin_base.specs.Links.{opposite_of}
-use Rattle.spin_base.specs.Outputs.{IsOutput}
+use Rattle.spin_base.specs.{Hops.onward, Links.opposite_of, Outputs.IsOutput}
 use Rattle.spin_base.proofs.Tests.{answers_none}
 use Rattle.machine_desc.specs.Live.{chip_of, index_of, is_live_chip, is_live_link, IsInside, IsLiveChip}
 use Rattle.machine_desc.proofs.Far.{far_inside, live_inside}
 use Rattle.machine_desc.proofs.Live.{chip_of-index_of}
-use Rattle.chip_node.specs.Items.{Item, Service, brought, delivered_of, dumped_of, entered, entered_by, getting_of, gettings, left, left_by, lost, lost_at, lost_by, records, sending_of, sendings, sent_by, sent_in, service_of, services, taking_of, takings}
+use Rattle.chip_node.specs.Items.{Item, Service, brought, delivered_of, dumped_of, entered, entered_by, getting_of, gettings, left, left_by, lost}
+use Rattle.chip_node.specs.Items.{lost_at, lost_by, records, sending_of, sendings, sent_by, sent_in, service_of, services, taking_of, takings}
 use Rattle.mesh_core.specs.State.{Setup, Hand, core, nowhere, behind, queue_at}
 use Rattle.mesh_core.specs.Ledger.{all_ports}
-use Rattle.mesh_core.proofs.Changes.{queue_at-below}
-use Rattle.mesh_core.proofs.Ways.{vertex_behind_stands}
+use Rattle.mesh_core.proofs.{Changes.queue_at-below, Ways.vertex_behind_stands}
 use Rattle.mesh_run.specs.Played.{queue_place_of, vertex_place, owed_on, IsDoneOn}
 use Rattle.mesh_round.specs.RoundFlow.{Passes, IsRound, IsQueueOf, at_port, delivered_to, dumped_at, got_on, leaves_by, of_chip, sent_on, taken_for}
 use Rattle.mesh_round.proofs.Done.{copies_at, copies_to, collected_by, entered_behind, got_by_bank, injected_by, lost_behind, none_went, not_entered, recorded_at, sent_by_bank, service_at, taken_by}
@@ -73,7 +66,8 @@ module _ (r : Round) where
   pub dead_chips : (c : Chip) → IsInside u.machine c → is_live_chip u.machine c ≡ false → (flow_of r).entered (at_port u c Local) ≡ []
   dead_chips c inside dead =
       entered_port c Local inside
-      ∙ flat_none (IsDoneOn u) (entered_by (queue_at u.machine c Local)) (not_entered u c inside Local (λ d same live. no_wire d same) (λ same live. answers_none (is_live_chip u.machine c) live dead)) r.items r.played.turns_are.each
+      ∙ flat_none (IsDoneOn u) (entered_by (queue_at u.machine c Local))
+      (not_entered u c inside Local (λ d same live. no_wire d same) (λ same live. answers_none (is_live_chip u.machine c) live dead)) r.items r.played.turns_are.each
     where
       no_wire : (d : Dir) → Local ≡ ByLink d → ⊥
       no_wire d same = cc
@@ -95,7 +89,8 @@ module _ (r : Round) where
       let every : Port → McCopy → Bool = λ port k. true in
       let ts = takings (index_of u.machine c) r.items in
       let sum = sum_lengths (λ port. (flow_of r).left (at_port u c port)) 0 all_ports in
-      let same = length_permutation (gathered (λ i port. filter (λ k. true) ((flow_of r).left (at_port u c port))) 0 all_ports) (flat_map (λ t. t.1 ∷ []) ts) (taken_at_ports every c (live_inside u.machine c live)) in
+      let same = length_permutation (gathered (λ i port. filter (λ k. true) ((flow_of r).left (at_port u c port))) 0 all_ports) (flat_map (λ t. t.1 ∷ []) ts)
+      (taken_at_ports every c (live_inside u.machine c live)) in
       let all = ap length (flat_map_single (λ (t : Port × McCopy). t.1) ts) in
       let long = length-map ts (λ (t : Port × McCopy). t.1) in
       let few = r.played.turns_are.takes (index_of u.machine c) in
@@ -201,7 +196,8 @@ module _ (r : Round) where
       where
         by : (x : Stands r (behind u c o)) → r.patience * length (dumped_at (flow_of r) c o) ≤ length (by_place r (behind u c o) (λ p. (goes r (behind u c o) p).fulls) (nowhere_fulls r) x)
         by (found p) =
-            let lost_is : lost_at p.at r.items ≡ dumped_at (flow_of r) c o = all_agree (lost_by p.at) (λ x. fell (service_at u c inside o x)) (lost_behind u c inside o p.at p.is) ∙ (fell_is ∙ sym dumped_is) in
+            let lost_is : lost_at p.at r.items ≡ dumped_at (flow_of r) c o =
+            all_agree (lost_by p.at) (λ x. fell (service_at u c inside o x)) (lost_behind u c inside o p.at p.is) ∙ (fell_is ∙ sym dumped_is) in
             subst (λ (l : List McCopy). r.patience * length l ≤ length (goes r (behind u c o) p).fulls) lost_is (goes r (behind u c o) p).patient
         by (beyond out some before after) = absurd (not_beyond out some)
         by (dark is) =

@@ -3,21 +3,16 @@ use Rattle.std.proofs.Common.{◌≡◌, ◌⊎◌, ℕ, zero, suc, ◌+◌, ◌
 use Rattle.std.specs.List.{sum_by}
 use Rattle.std.proofs.lemmas.List.Sums.{sum_by-append, sum_by-cons}
 use Rattle.spin_base.proofs.Exchange.{TakenOut, PutIn}
-use Rattle.spin_base.specs.declared.chips.Chip.{Chip}
-use Rattle.spin_base.specs.declared.chips.Port.TheVariants.{Link as ByLink}
-use Rattle.spin_base.specs.declared.routes.Out.{Out}
-use Rattle.spin_base.specs.declared.copies.McCopy.{McCopy}
-use Rattle.spin_base.specs.declared.copies.DumpRec.{DumpRec}
-use Rattle.spin_base.specs.Links.{opposite_of}
-use Rattle.spin_base.specs.Hops.{onward}
+use Rattle.spin_base.specs.declared.chips.{Chip.Chip, Port.TheVariants.Link as ByLink}
+use Rattle.spin_base.specs.declared.{routes.Out.Out, copies.McCopy.McCopy, copies.DumpRec.DumpRec}
+use Rattle.spin_base.specs.{Links.opposite_of, Hops.onward}
 use Rattle.mesh_core.specs.declared.places.Did.TheVariants.{Moved, Idle}
 use Rattle.mesh_core.proofs.EventsLaw.{same_room}
 use Rattle.mesh_core.specs.State.{State, Queue, behind}
 use Rattle.mesh_core.specs.Step.{push_behind}
 use Rattle.mesh_core.specs.PutBack.{put_back_of, after_put_back}
 use Rattle.mesh_core.specs.Trail.{in_queue, at_core, dumped, Mark}
-use Rattle.mesh_core.specs.Ledger.{marks_of}
-use Rattle.mesh_core.specs.Heavy.{heavy}
+use Rattle.mesh_core.specs.{Ledger.marks_of, Heavy.heavy}
 use Rattle.mesh_core.proofs.Events.{arrives}
 use Rattle.mesh_core.proofs.Heavy.{one_heavy, heavy_grows}
 use Rattle.mesh_core.proofs.Moves.{mark, Crosses, dumped_out}

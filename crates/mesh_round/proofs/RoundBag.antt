@@ -6,28 +6,20 @@ use Rattle.std.proofs.lemmas.Bool.{cases_Bool, eqb-true}
 use Rattle.std.proofs.lemmas.List.{map-append, length-map}
 use Rattle.std.proofs.lemmas.List.Elements.{All-contains}
 use Rattle.std.proofs.lemmas.List.Sums.{sum_by-cons, sum_by-append, length-filter, count_by-le-length}
-use Rattle.std.proofs.lemmas.List.Sorted.{sum_by-IsPermutation}
-use Rattle.std.proofs.lemmas.Option.{slice_get_within}
+use Rattle.std.proofs.lemmas.{List.Sorted.sum_by-IsPermutation, Option.slice_get_within}
 use Rattle.spin_base.specs.Gathered.{gathered}
-use Rattle.spin_base.proofs.Counts.{count_by-append}
-use Rattle.spin_base.proofs.Gathering.{gathered_of_none}
+use Rattle.spin_base.proofs.{Counts.count_by-append, Gathering.gathered_of_none}
 use Rattle.spin_base.proofs.Members.{Among, among_contains, among_map, among_left, Contains-filter, map_among, contains_among}
 use Rattle.spin_base.proofs.Places.{All-at, slice_get_there}
-use Rattle.spin_base.specs.declared.chips.Chip.{Chip}
-use Rattle.spin_base.specs.declared.chips.Spot.{Spot}
-use Rattle.spin_base.specs.declared.chips.Port.TheVariants.{Local}
-use Rattle.spin_base.specs.declared.routes.Out.{Out}
-use Rattle.spin_base.specs.declared.copies.McCopy.{McCopy}
-use Rattle.spin_base.specs.declared.copies.Delivery.{Delivery}
-use Rattle.spin_base.specs.declared.copies.DumpRec.{DumpRec}
+use Rattle.spin_base.specs.declared.chips.{Chip.Chip, Spot.Spot, Port.TheVariants.Local}
+use Rattle.spin_base.specs.declared.{routes.Out.Out, copies.McCopy.McCopy, copies.Delivery.Delivery, copies.DumpRec.DumpRec}
 use Rattle.spin_base.specs.Equality.{chip_eq, out_eq}
 use Rattle.spin_base.specs.Outputs.{all_outs, IsOutput}
 use Rattle.spin_base.proofs.Equality.{nat_eq_same, chip_eq_true, out_eq_true}
 use Rattle.spin_base.proofs.Once.{all_once}
 use Rattle.spin_base.specs.Hops.{last_hop, onward}
 use Rattle.machine_desc.specs.Live.{chip_of, IsLiveChip, IsSite}
-use Rattle.machine_desc.proofs.Far.{live_inside}
-use Rattle.machine_desc.proofs.Sites.{site_parts}
+use Rattle.machine_desc.proofs.{Far.live_inside, Sites.site_parts}
 use Rattle.mesh_core.specs.State.{Setup, State, IsMesh, Queue, input, core, nowhere, behind}
 use Rattle.mesh_core.specs.Step.{outputs}
 use Rattle.mesh_core.specs.Trail.{Station, unsent, in_queue, in_hand, at_core, delivered, dumped, Mark}
@@ -115,7 +107,8 @@ module _ (m : State) (f : Flow) (n : State) (mesh : IsMesh m) (after : IsMesh n)
       (λ c p. sum_by (λ o. sum_by (λ k. count_by p (mark (onward k) (station_of u (behind u c o)) ∷ [])) (map back (f.entered (behind u c o)))) all_outs) (live_chips u.machine)
       (λ c a. part_each (λ o p. count_by p (marks_at (in_hand c o) (map back (f.entered (behind u c o)))))
       (λ o p. sum_by (λ k. count_by p (mark (onward k) (station_of u (behind u c o)) ∷ [])) (map back (f.entered (behind u c o)))) all_outs
-      (λ o b. part_of (in_hand c o) (λ k. mark (onward k) (station_of u (behind u c o)) ∷ []) (map back (f.entered (behind u c o))) (λ k d. crosses c o (live_of_live_chips u.machine c a) (has_bit o b) k d)))
+      (λ o b. part_of (in_hand c o) (λ k. mark (onward k) (station_of u (behind u c o)) ∷ []) (map back (f.entered (behind u c o)))
+      (λ k d. crosses c o (live_of_live_chips u.machine c a) (has_bit o b) k d)))
     where
       crosses : (c : Chip) (o : Out) → IsLiveChip u.machine c → IsOutput o → (k : McCopy) → Among k (map back (f.entered (behind u c o))) →
           IsMoveOf m k (in_hand c o) (mark (onward k) (station_of u (behind u c o)) ∷ []) × (k.hop ≤ last_hop)
@@ -125,7 +118,8 @@ module _ (m : State) (f : Flow) (n : State) (mesh : IsMesh m) (after : IsMesh n)
           let small : k.hop ≤ last_hop = subst (λ (j : McCopy). j.hop ≤ last_hop) (sym of.2) (omega (arith, fits.1)) in
           (inr (crosses_behind m k c o live (λ none. subst (λ xs. Among of.0 xs) (ap f.entered none ∙ passes.nowhere_empty) of.1)), small)
 
-  dumped_part : Part m (λ p. sum_by (λ (r : DumpRec). count_by p (mark r.copy (in_hand r.chip r.out) ∷ [])) f.dumped) (λ p. sum_by (λ (r : DumpRec). count_by p (mark r.copy (dumped r.chip r.out) ∷ [])) f.dumped)
+  dumped_part : Part m (λ p. sum_by (λ (r : DumpRec). count_by p (mark r.copy (in_hand r.chip r.out) ∷ [])) f.dumped)
+      (λ p. sum_by (λ (r : DumpRec). count_by p (mark r.copy (dumped r.chip r.out) ∷ [])) f.dumped)
   dumped_part =
       part_each (λ (r : DumpRec) p. count_by p (mark r.copy (in_hand r.chip r.out) ∷ [])) (λ (r : DumpRec) p. count_by p (mark r.copy (dumped r.chip r.out) ∷ [])) f.dumped
       (λ r a.
@@ -149,7 +143,8 @@ module _ (m : State) (f : Flow) (n : State) (mesh : IsMesh m) (after : IsMesh n)
       (contains_among d (filter (λ (e : Delivery). e.vertex == d.vertex) f.delivered) mine) in
       left_small (core d.vertex) d.copy (subst (λ xs. Among d.copy xs) (passes.collected d.vertex below) there)
 
-  delivered_part : Part m (λ p. sum_by (λ (d : Delivery). count_by p (mark d.copy (at_core d.vertex) ∷ [])) f.delivered) (λ p. sum_by (λ (d : Delivery). count_by p (mark d.copy (delivered d.vertex) ∷ [])) f.delivered)
+  delivered_part : Part m (λ p. sum_by (λ (d : Delivery). count_by p (mark d.copy (at_core d.vertex) ∷ [])) f.delivered)
+      (λ p. sum_by (λ (d : Delivery). count_by p (mark d.copy (delivered d.vertex) ∷ [])) f.delivered)
   delivered_part =
       part_each (λ (d : Delivery) p. count_by p (mark d.copy (at_core d.vertex) ∷ [])) (λ (d : Delivery) p. count_by p (mark d.copy (delivered d.vertex) ∷ [])) f.delivered
       (λ d a.
@@ -183,7 +178,8 @@ module _ (m : State) (f : Flow) (n : State) (mesh : IsMesh m) (after : IsMesh n)
         ≡ sum_by (λ i. came_in (input i)) places + sum_by (λ v. came_in (core v)) vertices
     came_by_parts =
         sym (sum_plus (λ c. came_in (at_port u c Local)) (λ c. sum_by (λ o. came_in (behind u c o)) all_outs) (live_chips u.machine))
-        ∙ (sum_agree (λ c. came_in (at_port u c Local) + sum_by (λ o. came_in (behind u c o)) all_outs) (λ c. sum_by (λ x. came_in (from u (c, x))) choices) (live_chips u.machine) (λ c a. sym (at_chip c))
+        ∙ (sum_agree (λ c. came_in (at_port u c Local) + sum_by (λ o. came_in (behind u c o)) all_outs) (λ c. sum_by (λ x. came_in (from u (c, x))) choices) (live_chips u.machine)
+        (λ c a. sym (at_chip c))
         ∙ (sym (sum_sources u.machine (λ s. came_in (from u s)))
         ∙ (all_came p m f n mesh passes
         ∙ (sum_by-append came_in (map input places) (map core vertices)
@@ -199,7 +195,8 @@ module _ (m : State) (f : Flow) (n : State) (mesh : IsMesh m) (after : IsMesh n)
     injected_is =
         sum_agree (λ c. came_in (at_port u c Local)) (λ c. sum_at (λ v (spot : Spot). share c v spot) 0 u.spots) (live_chips u.machine) (λ c a. at_chip c (live_of_live_chips u.machine c a))
         ∙ (sum_at-swap share 0 u.spots (live_chips u.machine)
-        ∙ sum_at-agree (λ v (spot : Spot). sum_by (λ c. share c v spot) (live_chips u.machine)) (λ v (spot : Spot). sum_by (λ k. count_by p (mark k (in_queue spot.chip Local) ∷ [])) (f.sent v)) 0 u.spots
+        ∙ sum_at-agree (λ v (spot : Spot). sum_by (λ c. share c v spot) (live_chips u.machine))
+        (λ v (spot : Spot). sum_by (λ k. count_by p (mark k (in_queue spot.chip Local) ∷ [])) (f.sent v)) 0 u.spots
         (λ v spot at. of_vertex (0 + v) spot (site_parts u.machine spot (All-at (IsSite u.machine) u.spots v spot mesh.sites at)).0))
       where
         into : Chip → McCopy → ℕ
@@ -225,7 +222,8 @@ module _ (m : State) (f : Flow) (n : State) (mesh : IsMesh m) (after : IsMesh n)
             ∙ (sum_gathered (into c) (λ v spot. of_chip c spot (f.sent v)) 0 u.spots
             ∙ sum_at-agree (λ v spot. sum_by (into c) (of_chip c spot (f.sent v))) (λ v (spot : Spot). share c v spot) 0 u.spots (λ v spot at. of_copies c spot (f.sent (0 + v))))))
 
-        of_vertex : (v : ℕ) (spot : Spot) → IsLiveChip u.machine spot.chip → sum_by (λ c. share c v spot) (live_chips u.machine) ≡ sum_by (λ k. count_by p (mark k (in_queue spot.chip Local) ∷ [])) (f.sent v)
+        of_vertex : (v : ℕ) (spot : Spot) → IsLiveChip u.machine spot.chip →
+            sum_by (λ c. share c v spot) (live_chips u.machine) ≡ sum_by (λ k. count_by p (mark k (in_queue spot.chip Local) ∷ [])) (f.sent v)
         of_vertex v spot live =
             sum_agree (λ c. share c v spot) (λ c. cond (chip_eq spot.chip c) (sum_by (into spot.chip) (f.sent v)) 0) (live_chips u.machine) (λ c a. same c)
             ∙ (one_passes (chip_eq spot.chip) (sum_by (into spot.chip) (f.sent v)) (live_chips u.machine) (live_chip_once u.machine spot.chip live)
@@ -241,7 +239,8 @@ module _ (m : State) (f : Flow) (n : State) (mesh : IsMesh m) (after : IsMesh n)
     crossed_is : sum_by (λ c. sum_by (λ o. sum_by (λ k. count_by p (mark (onward k) (station_of u (behind u c o)) ∷ [])) (map back (f.entered (behind u c o)))) all_outs) (live_chips u.machine)
         ≡ sum_by (λ c. sum_by (λ o. came_in (behind u c o)) all_outs) (live_chips u.machine)
     crossed_is =
-        sum_agree (λ c. sum_by (λ o. sum_by (λ k. count_by p (mark (onward k) (station_of u (behind u c o)) ∷ [])) (map back (f.entered (behind u c o)))) all_outs) (λ c. sum_by (λ o. came_in (behind u c o)) all_outs) (live_chips u.machine)
+        sum_agree (λ c. sum_by (λ o. sum_by (λ k. count_by p (mark (onward k) (station_of u (behind u c o)) ∷ [])) (map back (f.entered (behind u c o)))) all_outs)
+        (λ c. sum_by (λ o. came_in (behind u c o)) all_outs) (live_chips u.machine)
         (λ c a. sum_agree (λ o. sum_by (λ k. count_by p (mark (onward k) (station_of u (behind u c o)) ∷ [])) (map back (f.entered (behind u c o)))) (λ o. came_in (behind u c o)) all_outs
         (λ o b. at_output c o (live_of_live_chips u.machine c a) (has_bit o b)))
       where
@@ -262,12 +261,15 @@ module _ (m : State) (f : Flow) (n : State) (mesh : IsMesh m) (after : IsMesh n)
         ≡ sum_by (λ i. sum_by (λ k. count_by p (map (λ o. mark k (in_hand (chip_of u.machine (i / 7)) o)) (outputs u (chip_of u.machine (i / 7)) (port_of (i % 7)) k))) (f.left (input i))) places
     hands_even =
         ap₂ (λ (a b : ℕ). a + b)
-        (sum_agree (λ c. sum_by (λ o. count_by p (marks_at (in_hand c o) (map back (f.entered (behind u c o))))) all_outs) (λ c. sum_by (λ o. sum_by (weight p m f n mesh passes c o) (map back (f.entered (behind u c o)))) all_outs) (live_chips u.machine)
+        (sum_agree (λ c. sum_by (λ o. count_by p (marks_at (in_hand c o) (map back (f.entered (behind u c o))))) all_outs)
+        (λ c. sum_by (λ o. sum_by (weight p m f n mesh passes c o) (map back (f.entered (behind u c o)))) all_outs) (live_chips u.machine)
         (λ c a. sum_agree (λ o. count_by p (marks_at (in_hand c o) (map back (f.entered (behind u c o))))) (λ o. sum_by (weight p m f n mesh passes c o) (map back (f.entered (behind u c o)))) all_outs
         (λ o b. sum_map (λ k. mark k (in_hand c o)) (λ x. one_where (p x)) (map back (f.entered (behind u c o))))))
-        (sum_agree (λ (r : DumpRec). count_by p (mark r.copy (in_hand r.chip r.out) ∷ [])) (λ (r : DumpRec). weight p m f n mesh passes r.chip r.out r.copy) f.dumped (λ r a. single (mark r.copy (in_hand r.chip r.out))))
+        (sum_agree (λ (r : DumpRec). count_by p (mark r.copy (in_hand r.chip r.out) ∷ [])) (λ (r : DumpRec). weight p m f n mesh passes r.chip r.out r.copy) f.dumped
+        (λ r a. single (mark r.copy (in_hand r.chip r.out))))
         ∙ (sym (hands_balance p m f n mesh passes)
-        ∙ sum_agree (taken_from p m f n mesh passes) (λ i. sum_by (λ k. count_by p (map (λ o. mark k (in_hand (chip_of u.machine (i / 7)) o)) (outputs u (chip_of u.machine (i / 7)) (port_of (i % 7)) k))) (f.left (input i))) places
+        ∙ sum_agree (taken_from p m f n mesh passes)
+        (λ i. sum_by (λ k. count_by p (map (λ o. mark k (in_hand (chip_of u.machine (i / 7)) o)) (outputs u (chip_of u.machine (i / 7)) (port_of (i % 7)) k))) (f.left (input i))) places
         (λ i a. sum_agree (λ k. sum_by (λ o. weight p m f n mesh passes (chip_of u.machine (i / 7)) o k) (outputs u (chip_of u.machine (i / 7)) (port_of (i % 7)) k))
         (λ k. count_by p (map (λ o. mark k (in_hand (chip_of u.machine (i / 7)) o)) (outputs u (chip_of u.machine (i / 7)) (port_of (i % 7)) k))) (f.left (input i))
         (λ k b. sym (sum_map (λ o. mark k (in_hand (chip_of u.machine (i / 7)) o)) (λ x. one_where (p x)) (outputs u (chip_of u.machine (i / 7)) (port_of (i % 7)) k)))))
@@ -325,13 +327,16 @@ module _ (m : State) (f : Flow) (n : State) (mesh : IsMesh m) (after : IsMesh n)
         length_is : length n.unsent ≡ length m.unsent
         length_is = after.unsent_lists ∙ (ap (λ (s : Setup). length s.spots) passes.setup ∙ sym mesh.unsent_lists)
 
-    inputs_even : count_by p (input_marks m) + sum_by (λ i. came_in (input i)) places ≡ sum_by (λ i. count_by p (marks_at (station_of u (input i)) (f.left (input i)))) places + count_by p (input_marks n)
+    inputs_even : count_by p (input_marks m) + sum_by (λ i. came_in (input i)) places
+        ≡ sum_by (λ i. count_by p (marks_at (station_of u (input i)) (f.left (input i)))) places + count_by p (input_marks n)
     inputs_even =
         let long : length n.inputs ≡ length m.inputs = after.input_lists ∙ (ap (λ (s : Setup). 7 * (s.machine.width * s.machine.height)) passes.setup ∙ sym mesh.input_lists) in
         let same = queues_balance p (λ i. station_of u (input i)) (λ i. f.entered (input i)) (λ i. f.left (input i)) 0 m.inputs n.inputs long (λ i low.
         subst (λ j. slice_index_or m.inputs i [] ++ f.entered (input j) ≡ f.left (input j) ++ slice_index_or n.inputs i []) (sym (zero-add i)) (passes.in_order (input i))) in
-        let came_sum : sum_by (λ i. came_in (input i)) (range_with_len 0 (length m.inputs)) ≡ sum_by (λ i. came_in (input i)) places = ap (λ k. sum_by (λ i. came_in (input i)) (range_with_len 0 k)) mesh.input_lists in
-        let left_sum : sum_by (λ i. count_by p (marks_at (station_of u (input i)) (f.left (input i)))) (range_with_len 0 (length m.inputs)) ≡ sum_by (λ i. count_by p (marks_at (station_of u (input i)) (f.left (input i)))) places =
+        let came_sum : sum_by (λ i. came_in (input i)) (range_with_len 0 (length m.inputs)) ≡ sum_by (λ i. came_in (input i)) places =
+        ap (λ k. sum_by (λ i. came_in (input i)) (range_with_len 0 k)) mesh.input_lists in
+        let left_sum : sum_by (λ i. count_by p (marks_at (station_of u (input i)) (f.left (input i)))) (range_with_len 0 (length m.inputs))
+        ≡ sum_by (λ i. count_by p (marks_at (station_of u (input i)) (f.left (input i)))) places =
         ap (λ k. sum_by (λ i. count_by p (marks_at (station_of u (input i)) (f.left (input i)))) (range_with_len 0 k)) mesh.input_lists in
         let marks_n : count_by p (input_marks n) ≡ passing_in p (λ i. station_of u (input i)) (λ i. f.entered (input i)) (λ i. f.left (input i)) 0 n.inputs =
         ap (λ (s : Setup). count_by p (gathered (λ i copies. marks_at (in_queue (chip_of s.machine (i / 7)) (port_of (i % 7))) copies) 0 n.inputs)) passes.setup in
@@ -342,8 +347,10 @@ module _ (m : State) (f : Flow) (n : State) (mesh : IsMesh m) (after : IsMesh n)
         let long : length n.cores ≡ length m.cores = after.core_lists ∙ (ap (λ (s : Setup). length s.spots) passes.setup ∙ sym mesh.core_lists) in
         let same = queues_balance p (λ v. at_core v) (λ v. f.entered (core v)) (λ v. f.left (core v)) 0 m.cores n.cores long (λ v low.
         subst (λ j. slice_index_or m.cores v [] ++ f.entered (core j) ≡ f.left (core j) ++ slice_index_or n.cores v []) (sym (zero-add v)) (passes.in_order (core v))) in
-        let came_sum : sum_by (λ v. came_in (core v)) (range_with_len 0 (length m.cores)) ≡ sum_by (λ v. came_in (core v)) vertices = ap (λ k. sum_by (λ v. came_in (core v)) (range_with_len 0 k)) mesh.core_lists in
-        let left_sum : sum_by (λ v. count_by p (marks_at (at_core v) (f.left (core v)))) (range_with_len 0 (length m.cores)) ≡ sum_by (λ v. count_by p (marks_at (at_core v) (f.left (core v)))) vertices =
+        let came_sum : sum_by (λ v. came_in (core v)) (range_with_len 0 (length m.cores)) ≡ sum_by (λ v. came_in (core v)) vertices =
+        ap (λ k. sum_by (λ v. came_in (core v)) (range_with_len 0 k)) mesh.core_lists in
+        let left_sum : sum_by (λ v. count_by p (marks_at (at_core v) (f.left (core v)))) (range_with_len 0 (length m.cores))
+        ≡ sum_by (λ v. count_by p (marks_at (at_core v) (f.left (core v)))) vertices =
         ap (λ k. sum_by (λ v. count_by p (marks_at (at_core v) (f.left (core v)))) (range_with_len 0 k)) mesh.core_lists in
         omega (arith, same, came_sum, left_sum)
 
@@ -357,7 +364,8 @@ module _ (m : State) (f : Flow) (n : State) (mesh : IsMesh m) (after : IsMesh n)
         ∙ (count_by-append p (delivered_marks m) (map (λ (d : Delivery). mark d.copy (delivered d.vertex)) f.delivered)
         ∙ ap (λ k. count_by p (delivered_marks m) + k)
         (sum_map (λ (d : Delivery). mark d.copy (delivered d.vertex)) (λ x. one_where (p x)) f.delivered
-        ∙ sum_agree (λ (d : Delivery). one_where (p (mark d.copy (delivered d.vertex)))) (λ (d : Delivery). count_by p (mark d.copy (delivered d.vertex) ∷ [])) f.delivered (λ d a. sym (single (mark d.copy (delivered d.vertex)))))))
+        ∙ sum_agree (λ (d : Delivery). one_where (p (mark d.copy (delivered d.vertex)))) (λ (d : Delivery). count_by p (mark d.copy (delivered d.vertex) ∷ [])) f.delivered
+        (λ d a. sym (single (mark d.copy (delivered d.vertex)))))))
 
     dumped_even : count_by p (dumped_marks n) ≡ count_by p (dumped_marks m) + sum_by (λ (r : DumpRec). count_by p (mark r.copy (dumped r.chip r.out) ∷ [])) f.dumped
     dumped_even =
@@ -366,9 +374,11 @@ module _ (m : State) (f : Flow) (n : State) (mesh : IsMesh m) (after : IsMesh n)
         ∙ (count_by-append p (dumped_marks m) (map (λ (r : DumpRec). mark r.copy (dumped r.chip r.out)) f.dumped)
         ∙ ap (λ k. count_by p (dumped_marks m) + k)
         (sum_map (λ (r : DumpRec). mark r.copy (dumped r.chip r.out)) (λ x. one_where (p x)) f.dumped
-        ∙ sum_agree (λ (r : DumpRec). one_where (p (mark r.copy (dumped r.chip r.out)))) (λ (r : DumpRec). count_by p (mark r.copy (dumped r.chip r.out) ∷ [])) f.dumped (λ r a. sym (single (mark r.copy (dumped r.chip r.out)))))))
+        ∙ sum_agree (λ (r : DumpRec). one_where (p (mark r.copy (dumped r.chip r.out)))) (λ (r : DumpRec). count_by p (mark r.copy (dumped r.chip r.out) ∷ [])) f.dumped
+        (λ r a. sym (single (mark r.copy (dumped r.chip r.out)))))))
 
-    pub in_parts : (s : State) → count_by p (marks_of s) ≡ count_by p (unsent_marks s) + (count_by p (input_marks s) + (count_by p (all_hand_marks s) + (count_by p (core_marks s) + (count_by p (delivered_marks s) + count_by p (dumped_marks s)))))
+    pub in_parts : (s : State) → count_by p (marks_of s)
+        ≡ count_by p (unsent_marks s) + (count_by p (input_marks s) + (count_by p (all_hand_marks s) + (count_by p (core_marks s) + (count_by p (delivered_marks s) + count_by p (dumped_marks s)))))
     in_parts s =
         let a = count_by-append p (unsent_marks s) (input_marks s ++ (all_hand_marks s ++ (core_marks s ++ (delivered_marks s ++ dumped_marks s)))) in
         let b = count_by-append p (input_marks s) (all_hand_marks s ++ (core_marks s ++ (delivered_marks s ++ dumped_marks s))) in
@@ -419,7 +429,8 @@ module _ (m : State) (f : Flow) (n : State) (mesh : IsMesh m) (after : IsMesh n)
   some_items (x ∷ xs) some = omega arith
 
   steps : count_left is_step bag_of_round.moves
-      ≡ count_left is_step sent_part.moves + (count_left is_step taken_part.moves + (count_left is_step crossed_part.moves + (count_left is_step dumped_part.moves + count_left is_step delivered_part.moves)))
+      ≡ count_left is_step sent_part.moves
+      + (count_left is_step taken_part.moves + (count_left is_step crossed_part.moves + (count_left is_step dumped_part.moves + count_left is_step delivered_part.moves)))
   unfolding bag_of_round both_parts
   steps =
       let a = count_left-append is_step sent_part.moves (taken_part.moves ++ (crossed_part.moves ++ (dumped_part.moves ++ delivered_part.moves))) in
@@ -438,7 +449,8 @@ module _ (m : State) (f : Flow) (n : State) (mesh : IsMesh m) (after : IsMesh n)
       let below : i < 7 * (u.machine.width * u.machine.height) = omega (arith, is, mesh.input_lists) in
       let one = once_in_range i 0 (7 * (u.machine.width * u.machine.height)) (omega arith) (omega (arith, below)) in
       let found = counted (λ j. i == j) (range_with_len 0 (7 * (u.machine.width * u.machine.height))) (omega (arith, one)) in
-      let there : Among i (range_with_len 0 (7 * (u.machine.width * u.machine.height))) = subst (λ j. Among j (range_with_len 0 (7 * (u.machine.width * u.machine.height)))) (sym (eqb-true i found.0 found.2)) found.1 in
+      let there : Among i (range_with_len 0 (7 * (u.machine.width * u.machine.height))) =
+      subst (λ j. Among j (range_with_len 0 (7 * (u.machine.width * u.machine.height)))) (sym (eqb-true i found.0 found.2)) found.1 in
       let some = some_items (f.left (input i)) left in
       let all = all_copies (station_of u (input i)) (f.left (input i)) refl in
       let part = by_part (count_left is_step taken_part.moves) _ (count_by is_step (marks_at (station_of u (input i)) (f.left (input i)))) (taken_part.leaving is_step)

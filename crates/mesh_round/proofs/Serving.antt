@@ -6,10 +6,7 @@ use Rattle.std.proofs.lemmas.Bool.{cases_Bool}
 use Rattle.std.proofs.lemmas.List.Sorted.{IsPermutation-refl, IsPermutation-sym, IsPermutation-cons, IsPermutation-trans, IsPermutation-middle}
 use Rattle.spin_base.proofs.Counts.{count_by-cons}
 use Rattle.spin_base.proofs.Members.{Among, among_map, map_among}
-use Rattle.spin_base.specs.declared.chips.Chip.{Chip}
-use Rattle.spin_base.specs.declared.chips.Port.{Port}
-use Rattle.spin_base.specs.declared.routes.Out.{Out}
-use Rattle.spin_base.specs.declared.copies.McCopy.{McCopy}
+use Rattle.spin_base.specs.declared.{chips.Chip.Chip, chips.Port.Port, routes.Out.Out, copies.McCopy.McCopy}
 use Rattle.spin_base.specs.Equality.{out_eq}
 use Rattle.spin_base.specs.Hops.{last_hop, onward}
 use Rattle.spin_base.specs.Lookup.{lookup}
@@ -19,8 +16,7 @@ use Rattle.machine_desc.specs.RightTables.{table_at}
 use Rattle.chip_node.specs.declared.ends.Served.{Served}
 use Rattle.chip_node.specs.declared.ends.Served.TheVariants.{Sent, Dumped}
 use Rattle.chip_node.specs.Items.{Service, brought, lost}
-use Rattle.mesh_core.specs.State.{Setup}
-use Rattle.mesh_core.specs.Step.{outputs}
+use Rattle.mesh_core.specs.{State.Setup, Step.outputs}
 use Rattle.mesh_core.proofs.MarkTests.{below_last}
 use Rattle.mesh_run.specs.Played.{owed_on}
 use Rattle.mesh_round.specs.RoundFlow.{leaves_by}
@@ -141,7 +137,8 @@ pub served_fits : (u : Setup) (c : Chip) (taken : List (Port × McCopy)) (ss : L
     (s : Service) → Among s ss → (t : Port × McCopy) × Among t taken × (s.copy ≡ t.1) × (t.1.hop ≤ last_hop → s.copy.hop < last_hop)
 served_fits u c taken ss each s a =
     let owes : Port × McCopy → List (Out × McCopy) = λ t. map {B = Out × McCopy} (λ o. (o, t.1)) (outputs u c t.0 t.1) in
-    let there : Among (s.out, s.copy) (owed_on u c taken) = subst (λ (l : List (Out × McCopy)). Among (s.out, s.copy) l) each (map_among {Y = Out × McCopy} (λ (x : Service). (x.out, x.copy)) s ss a) in
+    let there : Among (s.out, s.copy) (owed_on u c taken) = subst (λ (l : List (Out × McCopy)). Among (s.out, s.copy) l) each
+    (map_among {Y = Out × McCopy} (λ (x : Service). (x.out, x.copy)) s ss a) in
     let of = among_flat owes (s.out, s.copy) taken there in
     let out = among_map {Y = Out × McCopy} (λ (o : Out). (o, of.0.1)) (s.out, s.copy) (outputs u c of.0.0 of.0.1) of.2 in
     let same : s.copy ≡ of.0.1 = ap (λ (x : Out × McCopy). x.1) out.2 in

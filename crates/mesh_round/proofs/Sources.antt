@@ -7,8 +7,7 @@ use Rattle.std.proofs.lemmas.List.Sums.{sum_by-cons}
 use Rattle.spin_base.specs.Gathered.{gathered}
 use Rattle.spin_base.proofs.Members.{Among, among_filter}
 use Rattle.spin_base.proofs.Tests.{answers_none}
-use Rattle.spin_base.specs.declared.chips.Chip.{Chip}
-use Rattle.spin_base.specs.declared.routes.Out.{Out}
+use Rattle.spin_base.specs.declared.{chips.Chip.Chip, routes.Out.Out}
 use Rattle.spin_base.specs.Equality.{chip_eq, out_eq}
 use Rattle.spin_base.specs.Outputs.{all_outs, IsOutput}
 use Rattle.spin_base.proofs.Equality.{nat_eq_same, chip_eq_same, chip_eq_true, out_eq_same, out_eq_true}

@@ -3,20 +3,15 @@ use Rattle.std.proofs.Common.{◌≡◌, ℕ, ◌+◌, ◌*◌, ◌/◌, ◌%◌
 use Rattle.std.specs.Cmp.{both_ways}
 use Rattle.std.specs.List.{sum_by, range_with_len}
 use Rattle.std.proofs.lemmas.Bool.{cases_Bool, and_from, and_parts, eqb-true}
-use Rattle.std.proofs.lemmas.Option.{get_or_from_slice_get}
-use Rattle.std.proofs.lemmas.List.Elements.{All-contains}
+use Rattle.std.proofs.lemmas.{Option.get_or_from_slice_get, List.Elements.All-contains}
 use Rattle.spin_base.specs.Gathered.{gathered}
 use Rattle.spin_base.proofs.Members.{Among, among_contains, among_map, among_at}
-use Rattle.spin_base.proofs.Gathering.{among_gathered}
-use Rattle.spin_base.proofs.Tests.{answers_none}
-use Rattle.spin_base.specs.declared.chips.Chip.{Chip}
-use Rattle.spin_base.specs.declared.chips.Dir.{Dir}
+use Rattle.spin_base.proofs.{Gathering.among_gathered, Tests.answers_none}
+use Rattle.spin_base.specs.declared.chips.{Chip.Chip, Dir.Dir}
 use Rattle.spin_base.specs.declared.chips.Dir.TheVariants.{East, NorthEast, North, West, SouthWest, South}
 use Rattle.spin_base.specs.declared.chips.Port.{Port}
 use Rattle.spin_base.specs.declared.chips.Port.TheVariants.{Link as ByLink, Local}
-use Rattle.spin_base.specs.declared.routes.Out.{Out}
-use Rattle.spin_base.specs.declared.copies.McCopy.{McCopy}
-use Rattle.spin_base.specs.declared.copies.DumpRec.{DumpRec}
+use Rattle.spin_base.specs.declared.{routes.Out.Out, copies.McCopy.McCopy, copies.DumpRec.DumpRec}
 use Rattle.spin_base.specs.Links.{port_number}
 use Rattle.spin_base.specs.Equality.{chip_eq, port_eq, out_eq}
 use Rattle.spin_base.specs.Outputs.{all_outs, IsOutput}

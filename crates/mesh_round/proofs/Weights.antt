@@ -2,28 +2,19 @@
 use Rattle.std.proofs.Common.{◌≡◌, ℕ, ◌+◌, ◌-◌, ◌<◌, ◌≤◌, Bool, true, false, cond, ◌==◌, ◌&&◌, if◌then◌else◌, List, [], ◌++◌, map, filter, min, refl, ap, sym, ◌∙◌, subst, arith}
 use Rattle.std.specs.Cmp.{both_ways}
 use Rattle.std.specs.List.{All, sum_by, list_any}
-use Rattle.std.proofs.lemmas.List.Elements.{All-contains}
-use Rattle.std.proofs.lemmas.List.Sums.{sum_by-append}
+use Rattle.std.proofs.lemmas.List.{Elements.All-contains, Sums.sum_by-append}
 use Rattle.std.proofs.lemmas.List.Sorted.{sum_by-IsPermutation, All-permutation}
 use Rattle.spin_base.proofs.Members.{Among, among_contains, contains_among, among_map, among_filter, among_any, any_among, among_left, Contains-filter}
-use Rattle.spin_base.proofs.Places.{All-each}
-use Rattle.spin_base.proofs.Gathering.{among_gathered}
-use Rattle.spin_base.proofs.Tests.{answers_none}
-use Rattle.spin_base.specs.declared.chips.Chip.{Chip}
-use Rattle.spin_base.specs.declared.chips.Port.{Port}
-use Rattle.spin_base.specs.declared.routes.Out.{Out}
-use Rattle.spin_base.specs.declared.copies.McCopy.{McCopy}
-use Rattle.spin_base.specs.declared.copies.DumpRec.{DumpRec}
+use Rattle.spin_base.proofs.{Places.All-each, Gathering.among_gathered, Tests.answers_none}
+use Rattle.spin_base.specs.declared.{chips.Chip.Chip, chips.Port.Port, routes.Out.Out, copies.McCopy.McCopy, copies.DumpRec.DumpRec}
 use Rattle.spin_base.specs.Equality.{chip_eq, out_eq}
 use Rattle.spin_base.specs.Lookup.{lookup}
 use Rattle.spin_base.specs.Outputs.{has, outs_of, all_outs, IsOutput}
 use Rattle.spin_base.proofs.Equality.{out_eq_same, out_eq_true}
 use Rattle.spin_base.specs.Hops.{last_hop, onward}
-use Rattle.machine_desc.specs.Live.{IsLiveChip}
-use Rattle.machine_desc.specs.RightTables.{table_at}
+use Rattle.machine_desc.specs.{Live.IsLiveChip, RightTables.table_at}
 use Rattle.mesh_core.specs.State.{Setup, State, behind}
-use Rattle.mesh_core.specs.Step.{outputs}
-use Rattle.mesh_core.specs.Ledger.{all_ports}
+use Rattle.mesh_core.specs.{Step.outputs, Ledger.all_ports}
 use Rattle.mesh_round.specs.RoundFlow.{Flow, Passes, at_port, leaves_by, taken_for, dumped_at}
 use Rattle.mesh_round.proofs.Sums.{sum_agree, sum_none, sum_map, sum_filter}
 
@@ -91,13 +82,15 @@ module _ (m : State) (f : Flow) (n : State) (passes : Passes m f n) (c : Chip) (
   taken_low k a =
       let at = among_gathered (λ i port. filter (leaves_by m.setup c o port) (f.left (at_port m.setup c port))) k all_ports a in
       let passing = among_filter (leaves_by m.setup c o at.1) k (f.left (at_port m.setup c at.1)) at.3 in
-      not_last m.setup c o at.1 k passing.1 (All-contains (λ (j : McCopy). j.hop ≤ last_hop) (f.left (at_port m.setup c at.1)) k (passes.hops (at_port m.setup c at.1)) (among_contains k (f.left (at_port m.setup c at.1)) passing.0))
+      not_last m.setup c o at.1 k passing.1 (All-contains (λ (j : McCopy). j.hop ≤ last_hop) (f.left (at_port m.setup c at.1)) k (passes.hops (at_port m.setup c at.1))
+      (among_contains k (f.left (at_port m.setup c at.1)) passing.0))
 
   dumped_low : (k : McCopy) → Among k (dumped_at f c o) → k.hop < last_hop
   dumped_low k a =
       let of = among_map (λ (r : DumpRec). r.copy) k (filter (λ (r : DumpRec). chip_eq r.chip c && out_eq r.out o) f.dumped) a in
       let there = among_filter (λ (r : DumpRec). chip_eq r.chip c && out_eq r.out o) of.0 f.dumped of.1 in
-      let low = (All-contains (λ (r : DumpRec). IsLiveChip m.setup.machine r.chip × IsOutput r.out × (r.copy.hop < last_hop)) f.dumped of.0 passes.at_outputs (among_contains of.0 f.dumped there.0)).2 in
+      let low = (All-contains (λ (r : DumpRec). IsLiveChip m.setup.machine r.chip × IsOutput r.out × (r.copy.hop < last_hop)) f.dumped of.0 passes.at_outputs
+      (among_contains of.0 f.dumped there.0)).2 in
       subst (λ (j : McCopy). j.hop < last_hop) (sym of.2) low
 
   -- what the router took for the output is what crossed it and what was dumped there, by any weight on copies

@@ -1,10 +1,7 @@
 use Rattle.std.proofs.Common.{ℕ, ◌<◌, suc, zero, List, refl, arith}
 use Rattle.spin_base.specs.declared.copies.Event.{Event}
-use Rattle.mesh_core.specs.Step.{after_events}
-use Rattle.mesh_core.specs.Opened.{MeetsJobLedger}
-use Rattle.mesh_core.specs.Whereabouts.{IsTracked}
-use Rattle.mesh_core.proofs.EventsLaw.{events_keep_job}
-use Rattle.mesh_core.proofs.OpenedLaw.{opened_meets_ledger}
+use Rattle.mesh_core.specs.{Step.after_events, Opened.MeetsJobLedger, Whereabouts.IsTracked}
+use Rattle.mesh_core.proofs.{EventsLaw.events_keep_job, OpenedLaw.opened_meets_ledger}
 use Rattle.mesh_example.specs.Board.{setup, net, other_net, nets, packets, opened}
 use Rattle.mesh_example.proofs.Stands.{stands, mesh_stands, packets_of_nets}
 use Rattle.mesh_example.proofs.Right.{tables_right, wrong_not_right}

@@ -1,8 +1,7 @@
 -- Each copy that is put back leaves less to be done.
 use Rattle.std.proofs.Common.{◌<◌, ◌∙◌, refl, sym, subst, inl, inr}
 use Rattle.mesh_core.specs.State.{State}
-use Rattle.mesh_round.specs.Work.{work_in}
-use Rattle.mesh_round.specs.OnThreads.{MayGoOn}
+use Rattle.mesh_round.specs.{Work.work_in, OnThreads.MayGoOn}
 use Rattle.mesh_round.specs.Reinjecting.{HasPasses, none, put_back}
 use Rattle.mesh_round.proofs.PutBackParts.{ready_back}
 use Rattle.mesh_round.proofs.PutBackWork.{put_back_lighter, still_less}
