@@ -1,23 +1,18 @@
 -- The deliveries of a mesh that has delivered what its job asks for are as many as the targets of the packets' nets.
 use Rattle.std.proofs.Common.{◌≡◌, ◌≢◌, ℕ, ◌+◌, ◌≤◌, List, [], ◌∷◌, Bool, true, false, if◌then◌else◌, Option, Some, None, refl, ap, sym, ◌∙◌, arith, inl, inr, length, count_by}
+use Rattle.std.proofs.lemmas.List.{length-append, Elements.All-contains, Sums.length-filter, Sums.sum_by-cons}
 use Rattle.std.specs.List.{slice_get, AllPairs, Contains, All, list_any, filter}
-use Rattle.std.proofs.lemmas.List.{length-append}
-use Rattle.std.proofs.lemmas.List.Elements.{All-contains}
-use Rattle.std.proofs.lemmas.List.Sums.{length-filter, sum_by-cons}
 use Rattle.spin_base.specs.Gathered.{gathered}
+use Rattle.spin_base.specs.declared.{chips.Spot.Spot, copies.Delivery.Delivery, copies.Packet.Packet}
+use Rattle.spin_base.specs.Equality.{spot_eq}
 use Rattle.spin_base.proofs.Counts.{count_by-cons}
 use Rattle.spin_base.proofs.Members.{Among, among_contains, contains_among, any_among, among_any, Contains-filter}
-use Rattle.spin_base.specs.declared.chips.Spot.{Spot}
-use Rattle.spin_base.specs.declared.copies.Delivery.{Delivery}
-use Rattle.spin_base.specs.declared.copies.Packet.{Packet}
-use Rattle.spin_base.specs.Equality.{spot_eq}
 use Rattle.spin_base.proofs.Equality.{spot_eq_same, spot_eq_true}
 use Rattle.machine_desc.specs.declared.nets.NetPlan.{NetPlan}
 use Rattle.machine_desc.specs.NetsOn.{AreNetsOn}
 use Rattle.mesh_core.specs.State.{State, IsMesh}
 use Rattle.mesh_core.specs.Expected.{AreAsExpected, without_hop, delivery_at, deliveries_of, expected_deliveries, targets_of_net, expected_count}
-use Rattle.mesh_core.proofs.AskedPackets.{net_in_list}
-use Rattle.mesh_core.proofs.Counting.{count_all, count_covered}
+use Rattle.mesh_core.proofs.{AskedPackets.net_in_list, Counting.count_all, Counting.count_covered}
 use Rattle.mesh_core.proofs.ExpectedList.{ComesBefore, is_of, is_of_from, is_of_parts, bare, in_order, is_listed, listed_once, listed_made}
 use Rattle.mesh_core.proofs.Ordered.{ordered_from, at_most_one}
 

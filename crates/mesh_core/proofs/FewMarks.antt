@@ -1,36 +1,23 @@
 -- A mesh that meets the ledger of a job has few marks: at most one for each packet and each target of its net.
 use Rattle.std.proofs.Common.{◌≡◌, ◌≢◌, ℕ, ◌+◌, ◌*◌, ◌^◌, ◌<◌, ◌≤◌, suc, nat_lt, cond, List, [], ◌∷◌, ◌++◌, map, get_or, Bool, true, false, ◌==◌, Some, None, refl, ap, sym, ◌∙◌, subst, arith, inl, inr, length, count_by}
+use Rattle.std.proofs.lemmas.List.{Quantifiers.position-Some, length-append, length-map, get_or-map, get_or_default, Elements.All-contains}
+use Rattle.std.proofs.{lemmas.Option.slice_get_within, Math.Nat.mul-le-mul_left, lemmas.Bool.eqb-true, lemmas.Bool.and_from}
 use Rattle.std.specs.Prelude.{AllPairs, position}
 use Rattle.std.specs.List.{slice_index_or, position_or_len, All, Contains}
-use Rattle.std.proofs.lemmas.List.Quantifiers.{position-Some}
-use Rattle.std.proofs.lemmas.List.{length-append, length-map, get_or-map, get_or_default}
-use Rattle.std.proofs.lemmas.List.Elements.{All-contains}
-use Rattle.std.proofs.lemmas.Option.{slice_get_within}
-use Rattle.std.proofs.Math.Nat.{mul-le-mul_left}
-use Rattle.std.proofs.lemmas.Bool.{eqb-true, and_from}
-use Rattle.spin_base.proofs.Members.{Among, among_contains, contains_among}
-use Rattle.spin_base.proofs.Places.{slice_get_there}
-use Rattle.spin_base.specs.declared.chips.Spot.{Spot}
-use Rattle.spin_base.specs.declared.copies.Delivery.{Delivery}
-use Rattle.spin_base.specs.declared.copies.DumpRec.{DumpRec}
-use Rattle.spin_base.specs.declared.copies.Packet.{Packet}
+use Rattle.spin_base.proofs.{Members.Among, Members.among_contains, Members.contains_among, Places.slice_get_there, Equality.spot_eq_true}
+use Rattle.spin_base.specs.declared.{chips.Spot.Spot, copies.Delivery.Delivery, copies.DumpRec.DumpRec, copies.Packet.Packet}
 use Rattle.spin_base.specs.Equality.{spot_eq}
-use Rattle.spin_base.proofs.Equality.{spot_eq_true}
 use Rattle.machine_desc.specs.Branch.{Exit}
-use Rattle.machine_desc.proofs.Branches.{length_le_from_apart}
 use Rattle.machine_desc.specs.declared.nets.NetPlan.{NetPlan}
-use Rattle.machine_desc.specs.NetsOn.{AreNetsOn, IsWayOn}
-use Rattle.machine_desc.specs.RightTables.{IsKeyOf}
+use Rattle.machine_desc.specs.{NetsOn.AreNetsOn, NetsOn.IsWayOn, RightTables.IsKeyOf}
+use Rattle.machine_desc.proofs.Branches.{length_le_from_apart}
 use Rattle.mesh_core.specs.State.{State}
 use Rattle.mesh_core.specs.Trail.{Mark, delivered, dumped, is_on_trail, is_packet_on_trail}
 use Rattle.mesh_core.specs.Ledger.{marks_of, unsent_marks, input_marks, all_hand_marks, core_marks, delivered_marks, dumped_marks, Asked, label_of}
 use Rattle.mesh_core.specs.Opened.{asked_by, MeetsJobLedger}
 use Rattle.mesh_core.proofs.AskedPackets.{asks, asked_parts, asked_from, net_in_list}
 use Rattle.mesh_core.proofs.Counting.{count_all, count_covered, count_numbered}
-use Rattle.mesh_core.proofs.LedgerLaw.{one_net}
-use Rattle.mesh_core.proofs.Moves.{mark}
-use Rattle.mesh_core.proofs.OneWay.{AWay, one_way}
-use Rattle.mesh_core.proofs.Ways.{vertex_there, some_way}
+use Rattle.mesh_core.proofs.{LedgerLaw.one_net, Moves.mark, OneWay.AWay, OneWay.one_way, Ways.vertex_there, Ways.some_way}
 
 -- the place of a spot in the list
 abbrev place_in : List Spot → Spot → ℕ

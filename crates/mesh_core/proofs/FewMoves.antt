@@ -1,18 +1,12 @@
 -- Few marks come where one leaves: a copy leaves a router by 24 outputs at most.
 use Rattle.std.proofs.Common.{◌≡◌, ◌≤◌, ◌==◌, refl, ap, ◌∙◌, arith, inl, inr, List, [], ◌∷◌, length, Bool, true, false, if◌then◌else◌}
-use Rattle.std.proofs.lemmas.List.{length-map}
-use Rattle.std.proofs.lemmas.List.Sums.{length-filter, count_by-le-length}
-use Rattle.spin_base.specs.declared.chips.Chip.{Chip}
-use Rattle.spin_base.specs.declared.chips.Port.{Port}
-use Rattle.spin_base.specs.declared.routes.Out.{Out}
-use Rattle.spin_base.specs.declared.routes.Route.{Route}
-use Rattle.spin_base.specs.declared.copies.McCopy.{McCopy}
+use Rattle.std.proofs.lemmas.List.{length-map, Sums.length-filter, Sums.count_by-le-length}
+use Rattle.spin_base.specs.declared.{chips.Chip.Chip, chips.Port.Port, routes.Out.Out, routes.Route.Route, copies.McCopy.McCopy}
 use Rattle.spin_base.specs.Lookup.{lookup}
 use Rattle.spin_base.specs.Outputs.{has, outs_of, all_outs, link_outs, core_outs}
 use Rattle.spin_base.specs.Hops.{last_hop}
 use Rattle.machine_desc.specs.RightTables.{table_at}
-use Rattle.mesh_core.specs.State.{State}
-use Rattle.mesh_core.specs.Step.{outputs}
+use Rattle.mesh_core.specs.{State.State, Step.outputs}
 use Rattle.mesh_core.specs.Trail.{Station, unsent, in_queue, in_hand, at_core, delivered, dumped, Mark}
 use Rattle.mesh_core.proofs.Moves.{mark, IsMove, IsMoveOf, Crosses}
 

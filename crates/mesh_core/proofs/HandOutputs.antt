@@ -1,8 +1,7 @@
 -- What is left of the outputs of a hand.
 use Rattle.std.proofs.Common.{◌≡◌, ℕ, suc, ◌+◌, ◌<◌, refl, sym, ap, ◌∙◌, arith, Bool, true, false, List, [], ◌∷◌, length, cond, if◌then◌else◌, Some, None}
-use Rattle.std.specs.Prelude.{position, remove}
-use Rattle.std.specs.List.{position_from}
 use Rattle.std.proofs.lemmas.Iterator.Adapters.{position_from-zero}
+use Rattle.std.specs.{Prelude.position, Prelude.remove, List.position_from}
 use Rattle.spin_base.specs.Equality.{out_eq}
 use Rattle.spin_base.specs.declared.routes.Out.{Out}
 use Rattle.mesh_core.specs.Step.{outs_without}

@@ -1,32 +1,17 @@
 -- Whatever happens, a mesh keeps what every mesh has.
 use Rattle.std.proofs.Common.{◌≡◌, ◌≢◌, ℕ, ◌+◌, ◌==◌, ◌^◌, ◌<◌, ◌≤◌, refl, sym, ap, ◌∙◌, subst, arith, Bool, true, false, not, ◌&&◌, if◌then◌else◌, List, [], ◌∷◌, ◌++◌, length, set, Option, Some, None}
-use Rattle.std.specs.Prelude.{IfSome}
-use Rattle.std.specs.List.{All, slice_get, list_any}
-use Rattle.std.proofs.lemmas.List.{length_push}
-use Rattle.std.proofs.lemmas.List.Elements.{All-head, All-tail, All-push}
-use Rattle.spin_base.proofs.Places.{All-at}
+use Rattle.std.proofs.lemmas.List.{length_push, Elements.All-head, Elements.All-tail, Elements.All-push}
 use Rattle.std.proofs.lemmas.Bool.{and_parts, ltb-true, eqb-false}
-use Rattle.spin_base.specs.declared.chips.Chip.{Chip}
-use Rattle.spin_base.specs.declared.chips.Spot.{Spot}
-use Rattle.spin_base.specs.declared.chips.Dir.{Dir}
-use Rattle.spin_base.specs.declared.chips.Port.{Port}
-use Rattle.spin_base.specs.declared.chips.Port.TheVariants.{Link as ByLink, Local}
-use Rattle.spin_base.specs.declared.routes.Out.{Out}
-use Rattle.spin_base.specs.declared.routes.Out.TheVariants.{Link, Core}
-use Rattle.spin_base.specs.declared.copies.McCopy.{McCopy}
-use Rattle.spin_base.specs.declared.copies.Event.{Event}
+use Rattle.std.specs.{Prelude.IfSome, List.All, List.slice_get, List.list_any}
+use Rattle.spin_base.proofs.{Places.All-at, Equality.port_number_injective}
+use Rattle.spin_base.specs.declared.chips.{Chip.Chip, Spot.Spot, Dir.Dir, Port.Port, Port.TheVariants.Link as ByLink, Port.TheVariants.Local}
+use Rattle.spin_base.specs.declared.{routes.Out.Out, routes.Out.TheVariants.Link, routes.Out.TheVariants.Core, copies.McCopy.McCopy, copies.Event.Event}
 use Rattle.spin_base.specs.declared.copies.Event.TheVariants.{Inject, Take, Send, Dump, Collect}
-use Rattle.spin_base.specs.Equality.{out_eq}
-use Rattle.spin_base.specs.Lookup.{lookup}
-use Rattle.spin_base.specs.Outputs.{outs_of}
-use Rattle.spin_base.specs.Links.{opposite_of, port_number}
-use Rattle.spin_base.proofs.Equality.{port_number_injective}
-use Rattle.spin_base.specs.Hops.{last_hop, onward}
+use Rattle.spin_base.specs.{Equality.out_eq, Lookup.lookup, Outputs.outs_of, Links.opposite_of, Links.port_number, Hops.last_hop, Hops.onward}
 use Rattle.machine_desc.specs.Description.{Description}
 use Rattle.machine_desc.specs.Live.{index_of, far_of, is_live_chip, is_live_link, IsInside, IsSite}
-use Rattle.machine_desc.proofs.Sites.{site_parts}
-use Rattle.machine_desc.proofs.Far.{same_index, live_inside, live_ends, live_back}
 use Rattle.machine_desc.specs.RightTables.{table_at}
+use Rattle.machine_desc.proofs.{Sites.site_parts, Far.same_index, Far.live_inside, Far.live_ends, Far.live_back}
 use Rattle.mesh_core.specs.State.{Setup, State, Hand, FitsQueue, FitsHand, IsMesh, queue_at, vertex_behind, Queue, input, core, nowhere, core_queue_of, behind_link, behind}
 use Rattle.mesh_core.specs.Step.{outputs, in_hand, outs_without, has_room, has_room_behind, push_at, push_behind, inject_of, take_of, serves, after_serving, send_of, dump_of, collect_of, step_of}
 use Rattle.mesh_core.proofs.Changes.{port_below, IsMesh-unsent, IsMesh-cores, IsMesh-hands, IsMesh-delivered, IsMesh-dumped, IsMesh-inputs}

@@ -1,46 +1,27 @@
 -- A move keeps what the ledger says of one net: what comes in the place of a mark stands on the same trails.
 use Rattle.std.proofs.Common.{◌≡◌, ℕ, ◌+◌, ◌<◌, ◌≤◌, suc, List, [], ◌∷◌, map, ◌∙◌, Bool, true, false, ◌==◌, ◌&&◌, if◌then◌else◌, Option, Some, None, refl, ap, sym, subst, arith, inl, inr, length, min, count_by, nat_lt}
-use Rattle.std.specs.Cmp.{both_ways}
-use Rattle.std.specs.List.{slice_get, Contains}
-use Rattle.spin_base.proofs.Counts.{count_by-map, count_by-cons, count_by-none}
-use Rattle.spin_base.proofs.Members.{Among, among_filter, among_only}
-use Rattle.spin_base.proofs.Pairs.{AllPairs-apart}
-use Rattle.spin_base.proofs.Places.{slice_get_there}
 use Rattle.std.proofs.Math.Nat.{add-zero}
-use Rattle.spin_base.specs.declared.chips.Chip.{Chip}
-use Rattle.spin_base.specs.declared.chips.Dir.{Dir}
-use Rattle.spin_base.specs.declared.chips.Spot.{Spot}
-use Rattle.spin_base.specs.declared.chips.Port.{Port}
-use Rattle.spin_base.specs.declared.chips.Port.TheVariants.{Link as ByLink, Local}
-use Rattle.spin_base.specs.declared.routes.Out.{Out}
-use Rattle.spin_base.specs.declared.routes.Out.TheVariants.{Link, Core}
-use Rattle.spin_base.specs.declared.routes.Route.{Route}
-use Rattle.spin_base.specs.declared.copies.McCopy.{McCopy}
-use Rattle.spin_base.specs.Links.{opposite_of}
-use Rattle.spin_base.specs.Equality.{chip_eq, port_eq, out_eq}
-use Rattle.spin_base.specs.Lookup.{lookup}
-use Rattle.spin_base.specs.Outputs.{has, outs_of, all_outs, out_of, IsOutput}
-use Rattle.spin_base.proofs.Equality.{chip_eq_same, chip_eq_true, port_eq_same, port_eq_true, out_eq_same, out_eq_true}
-use Rattle.spin_base.proofs.Once.{outs_once}
-use Rattle.spin_base.proofs.Outputs.{no_high_bit}
-use Rattle.spin_base.specs.Hops.{last_hop, onward}
-use Rattle.std.specs.Int.{bit_at}
 use Rattle.std.proofs.lemmas.Bool.{ltb-true, ltb-false, and_parts, eqb-true, eq-eqb, and_from}
-use Rattle.std.proofs.lemmas.List.Elements.{All-contains}
-use Rattle.std.proofs.lemmas.Option.{slice_get_within, get_or_from_slice_get}
+use Rattle.std.proofs.lemmas.{List.Elements.All-contains, Option.slice_get_within, Option.get_or_from_slice_get}
+use Rattle.std.specs.{Cmp.both_ways, List.slice_get, List.Contains, Int.bit_at}
+use Rattle.spin_base.proofs.Counts.{count_by-map, count_by-cons, count_by-none}
+use Rattle.spin_base.proofs.{Members.Among, Members.among_filter, Members.among_only, Pairs.AllPairs-apart, Places.slice_get_there}
+use Rattle.spin_base.proofs.Equality.{chip_eq_same, chip_eq_true, port_eq_same, port_eq_true, out_eq_same, out_eq_true}
+use Rattle.spin_base.proofs.{Once.outs_once, Outputs.no_high_bit}
+use Rattle.spin_base.specs.declared.chips.{Chip.Chip, Dir.Dir, Spot.Spot, Port.Port, Port.TheVariants.Link as ByLink, Port.TheVariants.Local}
+use Rattle.spin_base.specs.declared.{routes.Out.Out, routes.Out.TheVariants.Link, routes.Out.TheVariants.Core, routes.Route.Route, copies.McCopy.McCopy}
+use Rattle.spin_base.specs.{Links.opposite_of, Equality.chip_eq, Equality.port_eq, Equality.out_eq, Lookup.lookup}
+use Rattle.spin_base.specs.Outputs.{has, outs_of, all_outs, out_of, IsOutput}
+use Rattle.spin_base.specs.Hops.{last_hop, onward}
 use Rattle.machine_desc.specs.declared.trees.Edge.{Edge}
 use Rattle.machine_desc.specs.Live.{far_of, is_live_link, IsLiveLink, IsSite}
 use Rattle.machine_desc.specs.Branch.{Exit, IsBranch, arrival_at}
-use Rattle.machine_desc.proofs.Branches.{same_exit, ComesBy, comes_by, exit_leads, ExitLeads, exit_of}
-use Rattle.machine_desc.proofs.TreeLemmas.{one_edge_into}
-use Rattle.machine_desc.proofs.Sites.{end_is_no_live_link, same_site}
 use Rattle.machine_desc.specs.declared.nets.NetPlan.{NetPlan}
-use Rattle.machine_desc.specs.Outputs.{is_wanted, ComesIn}
-use Rattle.machine_desc.specs.RightTables.{IsKeyOf, table_at}
-use Rattle.mesh_core.specs.State.{State, vertex_behind}
-use Rattle.mesh_core.specs.Step.{outputs}
+use Rattle.machine_desc.specs.{Outputs.is_wanted, Outputs.ComesIn, RightTables.IsKeyOf, RightTables.table_at, NetsOn.IsWayOn}
+use Rattle.machine_desc.proofs.Branches.{same_exit, ComesBy, comes_by, exit_leads, ExitLeads, exit_of}
+use Rattle.machine_desc.proofs.{TreeLemmas.one_edge_into, Sites.end_is_no_live_link, Sites.same_site}
+use Rattle.mesh_core.specs.{State.State, State.vertex_behind, Step.outputs}
 use Rattle.mesh_core.specs.Trail.{Station, unsent, in_queue, in_hand, at_core, delivered, dumped, Mark, comes_in_there, leaves_there, on_trail, is_on_trail}
-use Rattle.machine_desc.specs.NetsOn.{IsWayOn}
 use Rattle.mesh_core.proofs.Moves.{mark, Crosses, IsMove, IsMoveOf}
 use Rattle.mesh_core.proofs.Ways.{Stands, vertex_at_stands, vertex_there, vertex_behind_stands, target_site, short_branch, onward_hop, one_place, branch_comes_in, exit_wanted, exit_is_output, wanted_on_branch}
 

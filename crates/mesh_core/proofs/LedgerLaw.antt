@@ -1,17 +1,13 @@
 -- The ledger of copies is kept by every bag of moves, of which an event is one move.
 use Rattle.std.proofs.Common.{◌≡◌, ℕ, ◌+◌, ◌<◌, ◌≤◌, List, [], ◌∷◌, Bool, true, false, ◌==◌, ◌&&◌, if◌then◌else◌, refl, ap, sym, ◌∙◌, subst, arith, inl, inr, ◌⊎◌, length, count_by, suc, zero}
+use Rattle.std.proofs.lemmas.{List.Elements.All-contains, Bool.cases_order, Bool.and_parts, Bool.eqb-true, List.get_or_default, Option.slice_get_within}
 use Rattle.std.specs.List.{slice_index_or, All, Contains}
-use Rattle.std.proofs.lemmas.List.Elements.{All-contains}
-use Rattle.std.proofs.lemmas.Bool.{cases_order, and_parts, eqb-true}
-use Rattle.std.proofs.lemmas.List.{get_or_default}
-use Rattle.std.proofs.lemmas.Option.{slice_get_within}
 use Rattle.spin_base.proofs.Counts.{count_by-cons, count_by-none}
 use Rattle.spin_base.proofs.Exchange.{count_taken_out, count_put_in}
 use Rattle.spin_base.proofs.Members.{Among, among_contains, contains_among}
 use Rattle.spin_base.specs.declared.chips.Spot.{Spot}
 use Rattle.spin_base.specs.Hops.{last_hop}
-use Rattle.machine_desc.specs.RoutingTree.{IsRoutingTree}
-use Rattle.machine_desc.specs.Branch.{Exit}
+use Rattle.machine_desc.specs.{RoutingTree.IsRoutingTree, Branch.Exit}
 use Rattle.machine_desc.specs.declared.nets.NetPlan.{NetPlan}
 use Rattle.machine_desc.specs.RightTables.{IsKeyOf, RoutesByTree, AreRight}
 use Rattle.machine_desc.specs.NetsOn.{HaveDisjointBlocks, AreNetsOn, IsWayOn}

@@ -1,21 +1,13 @@
 -- What one event does to the marks of a mesh: one mark leaves, and others come in its place.
 use Rattle.std.proofs.Common.{◌≡◌, ℕ, ◌+◌, ◌*◌, ◌/◌, ◌%◌, false, List, [], ◌∷◌, ◌++◌, map, Option, Some, refl, ap, sym, ◌∙◌, subst, arith, zero-add, append-nil, ◌⊎◌}
-use Rattle.std.specs.List.{slice_get, slice_set}
 use Rattle.std.proofs.lemmas.List.{map-append}
+use Rattle.std.specs.List.{slice_get, slice_set}
 use Rattle.spin_base.proofs.Exchange.{TakenOut, PutIn, taken_out_after, taken_out_before, put_in_after, put_in_before, taken_out_gathered, put_in_gathered}
-use Rattle.spin_base.specs.declared.chips.Chip.{Chip}
-use Rattle.spin_base.specs.declared.chips.Dir.{Dir}
+use Rattle.spin_base.specs.declared.chips.{Chip.Chip, Dir.Dir}
 use Rattle.spin_base.specs.declared.chips.Dir.TheVariants.{East, NorthEast, North, West, SouthWest, South}
-use Rattle.spin_base.specs.declared.chips.Spot.{Spot}
-use Rattle.spin_base.specs.declared.chips.Port.{Port}
-use Rattle.spin_base.specs.declared.chips.Port.TheVariants.{Link as ByLink, Local}
-use Rattle.spin_base.specs.declared.routes.Out.{Out}
-use Rattle.spin_base.specs.declared.routes.Out.TheVariants.{Link}
-use Rattle.spin_base.specs.declared.copies.McCopy.{McCopy}
-use Rattle.spin_base.specs.declared.copies.Delivery.{Delivery}
-use Rattle.spin_base.specs.declared.copies.DumpRec.{DumpRec}
-use Rattle.spin_base.specs.Links.{opposite_of, port_number}
-use Rattle.spin_base.specs.Hops.{onward}
+use Rattle.spin_base.specs.declared.chips.{Spot.Spot, Port.Port, Port.TheVariants.Link as ByLink, Port.TheVariants.Local}
+use Rattle.spin_base.specs.declared.{routes.Out.Out, routes.Out.TheVariants.Link, copies.McCopy.McCopy, copies.Delivery.Delivery, copies.DumpRec.DumpRec}
+use Rattle.spin_base.specs.{Links.opposite_of, Links.port_number, Hops.onward}
 use Rattle.machine_desc.specs.Description.{Description}
 use Rattle.machine_desc.specs.Live.{far_of, index_of, chip_of, is_live_link, IsInside, IsLiveLink}
 pub use Rattle.machine_desc.proofs.Live.{chip_of-index_of}

@@ -1,35 +1,23 @@
 -- Where a queue has room for a copy of each packet that is under way, no copy is dumped.
 use Rattle.std.proofs.Common.{◌≡◌, ◌≢◌, ℕ, ◌+◌, ◌<◌, ◌≤◌, List, ◌∷◌, Bool, true, false, not, ◌==◌, ◌&&◌, if◌then◌else◌, Option, Some, None, is_some, refl, ap, sym, ◌∙◌, subst, arith, inl, inr, length, count_by}
+use Rattle.std.proofs.lemmas.Bool.{lt-ltb, and_parts, eq-eqb, eqb-true}
+use Rattle.std.proofs.lemmas.List.{Elements.All-contains, FromFn.length-range_with_len, Folds.Any-from_list_any}
 use Rattle.std.specs.Prelude.{Result, Ok, Err, IfOk}
 use Rattle.std.specs.List.{slice_get, list_any, range_with_len, Contains}
-use Rattle.std.proofs.lemmas.Bool.{lt-ltb, and_parts, eq-eqb, eqb-true}
-use Rattle.std.proofs.lemmas.List.Elements.{All-contains}
-use Rattle.std.proofs.lemmas.List.FromFn.{length-range_with_len}
-use Rattle.std.proofs.lemmas.List.Folds.{Any-from_list_any}
-use Rattle.spin_base.proofs.Counts.{count_by-cons, count_by-none}
-use Rattle.spin_base.proofs.Members.{Among, among_contains, contains_among}
-use Rattle.spin_base.specs.declared.chips.Chip.{Chip}
-use Rattle.spin_base.specs.declared.routes.Out.{Out}
-use Rattle.spin_base.specs.declared.copies.McCopy.{McCopy}
-use Rattle.spin_base.specs.declared.copies.Packet.{Packet}
-use Rattle.spin_base.specs.declared.copies.Event.{Event}
-use Rattle.spin_base.specs.declared.copies.Event.TheVariants.{Dump}
+use Rattle.spin_base.proofs.{Counts.count_by-cons, Counts.count_by-none, Members.Among, Members.among_contains, Members.contains_among, Equality.out_eq_true}
+use Rattle.spin_base.specs.declared.{chips.Chip.Chip, routes.Out.Out}
+use Rattle.spin_base.specs.declared.copies.{McCopy.McCopy, Packet.Packet, Event.Event, Event.TheVariants.Dump}
 use Rattle.spin_base.specs.Equality.{out_eq}
-use Rattle.spin_base.proofs.Equality.{out_eq_true}
 use Rattle.machine_desc.specs.Live.{index_of, is_live_chip, IsInside}
-use Rattle.machine_desc.proofs.Far.{live_inside}
 use Rattle.machine_desc.specs.declared.nets.NetPlan.{NetPlan}
-use Rattle.mesh_core.specs.declared.places.Did.{Did}
-use Rattle.mesh_core.specs.declared.places.Did.TheVariants.{Moved, Idle}
+use Rattle.machine_desc.proofs.Far.{live_inside}
+use Rattle.mesh_core.specs.declared.places.Did.{Did, TheVariants.Moved, TheVariants.Idle}
 use Rattle.mesh_core.specs.State.{State, Hand, IsMesh, Queue, input, core, nowhere, behind}
 use Rattle.mesh_core.specs.Step.{dump_of, serves, has_room, has_room_behind, answer}
 use Rattle.mesh_core.specs.Trail.{in_hand, Mark}
 use Rattle.mesh_core.specs.Ledger.{marks_of, label_of, Label, MeetsLedger, OnlyUnderWay}
-use Rattle.mesh_core.specs.Opened.{asked_by, MeetsJobLedger}
-use Rattle.mesh_core.specs.Waiting.{queue_of}
-use Rattle.mesh_core.proofs.Counting.{count_all, count_covered, count_le}
-use Rattle.mesh_core.proofs.Moves.{mark}
-use Rattle.mesh_core.proofs.OnlyUnderWay.{of_job}
+use Rattle.mesh_core.specs.{Opened.asked_by, Opened.MeetsJobLedger, Waiting.queue_of}
+use Rattle.mesh_core.proofs.{Counting.count_all, Counting.count_covered, Counting.count_le, Moves.mark, OnlyUnderWay.of_job}
 use Rattle.mesh_core.proofs.Queued.{FreeBehind, free_behind, once_in_queue, waiting_mark}
 use Rattle.mesh_core.proofs.Standing.{held_mark}
 

@@ -1,36 +1,25 @@
 -- The opened mesh of a job meets the ledger of the job.
 use Rattle.std.proofs.Common.{◌≡◌, ◌≢◌, ℕ, ◌+◌, ◌*◌, ◌/◌, ◌%◌, ◌<◌, List, [], ◌∷◌, Bool, true, false, ◌==◌, ◌&&◌, IsTrue, if◌then◌else◌, Option, Some, None, refl, ap, sym, ◌∙◌, subst, arith, append-nil, inl, inr, length, count_by}
+use Rattle.std.proofs.lemmas.List.{Elements.All-contains, Elements.All-map, FromFn.length-map-range_with_len, length-map}
+use Rattle.std.proofs.lemmas.Bool.{eqb-true, eq-eqb, ne_eqb, and_from}
+use Rattle.std.proofs.{Math.Bool.and-false, lemmas.Option.slice_get_within}
 use Rattle.std.specs.List.{slice_get, slice_index_or, range_with_len, All, Contains}
 use Rattle.std.specs.Option.{option_map_or}
-use Rattle.std.proofs.lemmas.List.Elements.{All-contains, All-map}
-use Rattle.std.proofs.lemmas.List.FromFn.{length-map-range_with_len}
-use Rattle.std.proofs.lemmas.List.{length-map}
-use Rattle.std.proofs.lemmas.Bool.{eqb-true, eq-eqb, ne_eqb, and_from}
-use Rattle.std.proofs.Math.Bool.{and-false}
-use Rattle.std.proofs.lemmas.Option.{slice_get_within}
 use Rattle.spin_base.proofs.Counts.{count_by-map}
 use Rattle.spin_base.proofs.Gathering.{gathered_nothing, among_made, made_among, count_made_one, among_chosen, chosen_among, count_chosen_one, count_chosen_none}
 use Rattle.spin_base.proofs.Members.{Among, among_contains, contains_among, among_map, map_among}
 use Rattle.spin_base.proofs.Places.{All-each}
-use Rattle.spin_base.specs.declared.chips.Spot.{Spot}
-use Rattle.spin_base.specs.declared.copies.McCopy.{McCopy}
-use Rattle.spin_base.specs.declared.copies.Packet.{Packet}
-use Rattle.machine_desc.specs.Description.{Description}
-use Rattle.machine_desc.specs.RoutingTree.{IsRoutingTree}
-use Rattle.machine_desc.specs.Branch.{Exit, IsBranch}
-use Rattle.machine_desc.proofs.Branches.{end_on_branch, link_on_branch}
+use Rattle.spin_base.specs.declared.{chips.Spot.Spot, copies.McCopy.McCopy, copies.Packet.Packet}
+use Rattle.machine_desc.specs.{Description.Description, RoutingTree.IsRoutingTree, Branch.Exit, Branch.IsBranch}
 use Rattle.machine_desc.specs.declared.nets.NetPlan.{NetPlan}
-use Rattle.machine_desc.specs.RightTables.{IsKeyOf}
-use Rattle.machine_desc.specs.NetsOn.{vertex_at, AreNetsOn, IsWayOn}
+use Rattle.machine_desc.specs.{RightTables.IsKeyOf, NetsOn.vertex_at, NetsOn.AreNetsOn, NetsOn.IsWayOn, Live.chip_of}
+use Rattle.machine_desc.proofs.Branches.{end_on_branch, link_on_branch}
 use Rattle.mesh_core.specs.State.{Setup, State, IsMesh}
 use Rattle.mesh_core.specs.Trail.{Mark, unsent, in_queue, at_core, on_trail, is_on_trail, is_packet_on_trail}
 use Rattle.mesh_core.specs.Ledger.{marks_of, marks_at, hand_marks, port_of, unsent_marks, Label, label_of}
 use Rattle.mesh_core.specs.Opened.{label_in, asked_by, first_copy, copy_from, unsent_of, empty_mesh, opened_mesh, AreOfNets, MeetsJobLedger}
 use Rattle.mesh_core.proofs.AskedPackets.{asked_parts, asked_from, asked_of_net, net_in_list, key_of_net}
-use Rattle.machine_desc.specs.Live.{chip_of}
-use Rattle.mesh_core.proofs.Moves.{mark}
-use Rattle.mesh_core.proofs.LedgerLaw.{one_net}
-use Rattle.mesh_core.proofs.Ways.{vertex_at_stands, vertex_there}
+use Rattle.mesh_core.proofs.{Moves.mark, LedgerLaw.one_net, Ways.vertex_at_stands, Ways.vertex_there}
 
 -- a copy that a vertex sends, and of what packet it is
 record IsSent (spots : List Spot) (nets : List NetPlan) (p : Packet) (i v : ℕ) (k : McCopy) : Type 0 where

@@ -1,45 +1,28 @@
 -- Where a packet waits, in a mesh that meets the ledger: behind each output that a hand still has to serve there is a queue
 -- without a copy of the hand's packet, and no queue has two copies of one packet.
 use Rattle.std.proofs.Common.{◌≡◌, ◌≢◌, ℕ, ◌+◌, ◌/◌, ◌%◌, ◌<◌, ◌≤◌, suc, List, ◌++◌, Bool, true, false, ◌==◌, Some, refl, ap, sym, ◌∙◌, subst, arith, inl, inr, length, count_by}
-use Rattle.std.specs.List.{slice_get, All, Contains}
 use Rattle.std.proofs.lemmas.Bool.{cases_order, and_parts, eqb-true, eq-eqb, and_from}
-use Rattle.std.proofs.lemmas.List.Elements.{All-contains}
-use Rattle.std.proofs.lemmas.Option.{slice_get_within, get_or_from_slice_get}
-use Rattle.spin_base.proofs.Counts.{count_by-map, count_by-append}
-use Rattle.spin_base.proofs.Gathering.{gathered_among}
+use Rattle.std.proofs.lemmas.{List.Elements.All-contains, Option.slice_get_within, Option.get_or_from_slice_get}
+use Rattle.std.specs.List.{slice_get, All, Contains}
+use Rattle.spin_base.proofs.{Counts.count_by-map, Counts.count_by-append, Gathering.gathered_among}
 use Rattle.spin_base.proofs.Members.{Among, among_left, among_right, among_contains, contains_among, map_among}
-use Rattle.spin_base.proofs.Pairs.{AllPairs-apart}
-use Rattle.spin_base.proofs.Places.{All-each, slice_get_there}
-use Rattle.spin_base.specs.declared.chips.Chip.{Chip}
-use Rattle.spin_base.specs.declared.chips.Dir.{Dir}
-use Rattle.spin_base.specs.declared.chips.Spot.{Spot}
-use Rattle.spin_base.specs.declared.chips.Port.{Port}
-use Rattle.spin_base.specs.declared.chips.Port.TheVariants.{Link as ByLink}
-use Rattle.spin_base.specs.declared.routes.Out.{Out}
-use Rattle.spin_base.specs.declared.routes.Out.TheVariants.{Link, Core}
-use Rattle.spin_base.specs.declared.copies.McCopy.{McCopy}
-use Rattle.spin_base.specs.Links.{opposite_of}
-use Rattle.spin_base.specs.Outputs.{out_of}
+use Rattle.spin_base.proofs.{Pairs.AllPairs-apart, Places.All-each, Places.slice_get_there}
+use Rattle.spin_base.specs.declared.chips.{Chip.Chip, Dir.Dir, Spot.Spot, Port.Port, Port.TheVariants.Link as ByLink}
+use Rattle.spin_base.specs.declared.{routes.Out.Out, routes.Out.TheVariants.Link, routes.Out.TheVariants.Core, copies.McCopy.McCopy}
+use Rattle.spin_base.specs.{Links.opposite_of, Outputs.out_of}
 use Rattle.machine_desc.specs.Live.{far_of, chip_of, is_live_link, IsInside, IsLiveLink, IsSite}
 use Rattle.machine_desc.specs.Branch.{Exit}
-use Rattle.machine_desc.proofs.Branches.{exit_leads, ExitLeads}
-use Rattle.machine_desc.proofs.Far.{live_inside, live_ends, far_inside}
-use Rattle.machine_desc.proofs.Sites.{end_is_no_live_link, same_site}
 use Rattle.machine_desc.specs.declared.nets.NetPlan.{NetPlan}
-use Rattle.machine_desc.specs.NetsOn.{IsWayOn}
-use Rattle.machine_desc.specs.RightTables.{IsKeyOf}
-use Rattle.machine_desc.specs.RoutingTree.{IsRoutingTree}
+use Rattle.machine_desc.specs.{NetsOn.IsWayOn, RightTables.IsKeyOf, RoutingTree.IsRoutingTree}
+use Rattle.machine_desc.proofs.Branches.{exit_leads, ExitLeads}
+use Rattle.machine_desc.proofs.{Far.live_inside, Far.live_ends, Far.far_inside, Sites.end_is_no_live_link, Sites.same_site}
 use Rattle.mesh_core.specs.State.{Setup, State, IsMesh, Queue, input, core, nowhere, queue_at, core_queue_of, behind, behind_link, vertex_behind}
 use Rattle.mesh_core.specs.Trail.{Station, in_queue, in_hand, at_core, Mark, is_on_trail, is_packet_on_trail}
 use Rattle.mesh_core.specs.Ledger.{marks_of, marks_at, port_of, unsent_marks, input_marks, all_hand_marks, core_marks, delivered_marks, dumped_marks, Label, MeetsLedger}
-use Rattle.mesh_core.specs.Waiting.{queue_of}
-use Rattle.mesh_core.specs.Whereabouts.{IsTracked}
+use Rattle.mesh_core.specs.{Waiting.queue_of, Whereabouts.IsTracked}
 use Rattle.mesh_core.proofs.Changes.{queue_at-below}
 use Rattle.mesh_core.proofs.Counting.{count_two, count_le, counted, count_gathered_part}
-use Rattle.mesh_core.proofs.Law.{leaves_parts, comes_parts}
-use Rattle.mesh_core.proofs.Moves.{mark}
-use Rattle.mesh_core.proofs.Standing.{queued_mark, core_mark}
-use Rattle.mesh_core.proofs.WalkingUp.{comes_on, ends_on}
+use Rattle.mesh_core.proofs.{Law.leaves_parts, Law.comes_parts, Moves.mark, Standing.queued_mark, Standing.core_mark, WalkingUp.comes_on, WalkingUp.ends_on}
 use Rattle.mesh_core.proofs.Ways.{vertex_at_stands, vertex_behind_there, vertex_behind_stands, leads_to}
 
 -- the queue behind an output, which has no copy of this packet

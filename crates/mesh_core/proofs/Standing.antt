@@ -3,15 +3,9 @@ use Rattle.std.proofs.Common.{◌≡◌, ℕ, ◌+◌, ◌/◌, ◌%◌, ◌<◌
 use Rattle.std.specs.List.{slice_get}
 use Rattle.spin_base.proofs.Members.{Among, among_left, among_right, among_either, among_map, map_among}
 use Rattle.spin_base.proofs.Gathering.{among_gathered, gathered_among_from, gathered_among}
-use Rattle.spin_base.specs.declared.chips.Chip.{Chip}
-use Rattle.spin_base.specs.declared.chips.Port.{Port}
-use Rattle.spin_base.specs.declared.routes.Out.{Out}
-use Rattle.spin_base.specs.declared.copies.McCopy.{McCopy}
-use Rattle.spin_base.specs.declared.copies.Delivery.{Delivery}
-use Rattle.spin_base.specs.declared.copies.DumpRec.{DumpRec}
+use Rattle.spin_base.specs.declared.{chips.Chip.Chip, chips.Port.Port, routes.Out.Out, copies.McCopy.McCopy, copies.Delivery.Delivery, copies.DumpRec.DumpRec}
 use Rattle.spin_base.specs.Links.{port_number}
-use Rattle.machine_desc.specs.Description.{Description}
-use Rattle.machine_desc.specs.Live.{chip_of, index_of, IsInside}
+use Rattle.machine_desc.specs.{Description.Description, Live.chip_of, Live.index_of, Live.IsInside}
 use Rattle.machine_desc.proofs.Live.{index_of-chip_of}
 use Rattle.mesh_core.specs.State.{State, Hand, queue_at}
 use Rattle.mesh_core.specs.Trail.{Station, unsent, in_queue, in_hand, at_core, delivered, dumped, Mark}

@@ -1,41 +1,29 @@
 -- Walking up a branch from its target finds the target's copy of a packet.
 use Rattle.std.proofs.Common.{◌≡◌, ◌≢◌, ℕ, ◌+◌, ◌*◌, ◌<◌, ◌≤◌, zero, suc, List, map, true, ◌==◌, ◌&&◌, Option, Some, None, refl, ap, sym, ◌∙◌, subst, arith, inl, inr, ◌⊎◌, length, count_by}
-use Rattle.std.specs.List.{slice_get, All, Contains}
 use Rattle.std.proofs.lemmas.Bool.{cases_order, and_parts, eqb-true, eq-eqb, and_from}
-use Rattle.std.proofs.lemmas.List.Elements.{All-contains}
-use Rattle.std.proofs.lemmas.Option.{slice_get_within}
+use Rattle.std.proofs.lemmas.{List.Elements.All-contains, Option.slice_get_within}
+use Rattle.std.specs.List.{slice_get, All, Contains}
 use Rattle.spin_base.proofs.Members.{among_contains}
-use Rattle.spin_base.specs.declared.chips.Chip.{Chip}
-use Rattle.spin_base.specs.declared.chips.Spot.{Spot}
-use Rattle.spin_base.specs.declared.chips.Port.{Port}
-use Rattle.spin_base.specs.declared.chips.Port.TheVariants.{Link as ByLink, Local}
-use Rattle.spin_base.specs.declared.routes.Out.{Out}
-use Rattle.spin_base.specs.declared.routes.Out.TheVariants.{Link}
-use Rattle.spin_base.specs.declared.copies.McCopy.{McCopy}
-use Rattle.spin_base.specs.Links.{opposite_of}
+use Rattle.spin_base.specs.declared.chips.{Chip.Chip, Spot.Spot, Port.Port, Port.TheVariants.Link as ByLink, Port.TheVariants.Local}
+use Rattle.spin_base.specs.declared.{routes.Out.Out, routes.Out.TheVariants.Link, copies.McCopy.McCopy}
+use Rattle.spin_base.specs.{Links.opposite_of, Outputs.out_of}
 use Rattle.machine_desc.specs.declared.trees.Edge.{Edge}
 use Rattle.machine_desc.specs.Live.{IsInside, IsLiveChip, IsSite}
 use Rattle.machine_desc.specs.RoutingTree.{end_of, IsRoutingTree}
 use Rattle.machine_desc.specs.Branch.{Exit, IsBranch, arrival_at}
-use Rattle.machine_desc.proofs.Branches.{ComesBy, comes_by, way_first, same_place, branch_short, branch_inside, exit_of, last_exit}
-use Rattle.machine_desc.proofs.Sites.{site_parts}
-use Rattle.machine_desc.proofs.TreeLemmas.{one_edge_into}
-use Rattle.spin_base.specs.Outputs.{out_of}
 use Rattle.machine_desc.specs.declared.nets.NetPlan.{NetPlan}
-use Rattle.machine_desc.specs.RightTables.{IsKeyOf}
-use Rattle.mesh_core.specs.declared.places.Where.{Where}
-use Rattle.mesh_core.specs.declared.places.Where.TheVariants.{Unsent}
+use Rattle.machine_desc.specs.{RightTables.IsKeyOf, NetsOn.AreNetsOn, NetsOn.IsWayOn}
+use Rattle.machine_desc.proofs.Branches.{ComesBy, comes_by, way_first, same_place, branch_short, branch_inside, exit_of, last_exit}
+use Rattle.machine_desc.proofs.{Sites.site_parts, TreeLemmas.one_edge_into}
+use Rattle.mesh_core.specs.declared.places.Where.{Where, TheVariants.Unsent}
 use Rattle.mesh_core.specs.State.{State, IsMesh}
 use Rattle.mesh_core.specs.Trail.{Station, unsent, in_queue, in_hand, at_core, delivered, dumped, Mark, on_trail, is_on_trail, is_packet_on_trail}
-use Rattle.machine_desc.specs.NetsOn.{AreNetsOn, IsWayOn}
 use Rattle.mesh_core.specs.Ledger.{marks_of}
 use Rattle.mesh_core.specs.Whereabouts.{TellsStation, IsFoundThere, IsWhere, IsTracked}
 use Rattle.mesh_core.specs.Searches.{IsMarkThere, IsFound, IsOfCore, IsOfOutput, IsOfPort, port_behind, IsEdgeInto}
-use Rattle.mesh_core.proofs.Counting.{counted}
-use Rattle.mesh_core.proofs.LedgerLaw.{one_net}
+use Rattle.mesh_core.proofs.{Counting.counted, LedgerLaw.one_net}
 use Rattle.mesh_core.proofs.Law.{leaves_parts, leaves_from, ComesThere, comes_parts, comes_from}
-use Rattle.mesh_core.proofs.OneWay.{last_place}
-use Rattle.mesh_core.proofs.Ways.{vertex_at_stands, some_way}
+use Rattle.mesh_core.proofs.{OneWay.last_place, Ways.vertex_at_stands, Ways.some_way}
 
 -- ---- how far the walk has come
 

@@ -1,16 +1,10 @@
 -- The mesh after the copy was delivered is the one that the step gives.
 use Rattle.std.proofs.Common.{◌≡◌, ◌∙◌, ap, sym, arith, Some, ℕ, List}
-use Rattle.std.specs.List.{slice_get}
-use Rattle.std.specs.Vec.{with_items}
 use Rattle.std.proofs.lemmas.List.{with_items_is}
-use Rattle.spin_base.specs.declared.copies.Event.TheVariants.{Collect}
-use Rattle.spin_base.specs.declared.copies.McCopy.{McCopy}
-use Rattle.mesh_core.specs.Queues.{front_of, drop_front}
-use Rattle.mesh_core.specs.State.{State}
-use Rattle.mesh_core.specs.Step.{step_of}
-use Rattle.mesh_core.specs.Whole.{state_of}
-use Rattle.mesh_core.proofs.Keeping.{IsMesh-step_of}
-use Rattle.mesh_core.proofs.StepParts.{step_of-collect}
+use Rattle.std.specs.{List.slice_get, Vec.with_items}
+use Rattle.spin_base.specs.declared.copies.{Event.TheVariants.Collect, McCopy.McCopy}
+use Rattle.mesh_core.specs.{Queues.front_of, Queues.drop_front, State.State, Step.step_of, Whole.state_of}
+use Rattle.mesh_core.proofs.{Keeping.IsMesh-step_of, StepParts.step_of-collect}
 use Rattle.mesh_core.proofs.meshes.Mesh.collect.Goals as goal
 
 -- the lists after the event

@@ -1,12 +1,9 @@
 -- The mesh without the copy is a mesh.
 use Rattle.std.proofs.Common.{◌≡◌, ◌∙◌, ap, sym, subst, arith, List}
-use Rattle.std.specs.List.{slice_get}
-use Rattle.std.specs.Vec.{with_items}
 use Rattle.std.proofs.lemmas.List.{with_items_is}
+use Rattle.std.specs.{List.slice_get, Vec.with_items}
 use Rattle.spin_base.specs.declared.copies.McCopy.{McCopy}
-use Rattle.mesh_core.specs.Queues.{drop_front}
-use Rattle.mesh_core.specs.State.{State, IsMesh}
-use Rattle.mesh_core.specs.Whole.{state_of}
+use Rattle.mesh_core.specs.{Queues.drop_front, State.State, State.IsMesh, Whole.state_of}
 use Rattle.mesh_core.proofs.Changes.{IsMesh-dropped}
 use Rattle.mesh_core.proofs.meshes.Mesh.drop_unsent.Goals as goal
 

@@ -1,20 +1,12 @@
 -- The mesh after the copy was sent is the one that the step gives.
 use Rattle.std.proofs.Common.{◌≡◌, ◌∙◌, ◌<◌, ap, sym, subst, arith, true, Some, ℕ, List, length, get_or}
-use Rattle.std.specs.List.{slice_get}
-use Rattle.std.specs.Vec.{with_items}
-use Rattle.std.proofs.lemmas.List.{with_items_is}
-use Rattle.std.proofs.lemmas.Option.{slice_get-get_or}
-use Rattle.spin_base.specs.declared.chips.Spot.{Spot}
-use Rattle.spin_base.specs.declared.chips.Port.TheVariants.{Local}
-use Rattle.spin_base.specs.declared.copies.Event.TheVariants.{Inject}
-use Rattle.spin_base.specs.declared.copies.McCopy.{McCopy}
+use Rattle.std.proofs.lemmas.{List.with_items_is, Option.slice_get-get_or}
+use Rattle.std.specs.{List.slice_get, Vec.with_items}
+use Rattle.spin_base.specs.declared.{chips.Spot.Spot, chips.Port.TheVariants.Local, copies.Event.TheVariants.Inject, copies.McCopy.McCopy}
 use Rattle.machine_desc.specs.Description.{Description}
 use Rattle.mesh_core.specs.Queues.{front_of, drop_front}
-use Rattle.mesh_core.specs.State.{State, queue_at}
-use Rattle.mesh_core.specs.Step.{has_room, push_at, step_of, after_event}
-use Rattle.mesh_core.specs.Whole.{state_of}
-use Rattle.mesh_core.proofs.Keeping.{IsMesh-step_of}
-use Rattle.mesh_core.proofs.StepParts.{step_of-inject, after_event-moved}
+use Rattle.mesh_core.specs.{State.State, State.queue_at, Step.has_room, Step.push_at, Step.step_of, Step.after_event, Whole.state_of}
+use Rattle.mesh_core.proofs.{Keeping.IsMesh-step_of, StepParts.step_of-inject, StepParts.after_event-moved}
 use Rattle.mesh_core.proofs.meshes.Mesh.inject.Goals as goal
 
 -- the lists after the event

@@ -1,15 +1,11 @@
 -- The mesh after the copy was taken is the one that the step gives.
 use Rattle.std.proofs.Common.{◌≡◌, ◌∙◌, ap, sym, subst, arith, true, Some, None, ℕ, ◌<◌, ◌*◌, length, List, set}
-use Rattle.std.specs.List.{slice_get}
-use Rattle.std.specs.Vec.{with_items, with_item}
 use Rattle.std.proofs.lemmas.List.{with_items_is}
-use Rattle.spin_base.specs.declared.copies.Event.TheVariants.{Take}
-use Rattle.machine_desc.specs.Description.{Description}
-use Rattle.machine_desc.specs.Live.{index_of, is_live_chip}
-use Rattle.spin_base.specs.declared.copies.McCopy.{McCopy}
+use Rattle.std.specs.{List.slice_get, Vec.with_items, Vec.with_item}
+use Rattle.spin_base.specs.declared.copies.{Event.TheVariants.Take, McCopy.McCopy}
+use Rattle.machine_desc.specs.{Description.Description, Live.index_of, Live.is_live_chip}
 use Rattle.mesh_core.specs.declared.places.Did.TheVariants.{Moved}
-use Rattle.mesh_core.specs.Queues.{front_of, drop_front}
-use Rattle.mesh_core.specs.State.{State, queue_at}
+use Rattle.mesh_core.specs.{Queues.front_of, Queues.drop_front, State.State, State.queue_at}
 use Rattle.mesh_core.specs.Step.{in_hand, outputs, step_of, answer, after_event}
 use Rattle.mesh_core.specs.Whole.{state_of}
 use Rattle.mesh_core.proofs.Keeping.{IsMesh-step_of}

@@ -4,8 +4,7 @@ use Rattle.std.specs.List.{All}
 use Rattle.spin_base.specs.declared.chips.Spot.{Spot}
 use Rattle.machine_desc.specs.Live.{is_live_chip, IsSite}
 use Rattle.mesh_core.specs.State.{Setup, core_queue_of, behind}
-use Rattle.mesh_core.proofs.ServingLaws.{vertex_behind-core, vertex_behind-beyond}
-use Rattle.mesh_core.proofs.Ways.{dead_behind}
+use Rattle.mesh_core.proofs.{ServingLaws.vertex_behind-core, ServingLaws.vertex_behind-beyond, Ways.dead_behind}
 use Rattle.mesh_core.proofs.setups.MeshSetup.behind.Goals as goal
 
 pub returns-then-core-lt-CORES-clause-queue : goal.returns-then-core-lt-CORES-clause-queue
