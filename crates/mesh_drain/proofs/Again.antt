@@ -1,29 +1,17 @@
 -- A router looks at a copy's hop number and what its table gives the key alone: so a packet with a key alike goes the same way.
 use Rattle.std.proofs.Common.{◌≡◌, ℕ, cond, inl, inr, subst, suc, zero, ◌*◌, ◌<◌, ◌&&◌, ◌==◌, Bool, true, false, nat_lt, if◌then◌else◌, List, [], ◌∷◌, ◌++◌, length, map, set, get_or, drop, refl, sym, ap, ◌∙◌, Option, None, Some, arith}
-use Rattle.std.specs.Prelude.{unwrap_or}
-use Rattle.std.specs.List.{slice_get, slice_index_or, All}
-use Rattle.std.specs.Option.{option_map}
 use Rattle.std.proofs.lemmas.Bool.{cases_Bool, eqb-true, eq-eqb}
 use Rattle.std.proofs.lemmas.List.{append_assoc, append-nil, drop_at, length-map, map-append, map-set}
 use Rattle.std.proofs.lemmas.List.Elements.{All-cons, All-head, All-tail, All-weaker}
 use Rattle.std.proofs.lemmas.Option.{slice_get-get_or, slice_get-map}
-use Rattle.spin_base.specs.declared.blocks.Entry.{Entry}
-use Rattle.spin_base.specs.declared.chips.Chip.{Chip}
-use Rattle.spin_base.specs.declared.chips.Spot.{Spot}
-use Rattle.spin_base.specs.declared.chips.Port.{Port}
-use Rattle.spin_base.specs.declared.chips.Port.TheVariants.{Local}
-use Rattle.spin_base.specs.declared.copies.Delivery.{Delivery}
-use Rattle.spin_base.specs.declared.copies.DumpRec.{DumpRec}
-use Rattle.spin_base.specs.declared.copies.Event.{Event}
+use Rattle.std.specs.{Prelude.unwrap_or, List.slice_get, List.slice_index_or, List.All, Option.option_map}
+use Rattle.spin_base.specs.declared.{blocks.Entry.Entry, chips.Chip.Chip, chips.Spot.Spot, chips.Port.Port, chips.Port.TheVariants.Local}
+use Rattle.spin_base.specs.declared.copies.{Delivery.Delivery, DumpRec.DumpRec, Event.Event}
 use Rattle.spin_base.specs.declared.copies.Event.TheVariants.{Inject, Take, Send, Dump, Collect}
-use Rattle.spin_base.specs.declared.copies.McCopy.{McCopy}
-use Rattle.spin_base.specs.declared.routes.Out.{Out}
-use Rattle.spin_base.specs.Hops.{last_hop, onward}
-use Rattle.spin_base.specs.Lookup.{lookup}
-use Rattle.spin_base.specs.Outputs.{outs_of}
+use Rattle.spin_base.specs.declared.{copies.McCopy.McCopy, routes.Out.Out}
+use Rattle.spin_base.specs.{Hops.last_hop, Hops.onward, Lookup.lookup, Outputs.outs_of}
 use Rattle.spin_base.proofs.Places.{All-at}
-use Rattle.machine_desc.specs.Live.{index_of, is_live_chip}
-use Rattle.machine_desc.specs.RightTables.{table_at}
+use Rattle.machine_desc.specs.{Live.index_of, Live.is_live_chip, RightTables.table_at}
 use Rattle.mesh_core.specs.Expected.{NothingWaits}
 use Rattle.mesh_core.specs.State.{Setup, State, Hand, IsMesh, Queue, behind, input, core, nowhere, queue_at}
 use Rattle.mesh_core.specs.Step.{after_event, after_events, after_serving, collect_of, has_room, has_room_behind, in_hand, outputs, outs_without, push_at, push_behind, send_of, serves, take_of}

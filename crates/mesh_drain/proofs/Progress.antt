@@ -1,30 +1,21 @@
 -- Each event that is enabled makes the marks of a mesh lighter.
 use Rattle.std.proofs.Common.{◌≡◌, ℕ, suc, ◌+◌, ◌*◌, ◌-◌, ◌<◌, ◌≤◌, ◌^◌, min, refl, sym, ap, ◌∙◌, subst, arith, inl, inr, List, [], ◌∷◌, ◌++◌, map, Option, Some, None, unwrap_or}
-use Rattle.std.specs.List.{sum_by, All}
-use Rattle.std.specs.Prelude.{IfSome}
 use Rattle.std.proofs.Math.Nat.{mul-le-mul_left}
 use Rattle.std.proofs.lemmas.List.Sums.{sum_by-append, sum_by-cons}
-use Rattle.spin_base.specs.declared.copies.Event.{Event}
-use Rattle.spin_base.specs.declared.copies.McCopy.{McCopy}
-use Rattle.spin_base.specs.declared.chips.Chip.{Chip}
-use Rattle.spin_base.specs.declared.chips.Port.{Port}
-use Rattle.spin_base.specs.declared.routes.Out.{Out}
+use Rattle.std.specs.{List.sum_by, List.All, Prelude.IfSome}
+use Rattle.spin_base.specs.declared.{copies.Event.Event, copies.McCopy.McCopy, chips.Chip.Chip, chips.Port.Port, routes.Out.Out}
 use Rattle.spin_base.specs.Links.{opposite_of}
 use Rattle.spin_base.specs.declared.chips.Port.TheVariants.{Link as ByLink, Local}
 use Rattle.spin_base.specs.Hops.{last_hop, onward}
+use Rattle.spin_base.proofs.Exchange.{among_taken_out, TakenOut, PutIn}
+use Rattle.spin_base.proofs.{Members.Among, Members.among_contains, Members.among_only, Places.All-at}
 use Rattle.mesh_core.specs.State.{State, Hand, FitsHand, FitsQueue, IsMesh}
 use Rattle.mesh_core.specs.Step.{outputs, step_of, after_event}
 use Rattle.mesh_core.specs.Trail.{Station, unsent, in_queue, in_hand, at_core, delivered, dumped, Mark, IsUnderWayAt}
-use Rattle.mesh_core.specs.Ledger.{marks_of}
-use Rattle.mesh_core.proofs.Events.{event_exchange}
-use Rattle.spin_base.proofs.Exchange.{among_taken_out, TakenOut, PutIn}
-use Rattle.spin_base.proofs.Members.{Among, among_contains, among_only}
-use Rattle.mesh_core.specs.Heavy.{heavy}
-use Rattle.mesh_core.proofs.FewMoves.{few_come}
-use Rattle.mesh_core.proofs.Heavy.{one_heavy, heavy_grows, light}
+use Rattle.mesh_core.specs.{Ledger.marks_of, Heavy.heavy}
+use Rattle.mesh_core.proofs.{Events.event_exchange, FewMoves.few_come, Heavy.one_heavy, Heavy.heavy_grows, Heavy.light}
 use Rattle.mesh_core.proofs.Moves.{mark, IsMove, IsMoveOf, Crosses}
 use Rattle.mesh_core.proofs.Standing.{StandsAt, mark_stands}
-use Rattle.spin_base.proofs.Places.{All-at}
 use Rattle.mesh_drain.specs.UnderWay.{stage, advance, advance_weight_of, weight_in}
 
 -- ---- weights

@@ -1,41 +1,24 @@
 -- What each event of the packet under way does.
 use Rattle.std.proofs.Common.{◌≡◌, ◌≢◌, ℕ, zero, suc, ◌+◌, ◌<◌, ◌≤◌, ◌==◌, ◌&&◌, ◌||◌, refl, sym, ap, ◌∙◌, subst, arith, inl, List, [], ◌∷◌, ◌++◌, set, length, Option, Some, None, Bool, true, false, if◌then◌else◌, unwrap_or, nat_lt}
-use Rattle.std.specs.List.{slice_get, slice_index_or, slice_set, All, list_any, Contains}
-use Rattle.std.proofs.lemmas.Bool.{and_from, eqb-true, lt-ltb}
-use Rattle.std.proofs.lemmas.List.{get_or-set_same, get_or-set_other}
+use Rattle.std.proofs.lemmas.{Bool.and_from, Bool.eqb-true, Bool.lt-ltb, List.get_or-set_same, List.get_or-set_other}
 use Rattle.std.proofs.lemmas.List.Elements.{All-head, All-tail, All-nil, All-cons, All-append}
 use Rattle.std.proofs.lemmas.Option.{slice_get-get_or, get_or_from_slice_get}
-use Rattle.spin_base.specs.declared.chips.Chip.{Chip}
-use Rattle.spin_base.specs.declared.chips.Dir.{Dir}
-use Rattle.spin_base.specs.declared.chips.Port.{Port}
-use Rattle.spin_base.specs.declared.chips.Port.TheVariants.{Link as ByLink, Local}
-use Rattle.spin_base.specs.declared.routes.Out.{Out}
-use Rattle.spin_base.specs.declared.routes.Out.TheVariants.{Link, Core}
-use Rattle.spin_base.specs.declared.copies.McCopy.{McCopy}
-use Rattle.spin_base.specs.declared.copies.Event.{Event}
-use Rattle.spin_base.specs.declared.copies.Event.TheVariants.{Take, Send, Collect}
-use Rattle.spin_base.specs.Equality.{out_eq}
-use Rattle.spin_base.specs.Links.{opposite_of}
+use Rattle.std.specs.List.{slice_get, slice_index_or, slice_set, All, list_any, Contains}
+use Rattle.spin_base.specs.declared.chips.{Chip.Chip, Dir.Dir, Port.Port, Port.TheVariants.Link as ByLink, Port.TheVariants.Local}
+use Rattle.spin_base.specs.declared.routes.Out.{Out, TheVariants.Link, TheVariants.Core}
+use Rattle.spin_base.specs.declared.copies.{McCopy.McCopy, Event.Event, Event.TheVariants.Take, Event.TheVariants.Send, Event.TheVariants.Collect}
+use Rattle.spin_base.specs.{Equality.out_eq, Links.opposite_of, Hops.onward}
 use Rattle.spin_base.proofs.Equality.{nat_eq_same, out_eq_same}
-use Rattle.spin_base.specs.Hops.{onward}
+use Rattle.spin_base.proofs.{Counts.count_by-append, Counts.count_by-cons, Members.among_contains, Pairs.All-left, Pairs.All-right}
+use Rattle.spin_base.proofs.Places.{All-at, slice_get-set_same, set-slice_get, set_put_back}
 use Rattle.machine_desc.specs.Description.{Description}
 use Rattle.machine_desc.specs.Live.{far_of, index_of, IsInside, IsLiveChip, is_live_link}
 use Rattle.machine_desc.proofs.Far.{live_inside, live_ends, index_below}
 use Rattle.mesh_core.specs.State.{Setup, State, Hand, Queue, input, core, nowhere, core_queue_of, behind, behind_link, vertex_behind, queue_at}
 use Rattle.mesh_core.specs.Step.{has_room, has_room_behind, outputs, in_hand, outs_without, push_at, push_behind, after_serving, serves, take_of, send_of, collect_of, step_of, after_event}
-use Rattle.mesh_core.specs.Trail.{in_hand as held_at}
-use Rattle.mesh_core.specs.Ledger.{marks_of}
+use Rattle.mesh_core.specs.{Trail.in_hand as held_at, Ledger.marks_of, Waiting.queue_of}
 use Rattle.mesh_core.proofs.Changes.{queue_at-below}
-use Rattle.mesh_core.proofs.EventsLaw.{event_keeps}
-use Rattle.spin_base.proofs.Counts.{count_by-append, count_by-cons}
-use Rattle.spin_base.proofs.Members.{among_contains}
-use Rattle.spin_base.proofs.Pairs.{All-left, All-right}
-use Rattle.spin_base.proofs.Places.{All-at, slice_get-set_same, set-slice_get, set_put_back}
-use Rattle.mesh_core.specs.Waiting.{queue_of}
-use Rattle.mesh_core.proofs.Keeping.{input_is_somewhere}
-use Rattle.mesh_core.proofs.Moves.{mark}
-use Rattle.mesh_core.proofs.Queued.{FreeBehind, free_behind}
-use Rattle.mesh_core.proofs.Standing.{held_mark}
+use Rattle.mesh_core.proofs.{EventsLaw.event_keeps, Keeping.input_is_somewhere, Moves.mark, Queued.FreeBehind, Queued.free_behind, Standing.held_mark}
 use Rattle.mesh_drain.specs.declared.draining.Waiting.{Waiting}
 use Rattle.mesh_drain.specs.Draining.{MeetsSomeLedger}
 use Rattle.mesh_drain.specs.UnderWay.{far_port, next_place, outs_in, times, weight_in, WaitsAlone, IsServing}

@@ -1,30 +1,20 @@
 -- What the calls of a packet under way leave, as they follow on each other.
 use Rattle.std.proofs.Common.{◌≡◌, ◌≢◌, ◌==◌, true, false, ℕ, suc, ◌+◌, ◌<◌, ◌≤◌, set, get_or, drop, refl, sym, ap, ◌∙◌, subst, arith, List, [], ◌∷◌, ◌++◌, length, Some}
-use Rattle.std.specs.List.{slice_get, All}
-use Rattle.std.specs.Option.{option_to_list}
-use Rattle.std.specs.Prelude.{OnOk, Result, Ok, Err}
 use Rattle.std.proofs.Math.Seq.{drop-cons}
 use Rattle.std.proofs.lemmas.List.{length-append, get_or-set_same, get_or_default, set-get_or}
-use Rattle.std.proofs.lemmas.Option.{slice_get-get_or, slice_get_within, get_or_from_slice_get}
-use Rattle.spin_base.specs.declared.chips.Chip.{Chip}
-use Rattle.spin_base.specs.declared.chips.Spot.{Spot}
-use Rattle.spin_base.specs.declared.chips.Port.TheVariants.{Local}
-use Rattle.spin_base.specs.declared.routes.Out.{Out}
-use Rattle.spin_base.specs.declared.copies.McCopy.{McCopy}
+use Rattle.std.proofs.lemmas.{Option.slice_get-get_or, Option.slice_get_within, Option.get_or_from_slice_get, Bool.eqb-true}
+use Rattle.std.specs.{List.slice_get, List.All, Option.option_to_list}
+use Rattle.std.specs.Prelude.{OnOk, Result, Ok, Err}
+use Rattle.spin_base.specs.declared.{chips.Chip.Chip, chips.Spot.Spot, chips.Port.TheVariants.Local, routes.Out.Out, copies.McCopy.McCopy}
 use Rattle.spin_base.specs.declared.copies.Event.TheVariants.{Inject, Take, Send, Collect}
-use Rattle.std.proofs.lemmas.Bool.{eqb-true}
-use Rattle.machine_desc.specs.Description.{Description}
-use Rattle.machine_desc.specs.Live.{index_of}
+use Rattle.machine_desc.specs.{Description.Description, Live.index_of}
 use Rattle.mesh_core.specs.State.{Setup, State, Queue, input, core, nowhere, behind}
+use Rattle.mesh_core.specs.{Step.after_event, Expected.IsAtRest, Expected.NothingWaits}
 use Rattle.mesh_core.proofs.Fixed.{after_event_setup}
-use Rattle.mesh_core.specs.Step.{after_event}
 use Rattle.mesh_drain.specs.declared.draining.Waiting.{Waiting}
 use Rattle.mesh_drain.specs.Draining.{MeetsSomeLedger, IsReachedDropless}
-use Rattle.mesh_core.specs.Expected.{IsAtRest, NothingWaits}
 use Rattle.mesh_drain.specs.UnderWay.{work, weight_in, outs_in, next_place, WaitsAlone, IsServing}
-use Rattle.mesh_drain.proofs.Frame.{setup_reached, kept_reached}
-use Rattle.mesh_drain.proofs.Moving.{after_reached, there_after}
-use Rattle.mesh_drain.proofs.Progress.{event_lighter}
+use Rattle.mesh_drain.proofs.{Frame.setup_reached, Frame.kept_reached, Moving.after_reached, Moving.there_after, Progress.event_lighter}
 use Rattle.mesh_drain.proofs.Packets.{inject_step, inject_unsent, packet_done}
 use Rattle.mesh_drain.proofs.Steps.{kept_after, written, set_twice, take_step, next, next_is, send_link, send_link_lighter, send_core, send_nowhere}
 

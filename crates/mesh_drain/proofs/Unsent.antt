@@ -1,18 +1,13 @@
 -- What each vertex still has to send, packet by packet.
 use Rattle.std.proofs.Common.{◌≡◌, ◌≢◌, ℕ, zero, suc, ◌+◌, ◌<◌, ◌==◌, refl, sym, ap, ◌∙◌, false, if◌then◌else◌, List, [], ◌∷◌, ◌++◌, map, length, replicate, Option, Some, None, arith, append-nil}
+use Rattle.std.proofs.lemmas.{Bool.eq-eqb, Bool.ne_eqb, List.Elements.filter_map-append}
 use Rattle.std.specs.List.{slice_get, range_with_len, filter_map, enumerate_from, cons_option}
 use Rattle.std.specs.Option.{option_map_or}
-use Rattle.std.proofs.lemmas.Bool.{eq-eqb, ne_eqb}
-use Rattle.std.proofs.lemmas.List.Elements.{filter_map-append}
-use Rattle.spin_base.specs.declared.chips.Spot.{Spot}
-use Rattle.spin_base.specs.declared.copies.McCopy.{McCopy}
-use Rattle.spin_base.specs.declared.copies.Packet.{Packet}
+use Rattle.spin_base.specs.declared.{chips.Spot.Spot, copies.McCopy.McCopy, copies.Packet.Packet}
+use Rattle.spin_base.proofs.{Places.enumerate_push, Ranges.slice_get-map_range, Ranges.set-map_range}
 use Rattle.machine_desc.specs.declared.nets.NetPlan.{NetPlan}
 use Rattle.machine_desc.specs.NetsOn.{vertex_at}
-use Rattle.mesh_core.specs.Opened.{copy_from, first_copy}
-use Rattle.mesh_core.specs.Step.{push_at}
-use Rattle.spin_base.proofs.Places.{enumerate_push}
-use Rattle.spin_base.proofs.Ranges.{slice_get-map_range, set-map_range}
+use Rattle.mesh_core.specs.{Opened.copy_from, Opened.first_copy, Step.push_at}
 
 -- ---- what a vertex has of a list of packets, numbered from i on
 

@@ -1,20 +1,12 @@
 -- No copy is dropped at an output that leads to a vertex, where none waits for one.
 use Rattle.std.proofs.Common.{◌≡◌, ℕ, ◌+◌, ◌<◌, ◌≤◌, refl, sym, ap, ◌∙◌, subst, arith, Bool, true, false, ◌&&◌, not, if◌then◌else◌, List, [], ◌∷◌, ◌++◌, append_assoc, append-nil, length, set, get_or, Option, Some, None, unwrap_or}
-use Rattle.std.specs.List.{slice_get, All}
-use Rattle.std.specs.Prelude.{OnErr, OnOk, Result, Ok, Err}
-use Rattle.std.proofs.Math.Seq.{set-get_or}
-use Rattle.std.proofs.lemmas.Bool.{lt-ltb}
-use Rattle.std.proofs.lemmas.List.{get_or_default}
+use Rattle.std.proofs.{Math.Seq.set-get_or, lemmas.Bool.lt-ltb, lemmas.List.get_or_default}
 use Rattle.std.proofs.lemmas.List.Elements.{All-nil, All-cons, All-append}
 use Rattle.std.proofs.lemmas.Option.{slice_get-get_or, slice_get_within}
-use Rattle.spin_base.specs.declared.chips.Chip.{Chip}
-use Rattle.spin_base.specs.declared.chips.Dir.{Dir}
-use Rattle.spin_base.specs.declared.chips.Port.{Port}
-use Rattle.spin_base.specs.declared.routes.Out.{Out}
-use Rattle.spin_base.specs.declared.routes.Out.TheVariants.{Link, Core}
-use Rattle.spin_base.specs.declared.copies.McCopy.{McCopy}
-use Rattle.spin_base.specs.declared.wants.Memory.{Memory}
-use Rattle.spin_base.specs.declared.copies.DumpRec.{DumpRec}
+use Rattle.std.specs.List.{slice_get, All}
+use Rattle.std.specs.Prelude.{OnErr, OnOk, Result, Ok, Err}
+use Rattle.spin_base.specs.declared.{chips.Chip.Chip, chips.Dir.Dir, chips.Port.Port, routes.Out.Out, routes.Out.TheVariants.Link, routes.Out.TheVariants.Core}
+use Rattle.spin_base.specs.declared.{copies.McCopy.McCopy, wants.Memory.Memory, copies.DumpRec.DumpRec}
 use Rattle.spin_base.specs.declared.copies.Event.TheVariants.{Take, Send, Dump, Collect}
 use Rattle.spin_base.specs.Hops.{onward}
 use Rattle.spin_base.proofs.Places.{All-at, slice_get-set_same, set-slice_get, set_put_back}
@@ -26,8 +18,7 @@ use Rattle.mesh_core.proofs.Fixed.{by_take, by_dump, by_collect, after_event_set
 use Rattle.mesh_core.proofs.Keeping.{input_is_no_core, same_core, core_is_somewhere}
 use Rattle.mesh_core.proofs.Ways.{vertex_behind_stands}
 use Rattle.mesh_drain.specs.Draining.{AreCollected, DropsAtNoVertex, IsSameBesidesCores, LeadsToNoVertex, collected_from}
-use Rattle.mesh_drain.proofs.Steps.{set_twice}
-use Rattle.mesh_drain.proofs.Turns.{one_vertex_more}
+use Rattle.mesh_drain.proofs.{Steps.set_twice, Turns.one_vertex_more}
 
 -- ---- one after the other
 

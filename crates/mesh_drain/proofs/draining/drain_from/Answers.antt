@@ -1,8 +1,6 @@
 use Rattle.std.proofs.Common.{arith}
 use Rattle.mesh_drain.proofs.Frame.{reached_then, kept_reached}
-use Rattle.mesh_drain.proofs.Packets.{few_spots}
-use Rattle.mesh_drain.proofs.Senders.{moved_of_reached, one_less_sender, rest_from, sender_there}
-use Rattle.mesh_drain.proofs.Turns.{was_there}
+use Rattle.mesh_drain.proofs.{Packets.few_spots, Senders.moved_of_reached, Senders.one_less_sender, Senders.rest_from, Senders.sender_there, Turns.was_there}
 use Rattle.mesh_drain.proofs.draining.drain_from.Goals as goal
 
 pub overflow_cast-vertex : goal.overflow_cast-vertex

@@ -1,6 +1,5 @@
 use Rattle.std.proofs.Common.{◌<◌, ◌≤◌, length, ap, arith, subst}
-use Rattle.mesh_drain.proofs.Frame.{reached_then, kept_reached}
-use Rattle.mesh_drain.proofs.Packets.{few_spots}
+use Rattle.mesh_drain.proofs.{Frame.reached_then, Frame.kept_reached, Packets.few_spots}
 use Rattle.mesh_drain.proofs.Turns.{there_still, was_there, one_vertex_more, at_rest}
 use Rattle.mesh_drain.proofs.draining.send_each.Goals as goal
 

@@ -1,10 +1,7 @@
 use Rattle.std.proofs.Common.{ap, ◌∙◌, arith, length, refl}
-use Rattle.mesh_core.specs.State.{State}
-use Rattle.mesh_core.specs.Step.{after_event}
+use Rattle.mesh_core.specs.{State.State, Step.after_event}
 use Rattle.spin_base.specs.declared.copies.Event.TheVariants.{Send, Collect}
-use Rattle.mesh_drain.proofs.Frame.{onward_by, onward_then, unsent_stays}
-use Rattle.mesh_drain.proofs.Packets.{few_in_mesh}
-use Rattle.mesh_drain.proofs.Steps.{kept_after}
+use Rattle.mesh_drain.proofs.{Frame.onward_by, Frame.onward_then, Frame.unsent_stays, Packets.few_in_mesh, Steps.kept_after}
 use Rattle.mesh_drain.proofs.Turns.{on_ok, link_served, core_served, nowhere_served}
 use Rattle.mesh_drain.proofs.draining.serve.Goals as goal
 

@@ -1,10 +1,9 @@
 use Rattle.std.proofs.Common.{◌+◌, ◌<◌, length, sym, ap, subst, None, arith}
-use Rattle.std.specs.List.{slice_index_or}
 use Rattle.std.proofs.lemmas.Option.{get_or_from_slice_get}
+use Rattle.std.specs.List.{slice_index_or}
 use Rattle.spin_base.specs.declared.copies.Packet.{Packet}
 use Rattle.machine_desc.specs.declared.nets.NetPlan.{NetPlan}
-use Rattle.mesh_drain.proofs.Opened.{known, listed_source, grows}
-use Rattle.mesh_drain.proofs.Packets.{few_in_mesh}
+use Rattle.mesh_drain.proofs.{Opened.known, Opened.listed_source, Opened.grows, Packets.few_in_mesh}
 use Rattle.mesh_drain.proofs.opening.add_packets.Goals as goal
 
 pub loop-number-init : goal.loop-number-init

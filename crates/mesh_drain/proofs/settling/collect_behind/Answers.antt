@@ -1,8 +1,7 @@
 use Rattle.std.proofs.Common.{◌≡◌, arith, subst}
 use Rattle.std.specs.Prelude.{OnOk}
 use Rattle.mesh_drain.specs.Draining.{collected_from}
-use Rattle.mesh_drain.proofs.Frame.{dropless}
-use Rattle.mesh_drain.proofs.Packets.{few_in_mesh}
+use Rattle.mesh_drain.proofs.{Frame.dropless, Packets.few_in_mesh}
 use Rattle.mesh_drain.proofs.settling.collect_behind.Goals as goal
 
 pub overflow_cast-vertex : goal.overflow_cast-vertex

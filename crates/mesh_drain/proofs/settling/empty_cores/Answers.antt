@@ -2,9 +2,7 @@ use Rattle.std.proofs.Common.{List, ◌<◌, ◌≤◌, length, ap, ◌∙◌, s
 use Rattle.spin_base.specs.declared.chips.Spot.{Spot}
 use Rattle.mesh_core.specs.State.{Setup}
 use Rattle.mesh_drain.proofs.Frame.{reached_none, reached_then, setup_reached}
-use Rattle.mesh_drain.proofs.Moving.{after_reached, mesh_after}
-use Rattle.mesh_drain.proofs.Packets.{few_in_mesh}
-use Rattle.mesh_drain.proofs.Turns.{there_still}
+use Rattle.mesh_drain.proofs.{Moving.after_reached, Moving.mesh_after, Packets.few_in_mesh, Turns.there_still}
 use Rattle.mesh_drain.proofs.Vertices.{same_besides, same_then, one_more_collected, all_collected}
 use Rattle.mesh_drain.proofs.settling.empty_cores.Goals as goal
 

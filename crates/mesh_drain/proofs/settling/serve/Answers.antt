@@ -1,8 +1,7 @@
 use Rattle.std.proofs.Common.{◌≡◌, sym, subst, ◌∙◌, ap, true, arith}
 use Rattle.std.specs.Prelude.{is_some}
 use Rattle.spin_base.specs.declared.copies.Event.TheVariants.{Send, Dump}
-use Rattle.mesh_core.specs.State.{State}
-use Rattle.mesh_core.specs.Step.{step_of}
+use Rattle.mesh_core.specs.{State.State, Step.step_of}
 use Rattle.mesh_core.proofs.Fixed.{dumped_stays}
 use Rattle.mesh_drain.proofs.Frame.{dumped_reached}
 use Rattle.mesh_drain.proofs.Moving.{after_one, after_then, after_lighter, after_reached, always, lighter, moved_enabled, dump_enabled, idle_stays, mesh_after}

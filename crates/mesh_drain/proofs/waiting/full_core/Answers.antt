@@ -1,6 +1,5 @@
 use Rattle.std.proofs.Common.{ap, arith, length}
-use Rattle.mesh_drain.proofs.Packets.{few_in_mesh}
-use Rattle.mesh_drain.proofs.Ports.{no_core}
+use Rattle.mesh_drain.proofs.{Packets.few_in_mesh, Ports.no_core}
 use Rattle.mesh_drain.proofs.waiting.full_core.Goals as goal
 
 pub overflow_cast-vertex : goal.overflow_cast-vertex
