@@ -1,19 +1,15 @@
 -- What is left of all ways of all packets: a bag of moves leaves less by what its moves take.
 use Rattle.std.proofs.Common.{◌≡◌, ℕ, zero, suc, ◌+◌, ◌*◌, ◌<◌, ◌≤◌, ◌==◌, ◌&&◌, cond, if◌then◌else◌, refl, ap, sym}
 use Rattle.std.proofs.Common.{◌∙◌, subst, arith, inl, inr, ◌⊎◌, List, [], ◌∷◌, length, Bool, true, false, count_by}
+use Rattle.std.proofs.lemmas.{Bool.cases_order, Bool.eqb-true, List.Sums.sum_by-append, List.Sums.sum_by-cons}
 use Rattle.std.specs.List.{sum_by, Contains}
-use Rattle.std.proofs.lemmas.Bool.{cases_order, eqb-true}
-use Rattle.std.proofs.lemmas.List.Sums.{sum_by-append, sum_by-cons}
 use Rattle.spin_base.proofs.Members.{Among, among_contains, among_either}
 use Rattle.spin_base.specs.declared.chips.Spot.{Spot}
 use Rattle.machine_desc.specs.NetsOn.{IsWayOn}
 use Rattle.machine_desc.specs.declared.nets.NetPlan.{NetPlan}
 use Rattle.machine_desc.specs.RightTables.{AreRight, IsKeyOf}
-use Rattle.mesh_core.specs.State.{State, IsMesh}
-use Rattle.mesh_core.specs.Trail.{Mark}
-use Rattle.mesh_core.specs.Ledger.{Label, MeetsLedger, marks_of}
-use Rattle.mesh_core.proofs.Counting.{counted}
-use Rattle.mesh_core.proofs.Law.{move_comes, move_counts}
+use Rattle.mesh_core.specs.{State.State, State.IsMesh, Trail.Mark, Ledger.Label, Ledger.MeetsLedger, Ledger.marks_of}
+use Rattle.mesh_core.proofs.{Counting.counted, Law.move_comes, Law.move_counts}
 use Rattle.mesh_core.proofs.LedgerLaw.{Bag, IsRight, Moved, one_net, right_before, right_come, stands}
 use Rattle.mesh_core.proofs.MarkTests.{mark_eq, mark_eq_same, mark_eq_true, move_raises, rank}
 use Rattle.mesh_core.proofs.Ways.{short_branch}

@@ -1,24 +1,18 @@
 -- Where queues have room for a copy of each packet of a job, no round dumps a copy.
 use Rattle.std.proofs.Common.{◌≡◌, ◌≢◌, ℕ, ◌+◌, ◌-◌, ◌*◌, ◌/◌, ◌%◌, ◌<◌, ◌≤◌, ◌==◌, ◌&&◌, nat_lt, zero, suc, Bool, true, false, List, []}
 use Rattle.std.proofs.Common.{◌∷◌, ◌++◌, map, filter, Some, length, refl, ap, sym, ◌∙◌, subst, arith, inl, inr, count_by, append-nil}
-use Rattle.std.specs.List.{All, Contains, slice_get, sum_by, range_with_len}
 use Rattle.std.proofs.Math.Nat.{mul-le-mul_left}
 use Rattle.std.proofs.lemmas.Bool.{cases_Bool, cases_lt, and_parts, and_from, eqb-true, eq-eqb, lt-ltb}
-use Rattle.std.proofs.lemmas.List.{get_or_past, length-append}
-use Rattle.std.proofs.lemmas.List.Elements.{All-contains, All-head}
-use Rattle.std.proofs.lemmas.List.Sums.{sum_by-cons}
+use Rattle.std.proofs.lemmas.List.{get_or_past, length-append, Elements.All-contains, Elements.All-head, Sums.sum_by-cons}
 use Rattle.std.proofs.lemmas.Option.{slice_get_within, get_or_from_slice_get}
+use Rattle.std.specs.List.{All, Contains, slice_get, sum_by, range_with_len}
 use Rattle.spin_base.proofs.Counts.{count_by-append}
 use Rattle.spin_base.proofs.Members.{Among, among_contains, contains_among, map_among, among_left, among_right, among_either, Contains-filter}
 use Rattle.spin_base.proofs.Places.{slice_get_there}
-use Rattle.spin_base.specs.declared.{chips.Chip.Chip, chips.Spot.Spot, routes.Out.Out, copies.McCopy.McCopy, copies.DumpRec.DumpRec, copies.Packet.Packet}
-use Rattle.spin_base.specs.Equality.{chip_eq, out_eq}
-use Rattle.spin_base.specs.Outputs.{IsOutput}
 use Rattle.spin_base.proofs.Equality.{nat_eq_same, chip_eq_same, out_eq_same}
-use Rattle.spin_base.specs.Hops.{last_hop, onward}
-use Rattle.machine_desc.specs.Description.{Description}
-use Rattle.machine_desc.specs.Live.{chip_of, IsLiveChip}
-use Rattle.machine_desc.specs.Branch.{Exit}
+use Rattle.spin_base.specs.declared.{chips.Chip.Chip, chips.Spot.Spot, routes.Out.Out, copies.McCopy.McCopy, copies.DumpRec.DumpRec, copies.Packet.Packet}
+use Rattle.spin_base.specs.{Equality.chip_eq, Equality.out_eq, Outputs.IsOutput, Hops.last_hop, Hops.onward}
+use Rattle.machine_desc.specs.{Description.Description, Live.chip_of, Live.IsLiveChip, Branch.Exit}
 use Rattle.machine_desc.specs.declared.nets.NetPlan.{NetPlan}
 use Rattle.machine_desc.specs.NetsOn.{AreNetsOn, IsWayOn}
 use Rattle.machine_desc.specs.RightTables.{IsKeyOf, AreRight}
@@ -26,23 +20,17 @@ use Rattle.mesh_core.specs.State.{Setup, State, IsMesh, Queue, input, core, nowh
 use Rattle.mesh_core.specs.Trail.{Station, in_queue, in_hand, at_core, dumped, Mark, on_trail, is_on_trail}
 use Rattle.mesh_core.specs.Ledger.{marks_of, marks_at, port_of, unsent_marks, input_marks, all_hand_marks, core_marks, delivered_marks, dumped_marks, label_of, Label, MeetsLedger}
 use Rattle.mesh_core.specs.Opened.{asked_by, MeetsJobLedger}
-use Rattle.mesh_core.proofs.AskedPackets.{asked_parts}
-use Rattle.mesh_core.proofs.Law.{move_counts, comes_parts}
-use Rattle.mesh_core.proofs.LedgerLaw.{Bag, one_net, stands}
-use Rattle.mesh_core.proofs.Moves.{mark}
-use Rattle.mesh_core.proofs.Ways.{Stands, one_place, vertex_at_stands}
+use Rattle.mesh_core.proofs.{AskedPackets.asked_parts, Law.move_counts, Law.comes_parts, LedgerLaw.Bag, LedgerLaw.one_net, LedgerLaw.stands}
+use Rattle.mesh_core.proofs.{Moves.mark, Ways.Stands, Ways.one_place, Ways.vertex_at_stands, Counting.counted}
 use Rattle.mesh_round.specs.RoundFlow.{Flow, Passes, IsRound, WasFullAt, HasRounds, none as no_rounds, more, held_in, capacity_of, dumped_at}
 use Rattle.mesh_round.specs.Work.{moves_left, to_go}
 use Rattle.mesh_round.proofs.Arrivals.{Right, held_right, arrived_right, crossing_right, on_behind, somewhere}
-use Rattle.mesh_core.proofs.Counting.{counted}
 use Rattle.mesh_round.proofs.CountSums.{one_if, sum_within, part_of_sum_at, counts}
 use Rattle.mesh_round.proofs.{Entered.station_of, Nearer.move_nears}
 use Rattle.mesh_round.proofs.PassedOnce.{here, before, passed_once}
 use Rattle.mesh_round.proofs.RoundBag.{bag_of_round, in_parts, crossing_comes}
 use Rattle.mesh_round.proofs.FlowLaw.{round_keeps, rounds_stand}
-use Rattle.mesh_round.proofs.Sources.{once_in_range, range_parts}
-use Rattle.mesh_round.proofs.Sums.{sum_agree, sum_swap, sum_gathered, sum_map}
-use Rattle.mesh_round.proofs.Weights.{back_onward}
+use Rattle.mesh_round.proofs.{Sources.once_in_range, Sources.range_parts, Sums.sum_agree, Sums.sum_swap, Sums.sum_gathered, Sums.sum_map, Weights.back_onward}
 
 -- two ways of a net to one target are one
 abbrev pub HasOneWay : Type 0

@@ -1,17 +1,12 @@
 -- Of each packet each way has so much left; each round in which a copy moves takes at least one. So there are few such rounds.
 use Rattle.std.proofs.Common.{◌≡◌, ℕ, zero, suc, ◌+◌, ◌*◌, ◌≤◌, ◌==◌, ◌&&◌, cond, refl, ap, sym, ◌∙◌, subst, arith}
 use Rattle.std.proofs.Common.{inl, inr, List, [], ◌∷◌, ◌++◌, length, map, Bool, true, Option, Some, None, count_by}
-use Rattle.std.specs.List.{All, Contains, slice_get, sum_by}
 use Rattle.std.proofs.lemmas.Bool.{and_from, eq-eqb, true≢false}
-use Rattle.std.proofs.lemmas.List.Elements.{All-contains}
-use Rattle.std.proofs.lemmas.List.Sums.{sum_by-append, sum_by-cons}
-use Rattle.std.proofs.lemmas.Option.{none-some, same_Some}
+use Rattle.std.proofs.lemmas.{List.Elements.All-contains, List.Sums.sum_by-append, List.Sums.sum_by-cons, Option.none-some, Option.same_Some}
+use Rattle.std.specs.List.{All, Contains, slice_get, sum_by}
 use Rattle.spin_base.proofs.Members.{Among, among_either, among_left, among_map, among_right, map_among}
 use Rattle.spin_base.specs.declared.{chips.Spot.Spot, copies.McCopy.McCopy, copies.Packet.Packet}
-use Rattle.machine_desc.specs.Branch.{Exit}
-use Rattle.machine_desc.specs.NetsOn.{AreNetsOn, IsWayOn}
-use Rattle.machine_desc.specs.RightTables.{AreRight, IsKeyOf}
-use Rattle.machine_desc.specs.RoutingTree.{IsRoutingTree}
+use Rattle.machine_desc.specs.{Branch.Exit, NetsOn.AreNetsOn, NetsOn.IsWayOn, RightTables.AreRight, RightTables.IsKeyOf, RoutingTree.IsRoutingTree}
 use Rattle.machine_desc.specs.declared.nets.NetPlan.{NetPlan}
 use Rattle.mesh_core.specs.State.{Setup, State, IsMesh}
 use Rattle.mesh_core.specs.Ledger.{Asked, Label, MeetsLedger, label_of, marks_of}
@@ -28,8 +23,7 @@ use Rattle.mesh_round.proofs.AheadMoves.{leaves_right, left_among, way_takes}
 use Rattle.mesh_round.proofs.CountSums.{part_of_sum, sum_within}
 use Rattle.mesh_round.proofs.Lighter.{all_left, left_counts}
 use Rattle.mesh_round.proofs.NetWays.{each_way, few_places, many_ways, net_ways, one_sends, some_counts, some_sends, way_there}
-use Rattle.mesh_round.proofs.RoundBag.{bag_of_round, some_steps}
-use Rattle.mesh_round.proofs.Sums.{sum_map, sum_plus}
+use Rattle.mesh_round.proofs.{RoundBag.bag_of_round, RoundBag.some_steps, Sums.sum_map, Sums.sum_plus}
 
 -- a way of a packet, by the packet's number
 pub record PacketWay : Type 0 where

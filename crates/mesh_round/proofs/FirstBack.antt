@@ -1,30 +1,23 @@
 -- In a mesh of a job at rest the first dumped copy can be put back: behind its output is a queue, and it is empty.
 use Rattle.std.proofs.Common.{◌≡◌, ◌≢◌, ℕ, ◌<◌, List, [], ◌∷◌, length, true, if◌then◌else◌, Option, Some, None, is_some, refl, ap, sym, ◌∙◌, subst, arith, inl, inr}
-use Rattle.std.specs.List.{All, Contains, slice_get}
 use Rattle.std.proofs.lemmas.{Bool.lt-ltb, List.Elements.All-contains, Option.slice_get_within}
-use Rattle.spin_base.proofs.Members.{Among, among_contains}
-use Rattle.spin_base.proofs.Places.{All-at, slice_get_there}
+use Rattle.std.specs.List.{All, Contains, slice_get}
+use Rattle.spin_base.proofs.{Members.Among, Members.among_contains, Places.All-at, Places.slice_get_there}
 use Rattle.spin_base.specs.declared.chips.{Chip.Chip, Spot.Spot, Port.TheVariants.Link as ByLink}
-use Rattle.spin_base.specs.declared.routes.Out.{Out, TheVariants.Link}
-use Rattle.spin_base.specs.declared.copies.{McCopy.McCopy, DumpRec.DumpRec}
+use Rattle.spin_base.specs.declared.{routes.Out.Out, routes.Out.TheVariants.Link, copies.McCopy.McCopy, copies.DumpRec.DumpRec}
 use Rattle.spin_base.specs.Links.{opposite_of}
-use Rattle.machine_desc.specs.Description.{Description}
-use Rattle.machine_desc.specs.Live.{far_of, IsLiveLink}
-use Rattle.machine_desc.specs.{Branch.Exit, RoutingTree.IsRoutingTree}
+use Rattle.machine_desc.specs.{Description.Description, Live.far_of, Live.IsLiveLink, Branch.Exit, RoutingTree.IsRoutingTree}
+use Rattle.machine_desc.specs.declared.nets.NetPlan.{NetPlan}
 use Rattle.machine_desc.proofs.Branches.{exit_leads, ExitLeads}
 use Rattle.machine_desc.proofs.Far.{live_inside, live_ends, far_inside}
-use Rattle.machine_desc.specs.declared.nets.NetPlan.{NetPlan}
 use Rattle.mesh_core.specs.declared.places.Did.TheVariants.{Moved, Idle}
 use Rattle.mesh_core.specs.State.{State, IsMesh, input, nowhere, behind, behind_link, queue_at, vertex_behind}
-use Rattle.mesh_core.specs.Step.{has_room, has_room_behind}
-use Rattle.mesh_core.specs.Trail.{Mark, dumped}
-use Rattle.mesh_core.specs.Ledger.{marks_of, Label, MeetsLedger}
-use Rattle.mesh_core.specs.Expected.{IsAtRest}
+use Rattle.mesh_core.specs.{Step.has_room, Step.has_room_behind, Trail.Mark, Trail.dumped, Ledger.marks_of, Ledger.Label, Ledger.MeetsLedger, Expected.IsAtRest}
 use Rattle.mesh_core.proofs.{Changes.queue_at-below, Law.leaves_parts, Moves.mark, Standing.dumped_mark}
 use Rattle.mesh_core.proofs.Ways.{leads_to, vertex_behind_stands, vertex_behind_there}
 use Rattle.mesh_round.proofs.Ends.{Leads, leads, by_link, to_vertex, to_none}
-use Rattle.mesh_round.specs.Reinjecting.{put_back_answer}
 use Rattle.mesh_round.proofs.PutBackParts.{back_some}
+use Rattle.mesh_round.specs.Reinjecting.{put_back_answer}
 
 module _ (s : State) (mesh : IsMesh s) (nets : List NetPlan) (labels : ℕ → Label) (ledger : MeetsLedger s nets labels) where
   abbrev m : Description

@@ -1,22 +1,18 @@
 -- A round leaves less to be done: each of its moves makes the marks lighter.
 use Rattle.std.proofs.Common.{◌≡◌, ℕ, zero, suc, ◌+◌, ◌*◌, ◌-◌, ◌<◌, ◌≤◌, refl, ap, arith, List, [], ◌∷◌, ◌++◌, length, Bool, count_by}
-use Rattle.std.specs.List.{sum_by}
 use Rattle.std.proofs.Math.Nat.{mul-le-mul_left}
 use Rattle.std.proofs.lemmas.List.Sums.{sum_by-append, sum_by-cons}
+use Rattle.std.specs.List.{sum_by}
 use Rattle.spin_base.proofs.{Counts.count_by-append, Members.Among}
 use Rattle.spin_base.specs.declared.copies.McCopy.{McCopy}
 use Rattle.mesh_core.specs.State.{State, IsMesh}
 use Rattle.mesh_core.specs.Trail.{Station, unsent, in_queue, in_hand, at_core, delivered, dumped, Mark}
 use Rattle.mesh_core.specs.{Ledger.marks_of, Heavy.heavy}
-use Rattle.mesh_core.proofs.Moves.{IsMoveOf}
-use Rattle.mesh_core.proofs.LedgerLaw.{Bag, Moved, count_left, count_come}
+use Rattle.mesh_core.proofs.{Moves.IsMoveOf, LedgerLaw.Bag, LedgerLaw.Moved, LedgerLaw.count_left, LedgerLaw.count_come, FewMoves.few_come}
+use Rattle.mesh_core.proofs.Heavy.{one_heavy, heavy_grows, light}
 use Rattle.mesh_round.specs.RoundFlow.{Flow, Passes, HasMoved}
 use Rattle.mesh_round.specs.Work.{moves_left, to_go, work_weight_of, work_in}
-use Rattle.mesh_round.proofs.CountSums.{one_if, same_sums}
-use Rattle.mesh_core.proofs.FewMoves.{few_come}
-use Rattle.mesh_core.proofs.Heavy.{one_heavy, heavy_grows, light}
-use Rattle.mesh_round.proofs.Nearer.{move_nears}
-use Rattle.mesh_round.proofs.RoundBag.{bag_of_round, some_moves}
+use Rattle.mesh_round.proofs.{CountSums.one_if, CountSums.same_sums, Nearer.move_nears, RoundBag.bag_of_round, RoundBag.some_moves}
 
 -- ---- one move
 

@@ -1,17 +1,15 @@
 -- The ways of a net, one for each target. A place counts where no way before it comes in there: so each chip of the tree counts once.
 use Rattle.std.proofs.Common.{◌≡◌, ◌≢◌, ℕ, zero, suc, ◌+◌, ◌-◌, ◌<◌, ◌≤◌, cond, refl, ap, sym, ◌∙◌, subst, arith, inl, inr}
 use Rattle.std.proofs.Common.{◌⊎◌, List, [], ◌∷◌, ◌++◌, length, map, get_or, Bool, true, false, Option, Some, None}
-use Rattle.std.specs.List.{All, Contains, list_any, slice_get, sum_by}
 use Rattle.std.proofs.lemmas.Bool.{and_from, true≢false}
-use Rattle.std.proofs.lemmas.List.{get_or_default, length-append}
-use Rattle.std.proofs.lemmas.List.{Elements.All-contains, Sums.sum_by-cons}
+use Rattle.std.proofs.lemmas.List.{get_or_default, length-append, Elements.All-contains, Sums.sum_by-cons}
+use Rattle.std.specs.List.{All, Contains, list_any, slice_get, sum_by}
 use Rattle.spin_base.proofs.Equality.{chip_eq_same, port_eq_same}
 use Rattle.spin_base.proofs.Members.{Among, Contains-map, among_any, among_contains, among_either, any_among, contains_among}
 use Rattle.spin_base.proofs.Tests.{answers_none}
 use Rattle.spin_base.specs.Equality.{chip_eq, port_eq}
 use Rattle.spin_base.specs.declared.chips.{Chip.Chip, Port.Port, Port.TheVariants.Local, Spot.Spot}
-use Rattle.machine_desc.specs.Branch.{Exit, IsBranch, arrival_at}
-use Rattle.machine_desc.specs.{Description.Description, NetsOn.IsWayOn}
+use Rattle.machine_desc.specs.{Branch.Exit, Branch.IsBranch, Branch.arrival_at, Description.Description, NetsOn.IsWayOn}
 use Rattle.machine_desc.specs.RoutingTree.{IsRoutingTree, IsTreeChip, end_of}
 use Rattle.machine_desc.specs.declared.{nets.NetPlan.NetPlan, trees.Edge.Edge}
 use Rattle.machine_desc.proofs.Branches.{ComesBy, comes_by, length_le_from_apart, same_place, target_on_branch, way_first}

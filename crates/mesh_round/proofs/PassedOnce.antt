@@ -2,19 +2,15 @@
 use Rattle.std.proofs.Common.{◌≡◌, ℕ, ◌+◌, ◌≤◌, ◌==◌, ◌&&◌, not, nat_lt, Bool, true, false, List, [], ◌∷◌, refl, ap, sym, ◌∙◌, subst, arith, inl, inr, count_by}
 use Rattle.std.proofs.lemmas.Bool.{cases_Bool, not-true, and_parts, and_from, eqb-true, eq-eqb, ltb-true, ltb-false}
 use Rattle.machine_desc.specs.declared.nets.NetPlan.{NetPlan}
-use Rattle.machine_desc.specs.NetsOn.{IsWayOn}
-use Rattle.machine_desc.specs.RightTables.{IsKeyOf, AreRight}
+use Rattle.machine_desc.specs.{NetsOn.IsWayOn, RightTables.IsKeyOf, RightTables.AreRight}
 use Rattle.mesh_core.specs.State.{Setup, State, IsMesh}
 use Rattle.mesh_core.specs.Trail.{Mark, is_on_trail, is_packet_on_trail}
 use Rattle.mesh_core.specs.Ledger.{marks_of, Label, MeetsLedger}
 use Rattle.mesh_core.proofs.Law.{move_comes, move_counts}
 use Rattle.mesh_core.proofs.LedgerLaw.{Bag, Moved, count_left, count_come, IsRight, stands, bag_keeps_packets}
-use Rattle.mesh_core.proofs.Ways.{Stands}
+use Rattle.mesh_core.proofs.{Ways.Stands, Counting.counted}
 use Rattle.mesh_round.specs.Work.{to_go}
-use Rattle.mesh_round.proofs.Sums.{sum_none, sum_plus}
-use Rattle.mesh_core.proofs.Counting.{counted}
-use Rattle.mesh_round.proofs.CountSums.{one_if, sum_within, counts}
-use Rattle.mesh_round.proofs.Nearer.{move_nears}
+use Rattle.mesh_round.proofs.{Sums.sum_none, Sums.sum_plus, CountSums.one_if, CountSums.sum_within, CountSums.counts, Nearer.move_nears}
 
 -- a test that fails or passes, as numbers
 no_more : (a b : Bool) → (a ≡ true → b ≡ true) → one_if a ≤ one_if b

@@ -4,9 +4,7 @@ use Rattle.spin_base.specs.declared.copies.Packet.{Packet}
 use Rattle.machine_desc.specs.declared.nets.NetPlan.{NetPlan}
 use Rattle.machine_desc.specs.RightTables.{AreRight}
 use Rattle.mesh_core.specs.State.{Setup, State, IsMesh}
-use Rattle.mesh_core.specs.PutBack.{put_back_of, after_put_back}
-use Rattle.mesh_core.specs.Ledger.{Label, MeetsLedger}
-use Rattle.mesh_core.specs.Opened.{MeetsJobLedger}
+use Rattle.mesh_core.specs.{PutBack.put_back_of, PutBack.after_put_back, Ledger.Label, Ledger.MeetsLedger, Opened.MeetsJobLedger}
 use Rattle.mesh_core.proofs.EventsLaw.{put_back_is, IsMesh-after_put_back, put_back_keeps, put_back_keeps_job}
 use Rattle.mesh_round.specs.RoundFlow.{Flow, Passes, HasRounds, none as no_round, more}
 use Rattle.mesh_round.specs.Work.{work_in}

@@ -1,23 +1,16 @@
 -- A round on threads is a round.
 use Rattle.std.proofs.Common.{◌≡◌, ℕ, ◌*◌, ◌<◌, ◌≤◌, ◌==◌, ◌&&◌, Bool, true, false, List, [], ◌∷◌, ◌++◌, map, length, Option, Some, None, refl, sym, ap, ap₂, ◌∙◌, subst, arith, inl, inr, ◌⊎◌}
-use Rattle.std.specs.List.{All, filter, flat_map, sum_by}
-use Rattle.std.specs.List.Sorted.{IsPermutation}
-use Rattle.std.proofs.Math.Nat.{mul-le-mul_left}
-use Rattle.std.proofs.lemmas.List.{length-map, length-replicate}
-use Rattle.std.proofs.lemmas.List.Concat.{flat_map_single}
+use Rattle.std.proofs.{Math.Nat.mul-le-mul_left, lemmas.List.length-map, lemmas.List.length-replicate, lemmas.List.Concat.flat_map_single}
 use Rattle.std.proofs.lemmas.List.Sorted.{IsPermutation-map, IsPermutation-trans, length_permutation}
-use Rattle.std.proofs.lemmas.List.Sums.{count_by-le-length, length-filter}
-use Rattle.std.proofs.lemmas.Option.{slice_get_within}
+use Rattle.std.proofs.lemmas.{List.Sums.count_by-le-length, List.Sums.length-filter, Option.slice_get_within}
+use Rattle.std.specs.List.{All, filter, flat_map, sum_by, Sorted.IsPermutation}
 use Rattle.spin_base.specs.Gathered.{gathered}
-use Rattle.spin_base.specs.declared.chips.{Chip.Chip, Dir.Dir, Port.Port}
-use Rattle.spin_base.specs.declared.chips.Port.TheVariants.{Link as ByLink, Local}
+use Rattle.spin_base.specs.declared.chips.{Chip.Chip, Dir.Dir, Port.Port, Port.TheVariants.Link as ByLink, Port.TheVariants.Local}
 use Rattle.spin_base.specs.declared.{routes.Out.Out, copies.McCopy.McCopy, copies.Delivery.Delivery, copies.DumpRec.DumpRec}
-use Rattle.spin_base.specs.Equality.{chip_eq, out_eq}
-use Rattle.spin_base.specs.{Hops.onward, Links.opposite_of, Outputs.IsOutput}
+use Rattle.spin_base.specs.{Equality.chip_eq, Equality.out_eq, Hops.onward, Links.opposite_of, Outputs.IsOutput}
 use Rattle.spin_base.proofs.Tests.{answers_none}
 use Rattle.machine_desc.specs.Live.{chip_of, index_of, is_live_chip, is_live_link, IsInside, IsLiveChip}
-use Rattle.machine_desc.proofs.Far.{far_inside, live_inside}
-use Rattle.machine_desc.proofs.Live.{chip_of-index_of}
+use Rattle.machine_desc.proofs.{Far.far_inside, Far.live_inside, Live.chip_of-index_of}
 use Rattle.chip_node.specs.Items.{Item, Service, brought, delivered_of, dumped_of, entered, entered_by, getting_of, gettings, left, left_by, lost}
 use Rattle.chip_node.specs.Items.{lost_at, lost_by, records, sending_of, sendings, sent_by, sent_in, service_of, services, taking_of, takings}
 use Rattle.mesh_core.specs.State.{Setup, Hand, core, nowhere, behind, queue_at}

@@ -1,23 +1,15 @@
 -- Putting a copy back leaves less to be done: the copy has less far to go.
 use Rattle.std.proofs.Common.{◌≡◌, ◌⊎◌, ℕ, zero, suc, ◌+◌, ◌<◌, List, [], ◌∷◌, ◌++◌, if◌then◌else◌, Option, Some, None, is_some, refl, ap, ◌∙◌, subst, unwrap_or, arith, inl, inr}
-use Rattle.std.specs.List.{sum_by}
 use Rattle.std.proofs.lemmas.List.Sums.{sum_by-append, sum_by-cons}
+use Rattle.std.specs.List.{sum_by}
 use Rattle.spin_base.proofs.Exchange.{TakenOut, PutIn}
-use Rattle.spin_base.specs.declared.chips.{Chip.Chip, Port.TheVariants.Link as ByLink}
-use Rattle.spin_base.specs.declared.{routes.Out.Out, copies.McCopy.McCopy, copies.DumpRec.DumpRec}
+use Rattle.spin_base.specs.declared.{chips.Chip.Chip, chips.Port.TheVariants.Link as ByLink, routes.Out.Out, copies.McCopy.McCopy, copies.DumpRec.DumpRec}
 use Rattle.spin_base.specs.{Links.opposite_of, Hops.onward}
 use Rattle.mesh_core.specs.declared.places.Did.TheVariants.{Moved, Idle}
-use Rattle.mesh_core.proofs.EventsLaw.{same_room}
-use Rattle.mesh_core.specs.State.{State, Queue, behind}
-use Rattle.mesh_core.specs.Step.{push_behind}
-use Rattle.mesh_core.specs.PutBack.{put_back_of, after_put_back}
-use Rattle.mesh_core.specs.Trail.{in_queue, at_core, dumped, Mark}
-use Rattle.mesh_core.specs.{Ledger.marks_of, Heavy.heavy}
-use Rattle.mesh_core.proofs.Events.{arrives}
-use Rattle.mesh_core.proofs.Heavy.{one_heavy, heavy_grows}
-use Rattle.mesh_core.proofs.Moves.{mark, Crosses, dumped_out}
-use Rattle.mesh_round.specs.Work.{to_go, work_weight_of, work_in}
-use Rattle.mesh_round.specs.Reinjecting.{put_back_answer}
+use Rattle.mesh_core.specs.{State.State, State.Queue, State.behind, Step.push_behind}
+use Rattle.mesh_core.specs.{PutBack.put_back_of, PutBack.after_put_back, Trail.in_queue, Trail.at_core, Trail.dumped, Trail.Mark, Ledger.marks_of, Heavy.heavy}
+use Rattle.mesh_core.proofs.{EventsLaw.same_room, Events.arrives, Heavy.one_heavy, Heavy.heavy_grows, Moves.mark, Moves.Crosses, Moves.dumped_out}
+use Rattle.mesh_round.specs.{Work.to_go, Work.work_weight_of, Work.work_in, Reinjecting.put_back_answer}
 use Rattle.mesh_round.proofs.PutBackParts.{IsBack, is_back}
 
 -- ---- weights

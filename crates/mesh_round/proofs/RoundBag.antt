@@ -1,33 +1,25 @@
 -- What passes the queues of a mesh in a round is a bag of moves.
 use Rattle.std.proofs.Common.{◌≡◌, ◌≢◌, ℕ, ◌+◌, ◌*◌, ◌/◌, ◌%◌, ◌<◌, ◌≤◌, Bool, true, false, cond, ◌==◌, List, [], ◌∷◌, ◌++◌, map, filter, Some, None, length, suc}
 use Rattle.std.proofs.Common.{refl, ap, ap₂, sym, ◌∙◌, subst, arith, inl, inr, count_by, if◌then◌else◌, append-nil, zero-add}
-use Rattle.std.specs.List.{All, sum_by, range_with_len, slice_get, slice_index_or}
-use Rattle.std.proofs.lemmas.Bool.{cases_Bool, eqb-true}
-use Rattle.std.proofs.lemmas.List.{map-append, length-map}
-use Rattle.std.proofs.lemmas.List.Elements.{All-contains}
+use Rattle.std.proofs.lemmas.{Bool.cases_Bool, Bool.eqb-true, List.map-append, List.length-map, List.Elements.All-contains}
 use Rattle.std.proofs.lemmas.List.Sums.{sum_by-cons, sum_by-append, length-filter, count_by-le-length}
 use Rattle.std.proofs.lemmas.{List.Sorted.sum_by-IsPermutation, Option.slice_get_within}
+use Rattle.std.specs.List.{All, sum_by, range_with_len, slice_get, slice_index_or}
 use Rattle.spin_base.specs.Gathered.{gathered}
-use Rattle.spin_base.proofs.{Counts.count_by-append, Gathering.gathered_of_none}
-use Rattle.spin_base.proofs.Members.{Among, among_contains, among_map, among_left, Contains-filter, map_among, contains_among}
-use Rattle.spin_base.proofs.Places.{All-at, slice_get_there}
 use Rattle.spin_base.specs.declared.chips.{Chip.Chip, Spot.Spot, Port.TheVariants.Local}
 use Rattle.spin_base.specs.declared.{routes.Out.Out, copies.McCopy.McCopy, copies.Delivery.Delivery, copies.DumpRec.DumpRec}
-use Rattle.spin_base.specs.Equality.{chip_eq, out_eq}
-use Rattle.spin_base.specs.Outputs.{all_outs, IsOutput}
-use Rattle.spin_base.proofs.Equality.{nat_eq_same, chip_eq_true, out_eq_true}
-use Rattle.spin_base.proofs.Once.{all_once}
-use Rattle.spin_base.specs.Hops.{last_hop, onward}
+use Rattle.spin_base.specs.{Equality.chip_eq, Equality.out_eq, Outputs.all_outs, Outputs.IsOutput, Hops.last_hop, Hops.onward}
+use Rattle.spin_base.proofs.{Counts.count_by-append, Gathering.gathered_of_none}
+use Rattle.spin_base.proofs.Members.{Among, among_contains, among_map, among_left, Contains-filter, map_among, contains_among}
+use Rattle.spin_base.proofs.{Places.All-at, Places.slice_get_there, Equality.nat_eq_same, Equality.chip_eq_true, Equality.out_eq_true, Once.all_once}
 use Rattle.machine_desc.specs.Live.{chip_of, IsLiveChip, IsSite}
 use Rattle.machine_desc.proofs.{Far.live_inside, Sites.site_parts}
 use Rattle.mesh_core.specs.State.{Setup, State, IsMesh, Queue, input, core, nowhere, behind}
 use Rattle.mesh_core.specs.Step.{outputs}
 use Rattle.mesh_core.specs.Trail.{Station, unsent, in_queue, in_hand, at_core, delivered, dumped, Mark}
 use Rattle.mesh_core.specs.Ledger.{marks_of, marks_at, hand_marks, port_of, unsent_marks, input_marks, all_hand_marks, core_marks, delivered_marks, dumped_marks}
-use Rattle.mesh_core.proofs.Moves.{mark, IsMoveOf}
-use Rattle.mesh_core.proofs.LedgerLaw.{Bag, Moved, count_left, count_come}
+use Rattle.mesh_core.proofs.{Moves.mark, Moves.IsMoveOf, LedgerLaw.Bag, LedgerLaw.Moved, LedgerLaw.count_left, LedgerLaw.count_come, Counting.counted}
 use Rattle.mesh_round.specs.RoundFlow.{Flow, Passes, at_port, sent_on, of_chip, delivered_to, HasNoHand, HasMoved}
-use Rattle.mesh_core.proofs.Counting.{counted}
 use Rattle.mesh_round.proofs.CountSums.{part_of_sum, part_of_sum_at}
 use Rattle.mesh_round.proofs.Sums.{sum_agree, sum_none, sum_map, sum_filter, sum_swap, sum_plus, sum_gathered, sum_at, sum_at-swap, one_passes}
 use Rattle.mesh_round.proofs.Balance.{queues_balance, passing, passing_in}

@@ -1,20 +1,14 @@
 -- What a router took, by output: each copy that lookup gives an output crosses it or is dumped there.
 use Rattle.std.proofs.Common.{◌≡◌, ℕ, ◌+◌, ◌-◌, ◌<◌, ◌≤◌, Bool, true, false, cond, ◌==◌, ◌&&◌, if◌then◌else◌, List, [], ◌++◌, map, filter, min, refl, ap, sym, ◌∙◌, subst, arith}
-use Rattle.std.specs.Cmp.{both_ways}
-use Rattle.std.specs.List.{All, sum_by, list_any}
-use Rattle.std.proofs.lemmas.List.{Elements.All-contains, Sums.sum_by-append}
-use Rattle.std.proofs.lemmas.List.Sorted.{sum_by-IsPermutation, All-permutation}
+use Rattle.std.proofs.lemmas.List.{Elements.All-contains, Sums.sum_by-append, Sorted.sum_by-IsPermutation, Sorted.All-permutation}
+use Rattle.std.specs.{Cmp.both_ways, List.All, List.sum_by, List.list_any}
 use Rattle.spin_base.proofs.Members.{Among, among_contains, contains_among, among_map, among_filter, among_any, any_among, among_left, Contains-filter}
-use Rattle.spin_base.proofs.{Places.All-each, Gathering.among_gathered, Tests.answers_none}
+use Rattle.spin_base.proofs.{Places.All-each, Gathering.among_gathered, Tests.answers_none, Equality.out_eq_same, Equality.out_eq_true}
 use Rattle.spin_base.specs.declared.{chips.Chip.Chip, chips.Port.Port, routes.Out.Out, copies.McCopy.McCopy, copies.DumpRec.DumpRec}
 use Rattle.spin_base.specs.Equality.{chip_eq, out_eq}
-use Rattle.spin_base.specs.Lookup.{lookup}
-use Rattle.spin_base.specs.Outputs.{has, outs_of, all_outs, IsOutput}
-use Rattle.spin_base.proofs.Equality.{out_eq_same, out_eq_true}
-use Rattle.spin_base.specs.Hops.{last_hop, onward}
+use Rattle.spin_base.specs.{Lookup.lookup, Outputs.has, Outputs.outs_of, Outputs.all_outs, Outputs.IsOutput, Hops.last_hop, Hops.onward}
 use Rattle.machine_desc.specs.{Live.IsLiveChip, RightTables.table_at}
-use Rattle.mesh_core.specs.State.{Setup, State, behind}
-use Rattle.mesh_core.specs.{Step.outputs, Ledger.all_ports}
+use Rattle.mesh_core.specs.{State.Setup, State.State, State.behind, Step.outputs, Ledger.all_ports}
 use Rattle.mesh_round.specs.RoundFlow.{Flow, Passes, at_port, leaves_by, taken_for, dumped_at}
 use Rattle.mesh_round.proofs.Sums.{sum_agree, sum_none, sum_map, sum_filter}
 

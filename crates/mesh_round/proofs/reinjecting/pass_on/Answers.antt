@@ -1,7 +1,7 @@
 -- After rounds the first dumped copy goes back, so each pass leaves less to be done, until no record is left.
 use Rattle.std.proofs.Common.{rules, ◌<◌, ℕ, length, sym, ap, arith, subst}
-use Rattle.std.specs.Prelude.{IfErr}
 use Rattle.std.proofs.lemmas.Result.{IfErr-weaker}
+use Rattle.std.specs.Prelude.{IfErr}
 use Rattle.mesh_core.specs.State.{Setup, State}
 use Rattle.mesh_run.specs.Layouts.{IsLayoutOf}
 use Rattle.mesh_round.specs.{RoundFlow.HasRounds, Reinjecting.HasPasses}

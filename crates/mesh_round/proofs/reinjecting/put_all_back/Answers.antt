@@ -3,8 +3,7 @@ use Rattle.std.proofs.Common.{◌<◌, ◌∙◌, refl, sym, subst, inl, inr}
 use Rattle.mesh_core.specs.State.{State}
 use Rattle.mesh_round.specs.{Work.work_in, OnThreads.MayGoOn}
 use Rattle.mesh_round.specs.Reinjecting.{HasPasses, none, put_back}
-use Rattle.mesh_round.proofs.PutBackParts.{ready_back}
-use Rattle.mesh_round.proofs.PutBackWork.{put_back_lighter, still_less}
+use Rattle.mesh_round.proofs.{PutBackParts.ready_back, PutBackWork.put_back_lighter, PutBackWork.still_less}
 use Rattle.mesh_round.proofs.reinjecting.put_all_back.Goals as goal
 
 pub copies-init : goal.copies-init

@@ -1,7 +1,7 @@
 -- Rounds that moved a copy are counted; those that moved none left the mesh as it was.
 use Rattle.std.proofs.Common.{rules, ◌≡◌, ◌∙◌, true, false, sym, subst}
-use Rattle.std.specs.Prelude.{IfErr}
 use Rattle.std.proofs.lemmas.Result.{IfErr-weaker}
+use Rattle.std.specs.Prelude.{IfErr}
 use Rattle.mesh_round.specs.{RoundFlow.none, OnThreads.MayGoOn, Bound.HasMovingRounds}
 use Rattle.mesh_round.proofs.Played.{IsLaw, IsReached, answers, at_pace, begins, moved_on, refuses, rests_where_none, stood_on}
 use Rattle.mesh_round.proofs.rounds.run_on.Given.{Over}
