@@ -1,26 +1,17 @@
 -- What holds of a host without an application.
 use Rattle.std.proofs.Common.{◌≡◌, ℕ, ◌+◌, ◌-◌, ◌*◌, ◌/◌, ◌%◌, ◌<◌, ◌≤◌, zero, suc, ◌∙◌, List, [], ◌∷◌, ◌++◌, Option, Some, None, Bool, true, false, ◌&&◌, if◌then◌else◌, ◌==◌}
-use Rattle.std.proofs.Common.{refl, sym, ap, subst, arith, inl, inr, length, replicate, not, get_or}
-use Rattle.std.proofs.Common.{leb, ltb}
-use Rattle.std.proofs.lemmas.Bool.{cases_lt, leb-false, leb-true}
-use Rattle.std.proofs.lemmas.Bool.Decides.{nat_tests}
-use Rattle.std.specs.List.{slice_get, Contains}
+use Rattle.std.proofs.Common.{refl, sym, ap, subst, arith, inl, inr, length, replicate, not, get_or, leb, ltb}
+use Rattle.std.proofs.lemmas.Bool.{cases_lt, leb-false, leb-true, Decides.nat_tests}
 use Rattle.std.proofs.lemmas.List.{get_or-replicate, length-replicate, length-append, get_or_append_left, get_or-append_right}
 use Rattle.std.proofs.lemmas.List.Elements.{All-nil, All-replicate}
 use Rattle.std.proofs.lemmas.Option.{slice_get-get_or, slice_get_within, get_or_from_slice_get, same_Some}
-use Rattle.spin_base.proofs.Members.{Contains-none}
-use Rattle.spin_base.proofs.Gathering.{gathered_nothing}
-use Rattle.spin_base.specs.declared.blocks.Entry.{Entry}
-use Rattle.spin_base.specs.declared.chips.Chip.{Chip}
-use Rattle.spin_base.specs.declared.chips.Spot.{Spot}
-use Rattle.spin_base.specs.declared.copies.McCopy.{McCopy}
-use Rattle.machine_desc.specs.Description.{Description}
-use Rattle.machine_desc.specs.Live.{index_of, chip_of, IsInside}
+use Rattle.std.specs.List.{slice_get, Contains}
+use Rattle.spin_base.proofs.{Members.Contains-none, Gathering.gathered_nothing}
+use Rattle.spin_base.specs.declared.{blocks.Entry.Entry, chips.Chip.Chip, chips.Spot.Spot, copies.McCopy.McCopy}
+use Rattle.machine_desc.specs.{Description.Description, Live.index_of, Live.chip_of, Live.IsInside, NetsOn.AreNetsOn, RightTables.table_at}
 use Rattle.machine_desc.proofs.Far.{index_below}
 use Rattle.range_store.specs.Regions.{AreRuns, hole_of, is_free}
 use Rattle.tcam_find.specs.Memory.{empty_memory, unused}
-use Rattle.machine_desc.specs.NetsOn.{AreNetsOn}
-use Rattle.machine_desc.specs.RightTables.{table_at}
 use Rattle.mesh_core.specs.State.{Setup, State, Hand, IsMesh}
 use Rattle.mesh_core.specs.Trail.{Mark, unsent, in_queue, at_core}
 use Rattle.mesh_core.specs.Ledger.{marks_of, marks_at, hand_marks, port_of, unsent_marks, input_marks, all_hand_marks, core_marks, MeetsLedgerFor}
@@ -28,10 +19,9 @@ use Rattle.mesh_core.specs.Opened.{empty_mesh}
 use Rattle.app_loads.specs.declared.loaded.LoadedApp.{LoadedApp}
 use Rattle.app_loads.specs.Host.{Free, Host, asked_of}
 use Rattle.app_loads.specs.Regions.{all_free, open_regions, chip_count, region_size, IsFreeBeside}
-use Rattle.app_loads.specs.Applications.{AreApps}
-use Rattle.mesh_drain.specs.Draining.{SendAlone}
-use Rattle.app_loads.specs.Opening.{bare_mesh, bare_host}
+use Rattle.app_loads.specs.{Applications.AreApps, Opening.bare_mesh, Opening.bare_host}
 use Rattle.app_loads.proofs.Resting.{rest_alone}
+use Rattle.mesh_drain.specs.Draining.{SendAlone}
 
 -- ---- copies
 

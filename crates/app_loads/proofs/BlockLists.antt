@@ -1,16 +1,12 @@
 -- The blocks of nets, made of the ranges that their claims got.
 use Rattle.std.proofs.Common.{◌≡◌, ℕ, ◌+◌, ◌^◌, ◌<◌, ◌≤◌, List, length, get_or, sym, ap, ◌∙◌, subst, inl, inr, arith, Some}
+use Rattle.std.proofs.lemmas.{Bool.cases_lt, Option.slice_get-get_or, Option.slice_get_within, Option.same_Some}
 use Rattle.std.specs.List.{slice_get, slice_set}
-use Rattle.std.proofs.lemmas.Bool.{cases_lt}
-use Rattle.std.proofs.lemmas.Option.{slice_get-get_or, slice_get_within, same_Some}
 use Rattle.spin_base.specs.declared.blocks.Block.{Block}
-use Rattle.app_loads.specs.declared.answers.LoadRefusal.TheVariants.{KeysOut}
-use Rattle.app_loads.specs.declared.loaded.Claim.{Claim}
-use Rattle.app_loads.specs.declared.loaded.Range.{Range}
+use Rattle.app_loads.specs.declared.{answers.LoadRefusal.TheVariants.KeysOut, loaded.Claim.Claim, loaded.Range.Range}
 use Rattle.app_loads.specs.Claims.{IsBlockOf}
 use Rattle.app_loads.specs.Joining.{AreKeyed, IsKeyRange, HaveBlocks}
-use Rattle.app_loads.proofs.Serving.{set_cases}
-use Rattle.app_loads.proofs.ClaimCases.{same_net}
+use Rattle.app_loads.proofs.{Serving.set_cases, ClaimCases.same_net}
 
 -- the nets of the claims up to a place have their blocks
 abbrev pub HaveBlocksBelow : List Claim → List Range → List Block → ℕ → Type 0

@@ -1,25 +1,20 @@
 -- What the claims of a plan are, and that each net and chip has its own.
 use Rattle.std.proofs.Common.{◌≡◌, ◌≢◌, ℕ, zero, suc, ◌+◌, ◌%◌, ◌^◌, ◌<◌, ◌≤◌, ◌==◌, Bool, true, false, List, [], ◌∷◌, ◌++◌, ◌∙◌, Option, None, Some, if◌then◌else◌}
 use Rattle.std.proofs.Common.{leb, cond, length, map, refl, sym, ap, subst, inl, inr, arith, IfSome, count_by}
-use Rattle.std.specs.Prelude.{find, unwrap_or, zip}
-use Rattle.std.specs.List.{slice_get, Contains, flat_map, range_with_len}
 use Rattle.std.proofs.lemmas.Bool.{cases_eq, le-leb, leb-true, both_ways, eq-eqb, ne_eqb}
 use Rattle.std.proofs.lemmas.Nat.{pow_pos}
+use Rattle.std.specs.Prelude.{find, unwrap_or, zip}
+use Rattle.std.specs.List.{slice_get, Contains, flat_map, range_with_len}
 use Rattle.spin_base.specs.Gathered.{gathered}
+use Rattle.spin_base.specs.declared.blocks.Block.{Block}
 use Rattle.spin_base.proofs.Gathering.{among_gathered, gathered_among}
 use Rattle.spin_base.proofs.Members.{Among, among_contains, contains_among, among_left, among_right, among_either}
 use Rattle.spin_base.proofs.Places.{All-at, slice_get_there, zip-first_at}
-use Rattle.spin_base.specs.declared.blocks.Block.{Block}
-use Rattle.machine_desc.specs.Description.{Description}
-use Rattle.machine_desc.specs.Live.{index_of, chip_of, IsUsable}
-use Rattle.machine_desc.proofs.Far.{index_below, live_inside}
-use Rattle.machine_desc.proofs.Live.{chip_of-inside, index_of-chip_of}
-use Rattle.machine_desc.proofs.Sites.{usable_parts}
+use Rattle.machine_desc.specs.{Description.Description, Live.index_of, Live.chip_of, Live.IsUsable}
+use Rattle.machine_desc.proofs.{Far.index_below, Far.live_inside, Live.chip_of-inside, Live.index_of-chip_of, Sites.usable_parts}
 use Rattle.key_alloc.specs.KeyBlocks.{size_of}
 use Rattle.app_loads.specs.declared.answers.LoadRefusal.TheVariants.{Loaded, MemoryOut, KeysOut, RowsOut}
-use Rattle.app_loads.specs.declared.loaded.Claim.{Claim}
-use Rattle.app_loads.specs.declared.plans.AppNet.{AppNet}
-use Rattle.app_loads.specs.declared.plans.AppPlan.{AppPlan}
+use Rattle.app_loads.specs.declared.{loaded.Claim.Claim, plans.AppNet.AppNet, plans.AppPlan.AppPlan}
 use Rattle.app_loads.specs.Plans.{IsPlan, IsAppNet}
 use Rattle.app_loads.specs.declared.places.Region.TheVariants.{Keys, Memory, Rows}
 use Rattle.app_loads.specs.Regions.{chip_count, place_of}

@@ -1,19 +1,12 @@
 -- The claims of a plan, item by item, and the least power of two for a number of keys.
 use Rattle.std.proofs.Common.{◌≡◌, ℕ, zero, suc, ◌+◌, ◌/◌, ◌^◌, ◌<◌, ◌≤◌, max, leb, cond, Bool, true, false, inl, inr, refl, sym, ap, ◌∙◌, arith, List, [], ◌∷◌, ◌++◌, map, take, get_or, length, Some, append_assoc}
-use Rattle.std.specs.Prelude.{find, unwrap_or, zip}
-use Rattle.std.specs.Int.{IsPowerOfTwo}
-use Rattle.std.specs.List.{flat_map, range_with_len, slice_get}
-use Rattle.std.proofs.lemmas.Bool.{cases_lt, le-leb, lt-leb}
-use Rattle.std.proofs.Math.Pow.{pow_mono}
-use Rattle.std.proofs.lemmas.Grind.{pow_more}
-use Rattle.std.proofs.lemmas.List.{take_all}
+use Rattle.std.proofs.{lemmas.Bool.cases_lt, lemmas.Bool.le-leb, lemmas.Bool.lt-leb, Math.Pow.pow_mono, lemmas.Grind.pow_more, lemmas.List.take_all}
+use Rattle.std.specs.{Prelude.find, Prelude.unwrap_or, Prelude.zip, Int.IsPowerOfTwo, List.flat_map, List.range_with_len, List.slice_get}
 use Rattle.spin_base.specs.Gathered.{gathered}
-use Rattle.spin_base.proofs.Gathering.{gathered_more}
 use Rattle.spin_base.specs.declared.chips.Spot.{Spot}
+use Rattle.spin_base.proofs.Gathering.{gathered_more}
 use Rattle.machine_desc.specs.Description.{Description}
-use Rattle.app_loads.specs.declared.loaded.Claim.{Claim}
-use Rattle.app_loads.specs.declared.plans.AppNet.{AppNet}
-use Rattle.app_loads.specs.declared.plans.AppPlan.{AppPlan}
+use Rattle.app_loads.specs.declared.{loaded.Claim.Claim, plans.AppNet.AppNet, plans.AppPlan.AppPlan}
 use Rattle.app_loads.specs.Regions.{chip_count}
 use Rattle.app_loads.specs.Claims.{size_for, memory_claim, fixed_claim, key_claim, row_claim, claims_of}
 

@@ -1,34 +1,28 @@
 -- Rows put into ranges of entries.
 use Rattle.std.proofs.Common.{◌≡◌, ◌≢◌, ℕ, zero, suc, ◌+◌, ◌<◌, ◌≤◌, true, false, ◌||◌, ◌&&◌, ◌==◌, List, [], ◌∷◌, ◌++◌, take, drop, get_or, length, map, set, refl, sym, ap, ◌∙◌, subst, inl, inr, ◌⊎◌, arith, Some, append_assoc}
-use Rattle.std.specs.List.{AllZip, slice_get, slice_set, Contains}
-use Rattle.std.proofs.lemmas.List.Sorted.{IsPermutation-refl}
-use Rattle.std.proofs.Math.Seq.{drop-cons}
+use Rattle.std.proofs.{lemmas.List.Sorted.IsPermutation-refl, Math.Seq.drop-cons}
 use Rattle.std.proofs.lemmas.Bool.{cases_Bool, cases_eq, cases_lt, eq-eqb, and_from, or_parts}
 use Rattle.std.proofs.Math.ListN.{get_or-map}
 use Rattle.std.proofs.lemmas.List.{length-set, length-append, length-take-le, length-map, length-drop, map-append, set_at, get_or-take, take_all}
 use Rattle.std.proofs.lemmas.List.Folds.{list_any-append}
 use Rattle.std.proofs.lemmas.Option.{slice_get_within, slice_get-get_or, get_or_from_slice_get, same_Some}
+use Rattle.std.specs.List.{AllZip, slice_get, slice_set, Contains}
 use Rattle.key_alloc.proofs.Ranges.{in_from}
 use Rattle.spin_base.proofs.Members.{Contains-at, among_contains, contains_among, among_either}
 use Rattle.spin_base.proofs.Places.{AllZip-more, slice_get-set_same, slice_get-set_other, take_more_at, map_more_at}
-use Rattle.spin_base.specs.declared.blocks.Entry.{Entry}
-use Rattle.spin_base.specs.declared.chips.Chip.{Chip}
-use Rattle.machine_desc.specs.Description.{Description}
-use Rattle.machine_desc.specs.Live.{index_of, IsInside}
+use Rattle.spin_base.specs.declared.{blocks.Entry.Entry, chips.Chip.Chip}
+use Rattle.machine_desc.specs.{Description.Description, Live.index_of, Live.IsInside, RightTables.table_at}
 use Rattle.machine_desc.proofs.Far.{index_below}
-use Rattle.machine_desc.specs.RightTables.{table_at}
 use Rattle.range_store.specs.Regions.{in_range}
-use Rattle.tern_word.specs.declared.tables.Row.{Row}
-use Rattle.tern_word.specs.declared.tables.Table.{Table}
+use Rattle.range_store.proofs.HolePlaces.{clash}
+use Rattle.tern_word.specs.declared.tables.{Row.Row, Table.Table}
 use Rattle.tern_word.specs.Entries.{entry_of}
 use Rattle.net_tables.specs.declared.marks.Mark.{Mark}
 use Rattle.net_tables.specs.Marks.{IsTableOf, row_of_mark, table_of_sorted}
-use Rattle.app_loads.specs.declared.loaded.Range.{Range}
-use Rattle.app_loads.specs.declared.places.Region.{Region}
+use Rattle.app_loads.specs.declared.{loaded.Range.Range, places.Region.Region}
 use Rattle.app_loads.specs.declared.places.Region.TheVariants.{Keys, Memory, Rows}
 use Rattle.app_loads.specs.Regions.{ShareNoPlace, IsRegion, chip_count, range_has, is_taken, place_of}
 use Rattle.app_loads.specs.Writing.{AreCopied, CanCopy, tables_in}
-use Rattle.range_store.proofs.HolePlaces.{clash}
 
 -- ---- a list with a part written
 

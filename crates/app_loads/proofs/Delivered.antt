@@ -1,29 +1,19 @@
 -- Of packets of which no copy is under way, two meshes that meet the ledger of the same packets have as many deliveries.
 use Rattle.std.proofs.Common.{◌≡◌, ℕ, ◌≤◌, ◌==◌, ◌&&◌, Bool, true, List, [], length, sym, ap, ◌∙◌, subst, arith, Option, Some, count_by}
+use Rattle.std.proofs.lemmas.{Bool.and_from, Bool.and_parts, Bool.eqb-true, Bool.eq-eqb, List.Sums.length-filter, Option.same_Some}
 use Rattle.std.specs.List.{filter, Contains}
-use Rattle.std.proofs.lemmas.Bool.{and_from, and_parts, eqb-true, eq-eqb}
-use Rattle.std.proofs.lemmas.List.Sums.{length-filter}
-use Rattle.std.proofs.lemmas.Option.{same_Some}
 use Rattle.spin_base.proofs.Counts.{count_by-append, count_by-map}
 use Rattle.spin_base.proofs.Members.{Among, among_contains, among_filter, contains_among, Contains-filter}
-use Rattle.spin_base.specs.declared.chips.Spot.{Spot}
-use Rattle.spin_base.specs.declared.copies.McCopy.{McCopy}
-use Rattle.spin_base.specs.declared.copies.Delivery.{Delivery}
-use Rattle.spin_base.specs.declared.copies.DumpRec.{DumpRec}
-use Rattle.machine_desc.specs.Description.{Description}
-use Rattle.machine_desc.specs.Branch.{Exit}
+use Rattle.spin_base.specs.declared.{chips.Spot.Spot, copies.McCopy.McCopy, copies.Delivery.Delivery, copies.DumpRec.DumpRec}
+use Rattle.machine_desc.specs.{Description.Description, Branch.Exit}
 use Rattle.machine_desc.specs.declared.nets.NetPlan.{NetPlan}
-use Rattle.machine_desc.specs.RightTables.{IsKeyOf}
-use Rattle.machine_desc.specs.NetsOn.{AreNetsOn, IsWayOn}
+use Rattle.machine_desc.specs.{RightTables.IsKeyOf, NetsOn.AreNetsOn, NetsOn.IsWayOn}
 use Rattle.mesh_core.specs.State.{State}
 use Rattle.mesh_core.specs.Trail.{Station, unsent, in_queue, in_hand, at_core, delivered, dumped, Mark, on_trail, is_packet_on_trail, IsUnderWayAt}
 use Rattle.mesh_core.specs.Ledger.{marks_of, unsent_marks, input_marks, all_hand_marks, core_marks, delivered_marks, dumped_marks, Asked, label_of, MeetsLedgerFor}
 use Rattle.mesh_core.proofs.Counting.{count_covered, count_le, counted}
 use Rattle.mesh_core.proofs.ExpectedList.{is_of, is_of_from, is_of_parts}
-use Rattle.mesh_core.proofs.LedgerLaw.{one_net}
-use Rattle.mesh_core.proofs.Moves.{mark}
-use Rattle.mesh_core.proofs.Standing.{StandsAt, delivered_mark, mark_stands}
-use Rattle.mesh_core.proofs.Ways.{vertex_at_stands}
+use Rattle.mesh_core.proofs.{LedgerLaw.one_net, Moves.mark, Standing.StandsAt, Standing.delivered_mark, Standing.mark_stands, Ways.vertex_at_stands}
 use Rattle.app_loads.proofs.LeavingLists.{after_cores, after_hands, after_inputs, after_unsent}
 
 abbrev mark_of : Delivery → Mark

@@ -1,28 +1,18 @@
 -- Deliveries that came earlier change nothing of what events do, and where no copy waits, all that is unsent keeps its ledger without
 -- them.
 use Rattle.std.proofs.Common.{◌≡◌, ℕ, ◌/◌, ◌%◌, ◌≤◌, ◌&&◌, Bool, true, false, List, [], ◌∷◌, ◌++◌, count_by, refl, sym, ap, ◌∙◌, subst, arith, inl, inr, Option, None, Some, if◌then◌else◌, not}
+use Rattle.std.proofs.lemmas.{Bool.eq-eqb, List.append_assoc, List.append-nil, List.Elements.Contains-append_left, Option.same_Some}
 use Rattle.std.specs.Prelude.{unwrap_or, slice_set}
 use Rattle.std.specs.List.{slice_get, Contains}
-use Rattle.std.proofs.lemmas.Bool.{eq-eqb}
-use Rattle.std.proofs.lemmas.List.{append_assoc, append-nil}
-use Rattle.std.proofs.lemmas.List.Elements.{Contains-append_left}
-use Rattle.std.proofs.lemmas.Option.{same_Some}
 use Rattle.spin_base.proofs.Counts.{count_by-append, count_by-cons}
 use Rattle.spin_base.proofs.Gathering.{among_gathered, gathered_of_none}
 use Rattle.spin_base.proofs.Members.{Among, among_map, contains_among}
-use Rattle.spin_base.specs.declared.chips.Chip.{Chip}
-use Rattle.spin_base.specs.declared.chips.Spot.{Spot}
-use Rattle.spin_base.specs.declared.chips.Port.{Port}
-use Rattle.spin_base.specs.declared.chips.Port.TheVariants.{Local}
-use Rattle.spin_base.specs.declared.copies.Delivery.{Delivery}
-use Rattle.spin_base.specs.declared.copies.Event.{Event}
+use Rattle.spin_base.specs.declared.chips.{Chip.Chip, Spot.Spot, Port.Port, Port.TheVariants.Local}
+use Rattle.spin_base.specs.declared.copies.{Delivery.Delivery, Event.Event}
 use Rattle.spin_base.specs.declared.copies.Event.TheVariants.{Inject, Take, Send, Dump, Collect}
-use Rattle.spin_base.specs.declared.copies.McCopy.{McCopy}
-use Rattle.spin_base.specs.declared.routes.Out.{Out}
+use Rattle.spin_base.specs.declared.{copies.McCopy.McCopy, routes.Out.Out}
 use Rattle.spin_base.specs.Hops.{onward}
-use Rattle.machine_desc.specs.Branch.{Exit}
-use Rattle.machine_desc.specs.Live.{chip_of, index_of}
-use Rattle.machine_desc.specs.NetsOn.{vertex_at}
+use Rattle.machine_desc.specs.{Branch.Exit, Live.chip_of, Live.index_of, NetsOn.vertex_at}
 use Rattle.machine_desc.specs.declared.nets.NetPlan.{NetPlan}
 use Rattle.mesh_core.specs.Expected.{NothingWaits}
 use Rattle.mesh_core.specs.Ledger.{Label, MeetsLedger, all_hand_marks, core_marks, delivered_marks, dumped_marks, hand_marks, input_marks, marks_at, marks_of, port_of, unsent_marks}

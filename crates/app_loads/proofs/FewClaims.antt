@@ -1,20 +1,12 @@
 -- A plan asks the regions for few ranges: at most 262,144.
 use Rattle.std.proofs.Common.{◌≡◌, ℕ, ◌+◌, ◌*◌, ◌≤◌, ◌==◌, Bool, true, false, List, [], ◌∷◌, ◌++◌, length, arith, Option, Some, None, if◌then◌else◌, count_by}
-use Rattle.std.specs.Prelude.{zip}
-use Rattle.std.specs.List.{flat_map, range_with_len}
-use Rattle.std.proofs.lemmas.List.{length-append}
-use Rattle.std.proofs.lemmas.List.FromFn.{length-range_with_len}
-use Rattle.std.proofs.lemmas.Nat.{mul-le}
-use Rattle.std.proofs.lemmas.Slice.Zip.{AllZip-long, length-zip}
+use Rattle.std.proofs.lemmas.{List.length-append, List.FromFn.length-range_with_len, Nat.mul-le, Slice.Zip.AllZip-long, Slice.Zip.length-zip}
+use Rattle.std.specs.{Prelude.zip, List.flat_map, List.range_with_len}
 use Rattle.spin_base.specs.Gathered.{gathered}
 use Rattle.spin_base.specs.declared.blocks.Block.{Block}
-use Rattle.machine_desc.specs.Description.{Description, HasSize}
-use Rattle.machine_desc.specs.Live.{chip_of}
+use Rattle.machine_desc.specs.{Description.Description, Description.HasSize, Live.chip_of}
 use Rattle.app_loads.specs.declared.answers.LoadRefusal.TheVariants.{MemoryOut, RowsOut}
-use Rattle.app_loads.specs.declared.loaded.Claim.{Claim}
-use Rattle.app_loads.specs.declared.loaded.LoadedApp.{LoadedApp}
-use Rattle.app_loads.specs.declared.plans.AppNet.{AppNet}
-use Rattle.app_loads.specs.declared.plans.AppPlan.{AppPlan}
+use Rattle.app_loads.specs.declared.{loaded.Claim.Claim, loaded.LoadedApp.LoadedApp, plans.AppNet.AppNet, plans.AppPlan.AppPlan}
 use Rattle.app_loads.specs.Applications.{IsLoadedOn, IsRangeFor}
 use Rattle.app_loads.specs.Claims.{claims_of, fixed_claim, has_chip, key_claim, memory_claim, row_claim}
 use Rattle.app_loads.specs.Plans.{IsPlan}

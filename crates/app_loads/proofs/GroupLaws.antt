@@ -1,21 +1,16 @@
 -- Deliveries held in groups.
 use Rattle.std.proofs.Common.{◌≡◌, ◌≢◌, ℕ, zero, suc, ◌+◌, ◌-◌, ◌<◌, ◌≤◌, Bool, true, false, not, ◌&&◌, ◌||◌, List, [], ◌∷◌, ◌++◌, drop, take, length, refl, sym, ap, ◌∙◌, subst, arith, cond, inl, inr, leb, ltb, Some, Result, Ok, Err, IfOk, OnErr}
-use Rattle.std.specs.List.{All, filter, list_any, slice_get, slice_index_or, slice_set}
 use Rattle.std.proofs.lemmas.Bool.{and_from, and_parts, cases_Bool, cases_lt, false≢true, le-leb, leb-true, lt-ltb, ltb-true, not-false, not-true, or_parts}
 use Rattle.std.proofs.lemmas.Grind.{flat_map-append}
 use Rattle.std.proofs.lemmas.List.{append_assoc, append-nil, drop_at, length-append, length-map, length-set, set-get_or, take_all}
 use Rattle.std.proofs.lemmas.List.Elements.{All-head, All-map, All-tail, All-weaker, filter-append}
 use Rattle.std.proofs.lemmas.List.Filters.{length-filter_both}
 use Rattle.std.proofs.lemmas.Option.{same_Some, slice_get-get_or, slice_get_within}
-use Rattle.spin_base.proofs.Pairs.{All-flat_map}
-use Rattle.spin_base.proofs.Places.{take_more_at}
-use Rattle.spin_base.specs.declared.copies.Delivery.{Delivery}
-use Rattle.app_loads.specs.declared.arrivals.Arrival.{Arrival}
-use Rattle.app_loads.specs.declared.group.Group.TheInside.{Inside}
-use Rattle.app_loads.specs.declared.group.Sent.{Sent}
-use Rattle.app_loads.specs.declared.loaded.LoadedApp.{LoadedApp}
+use Rattle.std.specs.List.{All, filter, list_any, slice_get, slice_index_or, slice_set}
+use Rattle.spin_base.proofs.{Pairs.All-flat_map, Places.take_more_at}
+use Rattle.spin_base.specs.declared.copies.{Delivery.Delivery, McCopy.McCopy}
+use Rattle.app_loads.specs.declared.{arrivals.Arrival.Arrival, group.Group.TheInside.Inside, group.Sent.Sent, loaded.LoadedApp.LoadedApp}
 use Rattle.app_loads.specs.Grouping.{Grouped, HasPut, all_grouped, is_mixed_group, is_others_group, is_own_group}
-use Rattle.spin_base.specs.declared.copies.McCopy.{McCopy}
 use Rattle.app_loads.specs.Groups.{EndsWith, IsBetween, IsGroup, arrival_of, deliveries_at, deliveries_in, delivery_of, grouped_of, last_arrivals, sent_of}
 use Rattle.app_loads.specs.Leaving.{is_delivery_of, is_packet_of}
 

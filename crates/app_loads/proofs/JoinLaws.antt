@@ -1,20 +1,16 @@
 -- An application whose claims were served can be settled.
 use Rattle.std.proofs.Common.{◌≡◌, ℕ, suc, ◌+◌, ◌^◌, ◌<◌, List, [], ◌∷◌, length, refl, sym, ◌∙◌, subst, arith, Some}
-use Rattle.std.specs.List.{slice_get, All, AllZip}
 use Rattle.std.proofs.lemmas.List.{length-map}
+use Rattle.std.specs.List.{slice_get, All, AllZip}
 use Rattle.spin_base.proofs.Pairs.{AllPairs-right}
 use Rattle.machine_desc.specs.Description.{Description}
 use Rattle.range_store.specs.Views.{Region}
 use Rattle.mesh_core.specs.State.{State}
-use Rattle.app_loads.specs.declared.loaded.LoadedApp.{LoadedApp}
-use Rattle.app_loads.specs.declared.loaded.Range.{Range}
-use Rattle.app_loads.specs.declared.plans.AppPlan.{AppPlan}
+use Rattle.app_loads.specs.declared.{loaded.LoadedApp.LoadedApp, loaded.Range.Range, plans.AppPlan.AppPlan}
 use Rattle.app_loads.specs.Applications.{IsLoadedOn, IsRangeFor}
 use Rattle.app_loads.specs.Claims.{AreBlocks, AreServed, claims_of}
 use Rattle.app_loads.specs.Joining.{CanJoin, CanSettle, IsServedApp, NoneUnsent}
-use Rattle.app_loads.specs.Plans.{IsPlan}
-use Rattle.app_loads.specs.Regions.{ShareNoPlace, IsRangeWithin}
-use Rattle.app_loads.specs.Taking.{AreTaken, free_places_in}
+use Rattle.app_loads.specs.{Plans.IsPlan, Regions.ShareNoPlace, Regions.IsRangeWithin, Taking.AreTaken, Taking.free_places_in}
 
 zipped : {X Y : Type 0} (R : X → Y → Type 0) (xs : List X) (ys : List Y) → length ys ≡ length xs → ((i : ℕ) (x : X) (y : Y) → slice_get xs i ≡ Some x → slice_get ys i ≡ Some y → R x y) → AllZip R xs ys
 zipped R [] [] long each = tt

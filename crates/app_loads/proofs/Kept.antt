@@ -1,41 +1,24 @@
 -- A mesh whose earlier deliveries are held apart, seen as one mesh.
-use Rattle.std.proofs.Common.{◌≡◌, ◌≢◌, Bool, ℕ, ◌+◌, ◌^◌, ◌<◌, List, [], ◌++◌, ◌∷◌, cond, drop, length, refl, sym, ap, ◌∙◌, subst, inl, inr, arith, true, Option, Result, Ok, Err, OnOk, Some, map}
-use Rattle.std.proofs.Common.{nat_cmp}
-use Rattle.std.specs.BTreeMap.{BTreeMap, Updates, get, is_at}
-use Rattle.std.specs.Map.{lookup}
-use Rattle.std.specs.Ordering.{is_eq}
-use Rattle.std.proofs.lemmas.Bool.{cases_Bool, eq-eqb}
-use Rattle.std.proofs.lemmas.Option.{none-some, same_Some}
+use Rattle.std.proofs.Common.{◌≡◌, ◌≢◌, Bool, ℕ, ◌+◌, ◌^◌, ◌<◌, List, [], ◌++◌, ◌∷◌, cond, drop, length, refl, sym, ap, ◌∙◌, subst, inl, inr, arith, Option, Result, Ok, Err, OnOk, Some, map}
+use Rattle.std.proofs.{Common.nat_cmp, lemmas.Bool.cases_Bool, lemmas.Bool.eq-eqb, lemmas.Option.none-some, lemmas.Option.same_Some}
+use Rattle.std.proofs.lemmas.List.{append-nil, drop_at, map-append, Sums.count_by-le-length, Sums.length-filter, Elements.All-nil}
+use Rattle.std.specs.{BTreeMap.BTreeMap, BTreeMap.Updates, BTreeMap.get, BTreeMap.is_at, Map.lookup, Ordering.is_eq}
 use Rattle.std.specs.List.{Contains, filter, slice_get, slice_index_or, slice_set}
-use Rattle.std.proofs.lemmas.List.{append-nil, drop_at, map-append}
-use Rattle.std.proofs.lemmas.List.Sums.{count_by-le-length, length-filter}
-use Rattle.std.proofs.lemmas.List.Elements.{All-nil}
 use Rattle.spin_base.proofs.Members.{Among, among_contains, among_either, among_left, among_map, among_right, contains_among}
-use Rattle.spin_base.specs.declared.blocks.Block.{Block}
-use Rattle.spin_base.specs.declared.copies.Delivery.{Delivery}
-use Rattle.spin_base.specs.declared.copies.McCopy.{McCopy}
+use Rattle.spin_base.specs.declared.{blocks.Block.Block, copies.Delivery.Delivery, copies.McCopy.McCopy}
 use Rattle.machine_desc.specs.RightTables.{IsKeyOf}
-use Rattle.mesh_core.specs.Expected.{NothingWaits}
-use Rattle.mesh_core.specs.HasRun.{DropsNone}
+use Rattle.mesh_core.specs.{Expected.NothingWaits, HasRun.DropsNone}
 use Rattle.mesh_core.specs.Ledger.{all_hand_marks, core_marks, delivered_marks, dumped_marks, input_marks, marks_of, unsent_marks}
-use Rattle.mesh_core.specs.Queues.{drop_front}
-use Rattle.mesh_core.specs.State.{Setup, State, IsMesh}
-use Rattle.mesh_core.specs.Trail.{Mark, IsUnderWayAt, delivered}
+use Rattle.mesh_core.specs.{Queues.drop_front, State.Setup, State.State, State.IsMesh, Trail.Mark, Trail.IsUnderWayAt, Trail.delivered}
 use Rattle.mesh_drain.specs.Draining.{AreRoutedAlike, BringsAlways, HasBrought, IsMoved, IsReachedDropless, MaySend, SendAlone, of_packet}
 use Rattle.mesh_drain.proofs.Frame.{dumped_reached, kept_reached, setup_reached}
-use Rattle.app_loads.specs.declared.answers.UnloadErr.{UnloadErr}
-use Rattle.app_loads.specs.declared.answers.UnloadErr.TheVariants.{NotLoaded, Waiting, Memory}
-use Rattle.app_loads.specs.declared.known.KnownBlock.{KnownBlock}
-use Rattle.app_loads.specs.declared.loaded.LoadedApp.{LoadedApp}
-use Rattle.app_loads.specs.Earlier.{with_earlier}
-use Rattle.app_loads.specs.Joining.{CanSettle}
-use Rattle.app_loads.specs.Leaving.{NoneUnderWay, WaitsIn}
-use Rattle.app_loads.specs.Removing.{IsWhyHere}
+use Rattle.app_loads.specs.declared.answers.UnloadErr.{UnloadErr, TheVariants.NotLoaded, TheVariants.Waiting, TheVariants.Memory}
+use Rattle.app_loads.specs.declared.{known.KnownBlock.KnownBlock, loaded.LoadedApp.LoadedApp}
+use Rattle.app_loads.specs.{Earlier.with_earlier, Joining.CanSettle, Leaving.NoneUnderWay, Leaving.WaitsIn, Removing.IsWhyHere}
 use Rattle.app_loads.specs.declared.arrivals.Arrival.{Arrival}
 use Rattle.app_loads.specs.Groups.{deliveries_at, sent_of}
 use Rattle.app_loads.specs.Running.{AreAlikeInBlocks, AreKnown, Comes, HasBroughtMore, IsClean}
-use Rattle.app_loads.proofs.Earlier.{kept_without, reached_with}
-use Rattle.app_loads.proofs.LeftMesh.{mesh_with}
+use Rattle.app_loads.proofs.{Earlier.kept_without, Earlier.reached_with, LeftMesh.mesh_with}
 
 -- what follows where a call was answered
 pub ok_then : {X E : Type 0} {P Q : Type 0} (r : Result X E) → (P → Q) → OnOk r P → OnOk r Q

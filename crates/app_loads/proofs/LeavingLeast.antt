@@ -1,30 +1,23 @@
 -- The least packet of an application that is under way, from the lists of the mesh.
 use Rattle.std.proofs.Common.{◌≡◌, ℕ, ◌+◌, ◌/◌, ◌%◌, ◌<◌, ◌≤◌, min, Bool, true, false, if◌then◌else◌, List, [], ◌∷◌, ◌++◌, take, length, get_or, refl, sym, ap, ◌∙◌, subst, inl, inr, ◌⊎◌, arith, Option, None, Some, append-nil}
+use Rattle.std.proofs.lemmas.{Bool.cases_lt, List.get_or_default, List.take_more, List.take_all}
+use Rattle.std.proofs.lemmas.{List.Concat.flat_map-append, Option.get_or_from_slice_get, Option.slice_get-get_or, List.Elements.All-contains}
 use Rattle.std.specs.List.{slice_get, flat_map, All, Contains}
 use Rattle.std.specs.Prelude.{IfSome, IfNone}
-use Rattle.std.proofs.lemmas.Bool.{cases_lt}
-use Rattle.std.proofs.lemmas.List.{get_or_default, take_more, take_all}
-use Rattle.std.proofs.lemmas.List.Concat.{flat_map-append}
-use Rattle.std.proofs.lemmas.Option.{get_or_from_slice_get, slice_get-get_or}
-use Rattle.std.proofs.lemmas.List.Elements.{All-contains}
 use Rattle.spin_base.specs.Gathered.{gathered}
+use Rattle.spin_base.specs.declared.{chips.Chip.Chip, copies.McCopy.McCopy, routes.Out.Out}
 use Rattle.spin_base.proofs.Members.{Among, among_contains, contains_among, among_left, among_right, among_either, among_map, map_among, among_at}
-use Rattle.spin_base.proofs.Gathering.{gathered_among}
-use Rattle.spin_base.proofs.Places.{map_more_at, All-at}
+use Rattle.spin_base.proofs.{Gathering.gathered_among, Places.map_more_at, Places.All-at}
 use Rattle.machine_desc.specs.Live.{chip_of}
-use Rattle.spin_base.specs.declared.chips.Chip.{Chip}
-use Rattle.spin_base.specs.declared.copies.McCopy.{McCopy}
-use Rattle.spin_base.specs.declared.routes.Out.{Out}
 use Rattle.mesh_core.specs.State.{State, Hand, FitsHand, IsMesh}
 use Rattle.mesh_core.specs.Trail.{Station, unsent, in_queue, in_hand, at_core, delivered, dumped, Mark, IsUnderWayAt}
 use Rattle.mesh_core.specs.Ledger.{marks_of, marks_at, hand_marks, port_of, unsent_marks, input_marks, all_hand_marks, core_marks}
-use Rattle.mesh_core.proofs.Moves.{mark}
-use Rattle.mesh_core.proofs.Standing.{mark_stands, StandsAt}
+use Rattle.mesh_core.proofs.{Moves.mark, Standing.mark_stands, Standing.StandsAt}
 use Rattle.mesh_drain.specs.Draining.{SendAlone}
 use Rattle.app_loads.proofs.ClaimCases.{among_flat, flat_among}
+use Rattle.app_loads.proofs.LeavingLists.{after_cores, after_hands, after_inputs, after_unsent}
 use Rattle.app_loads.specs.declared.loaded.LoadedApp.{LoadedApp}
 use Rattle.app_loads.specs.Leaving.{is_packet_of, WaitsIn, NoneUnderWay, IsLeastUnderWay, own_packet, lesser_of, least_own_packet, packet_numbers_of, held_packets, unsent_numbers}
-use Rattle.app_loads.proofs.LeavingLists.{after_cores, after_hands, after_inputs, after_unsent}
 
 -- ---- the least of some numbers
 

@@ -1,41 +1,25 @@
 -- A host that an application left.
 use Rattle.std.proofs.Common.{◌≡◌, ◌≢◌, ℕ, ◌+◌, ◌≤◌, ◌==◌, ltb, not, ◌&&◌, true, false, List, ◌++◌, length, refl, sym, ap, ◌∙◌, subst, inl, inr}
-use Rattle.std.specs.List.{All, AllPairs, Contains}
 use Rattle.std.proofs.lemmas.Bool.{cases_Bool, false≢true}
-use Rattle.std.proofs.lemmas.List.{length-map}
-use Rattle.std.proofs.lemmas.List.Elements.{All-contains, All-filter}
-use Rattle.std.proofs.lemmas.List.Kept.{AllPairs-filter}
+use Rattle.std.proofs.lemmas.List.{length-map, Elements.All-contains, Elements.All-filter, Kept.AllPairs-filter}
+use Rattle.std.specs.List.{All, AllPairs, Contains}
 use Rattle.spin_base.proofs.Members.{among_contains, among_either, among_left, among_right, contains_among}
-use Rattle.spin_base.proofs.Pairs.{AllPairs-append}
-use Rattle.spin_base.proofs.Places.{All-each}
-use Rattle.spin_base.specs.declared.blocks.Entry.{Entry}
-use Rattle.spin_base.specs.declared.chips.Chip.{Chip}
-use Rattle.spin_base.specs.declared.chips.Spot.{Spot}
-use Rattle.machine_desc.specs.Description.{Description}
-use Rattle.machine_desc.specs.Live.{IsInside}
-use Rattle.machine_desc.specs.NetsOn.{HaveDisjointBlocks}
-use Rattle.machine_desc.specs.RightTables.{IsKeyOf, table_at}
+use Rattle.spin_base.proofs.{Pairs.AllPairs-append, Places.All-each}
+use Rattle.spin_base.specs.declared.{blocks.Entry.Entry, chips.Chip.Chip, chips.Spot.Spot}
+use Rattle.machine_desc.specs.{Description.Description, Live.IsInside, NetsOn.HaveDisjointBlocks, RightTables.IsKeyOf, RightTables.table_at}
 use Rattle.machine_desc.specs.declared.nets.NetPlan.{NetPlan}
 use Rattle.range_store.specs.Views.{Region}
-use Rattle.mesh_core.specs.Ledger.{MeetsLedgerFor}
-use Rattle.mesh_core.specs.State.{State}
-use Rattle.app_loads.specs.declared.answers.Ended.{Ended}
-use Rattle.app_loads.specs.declared.loaded.LoadedApp.{LoadedApp}
-use Rattle.app_loads.specs.declared.loaded.Range.{Range}
+use Rattle.mesh_core.specs.{Ledger.MeetsLedgerFor, State.State}
+use Rattle.app_loads.specs.declared.{answers.Ended.Ended, loaded.LoadedApp.LoadedApp, loaded.Range.Range}
 use Rattle.app_loads.specs.Applications.{AreApps, HasRows, HaveOtherNumbers, HaveRows, IsLoadedOn}
 use Rattle.app_loads.specs.Host.{Host, all_nets, all_ranges, asked_of, nets_of}
 use Rattle.app_loads.specs.Leaving.{NoneUnderWay, mesh_without, others_than}
 use Rattle.app_loads.specs.declared.places.Region.TheVariants.{Rows}
 use Rattle.app_loads.specs.Regions.{ShareNoPlace, AreFreeBeside, IsRangeWithin, range_has, is_taken, place_of}
-use Rattle.app_loads.specs.Removing.{HasLeft}
-use Rattle.app_loads.specs.Taking.{AreTaken, free_places_in, frees}
-use Rattle.app_loads.specs.Unloading.{HasUnloaded, NoneWaits}
-use Rattle.app_loads.proofs.Copying.{mine_at, same_part}
-use Rattle.app_loads.proofs.LeftMesh.{mesh_with}
-use Rattle.app_loads.proofs.LeavingLedger.{the_ledger_without}
+use Rattle.app_loads.specs.{Removing.HasLeft, Taking.AreTaken, Taking.free_places_in, Taking.frees, Unloading.HasUnloaded, Unloading.NoneWaits}
+use Rattle.app_loads.proofs.{Copying.mine_at, Copying.same_part, LeftMesh.mesh_with, LeavingLedger.the_ledger_without}
 use Rattle.app_loads.proofs.Others.{AllPairs-left_in, item_of, only_one, other_in, others_item, own_item, own_pairs, same_tests, with_mine}
-use Rattle.app_loads.proofs.RightRows.{right_rows}
-use Rattle.app_loads.proofs.Serving.{by_taken, taken_by}
+use Rattle.app_loads.proofs.{RightRows.right_rows, Serving.by_taken, Serving.taken_by}
 
 flip_apart : (a b : Range) → ShareNoPlace a b → ShareNoPlace b a
 flip_apart a b apart region k in_b in_a = apart region k in_a in_b

@@ -1,46 +1,32 @@
 -- A host to which an application came.
 use Rattle.std.proofs.Common.{◌≡◌, ◌≢◌, ℕ, zero, suc, ◌+◌, ◌<◌, ◌≤◌, ◌==◌, true, false, List, [], ◌∷◌, ◌++◌, ◌∙◌, Option, None, Some, ◌&&◌, if◌then◌else◌}
 use Rattle.std.proofs.Common.{length, take, refl, sym, ap, subst, inl, inr, arith, append-nil, append_assoc, ltb, not, get_or}
-use Rattle.std.specs.Option.{option_map_or}
-use Rattle.std.specs.List.{list_any, slice_get, slice_set, All, AllPairs, Contains, flat_map, filter_map, enumerate_from, cons_option}
 use Rattle.std.proofs.lemmas.Bool.{cases_Bool, cases_eq, eq-eqb, eqb-true, false≢true, and_parts, ne_eqb, or_parts}
 use Rattle.std.proofs.lemmas.Grind.{flat_map-append}
 use Rattle.std.proofs.lemmas.List.Elements.{All-append, All-contains, All-weaker, filter_map-append, All-push}
 use Rattle.std.proofs.lemmas.List.Folds.{list_any-append}
 use Rattle.std.proofs.lemmas.Option.{slice_get_within, same_Some, none-some, slice_get-get_or}
 use Rattle.std.proofs.lemmas.List.{take_all, same_lists}
+use Rattle.std.specs.Option.{option_map_or}
+use Rattle.std.specs.List.{list_any, slice_get, slice_set, All, AllPairs, Contains, flat_map, filter_map, enumerate_from, cons_option}
 use Rattle.spin_base.proofs.Members.{Among, Contains-at, among_any, among_left, among_right, among_contains, contains_among}
 use Rattle.spin_base.proofs.Pairs.{AllPairs-append, AllPairs-right, AllPairs-across}
 use Rattle.spin_base.proofs.Places.{All-each, enumerate_more, slice_get_there, slice_get-set_same, slice_get-set_other}
-use Rattle.spin_base.specs.declared.blocks.Entry.{Entry}
-use Rattle.spin_base.specs.declared.chips.Chip.{Chip}
-use Rattle.spin_base.specs.declared.chips.Spot.{Spot}
-use Rattle.spin_base.specs.declared.copies.McCopy.{McCopy}
-use Rattle.spin_base.specs.declared.copies.Packet.{Packet}
+use Rattle.spin_base.proofs.{Equality.spot_eq_same, Gathering.gathered_among}
+use Rattle.spin_base.specs.declared.{blocks.Entry.Entry, chips.Chip.Chip, chips.Spot.Spot, copies.McCopy.McCopy, copies.Packet.Packet}
 use Rattle.spin_base.specs.Equality.{spot_eq}
-use Rattle.spin_base.proofs.Equality.{spot_eq_same}
-use Rattle.machine_desc.specs.Description.{Description}
-use Rattle.machine_desc.specs.Live.{IsInside}
-use Rattle.machine_desc.specs.RoutingTree.{IsRoutingTree}
-use Rattle.range_store.specs.Views.{Region}
-use Rattle.range_store.specs.Regions.{AreRuns}
+use Rattle.machine_desc.specs.{Description.Description, Live.IsInside, RoutingTree.IsRoutingTree}
 use Rattle.machine_desc.specs.declared.nets.NetPlan.{NetPlan}
 use Rattle.machine_desc.specs.NetsOn.{AreNetsOn, HaveDisjointBlocks, vertex_at}
 use Rattle.machine_desc.specs.RightTables.{IsKeyOf, table_at}
-use Rattle.mesh_core.specs.State.{State}
-use Rattle.mesh_core.specs.Trail.{Mark, unsent}
+use Rattle.range_store.specs.{Views.Region, Regions.AreRuns}
+use Rattle.mesh_core.specs.{State.State, Trail.Mark, Trail.unsent}
 use Rattle.mesh_core.specs.Ledger.{MeetsLedgerFor, marks_of, marks_at, unsent_marks, input_marks, all_hand_marks, core_marks, delivered_marks, dumped_marks}
-use Rattle.mesh_core.proofs.Ways.{vertex_at_stands}
-use Rattle.spin_base.proofs.Gathering.{gathered_among}
 use Rattle.mesh_core.specs.Opened.{copy_from, first_copy}
-use Rattle.app_loads.specs.declared.answers.LoadErr.{LoadErr}
-use Rattle.app_loads.specs.declared.answers.LoadErr.TheVariants.{Refused, Memory}
-use Rattle.app_loads.specs.declared.answers.LoadRefusal.{LoadRefusal}
+use Rattle.mesh_core.proofs.Ways.{vertex_at_stands}
+use Rattle.app_loads.specs.declared.answers.{LoadErr.LoadErr, LoadErr.TheVariants.Refused, LoadErr.TheVariants.Memory, LoadRefusal.LoadRefusal}
 use Rattle.app_loads.specs.declared.answers.LoadRefusal.TheVariants.{Loaded, MemoryOut, KeysOut, RowsOut}
-use Rattle.app_loads.specs.declared.loaded.LoadedApp.{LoadedApp}
-use Rattle.app_loads.specs.declared.loaded.Range.{Range}
-use Rattle.app_loads.specs.declared.plans.AppNet.{AppNet}
-use Rattle.app_loads.specs.declared.plans.AppPlan.{AppPlan}
+use Rattle.app_loads.specs.declared.{loaded.LoadedApp.LoadedApp, loaded.Range.Range, plans.AppNet.AppNet, plans.AppPlan.AppPlan}
 use Rattle.app_loads.specs.Applications.{AreApps, HasRows, HaveOtherNumbers, HaveRows, IsLoadedOn}
 use Rattle.app_loads.specs.Claims.{AreServed, claims_of, IsRefusalDue}
 use Rattle.app_loads.specs.Host.{Free, Host, all_nets, all_ranges, all_spots, asked_of, is_loaded, is_spot_taken, nets_of}
@@ -52,16 +38,9 @@ use Rattle.app_loads.specs.Regions.{ShareNoPlace, AreFreeBeside, range_has, is_t
 use Rattle.app_loads.specs.Taking.{AreTaken, IsDueAlways, frees}
 use Rattle.app_loads.proofs.AppNets.{apps_disjoint, different_of, facts_at, facts_of, key_of_index, own_disjoint, roots_of, sources_in, targets_in, trees_of, usable_spot}
 use Rattle.app_loads.proofs.ClaimCases.{among_flat, flat_among, facts}
-use Rattle.app_loads.proofs.Copying.{mine_at, same_part}
-use Rattle.app_loads.proofs.Holes.{same_holes}
-use Rattle.app_loads.proofs.JoinLaws.{loaded_from}
-use Rattle.app_loads.proofs.Ledgers.{more_nets}
+use Rattle.app_loads.proofs.{Copying.mine_at, Copying.same_part, Holes.same_holes, JoinLaws.loaded_from, Ledgers.more_nets}
 use Rattle.app_loads.proofs.PacketLedger.{asked_is, none_past, other_tables, same_packets, sent_ledger}
-use Rattle.app_loads.proofs.RightRows.{right_rows}
-use Rattle.app_loads.proofs.Serving.{by_taken}
-use Rattle.app_loads.proofs.Settling.{settled_mesh, usable_there}
-use Rattle.app_loads.proofs.Others.{pairs_with_last}
-use Rattle.app_loads.proofs.RegionLaws.{one_free}
+use Rattle.app_loads.proofs.{RightRows.right_rows, Serving.by_taken, Settling.settled_mesh, Settling.usable_there, Others.pairs_with_last, RegionLaws.one_free}
 
 -- one item more at the end of a list made of lists
 flat_more : {X Y : Type 0} (f : X → List Y) (xs : List X) (x : X) → flat_map f (xs ++ x ∷ []) ≡ flat_map f xs ++ f x

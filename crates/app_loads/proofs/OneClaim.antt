@@ -1,24 +1,17 @@
 -- Each net of a plan has one claim of keys, and so one block.
 use Rattle.std.proofs.Common.{◌≡◌, ℕ, zero, suc, ◌+◌, ◌<◌, ◌≤◌, ◌==◌, Bool, true, false, List, [], ◌∷◌, ◌++◌, refl, sym, ap, ◌∙◌, arith, Option, Some, None, count_by, if◌then◌else◌}
-use Rattle.std.specs.Prelude.{zip}
-use Rattle.std.specs.List.{flat_map, range_with_len, slice_get}
-use Rattle.std.proofs.lemmas.Bool.{eq-eqb, eqb-true, ne_eqb}
-use Rattle.std.proofs.lemmas.Option.{same_Some}
+use Rattle.std.proofs.lemmas.{Bool.eq-eqb, Bool.eqb-true, Bool.ne_eqb, Option.same_Some}
+use Rattle.std.specs.{Prelude.zip, List.flat_map, List.range_with_len, List.slice_get}
 use Rattle.spin_base.specs.Gathered.{gathered}
-use Rattle.spin_base.proofs.Counts.{count_by-append, count_by-cons}
-use Rattle.spin_base.proofs.Members.{among_at}
 use Rattle.spin_base.specs.declared.blocks.Block.{Block}
-use Rattle.machine_desc.specs.Description.{Description}
-use Rattle.machine_desc.specs.Live.{chip_of}
+use Rattle.spin_base.proofs.{Counts.count_by-append, Counts.count_by-cons, Members.among_at}
+use Rattle.machine_desc.specs.{Description.Description, Live.chip_of}
 use Rattle.tern_word.proofs.BlockLaws.{same_block}
 use Rattle.key_alloc.specs.KeyBlocks.{size_of}
 use Rattle.mesh_core.proofs.Counting.{count_some, counts_one}
 use Rattle.app_loads.specs.declared.answers.LoadRefusal.{LoadRefusal}
 use Rattle.app_loads.specs.declared.answers.LoadRefusal.TheVariants as refusals
-use Rattle.app_loads.specs.declared.loaded.Claim.{Claim}
-use Rattle.app_loads.specs.declared.loaded.Range.{Range}
-use Rattle.app_loads.specs.declared.plans.AppNet.{AppNet}
-use Rattle.app_loads.specs.declared.plans.AppPlan.{AppPlan}
+use Rattle.app_loads.specs.declared.{loaded.Claim.Claim, loaded.Range.Range, plans.AppNet.AppNet, plans.AppPlan.AppPlan}
 use Rattle.app_loads.specs.Claims.{claims_of, fixed_claim, has_chip, IsBlockOf, key_claim, memory_claim, row_claim, size_for}
 use Rattle.app_loads.specs.declared.places.Region.TheVariants.{Keys, Memory, Rows}
 use Rattle.app_loads.specs.Regions.{chip_count}

@@ -1,10 +1,8 @@
 -- Lists of an application's items beside those of all others.
 use Rattle.std.proofs.Common.{◌≡◌, ◌≢◌, ℕ, zero, suc, ◌==◌, Bool, true, false, not, List, [], ◌∷◌, ◌++◌, take, drop, sym, ap, ◌∙◌, refl, subst, inl, inr, ◌⊎◌, arith, Some, get_or}
-use Rattle.std.specs.List.{slice_get, All, AllPairs, Contains, filter, flat_map}
 use Rattle.std.proofs.lemmas.Bool.{cases_Bool, cond_both, cond-true, cond-false, eq-eqb, eqb-true, false≢true, ne_eqb}
-use Rattle.std.proofs.lemmas.List.Elements.{All-contains, All-weaker}
-use Rattle.std.proofs.lemmas.Option.{same_Some, slice_get-get_or}
-use Rattle.std.proofs.lemmas.List.Quantifiers.{all_pairs_push}
+use Rattle.std.proofs.lemmas.{List.Elements.All-contains, List.Elements.All-weaker, Option.same_Some, Option.slice_get-get_or, List.Quantifiers.all_pairs_push}
+use Rattle.std.specs.List.{slice_get, All, AllPairs, Contains, filter, flat_map}
 use Rattle.spin_base.proofs.Members.{Among, among_at, among_contains, among_filter, contains_among, Contains-filter, Contains-from_filter, Contains-at}
 use Rattle.spin_base.proofs.Pairs.{AllPairs-append, AllPairs-left, AllPairs-right, AllPairs-across, AllPairs-head, AllPairs-tail}
 use Rattle.spin_base.proofs.Places.{All-each}

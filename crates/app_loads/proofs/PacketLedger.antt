@@ -1,22 +1,15 @@
 -- The ledger of a mesh to which an application's packets came.
 use Rattle.std.proofs.Common.{◌≡◌, ℕ, zero, suc, ◌+◌, ◌-◌, ◌<◌, ◌≤◌, ◌==◌, List, [], ◌∷◌, ◌++◌, length, refl, sym, ap, ◌∙◌, subst, inl, inr, arith, Option, None, Some, if◌then◌else◌}
-use Rattle.std.specs.List.{slice_get, slice_set, All, Contains}
 use Rattle.std.proofs.lemmas.Bool.{cases_eq, cases_lt, eq-eqb, le-leb, lt-leb, ne_eqb}
-use Rattle.std.proofs.lemmas.List.{length-map}
-use Rattle.std.proofs.lemmas.List.Elements.{All-head, All-tail}
+use Rattle.std.proofs.lemmas.List.{length-map, Elements.All-head, Elements.All-tail}
 use Rattle.std.proofs.lemmas.Option.{slice_get_within, slice_get_past, get_or_from_slice_get}
-use Rattle.spin_base.specs.declared.blocks.Entry.{Entry}
-use Rattle.spin_base.specs.declared.chips.Spot.{Spot}
-use Rattle.spin_base.specs.declared.copies.McCopy.{McCopy}
-use Rattle.spin_base.specs.declared.copies.Packet.{Packet}
-use Rattle.machine_desc.specs.Description.{Description}
-use Rattle.machine_desc.specs.RoutingTree.{IsRoutingTree}
-use Rattle.machine_desc.proofs.Branches.{link_on_branch}
+use Rattle.std.specs.List.{slice_get, slice_set, All, Contains}
+use Rattle.spin_base.specs.declared.{blocks.Entry.Entry, chips.Spot.Spot, copies.McCopy.McCopy, copies.Packet.Packet}
+use Rattle.machine_desc.specs.{Description.Description, RoutingTree.IsRoutingTree}
 use Rattle.machine_desc.specs.declared.nets.NetPlan.{NetPlan}
 use Rattle.machine_desc.specs.RightTables.{IsKeyOf}
-use Rattle.mesh_core.specs.State.{State}
-use Rattle.mesh_core.specs.Ledger.{Asked, MeetsLedgerFor}
-use Rattle.mesh_core.specs.Opened.{asked_at, asked_by, label_in}
+use Rattle.machine_desc.proofs.Branches.{link_on_branch}
+use Rattle.mesh_core.specs.{State.State, Ledger.Asked, Ledger.MeetsLedgerFor, Opened.asked_at, Opened.asked_by, Opened.label_in}
 use Rattle.mesh_core.proofs.AskedPackets.{asked_from}
 use Rattle.app_loads.specs.declared.loaded.LoadedApp.{LoadedApp}
 use Rattle.app_loads.specs.Host.{asked_of, asked_of_app, either, nets_of}

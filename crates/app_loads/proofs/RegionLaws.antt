@@ -4,11 +4,8 @@ use Rattle.spin_base.specs.declared.wants.Memory.{Memory}
 use Rattle.range_store.specs.declared.holes.Hole.{Hole}
 use Rattle.range_store.specs.Views.{Region}
 use Rattle.range_store.specs.Regions.{AreRuns, IsFirstFit, HasNoFit, is_hole_range, is_free, in_range}
-use Rattle.app_loads.specs.declared.loaded.Claim.{Claim}
-use Rattle.app_loads.specs.declared.loaded.Range.{Range}
-use Rattle.app_loads.specs.Host.{Free}
-use Rattle.app_loads.specs.Regions.{IsFreeBeside, place_of}
-use Rattle.app_loads.specs.Claims.{IsLeastOpenRange}
+use Rattle.app_loads.specs.declared.loaded.{Claim.Claim, Range.Range}
+use Rattle.app_loads.specs.{Host.Free, Regions.IsFreeBeside, Regions.place_of, Claims.IsLeastOpenRange}
 use Rattle.app_loads.specs.Taking.{free_places_in, ServesClaim, RefusesClaim}
 use Rattle.app_loads.proofs.Taking.{taken_more, least_from_fit, refused_from_fit, least_from_fixed, refused_from_fixed}
 

@@ -1,9 +1,7 @@
 -- Room made in regions for ranges that are to be given back.
 use Rattle.std.proofs.Common.{◌≡◌, ◌≢◌, ℕ, ◌+◌, ◌<◌, ◌≤◌, ◌==◌, List, [], ◌∷◌, ◌++◌, take, get_or, length, sym, ap, ◌∙◌, inl, inr, arith, Some}
+use Rattle.std.proofs.lemmas.{Option.slice_get-get_or, List.length-take, List.map-set, List.Sums.count_by-le-length}
 use Rattle.std.specs.List.{slice_get, slice_set, All}
-use Rattle.std.proofs.lemmas.Option.{slice_get-get_or}
-use Rattle.std.proofs.lemmas.List.{length-take, map-set}
-use Rattle.std.proofs.lemmas.List.Sums.{count_by-le-length}
 use Rattle.spin_base.proofs.Places.{slice_get-mapped, set-slice_get, take_more_at}
 use Rattle.range_store.specs.Views.{Region}
 use Rattle.app_loads.specs.declared.loaded.Range.{Range}

@@ -1,34 +1,24 @@
 -- How many entries nets need of a chip, counted in the list of the chips of their trees.
 use Rattle.std.proofs.Common.{◌≡◌, ◌≢◌, ℕ, zero, suc, ◌+◌, ◌-◌, ◌*◌, ◌<◌, ◌≤◌, Bool, true, false, ◌||◌, ◌==◌, List, [], ◌∷◌, ◌++◌, ◌∙◌, Option, None, Some, Result, Ok, Err, if◌then◌else◌}
 use Rattle.std.proofs.Common.{get_or, length, refl, sym, ap, inl, inr, arith, OnOk, append_assoc, append-nil, count_by, take}
-use Rattle.std.specs.List.{list_any, slice_get, All, AllPairs, flat_map, range_with_len, sum_by}
-use Rattle.std.specs.List.Sorted.{IsPermutation}
-use Rattle.std.specs.Option.{option_map_or}
 use Rattle.std.proofs.lemmas.Bool.{cases_Bool, cases_eq, cases_lt, eq-eqb, ne_eqb}
 use Rattle.std.proofs.lemmas.Grind.{flat_map-append}
 use Rattle.std.proofs.lemmas.List.Elements.{All-nil, All-cons, All-head, All-tail, All-append}
 use Rattle.std.proofs.lemmas.List.Sorted.{All-permutation, sum_by-IsPermutation}
-use Rattle.std.proofs.lemmas.List.Sums.{sum_by-cons}
-use Rattle.std.proofs.lemmas.Option.{slice_get_within, get_or_from_slice_get}
-use Rattle.std.proofs.lemmas.List.{flat_map_more}
-use Rattle.spin_base.proofs.Equality.{chip_eq_true}
-use Rattle.spin_base.proofs.Counts.{count_by-append, count_by-cons}
-use Rattle.spin_base.proofs.Pairs.{AllPairs-head, AllPairs-tail}
+use Rattle.std.proofs.lemmas.{List.Sums.sum_by-cons, Option.slice_get_within, Option.get_or_from_slice_get, List.flat_map_more}
+use Rattle.std.specs.List.{list_any, slice_get, All, AllPairs, flat_map, range_with_len, sum_by, Sorted.IsPermutation}
+use Rattle.std.specs.Option.{option_map_or}
+use Rattle.spin_base.proofs.{Equality.chip_eq_true, Counts.count_by-append, Counts.count_by-cons, Pairs.AllPairs-head, Pairs.AllPairs-tail}
 use Rattle.spin_base.proofs.Places.{All-at, slice_get_there, take_more_at}
 use Rattle.spin_base.specs.declared.chips.Chip.{Chip}
 use Rattle.spin_base.specs.Equality.{chip_eq}
 use Rattle.spin_base.specs.declared.wants.Memory.{Memory}
 use Rattle.machine_desc.specs.declared.trees.Edge.{Edge}
-use Rattle.machine_desc.specs.Description.{Description}
-use Rattle.machine_desc.specs.Live.{index_of, chip_of, IsInside}
-use Rattle.machine_desc.specs.RoutingTree.{end_of}
+use Rattle.machine_desc.specs.{Description.Description, Live.index_of, Live.chip_of, Live.IsInside, RoutingTree.end_of}
 use Rattle.machine_desc.proofs.Far.{far_inside, index_below, same_index, live_ends, live_inside}
-use Rattle.machine_desc.proofs.Live.{index_of-chip_of, chip_of-inside}
-use Rattle.machine_desc.proofs.Same.{chip_eq-from_same}
-use Rattle.app_loads.specs.declared.loaded.Claim.{Claim}
-use Rattle.app_loads.specs.declared.plans.AppNet.{AppNet}
-use Rattle.app_loads.specs.Regions.{chip_count}
-use Rattle.app_loads.specs.Claims.{has_chip, entries_claim, row_claim}
+use Rattle.machine_desc.proofs.{Live.index_of-chip_of, Live.chip_of-inside, Same.chip_eq-from_same}
+use Rattle.app_loads.specs.declared.{loaded.Claim.Claim, plans.AppNet.AppNet}
+use Rattle.app_loads.specs.{Regions.chip_count, Claims.has_chip, Claims.entries_claim, Claims.row_claim}
 use Rattle.app_loads.specs.Counting.{HasTree, IsRunEnd, chip_places, end_places, tree_places, run_claim}
 
 abbrev one_if : Bool → ℕ

@@ -1,32 +1,28 @@
 -- Ranges taken one after the other for claims, and given back.
 use Rattle.std.proofs.Common.{◌≡◌, ◌≢◌, ℕ, ◌+◌, ◌%◌, ◌<◌, ◌≤◌, zero, suc, Bool, true, false, ◌&&◌, ◌||◌, ◌⊎◌, ◌==◌, List, [], ◌∷◌, ◌++◌, ◌∙◌, Option, None, Some, if◌then◌else◌}
 use Rattle.std.proofs.Common.{not, ltb, take, drop, get_or, length, refl, sym, ap, subst, inl, inr, arith, IfSome, append_assoc, append-nil, count_by, replicate}
-use Rattle.std.specs.List.{slice_get, slice_set, All, AllPairs, Contains}
 use Rattle.std.proofs.lemmas.Bool.{cases_Bool, cases_eq, eqb-true, eq-eqb, and_parts, and_from, lt-ltb, ne_eqb, and_right, or_right}
 use Rattle.std.proofs.lemmas.List.{length-set, length_push, take_at, take-append-le, map-set, drop_more}
 use Rattle.std.proofs.lemmas.List.Elements.{All-nil, All-cons, All-head, All-tail, All-append, All-contains}
-use Rattle.std.proofs.lemmas.List.Folds.{list_any-append}
-use Rattle.std.proofs.lemmas.List.Sums.{count_by-le-length}
+use Rattle.std.proofs.lemmas.List.{Folds.list_any-append, Sums.count_by-le-length}
 use Rattle.std.proofs.lemmas.Option.{slice_get_within, slice_get-get_or, same_Some, none-some}
+use Rattle.std.proofs.Math.Bool.{or-false}
+use Rattle.std.specs.List.{slice_get, slice_set, All, AllPairs, Contains}
 use Rattle.key_alloc.proofs.Ranges.{in_facts}
 use Rattle.spin_base.proofs.Counts.{count_by-append, count_by-cons}
 use Rattle.spin_base.proofs.Pairs.{AllPairs-left, AllPairs-right, AllPairs-across, AllPairs-append, AllPairs-head, AllPairs-tail}
 use Rattle.spin_base.proofs.Places.{All-each, slice_get-mapped, slice_get-push_cases, slice_get-set_same, slice_get-set_other, set-slice_get}
 use Rattle.spin_base.proofs.Members.{any_among, among_any, contains_among, among_contains, among_right, among_either}
 use Rattle.machine_desc.specs.Description.{Description}
-use Rattle.range_store.specs.Views.{Region}
-use Rattle.range_store.specs.Regions.{AreRuns, is_free, in_range}
-use Rattle.app_loads.specs.declared.answers.LoadErr.{LoadErr}
-use Rattle.app_loads.specs.declared.answers.LoadErr.TheVariants.{Memory, Refused}
-use Rattle.app_loads.specs.declared.loaded.Claim.{Claim}
-use Rattle.app_loads.specs.declared.loaded.Range.{Range}
+use Rattle.range_store.specs.{Views.Region, Regions.AreRuns, Regions.is_free, Regions.in_range}
+use Rattle.range_store.proofs.HolePlaces.{clash}
+use Rattle.app_loads.specs.declared.answers.LoadErr.{LoadErr, TheVariants.Memory, TheVariants.Refused}
+use Rattle.app_loads.specs.declared.loaded.{Claim.Claim, Range.Range}
 use Rattle.app_loads.specs.Host.{Free}
 use Rattle.app_loads.specs.Regions.{AreFreeBeside, IsFreeBeside, ShareNoPlace, place_of, range_has, is_taken, region_size, IsRangeWithin}
 use Rattle.app_loads.specs.Claims.{IsLeastOpenRange, IsOpenRange, IsRefusalDue}
 use Rattle.app_loads.specs.Taking.{free_places_in, frees, range_at, ServesClaim, RefusesClaim, IsFair, IsFairFor, HaveRoom, CanServe, HaveServed, AreTaken, AreTakenAlways, AreServedAlways, IsDueAlways, IsDueOf}
-use Rattle.std.proofs.Math.Bool.{or-false}
 use Rattle.app_loads.proofs.Others.{pairs_with_last}
-use Rattle.range_store.proofs.HolePlaces.{clash}
 
 -- ---- lists
 

@@ -1,50 +1,32 @@
 -- An application's rows and packets on a mesh.
 use Rattle.std.proofs.Common.{◌≡◌, ℕ, zero, suc, ◌+◌, ◌-◌, ◌*◌, ◌/◌, ◌%◌, ◌^◌, ◌<◌, ◌≤◌, ◌==◌, Bool, true, false, List, [], ◌∷◌, ◌++◌, ◌∙◌, ◌⊎◌, Option, None, Some, if◌then◌else◌}
 use Rattle.std.proofs.Common.{leb, length, drop, take, map, refl, sym, ap, subst, inl, inr, arith, count_by}
-use Rattle.std.specs.Option.{option_map_or}
-use Rattle.std.specs.List.{list_any, slice_get, All, Contains}
-use Rattle.std.proofs.lemmas.Bool.{cases_Bool, or_left, or_right, or_cases}
-use Rattle.std.proofs.lemmas.Bool.Decides.{nat_tests}
-use Rattle.std.proofs.lemmas.List.{length-map, length-set}
+use Rattle.std.proofs.lemmas.{Bool.cases_Bool, Bool.or_left, Bool.or_right, Bool.or_cases, Bool.Decides.nat_tests, List.length-map, List.length-set}
 use Rattle.std.proofs.lemmas.List.Elements.{All-contains, All-head, All-set, All-push}
 use Rattle.std.proofs.lemmas.List.Sorted.{IsPermutation-refl, length_permutation}
 use Rattle.std.proofs.lemmas.Option.{slice_get_within, same_Some}
-use Rattle.mesh_core.proofs.Moves.{chip_of-index_of}
-use Rattle.spin_base.proofs.Equality.{chip_eq_true}
-use Rattle.spin_base.proofs.Counts.{count_by-cons}
+use Rattle.std.specs.Option.{option_map_or}
+use Rattle.std.specs.List.{list_any, slice_get, All, Contains}
+use Rattle.mesh_core.proofs.{Moves.chip_of-index_of, Ways.vertex_there}
+use Rattle.mesh_core.specs.State.{Setup, State, IsMesh}
+use Rattle.spin_base.proofs.{Equality.chip_eq_true, Counts.count_by-cons}
 use Rattle.spin_base.proofs.Members.{Contains-at, Contains-filter, among_any, any_among, among_contains, contains_among}
 use Rattle.spin_base.proofs.Places.{All-at, All-each, AllZip-at_second, slice_get_there}
 use Rattle.spin_base.proofs.Ranges.{slice_get-map_range}
-use Rattle.spin_base.specs.declared.blocks.Block.{Block}
-use Rattle.spin_base.specs.declared.blocks.Entry.{Entry}
-use Rattle.spin_base.specs.declared.chips.Chip.{Chip}
-use Rattle.spin_base.specs.declared.chips.Spot.{Spot}
-use Rattle.spin_base.specs.declared.copies.Delivery.{Delivery}
-use Rattle.spin_base.specs.declared.copies.DumpRec.{DumpRec}
-use Rattle.spin_base.specs.declared.copies.McCopy.{McCopy}
-use Rattle.spin_base.specs.declared.copies.Packet.{Packet}
+use Rattle.spin_base.specs.declared.{blocks.Block.Block, blocks.Entry.Entry, chips.Chip.Chip, chips.Spot.Spot}
+use Rattle.spin_base.specs.declared.copies.{Delivery.Delivery, DumpRec.DumpRec, McCopy.McCopy, Packet.Packet}
 use Rattle.spin_base.specs.Equality.{chip_eq}
 use Rattle.machine_desc.specs.declared.trees.Edge.{Edge}
 use Rattle.machine_desc.specs.Description.{Description}
 use Rattle.machine_desc.specs.Live.{index_of, chip_of, is_usable, IsInside, IsUsable}
-use Rattle.machine_desc.specs.RoutingTree.{end_of, IsTreeChip}
-use Rattle.machine_desc.proofs.Far.{index_below, live_inside}
-use Rattle.machine_desc.proofs.Same.{chip_eq-from_same, same_spot}
-use Rattle.machine_desc.proofs.Sites.{usable_parts}
+use Rattle.machine_desc.specs.{RoutingTree.end_of, RoutingTree.IsTreeChip, RightTables.table_at}
+use Rattle.machine_desc.proofs.{Far.index_below, Far.live_inside, Same.chip_eq-from_same, Same.same_spot, Sites.usable_parts}
 use Rattle.machine_desc.proofs.TreeLemmas.{tree_cases, tree_end}
-use Rattle.tern_word.specs.declared.tables.Row.{Row}
-use Rattle.tern_word.specs.declared.tables.Table.{Table}
+use Rattle.tern_word.specs.declared.tables.{Row.Row, Table.Table}
 use Rattle.tern_word.specs.SoundTable.{Original}
-use Rattle.machine_desc.specs.RightTables.{table_at}
 use Rattle.net_tables.specs.PlainTable.{AreOriginals, AtEach, IsPlainTable, row_of}
-use Rattle.mesh_core.specs.State.{Setup, State, IsMesh}
-use Rattle.mesh_core.proofs.Ways.{vertex_there}
-use Rattle.app_loads.specs.declared.loaded.LoadedApp.{LoadedApp}
-use Rattle.app_loads.specs.declared.loaded.Range.{Range}
-use Rattle.app_loads.specs.declared.plans.AppNet.{AppNet}
-use Rattle.app_loads.specs.Applications.{IsRangeFor}
-use Rattle.app_loads.specs.Claims.{claims_of, has_chip}
-use Rattle.app_loads.specs.Host.{net_with, nets_with, nets_of}
+use Rattle.app_loads.specs.declared.{loaded.LoadedApp.LoadedApp, loaded.Range.Range, plans.AppNet.AppNet}
+use Rattle.app_loads.specs.{Applications.IsRangeFor, Claims.claims_of, Claims.has_chip, Host.net_with, Host.nets_with, Host.nets_of}
 use Rattle.app_loads.specs.Joining.{AreSent, AreWritten, CanSettle, IsSettled}
 use Rattle.app_loads.specs.Opening.{grid_spots, spot_of, usable_spots}
 use Rattle.app_loads.specs.Plans.{IsAppNet, IsPacketOfApp}
@@ -53,8 +35,7 @@ use Rattle.app_loads.specs.Regions.{chip_count, region_size, IsRangeWithin, plac
 use Rattle.app_loads.specs.Sending.{CanSend, IsPacketOn, IsSendingFrom}
 use Rattle.app_loads.specs.Writing.{AreCopied, CanCopy}
 use Rattle.app_loads.proofs.AppNets.{facts_at, key_of_index, member_at, spot_inside, usable_spot}
-use Rattle.app_loads.proofs.ClaimCases.{row_size}
-use Rattle.app_loads.proofs.Unsent.{nets_with_at}
+use Rattle.app_loads.proofs.{ClaimCases.row_size, Unsent.nets_with_at}
 
 -- each usable core is in the list of them
 pub usable_there : (m : Description) (s : Spot) → IsUsable m s → Contains (usable_spots m) s

@@ -5,12 +5,11 @@ use Rattle.std.proofs.lemmas.List.Folds.{list_any-append}
 use Rattle.key_alloc.proofs.Ranges.{in_facts, in_from, regroup, free_of}
 use Rattle.machine_desc.specs.Description.{Description}
 use Rattle.range_store.specs.Regions.{AreRuns, IsFirstFit, HasNoFit, is_hole_range, is_free, in_range}
-use Rattle.app_loads.specs.declared.loaded.Claim.{Claim}
-use Rattle.app_loads.specs.declared.loaded.Range.{Range}
+use Rattle.range_store.proofs.HolePlaces.{clash, free_in_range, range_of_free}
+use Rattle.app_loads.specs.declared.loaded.{Claim.Claim, Range.Range}
 use Rattle.app_loads.specs.Host.{Free}
 use Rattle.app_loads.specs.Regions.{IsFreeBeside, place_of, range_has, is_taken}
 use Rattle.app_loads.specs.Claims.{IsOpenRange, IsLeastOpenRange, IsRefusedClaim}
-use Rattle.range_store.proofs.HolePlaces.{clash, free_in_range, range_of_free}
 
 here_too : (region : ℕ) (b : Bool) → ((region == region) && b) ≡ b
 here_too region b = ap (λ z. z && b) (eq-eqb region region refl)

@@ -1,9 +1,7 @@
 use Rattle.std.proofs.Common.{None, ◌∙◌, ap, arith, length, refl, sym}
-use Rattle.std.specs.List.{slice_get}
 use Rattle.std.proofs.lemmas.List.{length-replicate, length-set}
-use Rattle.app_loads.specs.declared.answers.LoadRefusal.TheVariants.{Loaded}
-use Rattle.app_loads.specs.declared.places.Region.TheVariants.{Keys}
-use Rattle.app_loads.specs.declared.loaded.Claim.{Claim}
+use Rattle.std.specs.List.{slice_get}
+use Rattle.app_loads.specs.declared.{answers.LoadRefusal.TheVariants.Loaded, places.Region.TheVariants.Keys, loaded.Claim.Claim}
 use Rattle.app_loads.proofs.Serving.{few_held, pushed_long, claim_fair, claim_served, claim_due, claim_taken, claim_room, count_held, counts_more, none_counted, none_served, of_region, all_served}
 use Rattle.app_loads.proofs.regions.take_each.Goals as goal
 

@@ -1,6 +1,6 @@
 use Rattle.std.proofs.Common.{◌≡◌, ◌∙◌, ap, sym, subst, arith, length, None}
-use Rattle.std.specs.List.{slice_get, slice_set}
 use Rattle.std.proofs.lemmas.Option.{slice_get-get_or}
+use Rattle.std.specs.List.{slice_get, slice_set}
 use Rattle.spin_base.specs.declared.copies.Packet.{Packet}
 use Rattle.app_loads.specs.Joining.{AreSent}
 use Rattle.app_loads.proofs.Unsent.{sent_more, others_same, number_fits, net_below, key_fits, source_below, queue_below}

@@ -1,6 +1,5 @@
 use Rattle.std.proofs.Common.{◌∙◌, ◌+◌, ap, sym, length, Some}
-use Rattle.std.proofs.lemmas.List.{length_push}
-use Rattle.std.proofs.lemmas.Option.{slice_get-get_or}
+use Rattle.std.proofs.lemmas.{List.length_push, Option.slice_get-get_or}
 use Rattle.app_loads.proofs.Unsent.{source_is, sources_more}
 use Rattle.app_loads.proofs.sends.source_vertices.Goals as goal
 

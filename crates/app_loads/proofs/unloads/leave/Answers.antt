@@ -1,7 +1,6 @@
 use Rattle.std.proofs.Common.{◌∙◌, OnOk, subst}
 use Rattle.mesh_core.specs.State.{State}
-use Rattle.app_loads.specs.Grouping.{all_grouped}
-use Rattle.app_loads.specs.Taking.{AreGivenBack}
+use Rattle.app_loads.specs.{Grouping.all_grouped, Taking.AreGivenBack}
 use Rattle.app_loads.proofs.Kept.{same_mesh}
 use Rattle.app_loads.proofs.unloads.leave.Goals as goal
 

@@ -1,9 +1,6 @@
 use Rattle.std.proofs.Common.{IfErr, IfOk, OnOk, Result, subst}
-use Rattle.app_loads.specs.declared.answers.UnloadErr.{UnloadErr}
-use Rattle.app_loads.specs.declared.leaving.Left.{Left}
-use Rattle.app_loads.specs.Grouping.{all_grouped}
-use Rattle.app_loads.specs.Leaving.{NoneUnderWay, is_delivery_of}
-use Rattle.app_loads.specs.Removing.{HasLeftMesh, IsWhyHere}
+use Rattle.app_loads.specs.declared.{answers.UnloadErr.UnloadErr, leaving.Left.Left}
+use Rattle.app_loads.specs.{Grouping.all_grouped, Leaving.NoneUnderWay, Leaving.is_delivery_of, Removing.HasLeftMesh, Removing.IsWhyHere}
 use Rattle.app_loads.proofs.Kept.{few_own, none_with, why_with}
 use Rattle.app_loads.proofs.unloads.leave_ready.Goals as goal
 

@@ -1,8 +1,7 @@
 use Rattle.std.proofs.Common.{◌∙◌, [], ap, refl, subst, sym}
 use Rattle.mesh_core.specs.State.{IsMesh}
 use Rattle.mesh_drain.specs.Draining.{SendAlone}
-use Rattle.app_loads.specs.Inner.{numbers_of}
-use Rattle.app_loads.specs.Taking.{frees}
+use Rattle.app_loads.specs.{Inner.numbers_of, Taking.frees}
 use Rattle.app_loads.proofs.Bare.{bare_mesh_alone, made_apps}
 use Rattle.app_loads.proofs.apps.Apps.new.Goals as goal
 

@@ -1,7 +1,6 @@
 use Rattle.std.proofs.Common.{◌≡◌, ◌∙◌, List, [], ap, arith, length, not}
-use Rattle.std.specs.Prelude.{vec_capacity, vec_len}
-use Rattle.std.specs.Vec.Iter.{into_iter_items}
 use Rattle.std.proofs.lemmas.Grind.{common_steps}
+use Rattle.std.specs.{Prelude.vec_capacity, Prelude.vec_len, Vec.Iter.into_iter_items}
 use Rattle.spin_base.proofs.Places.{none_within}
 use Rattle.app_loads.specs.Grouping.{Grouped, all_grouped, is_mixed_group}
 use Rattle.app_loads.specs.Leaving.{is_delivery_of}
