@@ -1,13 +1,9 @@
 -- Claims get one list of ranges, or one refusal.
 use Rattle.std.proofs.Common.{◌≡◌, ℕ, zero, suc, ◌+◌, ◌<◌, ◌≤◌, refl, sym, ap, ◌∙◌, subst, arith, inl, inr, List, ◌∷◌, [], ◌++◌, length, take}
-use Rattle.std.proofs.lemmas.Bool.{cases_order}
-use Rattle.std.proofs.lemmas.List.{take_all}
-use Rattle.std.proofs.lemmas.Option.{slice_get_within}
+use Rattle.std.proofs.lemmas.{Bool.cases_order, List.take_all, Option.slice_get_within}
 use Rattle.spin_base.proofs.Places.{one_item_at, slice_get_there, take_more_at}
 use Rattle.machine_desc.specs.Description.{Description}
-use Rattle.app_loads.specs.declared.answers.LoadRefusal.{LoadRefusal}
-use Rattle.app_loads.specs.declared.loaded.Claim.{Claim}
-use Rattle.app_loads.specs.declared.loaded.Range.{Range}
+use Rattle.app_loads.specs.declared.{answers.LoadRefusal.LoadRefusal, loaded.Claim.Claim, loaded.Range.Range}
 use Rattle.app_loads.specs.Claims.{AreFirstServed, AreServed, IsLeastOpenRange, IsOpenRange, IsRefusalDue}
 
 module _ (m : Description) (taken : List Range) (claims : List Claim) where

@@ -1,38 +1,25 @@
 -- Steps have one text: whatever states they lead through, these are states of machines with the same applications.
 use Rattle.std.proofs.Common.{◌≡◌, ℕ, zero, suc, ◌<◌, refl, sym, ap, ◌∙◌, subst, arith, inl, List, [], ◌∷◌, ◌++◌, length, true, false, Bool, Option, Some, None, IfSome}
-use Rattle.std.specs.Prelude.{option_map, replicate}
-use Rattle.std.specs.List.{All, Contains, slice_get}
-use Rattle.std.proofs.lemmas.Bool.{true≢false}
-use Rattle.std.proofs.lemmas.List.{length-replicate}
+use Rattle.std.proofs.lemmas.{Bool.true≢false, List.length-replicate}
 use Rattle.std.proofs.lemmas.List.Elements.{All-contains, All-cons, All-head, All-nil, All-tail}
 use Rattle.std.proofs.lemmas.Option.{same_Some, slice_get_within}
-use Rattle.spin_base.proofs.Members.{among_contains, among_right}
-use Rattle.spin_base.proofs.Places.{slice_get_there}
-use Rattle.spin_base.specs.declared.chips.Spot.{Spot}
-use Rattle.spin_base.specs.declared.copies.McCopy.{McCopy}
+use Rattle.std.specs.Prelude.{option_map, replicate}
+use Rattle.std.specs.List.{All, Contains, slice_get}
+use Rattle.spin_base.proofs.{Members.among_contains, Members.among_right, Places.slice_get_there}
+use Rattle.spin_base.specs.declared.{chips.Spot.Spot, copies.McCopy.McCopy}
 use Rattle.machine_desc.specs.Description.{Description}
 use Rattle.mesh_core.specs.State.{Hand, State}
 use Rattle.net_plans.proofs.Determined.{same_places}
-use Rattle.job_requests.specs.declared.steps.AppJob.{AppJob}
-use Rattle.job_requests.specs.declared.steps.Step.{Step}
-use Rattle.job_requests.specs.declared.steps.Step.TheVariants.{Load, Unload, Run}
+use Rattle.job_requests.specs.declared.steps.{AppJob.AppJob, Step.Step, Step.TheVariants.Load, Step.TheVariants.Unload, Step.TheVariants.Run}
 use Rattle.job_requests.specs.Valid.{IsValidJob, IsValidStep}
-use Rattle.app_loads.specs.declared.loaded.LoadedApp.{LoadedApp}
-use Rattle.app_loads.specs.declared.loaded.Range.{Range}
-use Rattle.app_loads.specs.declared.plans.AppPlan.{AppPlan}
-use Rattle.app_loads.specs.Alike.{AreAlike, IsQuiet}
-use Rattle.app_loads.specs.Applications.{AreApps, IsLoadedOn}
-use Rattle.app_loads.specs.Claims.{AreBlocks, AreServed, claims_of}
-use Rattle.app_loads.specs.Host.{Host, all_ranges}
-use Rattle.app_loads.specs.Loading.{sent_by_vertex}
-use Rattle.app_loads.specs.Opening.{bare_host}
-use Rattle.app_loads.proofs.Alike.{alike_moved, alike_unloaded, same_spots}
-use Rattle.app_loads.proofs.OneClaim.{one_block}
+use Rattle.app_loads.specs.declared.{loaded.LoadedApp.LoadedApp, loaded.Range.Range, plans.AppPlan.AppPlan}
+use Rattle.app_loads.specs.{Alike.AreAlike, Alike.IsQuiet, Applications.AreApps, Applications.IsLoadedOn, Claims.AreBlocks, Claims.AreServed, Claims.claims_of}
+use Rattle.app_loads.specs.{Host.Host, Host.all_ranges, Loading.sent_by_vertex, Opening.bare_host}
 use Rattle.app_loads.specs.declared.answers.LoadRefusal.TheVariants.{Loaded, MemoryOut, KeysOut, RowsOut}
+use Rattle.app_loads.proofs.{Alike.alike_moved, Alike.alike_unloaded, Alike.same_spots, OneClaim.one_block}
 use Rattle.spin_apps.specs.declared.hosts.LoadAnswer.{LoadAnswer}
 use Rattle.spin_apps.specs.declared.hosts.LoadAnswer.TheVariants.{Done, NoRoom, CutOff, Refused}
-use Rattle.spin_apps.specs.declared.hosts.UnloadAnswer.{UnloadAnswer}
-use Rattle.spin_apps.specs.declared.hosts.UnloadAnswer.TheVariants.{Got, NotLoaded, Waiting}
+use Rattle.spin_apps.specs.declared.hosts.UnloadAnswer.{UnloadAnswer, TheVariants.Got, TheVariants.NotLoaded, TheVariants.Waiting}
 use Rattle.spin_apps.specs.Answers.{Answers, AreAnsweredFrom, AreAnswered, HasGot, IsDone, IsLoadAnswer, IsUnloadAnswer, host_at}
 use Rattle.spin_apps.specs.Lines.{load_line, unload_line}
 use Rattle.spin_apps.proofs.OneLine.{HaveAsManyDeliveries, one_load, one_plan, one_unload, plan_there, served_there}

@@ -1,27 +1,19 @@
 -- The plan of a job on free cores.
 use Rattle.std.proofs.Common.{◌≡◌, ℕ, ◌+◌, ◌^◌, ◌<◌, refl, sym, ap, ◌∙◌, subst, arith, inl, inr, List, [], ◌∷◌, ◌++◌, length, map, take, false, Some}
-use Rattle.std.specs.List.{All, AllZip, Contains, slice_get}
-use Rattle.std.proofs.lemmas.Bool.{cases_lt}
-use Rattle.std.proofs.lemmas.List.{length-map}
-use Rattle.std.proofs.lemmas.List.Elements.{All-push, All-weaker}
+use Rattle.std.proofs.lemmas.{Bool.cases_lt, List.length-map, List.Elements.All-push, List.Elements.All-weaker}
 use Rattle.std.proofs.lemmas.Slice.Zip.{AllZip-long, all_zipped_more}
+use Rattle.std.specs.List.{All, AllZip, Contains, slice_get}
 use Rattle.spin_base.proofs.Members.{Contains-at}
 use Rattle.spin_base.proofs.Places.{All-each, AllZip-at_first, one_item_at, slice_get_there, take_more_at}
-use Rattle.spin_base.specs.declared.blocks.Block.{Block}
-use Rattle.spin_base.specs.declared.chips.Spot.{Spot}
-use Rattle.spin_base.specs.declared.copies.Packet.{Packet}
-use Rattle.machine_desc.specs.Description.{Description}
-use Rattle.machine_desc.specs.RoutingTree.{IsRoutingTree}
-use Rattle.app_graph.specs.declared.graphs.Net.{Net}
-use Rattle.app_graph.specs.declared.graphs.Vertex.{Vertex}
-use Rattle.app_graph.proofs.Keys.{keys_of-at}
-use Rattle.app_graph.specs.RunPart.{IsPacketOf as IsRunPacket, key_count_of}
-use Rattle.app_graph.specs.ValidGraph.{IsValidNet}
+use Rattle.spin_base.specs.declared.{blocks.Block.Block, chips.Spot.Spot, copies.Packet.Packet}
+use Rattle.machine_desc.specs.{Description.Description, RoutingTree.IsRoutingTree}
 use Rattle.machine_desc.specs.declared.nets.NetPlan.{NetPlan}
+use Rattle.app_graph.specs.declared.graphs.{Net.Net, Vertex.Vertex}
+use Rattle.app_graph.specs.{RunPart.IsPacketOf as IsRunPacket, RunPart.key_count_of, ValidGraph.IsValidNet}
+use Rattle.app_graph.proofs.Keys.{keys_of-at}
 use Rattle.net_plans.specs.CutOffTargets.{HasNoneCutOff, IsFirstNetCutOff}
 use Rattle.net_plans.specs.NetPlans.{IsPlannedNet}
-use Rattle.app_loads.specs.declared.plans.AppNet.{AppNet}
-use Rattle.app_loads.specs.declared.plans.AppPlan.{AppPlan}
+use Rattle.app_loads.specs.declared.plans.{AppNet.AppNet, AppPlan.AppPlan}
 use Rattle.app_loads.specs.Host.{Host, is_spot_taken}
 use Rattle.app_loads.specs.Plans.{IsAppNet, IsPacketOfApp, IsPlan, MayLoad}
 use Rattle.job_requests.specs.Valid.{IsValidJob}
@@ -36,8 +28,7 @@ use Rattle.link_detours.specs.declared.repairs.RepairErr.TheVariants as repairs
 use Rattle.net_plans.specs.Cause.{IsNetCause, IsCauseOne}
 use Rattle.net_plans.specs.declared.nets.NetErr.{NetErr}
 use Rattle.net_plans.specs.declared.nets.NetErr.TheVariants as nets
-use Rattle.place_fit.specs.Cause.{IsPlacementCause as IsPlaceCause}
-use Rattle.place_fit.specs.Placement.{HasNoRoom}
+use Rattle.place_fit.specs.{Cause.IsPlacementCause as IsPlaceCause, Placement.HasNoRoom}
 use Rattle.place_fit.specs.declared.placing.PlaceErr.{PlaceErr}
 use Rattle.place_fit.specs.declared.placing.PlaceErr.TheVariants as places
 

@@ -1,6 +1,6 @@
 use Rattle.std.proofs.Common.{◌≡◌, refl, sym, ap, subst, arith, Option, Some, string_bytes, rules}
-use Rattle.std.specs.List.{slice_get}
 use Rattle.std.proofs.lemmas.Option.{slice_get_read}
+use Rattle.std.specs.List.{slice_get}
 use Rattle.spin_base.proofs.Places.{All-at}
 use Rattle.job_requests.specs.Valid.{IsValidStep}
 use Rattle.app_loads.specs.Host.{Host}
