@@ -1,8 +1,5 @@
 use Rattle.std.proofs.Common.{Ok, rules}
-use Rattle.spin_checks.proofs.Compiled.{right_or_memory}
-use Rattle.spin_checks.proofs.Meaning.{right_means, wrong_means}
-use Rattle.spin_checks.proofs.OneAnswer.{one_answer}
-use Rattle.spin_checks.proofs.Refusing.{refused_answer}
+use Rattle.spin_checks.proofs.{Compiled.right_or_memory, Meaning.right_means, Meaning.wrong_means, OneAnswer.one_answer, Refusing.refused_answer}
 use Rattle.spin_checks.proofs.answers.answer.Goals as goal
 
 pub returns-in_err-nets-clause-refused : goal.returns-in_err-nets-clause-refused
