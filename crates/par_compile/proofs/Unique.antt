@@ -1,23 +1,15 @@
 -- A graph has one routing and one list of final tables: so one plan, or one long table.
 use Rattle.std.proofs.Common.{◌≡◌, ℕ, ◌<◌, ◌≤◌, List, length, get_or, nat_lt, true, false, Some, None, inl, inr, sym, ap, ◌∙◌, subst, arith}
+use Rattle.std.proofs.lemmas.{Bool.cases_order, Bool.lt-ltb, Bool.ltb-true, Bool.true≢false, List.Elements.All-contains, List.Quantifiers.position-Some}
+use Rattle.std.proofs.lemmas.{List.Sums.fails_before_first, Grind.common_steps, Option.get_or_from_slice_get, Option.slice_get_within}
 use Rattle.std.specs.List.{All, Contains, position, position_or_len, slice_get}
-use Rattle.std.proofs.lemmas.Bool.{cases_order, lt-ltb, ltb-true, true≢false}
-use Rattle.std.proofs.lemmas.List.Elements.{All-contains}
-use Rattle.std.proofs.lemmas.List.Quantifiers.{position-Some}
-use Rattle.std.proofs.lemmas.List.Sums.{fails_before_first}
-use Rattle.std.proofs.lemmas.Grind.{common_steps}
-use Rattle.std.proofs.lemmas.Option.{get_or_from_slice_get, slice_get_within}
-use Rattle.spin_base.specs.declared.chips.Chip.{Chip}
-use Rattle.spin_base.specs.declared.chips.Spot.{Spot}
-use Rattle.machine_desc.specs.Description.{Description}
-use Rattle.machine_desc.specs.Live.{IsInside, IsSite, chip_of, index_of}
-use Rattle.machine_desc.proofs.Far.{index_below, live_inside, same_index}
-use Rattle.machine_desc.proofs.Live.{chip_of-inside, index_of-chip_of}
-use Rattle.machine_desc.proofs.Sites.{site_parts}
-use Rattle.app_graph.specs.declared.graphs.Graph.{Graph}
+use Rattle.spin_base.specs.declared.chips.{Chip.Chip, Spot.Spot}
+use Rattle.spin_base.proofs.Places.{All-at, All-each, slice_get_there}
+use Rattle.machine_desc.specs.{Description.Description, Live.IsInside, Live.IsSite, Live.chip_of, Live.index_of}
 use Rattle.machine_desc.specs.declared.nets.NetPlan.{NetPlan}
 use Rattle.machine_desc.specs.NetsOn.{AreNetsOn}
-use Rattle.spin_base.proofs.Places.{All-at, All-each, slice_get_there}
+use Rattle.machine_desc.proofs.{Far.index_below, Far.live_inside, Far.same_index, Live.chip_of-inside, Live.index_of-chip_of, Sites.site_parts}
+use Rattle.app_graph.specs.declared.graphs.Graph.{Graph}
 use Rattle.place_fit.specs.declared.placing.Placement.{Placement}
 use Rattle.place_fit.proofs.Determined as places
 use Rattle.key_alloc.proofs.Determined as keys
@@ -32,8 +24,8 @@ use Rattle.default_routes.proofs.FinalLemmas.{ended_where_long}
 use Rattle.tern_word.specs.declared.tables.Row.{Row}
 use Rattle.par_compile.specs.declared.compiling.Plan.{Plan}
 use Rattle.par_compile.specs.Compiled.{blocks_of, HasLongTable, IsPlanOf, IsRoutingOf}
-use Rattle.cover_merge.specs.Covering.{HasNoLegalPair}
 use Rattle.par_compile.specs.Finals.{AreFinals, HasFinal, is_long}
+use Rattle.cover_merge.specs.Covering.{HasNoLegalPair}
 
 -- nets that stand on sites of a machine are what plain tables ask for
 pub routed_of : (m : Description) (spots : List Spot) (nets : List NetPlan) → All (IsSite m) spots → AreNetsOn m spots nets → AreRoutedApart m nets

@@ -1,15 +1,13 @@
 -- Runs of chips whose tables workers cover, chip by chip.
 use Rattle.std.proofs.Common.{◌≡◌, ℕ, suc, ◌+◌, ◌<◌, ◌≤◌, true, None, List, [], ◌∷◌, ◌++◌, length, get_or, map, take, refl, sym, ap, ◌∙◌, subst, arith}
-use Rattle.std.specs.List.{All, AllZip, position}
-use Rattle.std.proofs.Math.Seq.{take-append_seam}
-use Rattle.std.proofs.lemmas.Bool.{ltb-true}
+use Rattle.std.proofs.{Math.Seq.take-append_seam, lemmas.Bool.ltb-true}
 use Rattle.std.proofs.lemmas.List.{append_assoc, get_or_push, length-append, length-map}
 use Rattle.std.proofs.lemmas.List.Elements.{All-head, All-map, All-tail}
 use Rattle.std.proofs.lemmas.Slice.Zip.{AllZip-long, all_zipped_more}
+use Rattle.std.specs.List.{All, AllZip, position}
 use Rattle.default_routes.specs.declared.stripping.Final.{Final}
 use Rattle.net_tables.specs.declared.marks.Mark.{Mark}
-use Rattle.par_compile.specs.declared.workers.Work.{Work}
-use Rattle.par_compile.specs.declared.workers.Work.TheVariants.{Plain, Done, Refused}
+use Rattle.par_compile.specs.declared.workers.Work.{Work, TheVariants.Plain, TheVariants.Done, TheVariants.Refused}
 use Rattle.par_compile.specs.Finals.{AreCoverable, GivesFinal, IsFinalFor, IsLeft, IsPlainWork, IsWorked, is_long}
 use Rattle.par_compile.proofs.Unique.{none_long}
 

@@ -1,6 +1,6 @@
 use Rattle.std.proofs.Common.{◌≡◌, ◌*◌, ◌≤◌, ◌∙◌, List, length, map, take, arith}
-use Rattle.std.specs.List.{All, AllZip}
 use Rattle.std.proofs.lemmas.Result.{IfOk-weaker}
+use Rattle.std.specs.List.{All, AllZip}
 use Rattle.default_routes.specs.declared.stripping.Final.{Final}
 use Rattle.machine_desc.specs.RightTables.{AreRight}
 use Rattle.par_compile.specs.Finals.{AreAllUnlessLong, AreFinals, IsFinalFor, KeepsRows, loaded_of}

@@ -1,9 +1,7 @@
 use Rattle.std.proofs.Common.{◌≡◌, ◌∙◌, length, ap, sym, subst, Some, arith, rules}
 use Rattle.std.specs.List.{position, slice_get}
-use Rattle.par_compile.specs.Compiled.{HasLongTable}
-use Rattle.par_compile.specs.Finals.{is_long}
-use Rattle.par_compile.proofs.Refusing.{refused_where}
-use Rattle.par_compile.proofs.Standing.{routing_is}
+use Rattle.par_compile.specs.{Compiled.HasLongTable, Finals.is_long}
+use Rattle.par_compile.proofs.{Refusing.refused_where, Standing.routing_is}
 use Rattle.par_compile.proofs.Unique.{long_has_many, long_has_no_pair, none_long, one_plan, routed_of}
 use Rattle.par_compile.proofs.compiling.compile.Goals as goal
 
