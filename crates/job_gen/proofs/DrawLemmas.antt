@@ -1,11 +1,8 @@
 -- Drawing one thing after another.
 use Rattle.std.proofs.Common.{◌≡◌, ℕ, zero, suc, ◌+◌, ◌/◌, ◌<◌, ◌%◌, List, [], ◌∷◌, ◌++◌, length, All, get_or, refl, ap, ◌∙◌, add-one, arith, length-append}
-use Rattle.std.proofs.lemmas.List.Elements.{All-nil, All-push}
-use Rattle.std.proofs.lemmas.Nat.{mod_below}
+use Rattle.std.proofs.lemmas.{List.Elements.All-nil, List.Elements.All-push, Nat.mod_below}
 use Rattle.rand_xoshiro.specs.Xoshiro256.{plus_plus}
-use Rattle.job_gen.specs.declared.draws.DrawnNet.{DrawnNet}
-use Rattle.job_gen.specs.declared.draws.DrawnPacket.{DrawnPacket}
-use Rattle.job_gen.specs.declared.draws.Drawn.{Drawn}
+use Rattle.job_gen.specs.declared.draws.{DrawnNet.DrawnNet, DrawnPacket.DrawnPacket, Drawn.Drawn}
 use Rattle.job_gen.specs.Draws.{draw, draws, drawn_sdram, drawn_target, drawn_net, drawn_packet, drawn_from, keys_at}
 
 -- a draw is what the generator's next word gives

@@ -1,28 +1,19 @@
 -- Generated jobs have room, keys and ways.
 use Rattle.std.proofs.Common.{◌≡◌, ℕ, ◌+◌, ◌<◌, ◌≤◌, List, [], ◌∷◌, length, take, All, Some, MatchOption, slice_get, refl, sym, ◌∙◌, subst, arith}
-use Rattle.std.proofs.lemmas.Bool.{and_parts}
-use Rattle.std.proofs.lemmas.List.{length-map}
+use Rattle.std.proofs.lemmas.{Bool.and_parts, List.length-map}
 use Rattle.std.proofs.lemmas.List.Elements.{All-nil, All-cons, All-head, All-tail}
 use Rattle.std.proofs.lemmas.Option.{slice_get_within}
 use Rattle.spin_base.proofs.Places.{All-at, slice_get_there}
-use Rattle.spin_base.specs.declared.chips.Chip.{Chip}
-use Rattle.spin_base.specs.declared.chips.Spot.{Spot}
+use Rattle.spin_base.specs.declared.chips.{Chip.Chip, Spot.Spot}
 use Rattle.machine_desc.specs.Live.{is_live_chip, IsLiveChip}
 use Rattle.app_graph.specs.declared.graphs.Net.{Net}
 use Rattle.place_fit.specs.Placement.{IsCoreFor, HasDeviceRoom, device_spot, IsPlacement, HasNoRoom}
 use Rattle.key_alloc.specs.KeyBlocks.{fixed_of, AreKeysOut}
 use Rattle.net_plans.specs.CutOffTargets.{IsFirstNetCutOff}
-use Rattle.job_gen.specs.declared.draws.DrawnNet.{DrawnNet}
-use Rattle.job_gen.specs.declared.draws.Drawn.{Drawn}
-use Rattle.job_gen.specs.Draws.{drawn}
-use Rattle.job_gen.specs.DrawnFacts.{IsDrawnNet, IsDrawn}
-use Rattle.job_gen.specs.Values.{numbered}
-use Rattle.job_gen.specs.Board.{generated_board}
+use Rattle.job_gen.specs.declared.draws.{DrawnNet.DrawnNet, Drawn.Drawn}
+use Rattle.job_gen.specs.{Draws.drawn, DrawnFacts.IsDrawnNet, DrawnFacts.IsDrawn, Values.numbered, Board.generated_board}
 use Rattle.job_gen.specs.Generated.{generated_vertex, net_of, packet_of, graph_of, generated_run, job_of_drawn, gen_job}
-use Rattle.job_gen.proofs.DrawnLaws.{is_drawn}
-use Rattle.job_gen.proofs.ListReading.{length-numbered}
-use Rattle.job_gen.proofs.Joined.{not_cut_off}
-use Rattle.job_gen.proofs.Keyed.{NeedsFew, keys_are_left}
+use Rattle.job_gen.proofs.{DrawnLaws.is_drawn, ListReading.length-numbered, Joined.not_cut_off, Keyed.NeedsFew, Keyed.keys_are_left}
 use Rattle.job_gen.proofs.Roomy.{IsSmall, room_is_left}
 
 -- what each numbered item has

@@ -1,10 +1,8 @@
 -- The graph of a generated job is read as it was drawn.
 use Rattle.std.proofs.Common.{◌≡◌, ℕ, zero, suc, ◌+◌, ◌<◌, ◌≤◌, List, [], ◌∷◌, length, map, All, codes, decimal, true, Some, None, if◌then◌else◌, refl, ap, ◌∙◌, arith}
+use Rattle.std.proofs.lemmas.{Bool.le-leb, Bool.and_from, List.map-id}
 use Rattle.std.specs.Prelude.{slice_get, option_and_then, is_some, unwrap_or}
-use Rattle.std.proofs.lemmas.Bool.{le-leb, and_from}
-use Rattle.std.proofs.lemmas.List.{map-id}
-use Rattle.app_graph.specs.declared.graphs.Vertex.{Vertex}
-use Rattle.app_graph.specs.declared.graphs.Net.{Net}
+use Rattle.app_graph.specs.declared.graphs.{Vertex.Vertex, Net.Net}
 use Rattle.job_text.specs.Fields.{is_within, is_name}
 use Rattle.job_text.proofs.Items.{list_of-items_of}
 use Rattle.job_readers.specs.Members.{number_member_faults, number_member, list_member, member_since}
