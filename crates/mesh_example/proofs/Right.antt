@@ -1,19 +1,14 @@
 -- The tables of the example are right for its nets, and tables that lack a row are not.
 use Rattle.std.proofs.Common.{◌≡◌, ℕ, ◌==◌, List, [], ◌∷◌, map, Bool, true, false, Some, refl, sym, ap, ◌∙◌, subst, arith, inl, inr}
-use Rattle.std.specs.List.{Contains}
 use Rattle.std.proofs.lemmas.{Bool.false≢true, List.Elements.All-from_recursion}
-use Rattle.spin_base.proofs.Members.{Among, Contains-only}
-use Rattle.spin_base.specs.declared.chips.{Chip.Chip, Port.Port}
-use Rattle.spin_base.specs.declared.chips.Port.TheVariants.{Link as ByLink, Local}
+use Rattle.std.specs.List.{Contains}
+use Rattle.spin_base.proofs.{Members.Among, Members.Contains-only, Equality.out_eq_true, Lookups.lookup_hit, Lookups.lookup_miss, Once.all_once}
+use Rattle.spin_base.specs.declared.chips.{Chip.Chip, Port.Port, Port.TheVariants.Link as ByLink, Port.TheVariants.Local}
 use Rattle.spin_base.specs.declared.chips.Dir.TheVariants.{East, West}
 use Rattle.spin_base.specs.declared.routes.{Out.Out, Out.TheVariants.Link, Route.Route}
 use Rattle.spin_base.specs.Equality.{out_eq}
 use Rattle.spin_base.specs.Outputs.{has, all_outs, link_outs, core_outs, IsOutput}
-use Rattle.spin_base.specs.Lookup.{lookup, matches}
-use Rattle.spin_base.specs.Links.{opposite_of}
-use Rattle.spin_base.proofs.Equality.{out_eq_true}
-use Rattle.spin_base.proofs.Lookups.{lookup_hit, lookup_miss}
-use Rattle.spin_base.proofs.Once.{all_once}
+use Rattle.spin_base.specs.{Lookup.lookup, Lookup.matches, Links.opposite_of}
 use Rattle.machine_desc.specs.declared.trees.Edge.{Edge}
 use Rattle.machine_desc.specs.RoutingTree.{end_of}
 use Rattle.machine_desc.specs.declared.nets.NetPlan.{NetPlan}

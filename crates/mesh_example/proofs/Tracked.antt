@@ -4,10 +4,7 @@ use Rattle.std.specs.List.{slice_get}
 use Rattle.spin_base.specs.declared.copies.Packet.{Packet}
 use Rattle.machine_desc.specs.declared.nets.NetPlan.{NetPlan}
 use Rattle.machine_desc.specs.RightTables.{IsKeyOf}
-use Rattle.mesh_core.specs.State.{State}
-use Rattle.mesh_core.specs.Ledger.{Asked, label_of}
-use Rattle.mesh_core.specs.Opened.{asked_by, MeetsJobLedger}
-use Rattle.mesh_core.specs.Whereabouts.{IsTracked}
+use Rattle.mesh_core.specs.{State.State, Ledger.Asked, Ledger.label_of, Opened.asked_by, Opened.MeetsJobLedger, Whereabouts.IsTracked}
 use Rattle.mesh_core.proofs.AskedPackets.{asks, asked_from, net_in_list}
 
 pub job_tracked : (s : State) (nets : List NetPlan) (packets : List Packet) → MeetsJobLedger s nets packets →
