@@ -1,5 +1,6 @@
 -- Counts of a list by tests of which each item passes one.
-use Rattle.std.proofs.Common.{◌≡◌, ◌≢◌, ℕ, ◌+◌, ◌*◌, ◌<◌, ◌≤◌, suc, zero, List, [], ◌∷◌, Bool, true, false, ◌==◌, ◌&&◌, not, if◌then◌else◌, Some, refl, ap, sym, ◌∙◌, subst, arith, inl, inr, length, count_by}
+use Rattle.std.proofs.Common.{◌≡◌, ◌≢◌, ℕ, ◌+◌, ◌*◌, ◌<◌, ◌≤◌, suc, zero, List, [], ◌∷◌, Bool, true, false, ◌==◌, ◌&&◌, not, if◌then◌else◌, Some, refl, ap, sym, ◌∙◌}
+use Rattle.std.proofs.Common.{subst, arith, inl, inr, length, count_by}
 use Rattle.std.proofs.lemmas.Bool.{cases_order, eq-eqb}
 use Rattle.std.specs.List.{slice_get}
 use Rattle.spin_base.proofs.{Counts.count_by-append, Counts.count_by-cons, Counts.count_by-agree, Members.Among, Members.contains_among, Places.All-each}

@@ -11,7 +11,8 @@ use Rattle.spin_base.specs.{Links.opposite_of, Equality.out_eq, Hops.onward}
 use Rattle.machine_desc.specs.Live.{far_of, index_of, is_live_chip, is_live_link, IsInside, IsSite}
 use Rattle.machine_desc.proofs.{Far.live_ends, Far.live_inside, Far.far_inside, Sites.site_parts}
 use Rattle.mesh_core.specs.State.{State, Hand, IsMesh, Queue, input, core, behind, behind_link, core_queue_of, queue_at, vertex_behind}
-use Rattle.mesh_core.specs.Step.{step_of, inject_of, take_of, send_of, dump_of, collect_of, has_room, has_room_behind, push_behind, push_at, in_hand as held_for, outs_without, serves, after_serving, outputs}
+use Rattle.mesh_core.specs.Step.{step_of, inject_of, take_of, send_of, dump_of, collect_of, has_room, has_room_behind, push_behind, push_at, in_hand as held_for}
+use Rattle.mesh_core.specs.Step.{outs_without, serves, after_serving, outputs}
 use Rattle.mesh_core.specs.Trail.{unsent, in_queue, in_hand, at_core, delivered, dumped, Mark, IsUnderWayAt}
 use Rattle.mesh_core.specs.Ledger.{marks_of, hand_marks}
 use Rattle.mesh_core.proofs.Fixed.{push_behind_leaves}

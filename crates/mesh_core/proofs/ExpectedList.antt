@@ -1,5 +1,6 @@
 -- The deliveries of a mesh that has delivered what its job asks for, in their order, are the list that the job asks for.
-use Rattle.std.proofs.Common.{◌≡◌, ℕ, ◌+◌, ◌<◌, ◌≤◌, List, [], ◌∷◌, map, Bool, true, false, ◌==◌, ◌&&◌, if◌then◌else◌, Option, Some, None, refl, ap, sym, ◌∙◌, subst, arith, inl, inr, ◌⊎◌, count_by, cond}
+use Rattle.std.proofs.Common.{◌≡◌, ℕ, ◌+◌, ◌<◌, ◌≤◌, List, [], ◌∷◌, map, Bool, true, false, ◌==◌, ◌&&◌, if◌then◌else◌, Option, Some, None, refl, ap, sym, ◌∙◌, subst}
+use Rattle.std.proofs.Common.{arith, inl, inr, ◌⊎◌, count_by, cond}
 use Rattle.std.proofs.lemmas.Bool.{and_parts, and_from, eqb-true, eq-eqb, cases_order}
 use Rattle.std.proofs.lemmas.List.{Elements.All-contains, Sorted.Contains-permutation, Sorted.IsPermutation-sym, Sorted.sum_by-IsPermutation}
 use Rattle.std.specs.List.{slice_get, AllPairs, Contains, list_any, Sorted.IsPermutation}
@@ -54,7 +55,8 @@ strictly [] pairs once = tt
 strictly (x ∷ xs) pairs once = (
   λ y there.
       let found = among_map without_hop y xs there in
-      subst (ComesBefore (without_hop x)) (sym found.2) (before found.0 found.1 (All-contains (IsDeliveryNotAfter x) xs found.0 (AllPairs-head IsDeliveryNotAfter x xs pairs) (among_contains found.0 xs found.1))),
+      subst (ComesBefore (without_hop x)) (sym found.2) (before found.0 found.1
+      (All-contains (IsDeliveryNotAfter x) xs found.0 (AllPairs-head IsDeliveryNotAfter x xs pairs) (among_contains found.0 xs found.1))),
   strictly xs (AllPairs-tail IsDeliveryNotAfter x xs pairs) (λ y a.
       let all = once y (inr a) in
       let split = count_by-cons (is_of y.copy.packet y.vertex) x xs in

@@ -1,5 +1,6 @@
 -- A mesh that meets the ledger of a job has few marks: at most one for each packet and each target of its net.
-use Rattle.std.proofs.Common.{◌≡◌, ◌≢◌, ℕ, ◌+◌, ◌*◌, ◌^◌, ◌<◌, ◌≤◌, suc, nat_lt, cond, List, [], ◌∷◌, ◌++◌, map, get_or, Bool, true, false, ◌==◌, Some, None, refl, ap, sym, ◌∙◌, subst, arith, inl, inr, length, count_by}
+use Rattle.std.proofs.Common.{◌≡◌, ◌≢◌, ℕ, ◌+◌, ◌*◌, ◌^◌, ◌<◌, ◌≤◌, suc, nat_lt, cond, List, [], ◌∷◌, ◌++◌, map, get_or, Bool, true, false, ◌==◌, Some, None, refl, ap}
+use Rattle.std.proofs.Common.{sym, ◌∙◌, subst, arith, inl, inr, length, count_by}
 use Rattle.std.proofs.lemmas.List.{Quantifiers.position-Some, length-append, length-map, get_or-map, get_or_default, Elements.All-contains}
 use Rattle.std.proofs.{lemmas.Option.slice_get_within, Math.Nat.mul-le-mul_left, lemmas.Bool.eqb-true, lemmas.Bool.and_from}
 use Rattle.std.specs.Prelude.{AllPairs, position}

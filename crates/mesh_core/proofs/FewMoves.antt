@@ -22,7 +22,8 @@ few_outs r =
     omega (arith, counted, within, all)
 
 few_outputs : (s : State) (c : Chip) (port : Port) (k : McCopy) → length (outputs s.setup c port k) ≤ 24
-few_outputs s c port k = by_last (k.hop == last_hop) (outs_of (lookup (table_at s.setup.machine s.setup.tables c) k.key port)) (few_outs (lookup (table_at s.setup.machine s.setup.tables c) k.key port))
+few_outputs s c port k = by_last (k.hop == last_hop) (outs_of (lookup (table_at s.setup.machine s.setup.tables c) k.key port))
+    (few_outs (lookup (table_at s.setup.machine s.setup.tables c) k.key port))
   where
     by_last : (b : Bool) (os : List Out) → length os ≤ 24 → length (if b then [] else os) ≤ 24
     by_last true os few = omega arith

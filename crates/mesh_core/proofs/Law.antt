@@ -1,5 +1,6 @@
 -- A move keeps what the ledger says of one net: what comes in the place of a mark stands on the same trails.
-use Rattle.std.proofs.Common.{◌≡◌, ℕ, ◌+◌, ◌<◌, ◌≤◌, suc, List, [], ◌∷◌, map, ◌∙◌, Bool, true, false, ◌==◌, ◌&&◌, if◌then◌else◌, Option, Some, None, refl, ap, sym, subst, arith, inl, inr, length, min, count_by, nat_lt}
+use Rattle.std.proofs.Common.{◌≡◌, ℕ, ◌+◌, ◌<◌, ◌≤◌, suc, List, [], ◌∷◌, map, ◌∙◌, Bool, true, false, ◌==◌, ◌&&◌, if◌then◌else◌, Option, Some, None, refl, ap, sym}
+use Rattle.std.proofs.Common.{subst, arith, inl, inr, length, min, count_by, nat_lt}
 use Rattle.std.proofs.Math.Nat.{add-zero}
 use Rattle.std.proofs.lemmas.Bool.{ltb-true, ltb-false, and_parts, eqb-true, eq-eqb, and_from}
 use Rattle.std.proofs.lemmas.{List.Elements.All-contains, Option.slice_get_within, Option.get_or_from_slice_get}
@@ -23,7 +24,8 @@ use Rattle.machine_desc.proofs.{TreeLemmas.one_edge_into, Sites.end_is_no_live_l
 use Rattle.mesh_core.specs.{State.State, State.vertex_behind, Step.outputs}
 use Rattle.mesh_core.specs.Trail.{Station, unsent, in_queue, in_hand, at_core, delivered, dumped, Mark, comes_in_there, leaves_there, on_trail, is_on_trail}
 use Rattle.mesh_core.proofs.Moves.{mark, Crosses, IsMove, IsMoveOf}
-use Rattle.mesh_core.proofs.Ways.{Stands, vertex_at_stands, vertex_there, vertex_behind_stands, target_site, short_branch, onward_hop, one_place, branch_comes_in, exit_wanted, exit_is_output, wanted_on_branch}
+use Rattle.mesh_core.proofs.Ways.{Stands, vertex_at_stands, vertex_there, vertex_behind_stands, target_site, short_branch, onward_hop, one_place, branch_comes_in}
+use Rattle.mesh_core.proofs.Ways.{exit_wanted, exit_is_output, wanted_on_branch}
 
 -- ---- what the tests on a trail say
 
@@ -250,7 +252,8 @@ module _ (s : State) (net : NetPlan) (stands : Stands s net) where
 
       ends : ExitLeads s.setup.machine net.tree.edges u ys hop (record { chip = c; out = o }) → ((v == to') && (hop + 1 == length ys)) ≡ true
       ends (inl (d, out, in_tree, next)) =
-          let live : IsLiveLink s.setup.machine c d = All-contains (λ (f : Edge). IsLiveLink s.setup.machine f.chip f.dir) net.tree.edges (record { chip = c; dir = d }) stands.tree.edges_live in_tree in
+          let live : IsLiveLink s.setup.machine c d = All-contains (λ (f : Edge). IsLiveLink s.setup.machine f.chip f.dir) net.tree.edges
+          (record { chip = c; dir = d }) stands.tree.edges_live in_tree in
           let not_live = dead d out in
           cc
       ends (inr (chip, out, last)) =

@@ -330,5 +330,8 @@ module _ (s t : State) (nets : List NetPlan) (labels : ℕ → Label)
         let even = bag.balance p in
         let moved = all_moves n r.net r.in_nets label_key r.trail.target r.trail.branch r.trail.from r.trail.to r.trail.way bag.moves (λ v a. a) in
         let before = ledger.once_on_each k has r.net r.in_nets r.is_key r.trail.target r.trail.branch r.trail.from r.trail.to r.trail.way in
-        let found = counted p (marks_of t) (omega arith) in
-        (found.0, among_contains found.0 (marks_of t) found.1, eqb-true found.0.copy.packet n ((and_parts (found.0.copy.packet == n) (is_on_trail r.trail.from r.trail.to r.trail.branch found.0) found.2).0))
+        let found = counted p (marks_of t) (omega arith) in (
+          found.0,
+          among_contains found.0 (marks_of t) found.1,
+          eqb-true found.0.copy.packet n ((and_parts (found.0.copy.packet == n) (is_on_trail r.trail.from r.trail.to r.trail.branch found.0) found.2).0),
+        )

@@ -1,5 +1,6 @@
 -- The opened mesh of a job meets the ledger of the job.
-use Rattle.std.proofs.Common.{◌≡◌, ◌≢◌, ℕ, ◌+◌, ◌*◌, ◌/◌, ◌%◌, ◌<◌, List, [], ◌∷◌, Bool, true, false, ◌==◌, ◌&&◌, IsTrue, if◌then◌else◌, Option, Some, None, refl, ap, sym, ◌∙◌, subst, arith, append-nil, inl, inr, length, count_by}
+use Rattle.std.proofs.Common.{◌≡◌, ◌≢◌, ℕ, ◌+◌, ◌*◌, ◌/◌, ◌%◌, ◌<◌, List, [], ◌∷◌, Bool, true, false, ◌==◌, ◌&&◌, IsTrue, if◌then◌else◌, Option, Some, None, refl, ap}
+use Rattle.std.proofs.Common.{sym, ◌∙◌, subst, arith, append-nil, inl, inr, length, count_by}
 use Rattle.std.proofs.lemmas.List.{Elements.All-contains, Elements.All-map, FromFn.length-map-range_with_len, length-map}
 use Rattle.std.proofs.lemmas.Bool.{eqb-true, eq-eqb, ne_eqb, and_from}
 use Rattle.std.proofs.{Math.Bool.and-false, lemmas.Option.slice_get_within}

@@ -1,5 +1,6 @@
 -- Serving an output: the hands after it, and the queue behind it.
-use Rattle.std.proofs.Common.{◌≡◌, ℕ, ◌<◌, ◌≤◌, ◌+◌, ◌-◌, refl, sym, ap, ◌∙◌, subst, arith, Bool, true, false, cond, List, [], ◌∷◌, length, get_or, set, Option, Some, None, ◌==◌, if◌then◌else◌, is_some}
+use Rattle.std.proofs.Common.{◌≡◌, ℕ, ◌<◌, ◌≤◌, ◌+◌, ◌-◌, refl, sym, ap, ◌∙◌, subst, arith, Bool, true, false, cond, List, [], ◌∷◌, length, get_or, set, Option, Some}
+use Rattle.std.proofs.Common.{None, ◌==◌, if◌then◌else◌, is_some}
 use Rattle.std.proofs.lemmas.List.{set-set, Elements.All-head, Elements.All-tail, Quantifiers.position-Some}
 use Rattle.std.proofs.lemmas.{Iterator.Adapters.position_from-zero, Bool.and_parts, Bool.and_from, Bool.false_from_ne_true}
 use Rattle.std.proofs.lemmas.Option.{slice_get-get_or, get_or_from_slice_get}

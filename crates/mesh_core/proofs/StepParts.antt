@@ -11,7 +11,8 @@ use Rattle.mesh_core.specs.declared.places.Did.TheVariants.{Moved, Idle}
 use Rattle.mesh_core.specs.Queues.{front_of, drop_front}
 use Rattle.mesh_core.specs.Serving.{copy_served, inputs_after, cores_after, hands_after}
 use Rattle.mesh_core.specs.State.{State, Hand, Queue, input, core, nowhere, behind, queue_at}
-use Rattle.mesh_core.specs.Step.{outputs, in_hand, has_room, has_room_behind, push_at, push_behind, inject_of, take_of, serves, after_serving, send_of, dump_of, collect_of, step_of, answer, after_event}
+use Rattle.mesh_core.specs.Step.{outputs, in_hand, has_room, has_room_behind, push_at, push_behind, inject_of, take_of, serves, after_serving, send_of, dump_of}
+use Rattle.mesh_core.specs.Step.{collect_of, step_of, answer, after_event}
 use Rattle.mesh_core.proofs.Keeping.{if_some}
 
 -- what a step answers and leaves where the event is enabled

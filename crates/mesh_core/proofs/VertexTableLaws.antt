@@ -1,5 +1,6 @@
 -- The table of vertices, as it is made.
-use Rattle.std.proofs.Common.{◌≡◌, ◌≢◌, ℕ, ◌+◌, ◌*◌, ◌<◌, ◌≤◌, refl, sym, ap, ◌∙◌, subst, arith, Bool, true, false, List, [], ◌∷◌, ◌++◌, length, take, get_or, set, replicate, cond, Option, Some, None, inl, inr}
+use Rattle.std.proofs.Common.{◌≡◌, ◌≢◌, ℕ, ◌+◌, ◌*◌, ◌<◌, ◌≤◌, refl, sym, ap, ◌∙◌, subst, arith, Bool, true, false, List, [], ◌∷◌, ◌++◌, length, take, get_or, set}
+use Rattle.std.proofs.Common.{replicate, cond, Option, Some, None, inl, inr}
 use Rattle.std.proofs.lemmas.Iterator.Adapters.{position_from-zero}
 use Rattle.std.proofs.lemmas.List.{take_more, length-set, length-replicate, get_or-replicate, length-take-le, get_or-take, get_or_default, take_all}
 use Rattle.std.proofs.lemmas.{Option.slice_get-get_or, Bool.cases_eq, List.Elements.All-head, List.Elements.All-tail}

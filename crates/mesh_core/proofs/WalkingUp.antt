@@ -91,7 +91,8 @@ module _ (s : State) (net : NetPlan) (packet : ℕ) (tracked : IsTracked s net p
   one_place_of = same_place s.setup.machine net.tree.root net.tree.edges (map (λ x. x.chip) net.targets) tree
 
   -- branches to one vertex are of one length
-  one_length : (t u : Spot) (xs ys : List Exit) (from from' to : ℕ) → IsWayOn s.setup.machine s.setup.spots net t xs from to → IsWayOn s.setup.machine s.setup.spots net u ys from' to → length xs ≡ length ys
+  one_length : (t u : Spot) (xs ys : List Exit) (from from' to : ℕ) → IsWayOn s.setup.machine s.setup.spots net t xs from to →
+      IsWayOn s.setup.machine s.setup.spots net u ys from' to → length xs ≡ length ys
   one_length t u xs ys from from' to w w' =
       let on_t = vertex_at_stands s.setup.spots t to w.ends in
       let on_u = vertex_at_stands s.setup.spots u to w'.ends in
@@ -199,7 +200,8 @@ module _ (s : State) (net : NetPlan) (packet : ℕ) (tracked : IsTracked s net p
         at_end on =
             let its_to : v ≡ u.to = eqb-true v u.to ((and_parts (v == u.to) (k.copy.hop == length u.branch) on).0) in
             let hop : k.copy.hop ≡ length u.branch = eqb-true k.copy.hop (length u.branch) ((and_parts (v == u.to) (k.copy.hop == length u.branch) on).1) in
-            let other : IsWayOn s.setup.machine s.setup.spots net u.goal u.branch u.from to = subst (λ n. IsWayOn s.setup.machine s.setup.spots net u.goal u.branch u.from n) (sym its_to ∙ is_to) u.way in
+            let other : IsWayOn s.setup.machine s.setup.spots net u.goal u.branch u.from to =
+            subst (λ n. IsWayOn s.setup.machine s.setup.spots net u.goal u.branch u.from n) (sym its_to ∙ is_to) u.way in
             let long = one_length u.goal target u.branch xs u.from from to other way in
             and_from (v == to) (k.copy.hop == length xs) (eq-eqb v to is_to) (eq-eqb k.copy.hop (length xs) (hop ∙ long))
 

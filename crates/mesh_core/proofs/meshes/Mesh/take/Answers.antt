@@ -36,7 +36,8 @@ moves c =
     c.queue_place-queue.ensures.place ∙ ap (λ (m : Description). queue_at m c.args.c c.args.port) machine
     in
     let free : slice_get s.hands chip ≡ Some None =
-    ap (slice_get s.hands) (sym at) ∙ no_hand s.hands c.index-chip.result c.index.result.now (omega (arith, c.self.invariant.hand_list, below)) c.index.ensures (sym c.is_some.ensures ∙ c.if-is_some.false)
+    ap (slice_get s.hands) (sym at) ∙ no_hand s.hands c.index-chip.result c.index.result.now
+    (omega (arith, c.self.invariant.hand_list, below)) c.index.ensures (sym c.is_some.ensures ∙ c.if-is_some.false)
     in
     let front : Some c.in-Some.copy ≡ front_of (slice_get s.inputs queue) = cc in
     let is_inputs : (after c).inputs ≡ drop_front s.inputs queue (slice_get s.inputs queue) =
@@ -47,7 +48,8 @@ moves c =
     in
     let is_hands : (after c).hands ≡ set s.hands chip (in_hand c.in-Some.copy c.args.port (outputs s.setup c.args.c c.args.port c.in-Some.copy)) =
     ap (λ (n : ℕ). set s.hands n c.taken.result) at
-    ∙ ap (set s.hands chip) (c.taken.ensures ∙ ap (in_hand c.in-Some.copy c.args.port) (outputs_at s c.args.c c.args.port c.in-Some.copy c.index-chip.result c.tables.result.now c.index-tables-chip.result _ at c.tables.ensures
+    ∙ ap (set s.hands chip) (c.taken.ensures ∙ ap (in_hand c.in-Some.copy c.args.port)
+    (outputs_at s c.args.c c.args.port c.in-Some.copy c.index-chip.result c.tables.result.now c.index-tables-chip.result _ at c.tables.ensures
     (omega (arith, c.self.invariant.table_list, below, ap length c.tables.ensures)) c.index-tables-chip.is))
     in
     step_of-take s c.args.c c.args.port c.in-Some.copy (after c).inputs (after c).hands live free front is_inputs is_hands
