@@ -73,7 +73,8 @@ module _ (one_way : HasOneWay) (h g : Host) (app : LoadedApp) (apps : AreApps h)
       in
       let there = none_too h g alike apps.mesh app none in
       let few = no_more one_way h.mesh g.mesh (all_nets h.apps) (asked_of h.apps) alike.machine spots apps.ledger ledger (is_packet_of app) (no_mark g.mesh app there) alike.other_quiet.no_record in
-      let many = no_more one_way g.mesh h.mesh (all_nets h.apps) (asked_of h.apps) (sym alike.machine) (sym spots) ledger apps.ledger (is_packet_of app) (no_mark h.mesh app none) alike.quiet.no_record in
+      let many = no_more one_way g.mesh h.mesh (all_nets h.apps) (asked_of h.apps) (sym alike.machine) (sym spots) ledger apps.ledger
+      (is_packet_of app) (no_mark h.mesh app none) alike.quiet.no_record in
       omega (arith, few, many)
 
 -- ---- unloads

@@ -60,7 +60,8 @@ within_keys : (key keys size index : ℕ) → keys ≤ size → index < keys →
 within_keys key keys size index many below = omega (arith, many, below)
 
 -- the range of a block is one for its claim
-range_of : (m : Description) (claims : List Claim) (ranges : List Range) → AllZip (IsRangeFor m) claims ranges → (j : ℕ) (block : Block) (b : IsBlockOf claims ranges j block) → IsRangeFor m b.claim b.range
+range_of : (m : Description) (claims : List Claim) (ranges : List Range) → AllZip (IsRangeFor m) claims ranges →
+    (j : ℕ) (block : Block) (b : IsBlockOf claims ranges j block) → IsRangeFor m b.claim b.range
 range_of m claims ranges pairs j block b =
     let ranged = AllZip-at_first (IsRangeFor m) claims ranges pairs b.at b.claim b.is in
     subst (IsRangeFor m b.claim) (same_Some ranged.0 b.range (sym ranged.1 ∙ b.got)) ranged.2
@@ -94,9 +95,11 @@ module _ (m : Description) (app : LoadedApp) (loaded : IsLoadedOn m app) where
   pub facts_at : (j : ℕ) (x : NetPlan) → slice_get (nets_of app) j ≡ Some x → NetFacts m app x j
   facts_at j x e = by_parts (nets_with_parts app.plan.nets app.blocks j x e)
     where
-      by_claim : (net : AppNet) (block : Block) → slice_get app.plan.nets j ≡ Some net → slice_get app.blocks j ≡ Some block → net_with net block ≡ x → IsBlockOf (claims_of m app.plan) app.ranges j block → NetFacts m app x j
+      by_claim : (net : AppNet) (block : Block) → slice_get app.plan.nets j ≡ Some net → slice_get app.blocks j ≡ Some block →
+          net_with net block ≡ x → IsBlockOf (claims_of m app.plan) app.ranges j block → NetFacts m app x j
       by_claim net block at_net at_block is b =
-          made_of j x net block at_net at_block is b ((facts m app.plan loaded.plan b.claim (Contains-at (claims_of m app.plan) b.at b.claim b.is)).keyed j b.its) (range_of m (claims_of m app.plan) app.ranges loaded.ranges j block b)
+          made_of j x net block at_net at_block is b ((facts m app.plan loaded.plan b.claim (Contains-at (claims_of m app.plan) b.at b.claim b.is)).keyed j b.its)
+          (range_of m (claims_of m app.plan) app.ranges loaded.ranges j block b)
 
       by_parts : ((net : AppNet) × (block : Block) × (slice_get app.plan.nets j ≡ Some net) × (slice_get app.blocks j ≡ Some block) × (net_with net block ≡ x)) → NetFacts m app x j
       by_parts (net, block, at_net, at_block, is) = by_claim net block at_net at_block is (loaded.blocks.each j block at_block)
@@ -110,10 +113,12 @@ module _ (m : Description) (app : LoadedApp) (loaded : IsLoadedOn m app) where
       let block_is : f.block ≡ x.block = ap (λ (n : NetPlan). n.block) f.is in
       let mine : Matches f.block key = subst (λ (b : Block). Matches b key) (sym block_is) k.matches in
       let at = (f.keys key k.fits).0 mine in
-      and_from (f.range.region == 0) (in_range f.range.place f.range.size key) (eq-eqb f.range.region 0 f.region) (in_from f.range.place f.range.size key (subst (λ p. p ≤ key) f.place at.0) (subst (λ p. key < p + f.range.size) f.place at.1))
+      and_from (f.range.region == 0) (in_range f.range.place f.range.size key) (eq-eqb f.range.region 0 f.region)
+      (in_from f.range.place f.range.size key (subst (λ p. p ≤ key) f.place at.0) (subst (λ p. key < p + f.range.size) f.place at.1))
 
   -- a key of a net for each of its indices
-  pub key_of_index : (x : NetPlan) (j : ℕ) (f : NetFacts m app x j) (index : ℕ) → index < f.net.keys → f.range.place + f.range.size ≤ 2 ^ 32 → (f.block.key + index < 2 ^ 32) × IsKeyOf f.block (f.block.key + index)
+  pub key_of_index : (x : NetPlan) (j : ℕ) (f : NetFacts m app x j) (index : ℕ) → index < f.net.keys → f.range.place + f.range.size ≤ 2 ^ 32 →
+      (f.block.key + index < 2 ^ 32) × IsKeyOf f.block (f.block.key + index)
   key_of_index x j f index below room =
       let small = index_fits f.block.key f.range.place f.range.size f.net.keys index (2 ^ 32) f.place f.enough below room in
       (small, record { fits = small; matches = (f.keys (f.block.key + index) small).1 (omega arith, within_keys f.block.key f.net.keys f.range.size index f.enough below) })
@@ -143,8 +148,10 @@ module _ (m : Description) (app : LoadedApp) (loaded : IsLoadedOn m app) where
             let number : i ≡ j = same_net i j (sym f.its ∙ (ap (λ (c : Claim). c.refusal) one ∙ g.its)) in
             absurd (omega (arith, number, less))
         | inr other ↦ elim (cases_lt f.at g.at) [
-          | inl before ↦ subst (λ (r : Range). ShareNoPlace r g.range) f_is (subst (λ (r : Range). ShareNoPlace (get_or app.ranges f.at f.range) r) g_is (apart f.at g.at f.range before in_g)) 0 key a b
-          | inr after ↦ subst (λ (r : Range). ShareNoPlace g.range r) f_is (subst (λ (r : Range). ShareNoPlace r (get_or app.ranges f.at f.range)) g_is (apart g.at f.at f.range (omega (arith, after, other)) in_f)) 0 key b a
+          | inl before ↦ subst (λ (r : Range). ShareNoPlace r g.range) f_is
+              (subst (λ (r : Range). ShareNoPlace (get_or app.ranges f.at f.range) r) g_is (apart f.at g.at f.range before in_g)) 0 key a b
+          | inr after ↦ subst (λ (r : Range). ShareNoPlace g.range r) f_is
+              (subst (λ (r : Range). ShareNoPlace r (get_or app.ranges f.at f.range)) g_is (apart g.at f.at f.range (omega (arith, after, other)) in_f)) 0 key b a
         ]
       ]
 
@@ -156,7 +163,8 @@ module _ (m : Description) (app : LoadedApp) (loaded : IsLoadedOn m app) where
   roots_of = All-each (λ (x : NetPlan). x.tree.root ≡ x.source.chip) (nets_of app) (λ x has. let f = facts_of x has in subst (λ (y : NetPlan). y.tree.root ≡ y.source.chip) f.is f.valid.root)
 
   pub sources_in : (spots : List Spot) → ((s : Spot) → Contains app.plan.spots s → Contains spots s) → All (λ (x : NetPlan). Contains spots x.source) (nets_of app)
-  sources_in spots more = All-each (λ (x : NetPlan). Contains spots x.source) (nets_of app) (λ x has. let f = facts_of x has in subst (λ (y : NetPlan). Contains spots y.source) f.is (more f.net.source f.valid.source))
+  sources_in spots more = All-each (λ (x : NetPlan). Contains spots x.source) (nets_of app)
+      (λ x has. let f = facts_of x has in subst (λ (y : NetPlan). Contains spots y.source) f.is (more f.net.source f.valid.source))
 
   pub targets_in : (P : Spot → Type 0) → ((s : Spot) → Contains app.plan.spots s → P s) → All (λ (x : NetPlan). All P x.targets) (nets_of app)
   targets_in P more = All-each (λ (x : NetPlan). All P x.targets) (nets_of app) (λ x has.
@@ -164,7 +172,8 @@ module _ (m : Description) (app : LoadedApp) (loaded : IsLoadedOn m app) where
 
   pub different_of : All (λ (x : NetPlan). AllPairs (λ a b. a ≢ b) x.targets) (nets_of app)
   different_of = All-each (λ (x : NetPlan). AllPairs (λ a b. a ≢ b) x.targets) (nets_of app) (λ x has.
-      let f = facts_of x has in subst (λ (y : NetPlan). AllPairs (λ a b. a ≢ b) y.targets) f.is (λ i j d less below same. never (get_or f.net.targets i d) (get_or f.net.targets j d) (f.valid.in_order i j d less below) same))
+      let f = facts_of x has in subst (λ (y : NetPlan). AllPairs (λ a b. a ≢ b) y.targets) f.is
+      (λ i j d less below same. never (get_or f.net.targets i d) (get_or f.net.targets j d) (f.valid.in_order i j d less below) same))
     where
       never : (a b : Spot) → IsSpotBefore a b → a ≡ b → ⊥
       never a b (inl x) same = let e : a.chip.x ≡ b.chip.x = ap (λ (s : Spot). s.chip.x) same in absurd (omega (arith, x, e))

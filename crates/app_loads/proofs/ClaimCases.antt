@@ -42,8 +42,13 @@ find_in_row p f (suc n) a last = by_first (p (f a)) refl (find_in_row p f n (a +
         (0, omega arith, ap (λ b. cond b (Some (f a)) (find p (map f (range_with_len (a + 1) (suc n))))) e ∙ ap (λ i. Some (f i)) (sym z), ap (λ i. p (f i)) z ∙ e)
     by_first false e rest =
         let place : a + 1 + rest.0 ≡ a + suc rest.0 = omega arith in
-        let low = rest.1 in
-        (suc rest.0, omega (arith, low), ap (λ b. cond b (Some (f a)) (find p (map f (range_with_len (a + 1) (suc n))))) e ∙ (rest.2 ∙ ap (λ i. Some (f i)) place), ap (λ i. p (f i)) (sym place) ∙ rest.3)
+        let low = rest.1 in (
+          suc rest.0,
+          omega (arith, low),
+          ap (λ b. cond b (Some (f a)) (find p (map f (range_with_len (a + 1) (suc n))))) e
+              ∙ (rest.2 ∙ ap (λ i. Some (f i)) place),
+          ap (λ i. p (f i)) (sym place) ∙ rest.3,
+        )
 
 pub size_facts : (keys : ℕ) → keys ≤ 4294967296 → (e : ℕ) × (e ≤ 32) × (size_for keys ≡ 2 ^ e) × (keys ≤ 2 ^ e)
 size_facts keys few =
@@ -218,7 +223,8 @@ module _ (m : Description) (plan : AppPlan) (valid : IsPlan m plan) where
       let found = among_flat (row_claim m plan.nets) claim (range_with_len 0 n) a in
       let i : ℕ = found.0 in
       let below = (among_range i 0 n found.1).1 in
-      let is = unless_zero (count_by (has_chip m (chip_of m i)) plan.nets) (record { region = Rows (chip_of m i); size = count_by (has_chip m (chip_of m i)) plan.nets; align = 1; fixed = None; refusal = RowsOut (chip_of m i) }) claim found.2 in
+      let is = unless_zero (count_by (has_chip m (chip_of m i)) plan.nets)
+      (record { region = Rows (chip_of m i); size = count_by (has_chip m (chip_of m i)) plan.nets; align = 1; fixed = None; refusal = RowsOut (chip_of m i) }) claim found.2 in
       let index = index_of-chip_of m i in
       subst Facts (sym is.0) (record {
         fair = record { region = chip_of-inside m i (omega (arith, below)); there = omega (arith, below, index); some = is.1; step = omega arith; fixed = tt };

@@ -1,5 +1,6 @@
 -- The claims of a plan, item by item, and the least power of two for a number of keys.
-use Rattle.std.proofs.Common.{◌≡◌, ℕ, zero, suc, ◌+◌, ◌/◌, ◌^◌, ◌<◌, ◌≤◌, max, leb, cond, Bool, true, false, inl, inr, refl, sym, ap, ◌∙◌, arith, List, [], ◌∷◌, ◌++◌, map, take, get_or, length, Some, append_assoc}
+use Rattle.std.proofs.Common.{◌≡◌, ℕ, zero, suc, ◌+◌, ◌/◌, ◌^◌, ◌<◌, ◌≤◌, max, leb, cond, Bool, true, false, inl, inr, refl, sym, ap, ◌∙◌, arith, List, [], ◌∷◌, ◌++◌}
+use Rattle.std.proofs.Common.{map, take, get_or, length, Some, append_assoc}
 use Rattle.std.proofs.{lemmas.Bool.cases_lt, lemmas.Bool.le-leb, lemmas.Bool.lt-leb, Math.Pow.pow_mono, lemmas.Grind.pow_more, lemmas.List.take_all}
 use Rattle.std.specs.{Prelude.find, Prelude.unwrap_or, Prelude.zip, Int.IsPowerOfTwo, List.flat_map, List.range_with_len, List.slice_get}
 use Rattle.spin_base.specs.Gathered.{gathered}
@@ -100,7 +101,8 @@ pub claims_joined : (m : Description) (plan : AppPlan) (spots : List Spot) (sdra
     x3 ≡ x2 ++ gathered (λ j (net : AppNet). key_claim j net.keys net.fixed) 0 keys → rows ≡ plan.nets → x4 ≡ x3 ++ flat_map (row_claim m rows) (range_with_len 0 (chip_count m)) →
     x4 ≡ claims_of m plan
 claims_joined m plan spots sdram fixed keys rows x0 x1 x2 x3 x4 e0 is_spots is_sdram e1 is_fixed e2 is_keys e3 is_rows e4 =
-    joined (gathered memory_claim 0 (zip plan.spots plan.sdram)) (gathered (λ j (net : AppNet). fixed_claim j net.fixed) 0 plan.nets) (gathered (λ j (net : AppNet). key_claim j net.keys net.fixed) 0 plan.nets)
+    joined (gathered memory_claim 0 (zip plan.spots plan.sdram)) (gathered (λ j (net : AppNet). fixed_claim j net.fixed) 0 plan.nets)
+    (gathered (λ j (net : AppNet). key_claim j net.keys net.fixed) 0 plan.nets)
     (flat_map (row_claim m plan.nets) (range_with_len 0 (chip_count m))) x0 x1 x2 x3 x4 e0
     (e1 ∙ (ap (λ l. x0 ++ gathered memory_claim 0 (zip l sdram)) is_spots ∙ ap (λ l. x0 ++ gathered memory_claim 0 (zip plan.spots l)) is_sdram))
     (e2 ∙ ap (λ l. x1 ++ gathered (λ j (net : AppNet). fixed_claim j net.fixed) 0 l) is_fixed)

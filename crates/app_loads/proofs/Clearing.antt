@@ -28,7 +28,8 @@ module _ {m : Description} {old cur : List (List Entry)} {ranges : List Range} {
   within = can.within i d below
 
   before : (region k : ℕ) → is_taken (take (i + 1) ranges) region k ≡ true → range_has region k range ≡ false → is_taken (take i ranges) region k ≡ true
-  before region k hit not_mine = sym (or-false (is_taken (take i ranges) region k)) ∙ (ap (λ b. is_taken (take i ranges) region k || (b || false)) (sym not_mine) ∙ (sym (taken_more ranges i range region k at) ∙ hit))
+  before region k hit not_mine = sym (or-false (is_taken (take i ranges) region k))
+      ∙ (ap (λ b. is_taken (take i ranges) region k || (b || false)) (sym not_mine) ∙ (sym (taken_more ranges i range region k at) ∙ hit))
 
   of_other : (region k : ℕ) → range.region ≢ region → range_has region k range ≡ false
   of_other region k other = ap (λ b. b && in_range range.place range.size k) (ne_eqb range.region region other)
@@ -38,7 +39,8 @@ module _ {m : Description} {old cur : List (List Entry)} {ranges : List Range} {
   unused_skip none = record {
     all = so_far.all;
     long = so_far.long;
-    cleared = λ c k inside small hit. so_far.cleared c k inside small (before (place_of m (Rows c)) k hit (of_other (place_of m (Rows c)) k (λ e. let r : range.region ≡ 1 + (n + index_of m c) = e in absurd (omega (arith, r, none)))));
+    cleared = λ c k inside small hit. so_far.cleared c k inside small
+        (before (place_of m (Rows c)) k hit (of_other (place_of m (Rows c)) k (λ e. let r : range.region ≡ 1 + (n + index_of m c) = e in absurd (omega (arith, r, none)))));
     others = λ c k inside free. so_far.others c k inside (none_more ranges i range (place_of m (Rows c)) k at free).0;
   }
 
@@ -79,7 +81,8 @@ module _ {m : Description} {old cur : List (List Entry)} {ranges : List Range} {
           ]
           | inr other ↦
               ap (λ l. slice_get l k) (elsewhere c inside other)
-              ∙ so_far.cleared c k inside small (before (place_of m (Rows c)) k hit (of_other (place_of m (Rows c)) k (λ e. other (let r : range.region ≡ 1 + (n + index_of m c) = e in let s = region_at in omega (arith, r, s)))))
+              ∙ so_far.cleared c k inside small (before (place_of m (Rows c)) k hit
+              (of_other (place_of m (Rows c)) k (λ e. other (let r : range.region ≡ 1 + (n + index_of m c) = e in let s = region_at in omega (arith, r, s)))))
         ];
         others = λ c k inside free.
             let p = none_more ranges i range (place_of m (Rows c)) k at free in

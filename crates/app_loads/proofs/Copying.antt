@@ -1,5 +1,6 @@
 -- Rows put into ranges of entries.
-use Rattle.std.proofs.Common.{◌≡◌, ◌≢◌, ℕ, zero, suc, ◌+◌, ◌<◌, ◌≤◌, true, false, ◌||◌, ◌&&◌, ◌==◌, List, [], ◌∷◌, ◌++◌, take, drop, get_or, length, map, set, refl, sym, ap, ◌∙◌, subst, inl, inr, ◌⊎◌, arith, Some, append_assoc}
+use Rattle.std.proofs.Common.{◌≡◌, ◌≢◌, ℕ, zero, suc, ◌+◌, ◌<◌, ◌≤◌, true, false, ◌||◌, ◌&&◌, ◌==◌, List, [], ◌∷◌, ◌++◌, take, drop, get_or, length, map, set, refl, sym}
+use Rattle.std.proofs.Common.{ap, ◌∙◌, subst, inl, inr, ◌⊎◌, arith, Some, append_assoc}
 use Rattle.std.proofs.{lemmas.List.Sorted.IsPermutation-refl, Math.Seq.drop-cons}
 use Rattle.std.proofs.lemmas.Bool.{cases_Bool, cases_eq, cases_lt, eq-eqb, and_from, or_parts}
 use Rattle.std.proofs.Math.ListN.{get_or-map}
@@ -111,7 +112,8 @@ not_in p s k out = elim (cases_lt k p) [
 pub mine_at : (range : Range) (region k : ℕ) → range.region ≡ region → range.place ≤ k → k < range.place + range.size → range_has region k range ≡ true
 mine_at range region k is low high = and_from (range.region == region) (in_range range.place range.size k) (eq-eqb range.region region is) (in_from range.place range.size k low high)
 
-pub taken_more : (ranges : List Range) (i : ℕ) (range : Range) (region k : ℕ) → slice_get ranges i ≡ Some range → is_taken (take (i + 1) ranges) region k ≡ (is_taken (take i ranges) region k || (range_has region k range || false))
+pub taken_more : (ranges : List Range) (i : ℕ) (range : Range) (region k : ℕ) → slice_get ranges i ≡ Some range →
+    is_taken (take (i + 1) ranges) region k ≡ (is_taken (take i ranges) region k || (range_has region k range || false))
 taken_more ranges i range region k at = ap (λ l. is_taken l region k) (take_more_at ranges i range at) ∙ list_any-append (range_has region k) (take i ranges) (range ∷ [])
 
 -- a place that none of so many ranges and one more has
@@ -157,7 +159,8 @@ few_in_order marks few = record {
 }
 
 -- one list more
-pub one_more_in_order : (lists sorted more : List (List Mark)) (marks x : List Mark) (rest : List (List Mark)) → drop (length sorted) lists ≡ marks ∷ rest → AllZip IsTableOf (take (length sorted) lists) (tables_in sorted) → more ≡ sorted ++ x ∷ [] →
+pub one_more_in_order : (lists sorted more : List (List Mark)) (marks x : List Mark) (rest : List (List Mark)) → drop (length sorted) lists ≡ marks ∷ rest →
+    AllZip IsTableOf (take (length sorted) lists) (tables_in sorted) → more ≡ sorted ++ x ∷ [] →
     IsTableOf marks (table_of_sorted x) → AllZip IsTableOf (take (length more) lists) (tables_in more) × (rest ≡ drop (length more) lists)
 one_more_in_order lists sorted more marks x rest left so_far is here =
     let k : ℕ = length sorted in
@@ -172,7 +175,8 @@ one_more_in_order lists sorted more marks x rest left so_far is here =
     )
 
 -- where no list is left, all are in order
-pub all_in_order : (lists sorted left : List (List Mark)) → left ≡ drop (length sorted) lists → length left ≡ 0 → AllZip IsTableOf (take (length sorted) lists) (tables_in sorted) → AllZip IsTableOf lists (tables_in sorted)
+pub all_in_order : (lists sorted left : List (List Mark)) → left ≡ drop (length sorted) lists → length left ≡ 0 →
+    AllZip IsTableOf (take (length sorted) lists) (tables_in sorted) → AllZip IsTableOf lists (tables_in sorted)
 all_in_order lists sorted left is none so_far =
     let d = length-drop (length sorted) lists in
     let l = ap length is in
@@ -343,7 +347,8 @@ module _ {m : Description} {old cur : List (List Entry)} {rows : List Table} {ra
                   let one : t ≡ R = same_Some _ _ (sym is_t ∙ (ap (slice_get rows) (same ∙ sym of.index_is) ∙ R_at)) in
                   ap (λ (r : Range). take r.size (drop r.place (table_at m (slice_set cur j table) c))) mine
                   ∙ (ap (λ l. take range.size (drop range.place l)) (here_at c same ∙ table_is)
-                  ∙ (part_of (take range.place T) b (drop (range.place + length b) T) range.place range.size (length-take-le range.place T (let f = fit.0 in let w = T_long in omega (arith, f, w))) (fit.1 ∙ sym b_long)
+                  ∙ (part_of (take range.place T) b (drop (range.place + length b) T) range.place range.size
+                  (length-take-le range.place T (let f = fit.0 in let w = T_long in omega (arith, f, w))) (fit.1 ∙ sym b_long)
                   ∙ ap (λ (x : Table). map entry_of x.rows) (sym one)))
             ]
             | inr differ ↦ elim (member_more ranges i range other at has) [
@@ -366,7 +371,8 @@ module _ {m : Description} {old cur : List (List Entry)} {rows : List Table} {ra
             out_of : (region k : ℕ) → range.region ≡ region → range_has region k range ≡ false → in_range range.place range.size k ≡ false
             out_of region k r f = sym (ap (λ q. q && in_range range.place range.size k) (eq-eqb range.region region r)) ∙ f
 
-            apart_here : (c : Chip) (other : Range) → Contains (take i ranges) other → index_of m c ≡ j → other.region ≡ place_of m (Rows c) → (k : ℕ) → other.place ≤ k → k < other.place + other.size → in_range range.place range.size k ≡ false
+            apart_here : (c : Chip) (other : Range) → Contains (take i ranges) other → index_of m c ≡ j → other.region ≡ place_of m (Rows c) → (k : ℕ) →
+                other.place ≤ k → k < other.place + other.size → in_range range.place range.size k ≡ false
             apart_here c other before same region k low high = elim (cases_Bool (in_range range.place range.size k)) [
               | inr out ↦ out
               | inl within ↦
@@ -374,5 +380,6 @@ module _ {m : Description} {old cur : List (List Entry)} {rows : List Table} {ra
                   (and_from (range.region == place_of m (Rows c)) (in_range range.place range.size k) (eq-eqb range.region (place_of m (Rows c)) (region_of c same)) within))
             ]
 
-pub all_copied : (m : Description) (rows : List Table) (ranges : List Range) (old cur : List (List Entry)) (i : ℕ) → length ranges ≤ i → AreCopied m rows (take i ranges) old cur → AreCopied m rows ranges old cur
+pub all_copied : (m : Description) (rows : List Table) (ranges : List Range) (old cur : List (List Entry)) (i : ℕ) → length ranges ≤ i →
+    AreCopied m rows (take i ranges) old cur → AreCopied m rows ranges old cur
 all_copied m rows ranges old cur i end so_far = subst (λ l. AreCopied m rows l old cur) (take_all i ranges end) so_far

@@ -49,7 +49,8 @@ module _ (ds : List Delivery) where
 
   injected : (s : State) (v : ℕ) (spot : Option Spot) (q : Option (List McCopy)) → inject_of (we s) v spot q ≡ later (inject_of s v spot q)
   injected s v (Some spot) (Some (k ∷ rest)) =
-      chosen (has_room_behind s (input (queue_at s.setup.machine spot.chip Local))) _ (push_behind (record s { unsent = slice_set s.unsent v rest }) (input (queue_at s.setup.machine spot.chip Local)) k) refl
+      chosen (has_room_behind s (input (queue_at s.setup.machine spot.chip Local))) _
+      (push_behind (record s { unsent = slice_set s.unsent v rest }) (input (queue_at s.setup.machine spot.chip Local)) k) refl
   injected s v (Some spot) (Some []) = refl
   injected s v (Some spot) None = refl
   injected s v None q = refl

@@ -1,5 +1,6 @@
 -- Deliveries held in groups.
-use Rattle.std.proofs.Common.{◌≡◌, ◌≢◌, ℕ, zero, suc, ◌+◌, ◌-◌, ◌<◌, ◌≤◌, Bool, true, false, not, ◌&&◌, ◌||◌, List, [], ◌∷◌, ◌++◌, drop, take, length, refl, sym, ap, ◌∙◌, subst, arith, cond, inl, inr, leb, ltb, Some, Result, Ok, Err, IfOk, OnErr}
+use Rattle.std.proofs.Common.{◌≡◌, ◌≢◌, ℕ, zero, suc, ◌+◌, ◌-◌, ◌<◌, ◌≤◌, Bool, true, false, not, ◌&&◌, ◌||◌, List, [], ◌∷◌, ◌++◌, drop, take, length, refl, sym, ap}
+use Rattle.std.proofs.Common.{◌∙◌, subst, arith, cond, inl, inr, leb, ltb, Some, Result, Ok, Err, IfOk, OnErr}
 use Rattle.std.proofs.lemmas.Bool.{and_from, and_parts, cases_Bool, cases_lt, false≢true, le-leb, leb-true, lt-ltb, ltb-true, not-false, not-true, or_parts}
 use Rattle.std.proofs.lemmas.Grind.{flat_map-append}
 use Rattle.std.proofs.lemmas.List.{append_assoc, append-nil, drop_at, length-append, length-map, length-set, set-get_or, take_all}
@@ -95,7 +96,8 @@ not_own app g unmixed own = not-false (is_others_group app g) (sym (ap (λ b. no
 -- ---- groups
 
 -- what was put with what stays, by a test, where what stays is told otherwise
-pub rest_is : (p : Delivery → Bool) (own all : List Delivery) {lent rest : List Grouped} → lent ≡ rest → own ++ filter p (all_grouped lent) ≡ filter p all → own ++ filter p (all_grouped rest) ≡ filter p all
+pub rest_is : (p : Delivery → Bool) (own all : List Delivery) {lent rest : List Grouped} → lent ≡ rest →
+    own ++ filter p (all_grouped lent) ≡ filter p all → own ++ filter p (all_grouped rest) ≡ filter p all
 rest_is p own all is = subst (λ (gs : List Grouped). own ++ filter p (all_grouped gs) ≡ filter p all) is
 
 -- deliveries that were put into the last group, or not, were so into all

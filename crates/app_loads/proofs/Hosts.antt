@@ -29,7 +29,8 @@ after_in i m t e after = subst (λ x. IsAfter x t) (sym (mesh_is i m e)) after
 pub apps_after_in : (i : Inside) (m t : State) → IsHost i → i.mesh ≡ Some m → IsAfter m t → AreApps (host_of (record i { mesh = Some t }))
 apps_after_in i m t host e after = apps_after (host_of i) t host.apps (after_in i m t e after)
 
-pub host_after : (i : Inside) (m t : State) (senders : Option (List ℕ)) → IsHost i → i.mesh ≡ Some m → IsAfter m t → IfSome senders (λ vertices. SendAlone vertices t) → IsHost (record i { mesh = Some t; senders = senders })
+pub host_after : (i : Inside) (m t : State) (senders : Option (List ℕ)) → IsHost i → i.mesh ≡ Some m → IsAfter m t →
+    IfSome senders (λ vertices. SendAlone vertices t) → IsHost (record i { mesh = Some t; senders = senders })
 host_after i m t senders host e after alone = record {
   there = refl;
   apps = apps_after_in i m t host e after;

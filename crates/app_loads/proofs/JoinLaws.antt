@@ -12,7 +12,8 @@ use Rattle.app_loads.specs.Claims.{AreBlocks, AreServed, claims_of}
 use Rattle.app_loads.specs.Joining.{CanJoin, CanSettle, IsServedApp, NoneUnsent}
 use Rattle.app_loads.specs.{Plans.IsPlan, Regions.ShareNoPlace, Regions.IsRangeWithin, Taking.AreTaken, Taking.free_places_in}
 
-zipped : {X Y : Type 0} (R : X → Y → Type 0) (xs : List X) (ys : List Y) → length ys ≡ length xs → ((i : ℕ) (x : X) (y : Y) → slice_get xs i ≡ Some x → slice_get ys i ≡ Some y → R x y) → AllZip R xs ys
+zipped : {X Y : Type 0} (R : X → Y → Type 0) (xs : List X) (ys : List Y) → length ys ≡ length xs →
+    ((i : ℕ) (x : X) (y : Y) → slice_get xs i ≡ Some x → slice_get ys i ≡ Some y → R x y) → AllZip R xs ys
 zipped R [] [] long each = tt
 zipped R [] (y ∷ ys) long each = absurd (omega (arith, long))
 zipped R (x ∷ xs) [] long each = absurd (omega (arith, long))
@@ -29,10 +30,12 @@ loaded_from m taken new plan app valid is served have blocks = record {
 }
 
 -- an application is served on the machine that this one is
-pub served_on : {m n : Description} {old new : List Region} {number first : ℕ} {plan : AppPlan} {app : LoadedApp} → m ≡ n → IsServedApp m old number first plan app new → IsServedApp n old number first plan app new
+pub served_on : {m n : Description} {old new : List Region} {number first : ℕ} {plan : AppPlan} {app : LoadedApp} → m ≡ n →
+    IsServedApp m old number first plan app new → IsServedApp n old number first plan app new
 served_on {old = old} {new = new} {number = number} {first = first} {plan = plan} {app = app} = subst (λ (d : Description). IsServedApp d old number first plan app new)
 
-pub can_settle : {s : State} {old new : List Region} {number first : ℕ} {plan : AppPlan} {app : LoadedApp} → CanJoin s old first plan → IsServedApp s.setup.machine old number first plan app new → CanSettle s app
+pub can_settle : {s : State} {old new : List Region} {number first : ℕ} {plan : AppPlan} {app : LoadedApp} → CanJoin s old first plan →
+    IsServedApp s.setup.machine old number first plan app new → CanSettle s app
 can_settle {s} {new = new} {first = first} {plan = plan} {app = app} can served =
     let m = s.setup.machine in
     let own = can.of_machine in

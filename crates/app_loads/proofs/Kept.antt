@@ -182,7 +182,8 @@ pub dropped : (s u : State) (v : ℕ) (k : McCopy) (rest : List McCopy) → slic
 dropped s u v k rest first is = is ∙ ap (λ q. record s { unsent = drop_front s.unsent v q }) first
 
 module _ (xs ys : List Delivery) (s u : State) (v : ℕ) (k : McCopy) (rest : List McCopy) (arrivals : List Arrival) (clean : IsClean xs s) (first : slice_get s.unsent v ≡ Some (k ∷ rest))
-    (block : Block) (key : IsKeyOf block k.key) (comes : Comes s.setup v arrivals block) (put : ys ≡ xs ++ deliveries_at arrivals (sent_of k)) (is : u ≡ record s { unsent = slice_set s.unsent v rest }) where
+    (block : Block) (key : IsKeyOf block k.key) (comes : Comes s.setup v arrivals block) (put : ys ≡ xs ++ deliveries_at arrivals (sent_of k))
+    (is : u ≡ record s { unsent = slice_set s.unsent v rest }) where
   abbrev own : List Delivery
   own = deliveries_at arrivals (sent_of k)
 

@@ -84,8 +84,10 @@ module _ (app : LoadedApp) (tables : List (List Entry)) (s : State) (none : None
   marks_without = sym (
       part_stays (unsent_marks s) (after_unsent s) (unsent_under_way s) (λ k a. among_left k (unsent_marks s) (after_unsent s) a)
       ∙ (ap (λ l. unsent_marks s ++ l) (part_stays (input_marks s) (after_inputs s) (inputs_under_way s) (λ k a. within_unsent k (among_left k (input_marks s) (after_inputs s) a)))
-      ∙ (ap (λ l. unsent_marks s ++ (input_marks s ++ l)) (part_stays (all_hand_marks s) (after_hands s) (hands_under_way s) (λ k a. within_inputs k (among_left k (all_hand_marks s) (after_hands s) a)))
-      ∙ (ap (λ l. unsent_marks s ++ (input_marks s ++ (all_hand_marks s ++ l))) (part_stays (core_marks s) (after_cores s) (cores_under_way s) (λ k a. within_hands k (among_left k (core_marks s) (after_cores s) a)))
+      ∙ (ap (λ l. unsent_marks s ++ (input_marks s ++ l))
+      (part_stays (all_hand_marks s) (after_hands s) (hands_under_way s) (λ k a. within_inputs k (among_left k (all_hand_marks s) (after_hands s) a)))
+      ∙ (ap (λ l. unsent_marks s ++ (input_marks s ++ (all_hand_marks s ++ l)))
+      (part_stays (core_marks s) (after_cores s) (cores_under_way s) (λ k a. within_hands k (among_left k (core_marks s) (after_cores s) a)))
       ∙ ap (λ l. unsent_marks s ++ (input_marks s ++ (all_hand_marks s ++ (core_marks s ++ l)))) ended_left))))
     where
       within_unsent : (k : Mark) → Among k (after_unsent s) → Among k (marks_of s)
@@ -164,7 +166,8 @@ module _ (app : LoadedApp) (tables : List (List Entry)) (s : State) (none : None
       once' k has net in_nets key d branch from to way =
           let old = was k has in
           ap (count_by (is_packet_on_trail k.copy.packet from to branch)) (marks_without app tables s none)
-          ∙ (count_of_filter (is_packet_on_trail k.copy.packet from to branch) (is_of_other app) (marks_of s) (λ m passes. other m (and_parts (m.copy.packet == k.copy.packet) (is_on_trail from to branch m) passes).0 old.1)
+          ∙ (count_of_filter (is_packet_on_trail k.copy.packet from to branch) (is_of_other app) (marks_of s)
+          (λ m passes. other m (and_parts (m.copy.packet == k.copy.packet) (is_on_trail from to branch m) passes).0 old.1)
           ∙ l.ledger.once_on_each k old.0 net (within net in_nets) key d branch from to way)
         where
           other : (m : Mark) → (m.copy.packet == k.copy.packet) ≡ true → is_packet_of app k.copy.packet ≡ false → is_of_other app m ≡ true

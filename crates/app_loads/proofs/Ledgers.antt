@@ -1,5 +1,6 @@
 -- The ledger of asked packets, where nets or a packet come.
-use Rattle.std.proofs.Common.{◌≡◌, ◌≢◌, ℕ, ◌+◌, ◌==◌, ◌&&◌, Bool, true, false, refl, sym, ap, ◌∙◌, subst, arith, inl, inr, ◌⊎◌, List, [], ◌∷◌, ◌++◌, Option, Some, None, if◌then◌else◌, count_by, IsTrue}
+use Rattle.std.proofs.Common.{◌≡◌, ◌≢◌, ℕ, ◌+◌, ◌==◌, ◌&&◌, Bool, true, false, refl, sym, ap, ◌∙◌, subst, arith, inl, inr, ◌⊎◌, List, [], ◌∷◌, ◌++◌, Option, Some, None}
+use Rattle.std.proofs.Common.{if◌then◌else◌, count_by, IsTrue}
 use Rattle.std.proofs.lemmas.Bool.{cases_eq, eq-eqb, and_from, ne_eqb, and_left}
 use Rattle.std.proofs.lemmas.{List.Elements.Contains-append_left, Option.same_Some, Option.none-some}
 use Rattle.std.specs.List.{slice_get, slice_set, Contains}

@@ -52,7 +52,8 @@ module _ (h : Host) (apps : AreApps h) (number : ℕ) (app : LoadedApp) (in_apps
       ]) found.2)
       (λ hit.
       let found = by_taken (all_ranges h.apps) region k hit in
-      taken_by (all_ranges others ++ app.ranges) region k found.0 (among_contains found.0 (all_ranges others ++ app.ranges) (elim (item_of h.apps apps.numbers number app in_apps its ranges_in found.0 found.1) [
+      taken_by (all_ranges others ++ app.ranges) region k found.0
+      (among_contains found.0 (all_ranges others ++ app.ranges) (elim (item_of h.apps apps.numbers number app in_apps its ranges_in found.0 found.1) [
         | inl own ↦ among_right found.0 (all_ranges others) app.ranges (contains_among found.0 app.ranges own)
         | inr other ↦ among_left found.0 (all_ranges others) app.ranges (contains_among found.0 (all_ranges others) other)
       ])) found.2)
@@ -114,7 +115,8 @@ module _ (h : Host) (apps : AreApps h) (number : ℕ) (app : LoadedApp) (in_apps
       rows = All-each (λ (a : LoadedApp). All (RowsOf a t) a.ranges) others (λ a in_others.
           All-each (RowsOf a t) a.ranges (λ r in_a c inside region.
           let from = other_in h.apps apps.numbers number app in_apps its a in_others in
-          let was = All-contains (RowsOf a h.mesh.setup.tables) a.ranges r (All-contains (λ (b : LoadedApp). All (RowsOf b h.mesh.setup.tables) b.ranges) h.apps a apps.rows.rows from.0) in_a c inside region in
+          let was = All-contains (RowsOf a h.mesh.setup.tables) a.ranges r
+          (All-contains (λ (b : LoadedApp). All (RowsOf b h.mesh.setup.tables) b.ranges) h.apps a apps.rows.rows from.0) in_a c inside region in
           record {
             rows = was.rows;
             plain = was.plain;
@@ -128,9 +130,11 @@ module _ (h : Host) (apps : AreApps h) (number : ℕ) (app : LoadedApp) (in_apps
     }
       where
         of_other : (a : LoadedApp) → Contains others a → (r : Range) → Contains a.ranges r → Contains (all_ranges others) r
-        of_other a has r in_a = own_item others (AllPairs-filter (λ (x y : LoadedApp). x.number ≢ y.number) (λ (x : LoadedApp). not (x.number == number)) h.apps apps.numbers) a.number a has refl ranges_in r in_a
+        of_other a has r in_a = own_item others (AllPairs-filter (λ (x y : LoadedApp). x.number ≢ y.number) (λ (x : LoadedApp). not (x.number == number)) h.apps apps.numbers)
+            a.number a has refl ranges_in r in_a
 
-        nobodys : (c : Chip) (k : ℕ) → is_taken (all_ranges others) (place_of m (Rows c)) k ≡ false → is_taken app.ranges (place_of m (Rows c)) k ≡ false → is_taken (all_ranges h.apps) (place_of m (Rows c)) k ≡ false
+        nobodys : (c : Chip) (k : ℕ) → is_taken (all_ranges others) (place_of m (Rows c)) k ≡ false → is_taken app.ranges (place_of m (Rows c)) k ≡ false →
+            is_taken (all_ranges h.apps) (place_of m (Rows c)) k ≡ false
         nobodys c k free not_mine = elim (cases_Bool (is_taken (all_ranges h.apps) (place_of m (Rows c)) k)) [
           | inr no_one ↦ no_one
           | inl some ↦

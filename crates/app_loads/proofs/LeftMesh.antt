@@ -21,7 +21,8 @@ pub parted_whole : {s t : State} {u : Setup} {delivered : List Delivery} {dumped
 parted_whole {s} {u = u} {delivered = delivered} {dumped = dumped} same mesh setup long =
     subst (λ (v : Setup). IsMesh (record s { setup = v; delivered = delivered; dumped = dumped })) (sym setup) (mesh_with s u.tables delivered dumped (subst IsMesh (sym same) mesh) long)
 
-pub can_clear : {s t : State} {regions : List Region} {app : LoadedApp} {lent : List Range} → s ≡ t → IsMesh t → CanLeave t regions app → lent ≡ app.ranges → CanClear s.setup.machine s.setup.tables lent
+pub can_clear : {s t : State} {regions : List Region} {app : LoadedApp} {lent : List Range} → s ≡ t → IsMesh t →
+    CanLeave t regions app → lent ≡ app.ranges → CanClear s.setup.machine s.setup.tables lent
 can_clear {t = t} {regions = regions} {app = app} {lent = lent} same mesh can lent_is =
     subst (λ (x : State). CanClear x.setup.machine x.setup.tables lent) (sym same) (subst (CanClear t.setup.machine t.setup.tables) (sym lent_is) (record {
       tables_long = mesh.table_list;

@@ -108,7 +108,8 @@ pub record HasGone (i j : Inside) (mesh : State) (given : List Region) (number a
   pub numbers : j.numbers.items ≡ take at i.numbers.items ++ drop (suc at) i.numbers.items
   pub senders : j.senders ≡ i.senders
 
-module _ {i j : Inside} {now : Host} {number at : ℕ} {app : LoadedApp} {mesh : State} {given : List Region} {ended : Ended} (leaves : Leaves i now number at app mesh given) (gone : HasGone i j mesh given number at app ended) where
+module _ {i j : Inside} {now : Host} {number at : ℕ} {app : LoadedApp} {mesh : State} {given : List Region} {ended : Ended}
+    (leaves : Leaves i now number at app mesh given) (gone : HasGone i j mesh given number at app ended) where
   abbrev old : Host
   old = host_of i
 

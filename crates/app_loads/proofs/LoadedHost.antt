@@ -60,11 +60,13 @@ same_frees m taken xs ys one other = same_lists xs ys long each
         let p = one.each k f (slice_get-get_or xs k d below) in
         let q = other.each k g (slice_get-get_or ys k d (omega (arith, below, long))) in
         let size : f.size ≡ g.size = p.size ∙ sym q.size in
-        let holes = same_holes 0 f.size f.holes g.holes p.runs (subst (λ n. AreRuns 0 n g.holes) (sym size) q.runs) (λ z. p.free z ∙ (ap (λ n. ltb z n && not (is_taken taken k z)) size ∙ sym (q.free z))) in
+        let holes = same_holes 0 f.size f.holes g.holes p.runs (subst (λ n. AreRuns 0 n g.holes) (sym size) q.runs)
+        (λ z. p.free z ∙ (ap (λ n. ltb z n && not (is_taken taken k z)) size ∙ sym (q.free z))) in
         one_free f.size g.size f.holes g.holes holes size
 
 -- what vertices have unsent
-sent_unsent : (spots : List Spot) (app : LoadedApp) (n : ℕ) (before after : List (List McCopy)) → AreSent spots app n before after → n ≤ length app.plan.packets → (v : ℕ) (q : List McCopy) → slice_get before v ≡ Some q →
+sent_unsent : (spots : List Spot) (app : LoadedApp) (n : ℕ) (before after : List (List McCopy)) → AreSent spots app n before after →
+    n ≤ length app.plan.packets → (v : ℕ) (q : List McCopy) → slice_get before v ≡ Some q →
     slice_get after v ≡ Some (q ++ filter_map (λ (e : ℕ × Packet). copy_from spots v e.0 e.1 (slice_get (nets_of app) e.1.net)) (enumerate_from app.first (take n app.plan.packets)))
 sent_unsent spots app zero before after sent le v q at = ap (λ l. slice_get l v) sent ∙ (at ∙ ap Some (sym (append-nil q)))
 sent_unsent spots app (suc n) before after sent le v q at =
@@ -72,8 +74,10 @@ sent_unsent spots app (suc n) before after sent le v q at =
     let was = sent_unsent spots app n before sent.0 sent.2 (omega (arith, le)) v q at in
     let next : suc n ≡ n + 1 = omega arith in
     let more = enumerate_more app.first app.plan.packets n (app.first + n) sent.1 sent.3 refl in
-    let listed : filter_map (sends v) (enumerate_from app.first (take (suc n) app.plan.packets)) ≡ filter_map (sends v) (enumerate_from app.first (take n app.plan.packets)) ++ filter_map (sends v) ((app.first + n, sent.1) ∷ []) =
-    ap (λ k. filter_map (sends v) (enumerate_from app.first (take k app.plan.packets))) next ∙ (ap (filter_map (sends v)) more ∙ filter_map-append (sends v) (enumerate_from app.first (take n app.plan.packets)) ((app.first + n, sent.1) ∷ [])) in
+    let listed : filter_map (sends v) (enumerate_from app.first (take (suc n) app.plan.packets)) ≡ filter_map (sends v)
+    (enumerate_from app.first (take n app.plan.packets)) ++ filter_map (sends v) ((app.first + n, sent.1) ∷ []) =
+    ap (λ k. filter_map (sends v) (enumerate_from app.first (take k app.plan.packets))) next
+    ∙ (ap (filter_map (sends v)) more ∙ filter_map-append (sends v) (enumerate_from app.first (take n app.plan.packets)) ((app.first + n, sent.1) ∷ [])) in
     elim (cases_eq v one.vertex) [
       | inl same ↦
           let mine : slice_get sent.0 v ≡ Some one.queue = ap (slice_get sent.0) same ∙ one.at in
@@ -157,7 +161,8 @@ module _ (h : Host) (apps : AreApps h) (number : ℕ) (plan : AppPlan) (may : Ma
   in_ranges a in_apps r in_a = among_contains r (all_ranges h.apps) (flat_among (λ (x : LoadedApp). x.ranges) r h.apps a (contains_among a h.apps in_apps) (contains_among r a.ranges in_a))
 
   across : (r s : Range) → Contains (all_ranges h.apps) r → Contains app.ranges s → ShareNoPlace r s
-  across r s in_r in_s = All-contains (ShareNoPlace r) app.ranges s (All-contains (λ a. All (ShareNoPlace a) app.ranges) (all_ranges h.apps) r (AllPairs-across ShareNoPlace (all_ranges h.apps) app.ranges taken_now.apart) in_r) in_s
+  across r s in_r in_s = All-contains (ShareNoPlace r) app.ranges s
+      (All-contains (λ a. All (ShareNoPlace a) app.ranges) (all_ranges h.apps) r (AllPairs-across ShareNoPlace (all_ranges h.apps) app.ranges taken_now.apart) in_r) in_s
 
   spots_free : (s : Spot) → Contains app.plan.spots s → is_spot_taken h.apps s ≡ false
   spots_free s has = All-contains (λ z. is_spot_taken h.apps z ≡ false) plan.spots s may.free (subst (λ (p : AppPlan). Contains p.spots s) served.plan_is has)
@@ -168,7 +173,8 @@ module _ (h : Host) (apps : AreApps h) (number : ℕ) (plan : AppPlan) (may : Ma
       All-each (λ (b : NetPlan). (key : ℕ) → IsKeyOf a.block key → IsKeyOf b.block key → ⊥) (nets_of app) (λ b in_b.
       let f = among_flat nets_of a h.apps (contains_among a (all_nets h.apps) in_a) in
       let in_apps = among_contains f.0 h.apps f.1 in
-      apps_disjoint m f.0 app (All-contains (IsLoadedOn m) h.apps f.0 apps.loaded in_apps) on (λ r s in_r in_s. across r s (in_ranges f.0 in_apps r in_r) in_s) a b (among_contains a (nets_of f.0) f.2) in_b)))
+      apps_disjoint m f.0 app (All-contains (IsLoadedOn m) h.apps f.0 apps.loaded in_apps) on
+      (λ r s in_r in_s. across r s (in_ranges f.0 in_apps r in_r) in_s) a b (among_contains a (nets_of f.0) f.2) in_b)))
 
   spots_in : (s : Spot) → Contains app.plan.spots s → Contains h.mesh.setup.spots s
   spots_in s has = subst (λ (l : List Spot). Contains l s) (sym apps.vertices) (usable_there m s (usable_spot m app on s has))
@@ -197,12 +203,14 @@ module _ (h : Host) (apps : AreApps h) (number : ℕ) (plan : AppPlan) (may : Ma
         (All-each (λ (a : LoadedApp). All (λ (r : Range). (c : Chip) → IsInside m c → r.region ≡ place_of m (Rows c) → HasRows m (nets_of a) c (table_at m t c) r) a.ranges) h.apps (λ a in_apps.
         All-each (λ (r : Range). (c : Chip) → IsInside m c → r.region ≡ place_of m (Rows c) → HasRows m (nets_of a) c (table_at m t c) r) a.ranges (λ r in_a c inside region.
         let was = All-contains (λ (r' : Range). (d : Chip) → IsInside m d → r'.region ≡ place_of m (Rows d) → HasRows m (nets_of a) d (table_at m h.mesh.setup.tables d) r') a.ranges r
-        (All-contains (λ (b : LoadedApp). All (λ (r' : Range). (d : Chip) → IsInside m d → r'.region ≡ place_of m (Rows d) → HasRows m (nets_of b) d (table_at m h.mesh.setup.tables d) r') b.ranges) h.apps a apps.rows.rows in_apps) in_a c inside region in
+        (All-contains (λ (b : LoadedApp). All (λ (r' : Range). (d : Chip) → IsInside m d → r'.region ≡ place_of m (Rows d) → HasRows m (nets_of b) d (table_at m h.mesh.setup.tables d) r')
+        b.ranges) h.apps a apps.rows.rows in_apps) in_a c inside region in
         record {
           rows = was.rows;
           plain = was.plain;
           entries = same_part (table_at m t c) (table_at m h.mesh.setup.tables c) r.place r.size (settled.written.long c inside ∙ sym (apps.rows.long c inside))
-              (λ k low high. settled.written.others c k inside (none_of_others r (in_ranges a in_apps r in_a) (place_of m (Rows c)) k (mine_at r (place_of m (Rows c)) k region low high))) ∙ was.entries;
+              (λ k low high. settled.written.others c k inside (none_of_others r (in_ranges a in_apps r in_a) (place_of m (Rows c)) k (mine_at r (place_of m (Rows c)) k region low high)))
+              ∙ was.entries;
         })))
         (All-each (λ (r : Range). (c : Chip) → IsInside m c → r.region ≡ place_of m (Rows c) → HasRows m (nets_of app) c (table_at m t c) r) app.ranges (λ r in_app. settled.written.rows r in_app));
     others = λ c k inside below free.
@@ -269,7 +277,8 @@ module _ (h : Host) (apps : AreApps h) (number : ℕ) (plan : AppPlan) (may : Ma
     ascending = pairs_with_last HaveOtherNumbers h.apps app apps.ascending
         (λ a in_apps. subst (λ n. a.first + length a.plan.packets ≤ n) (sym first_is) (All-contains (λ (x : LoadedApp). x.first + length x.plan.packets ≤ h.packets) h.apps a apps.counted in_apps));
     counted = All-push (λ (a : LoadedApp). a.first + length a.plan.packets ≤ h.packets + length plan.packets) h.apps app
-        (All-weaker (λ (a : LoadedApp). a.first + length a.plan.packets ≤ h.packets) (λ (a : LoadedApp). a.first + length a.plan.packets ≤ h.packets + length plan.packets) (λ a le. omega (arith, le)) h.apps apps.counted)
+        (All-weaker (λ (a : LoadedApp). a.first + length a.plan.packets ≤ h.packets) (λ (a : LoadedApp). a.first + length a.plan.packets ≤ h.packets + length plan.packets)
+        (λ a le. omega (arith, le)) h.apps apps.counted)
         (let f = first_is in let p = plan_packets in omega (arith, f, p));
     few_packets = may.numbers;
   }
@@ -294,7 +303,8 @@ module _ (h : Host) (apps : AreApps h) (number : ℕ) (plan : AppPlan) (may : Ma
     packets = refl;
     mesh = settled.mesh;
     unsent = λ v before at. sent_unsent h.mesh.setup.spots app (length app.plan.packets) h.mesh.unsent q settled.sent (omega arith) v before at
-        ∙ ap (λ l. Some (before ++ filter_map (λ (e : ℕ × Packet). copy_from h.mesh.setup.spots v e.0 e.1 (slice_get (nets_of app) e.1.net)) (enumerate_from app.first l))) (take_all (length app.plan.packets) app.plan.packets (omega arith));
+        ∙ ap (λ l. Some (before ++ filter_map (λ (e : ℕ × Packet). copy_from h.mesh.setup.spots v e.0 e.1 (slice_get (nets_of app) e.1.net)) (enumerate_from app.first l)))
+        (take_all (length app.plan.packets) app.plan.packets (omega arith));
     tables = λ c k inside free. settled.written.others c k inside free;
   }
 
@@ -302,7 +312,8 @@ module _ (h : Host) (apps : AreApps h) (number : ℕ) (plan : AppPlan) (may : Ma
 pub why_not : (h : Host) (apps : AreApps h) (number : ℕ) (plan : AppPlan) (old : List Region) → frees old ≡ h.regions → is_loaded h.apps number ≡ false → IsPlan h.mesh.setup.machine plan →
     (err : LoadErr) → IsDueAlways h.mesh.setup.machine (claims_of h.mesh.setup.machine plan) old err → IsWhyNotLoaded h number plan err
 why_not h apps number plan old same none valid Memory due = tt
-why_not h apps number plan old same none valid (Refused refusal) due = by_kind refusal (due (all_ranges h.apps) apps.apart (subst (AreFreeBeside h.mesh.setup.machine (all_ranges h.apps)) (sym same) apps.free))
+why_not h apps number plan old same none valid (Refused refusal) due =
+    by_kind refusal (due (all_ranges h.apps) apps.apart (subst (AreFreeBeside h.mesh.setup.machine (all_ranges h.apps)) (sym same) apps.free))
   where
     by_kind : (e : LoadRefusal) → IsRefusalDue h.mesh.setup.machine (all_ranges h.apps) (claims_of h.mesh.setup.machine plan) e → IsLoadRefusal h number plan e
     by_kind Loaded d = absurd ((facts h.mesh.setup.machine plan valid d.claim (Contains-at (claims_of h.mesh.setup.machine plan) (length d.ranges) d.claim d.is)).due d.refusal_is)
@@ -340,7 +351,8 @@ none_unsent h apps plan may net has v vertex = by_queue (slice_get h.mesh.unsent
         let facts' = facts_of m' f.0 (All-contains (IsLoadedOn m') h.apps f.0 apps.loaded (among_contains f.0 h.apps f.1)) on.0 (among_contains on.0 (nets_of f.0) f.2) in
         let its : facts'.net.source ≡ net.source = ap (λ (x : NetPlan). x.source) facts'.is ∙ same in
         let is_taken' : is_spot_taken h.apps net.source ≡ true = among_any (λ (x : LoadedApp). list_any (spot_eq net.source) x.plan.spots) f.0 h.apps f.1
-        (among_any (spot_eq net.source) net.source f.0.plan.spots (contains_among net.source f.0.plan.spots (subst (λ s. Contains f.0.plan.spots s) its facts'.valid.source)) (spot_eq_same net.source)) in
+        (among_any (spot_eq net.source) net.source f.0.plan.spots (contains_among net.source f.0.plan.spots (subst (λ s. Contains f.0.plan.spots s) its facts'.valid.source))
+        (spot_eq_same net.source)) in
         let own = All-contains (IsAppNet m' plan.spots) plan.nets net may.valid.nets has in
         let is_free = All-contains (λ z. is_spot_taken h.apps z ≡ false) plan.spots net.source may.free own.source in
         absurd (false≢true (sym is_free ∙ is_taken'))

@@ -119,7 +119,8 @@ pub record Joins (i j : Inside) (now : Host) (mesh : State) (given : List Region
   pub numbers : j.numbers.items ≡ i.numbers.items ++ app.number ∷ []
   pub sources : IfSome j.senders (AreWithSources after app.plan.nets i.senders)
 
-module _ {i j : Inside} {now : Host} {mesh : State} {given : List Region} {number : ℕ} {plan : AppPlan} {app : LoadedApp} (out : IsOut i now mesh given) (joins : Joins i j now mesh given number plan app) where
+module _ {i j : Inside} {now : Host} {mesh : State} {given : List Region} {number : ℕ} {plan : AppPlan} {app : LoadedApp}
+    (out : IsOut i now mesh given) (joins : Joins i j now mesh given number plan app) where
   abbrev old : Host
   old = host_of i
 

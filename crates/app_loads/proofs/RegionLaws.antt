@@ -16,7 +16,8 @@ module _ (claim : Claim) (before after : Region) (some : 0 < claim.size) (size :
       IfOk r (λ o. IfSome o (ServesClaim claim before after))
   by_take (Ok (Some place)) none found free = λ m taken beside. (
     least_from_fit m taken claim (free_places_in before) place none beside some found,
-    taken_more m taken (place_of m claim.region) (free_places_in before) (free_places_in after) (record { region = place_of m claim.region; place = place; size = claim.size }) refl beside size runs free,
+    taken_more m taken (place_of m claim.region) (free_places_in before) (free_places_in after)
+        (record { region = place_of m claim.region; place = place; size = claim.size }) refl beside size runs free,
   )
   by_take (Ok None) none found free = tt
   by_take (Err e) none found free = tt
@@ -35,7 +36,8 @@ module _ (claim : Claim) (before after : Region) (some : 0 < claim.size) (size :
       subst (λ q. (let range : Range = record { region = place_of m claim.region; place = q; size = claim.size } in
       IsLeastOpenRange m taken claim range × IsFreeBeside m (taken ++ range ∷ []) (place_of m claim.region) (free_places_in after))) (sym found.0) (
         least_from_fixed m taken claim (free_places_in before) place is aligned beside some found.1,
-        taken_more m taken (place_of m claim.region) (free_places_in before) (free_places_in after) (record { region = place_of m claim.region; place = place; size = claim.size }) refl beside size runs free,
+        taken_more m taken (place_of m claim.region) (free_places_in before) (free_places_in after)
+            (record { region = place_of m claim.region; place = place; size = claim.size }) refl beside size runs free,
       )
   by_fixed (Ok None) place is aligned found free = tt
   by_fixed (Err e) place is aligned found free = tt

@@ -1,5 +1,6 @@
 -- Tables with the plain rows of all applications are right for their nets, and give all keys of a net's block the same.
-use Rattle.std.proofs.Common.{◌≡◌, ℕ, zero, suc, ◌+◌, ◌-◌, ◌<◌, ◌≤◌, ◌==◌, leb, ltb, cond, bit_and, Bool, true, false, List, [], ◌∷◌, map, take, drop, get_or, length, ◌*◌, refl, sym, ap, ◌∙◌, subst, inl, inr, arith, Some, count_by, find}
+use Rattle.std.proofs.Common.{◌≡◌, ℕ, zero, suc, ◌+◌, ◌-◌, ◌<◌, ◌≤◌, ◌==◌, leb, ltb, cond, bit_and, Bool, true, false, List, [], ◌∷◌, map, take, drop, get_or, length}
+use Rattle.std.proofs.Common.{◌*◌, refl, sym, ap, ◌∙◌, subst, inl, inr, arith, Some, count_by, find}
 use Rattle.std.proofs.lemmas.Bool.{cases_Bool, eqb-true, eq-eqb, and_parts, false≢true, ltb-true, leb-true}
 use Rattle.std.proofs.lemmas.List.{Elements.All-contains, Elements.All-from_get_or, Sorted.IsPermutation-sym, Sorted.Contains-permutation}
 use Rattle.std.proofs.lemmas.Option.{slice_get-get_or, same_Some}
@@ -104,10 +105,12 @@ module _ (m : Description) (tables : List (List Entry)) (apps : List LoadedApp) 
   loaded_at : (app : LoadedApp) → Contains apps app → IsLoadedOn m app
   loaded_at app has' = All-contains (IsLoadedOn m) apps app loaded has'
 
-  rows_at : (app : LoadedApp) → Contains apps app → (range : Range) → Contains app.ranges range → (c : Chip) → IsInside m c → range.region ≡ place_of m (Rows c) → HasRows m (nets_of app) c (table_at m tables c) range
+  rows_at : (app : LoadedApp) → Contains apps app → (range : Range) → Contains app.ranges range → (c : Chip) → IsInside m c →
+      range.region ≡ place_of m (Rows c) → HasRows m (nets_of app) c (table_at m tables c) range
   rows_at app in_apps range in_ranges =
       All-contains (λ (r : Range). (c : Chip) → IsInside m c → r.region ≡ place_of m (Rows c) → HasRows m (nets_of app) c (table_at m tables c) r) app.ranges range
-      (All-contains (λ (a : LoadedApp). All (λ (r : Range). (c : Chip) → IsInside m c → r.region ≡ place_of m (Rows c) → HasRows m (nets_of a) c (table_at m tables c) r) a.ranges) apps app rows.rows in_apps) in_ranges
+      (All-contains (λ (a : LoadedApp). All (λ (r : Range). (c : Chip) → IsInside m c → r.region ≡ place_of m (Rows c) → HasRows m (nets_of a) c (table_at m tables c) r) a.ranges)
+      apps app rows.rows in_apps) in_ranges
 
   module _ (x : NetPlan) (in_x : Contains (all_nets apps) x) (c : Chip) (inside : IsInside m c) (key : ℕ) (keyed : IsKeyOf x.block key) where
     abbrev T : List Entry
@@ -184,7 +187,8 @@ module _ (m : Description) (tables : List (List Entry)) (apps : List LoadedApp) 
         let i : ℕ = index_of m c in
         let back = chip_of-index_of m c inside in
         let counted : 0 < count_by (has_chip m (chip_of m i)) app.plan.nets =
-        subst (λ (d : Chip). 0 < count_by (has_chip m d) app.plan.nets) (sym back) (some_counted (has_chip m c) app.plan.nets f.net (contains_among f.net app.plan.nets (Contains-at app.plan.nets own.in_app.0 f.net f.at_net)) on_net) in
+        subst (λ (d : Chip). 0 < count_by (has_chip m d) app.plan.nets) (sym back)
+        (some_counted (has_chip m c) app.plan.nets f.net (contains_among f.net app.plan.nets (Contains-at app.plan.nets own.in_app.0 f.net f.at_net)) on_net) in
         let claimed = chip_claim m app.plan load.plan i (index_below m c inside) counted in
         let ranged = AllZip-at_first (IsRangeFor m) (claims_of m app.plan) app.ranges load.ranges claimed.1.0 claimed.0 (member_at (claims_of m app.plan) claimed.0 claimed.1) in
         let range : Range = ranged.0 in
@@ -195,7 +199,8 @@ module _ (m : Description) (tables : List (List Entry)) (apps : List LoadedApp) 
         let row : Row = row_of mine.0 in
         let in_rows = Contains-permutation (map row_of r.plain.originals) r.rows row r.plain.one_row_each (Contains-map row_of r.plain.originals mine.0 mine.1) in
         let at_row = member_at r.rows row in_rows in
-        let at_part : slice_get (take range.size (drop range.place table)) in_rows.0 ≡ Some (entry_of row) = ap (λ l. slice_get l in_rows.0) r.entries ∙ slice_get-mapped entry_of r.rows in_rows.0 row at_row in
+        let at_part : slice_get (take range.size (drop range.place table)) in_rows.0 ≡ Some (entry_of row) =
+        ap (λ l. slice_get l in_rows.0) r.entries ∙ slice_get-mapped entry_of r.rows in_rows.0 row at_row in
         let at_table = of_part table range.place range.size in_rows.0 (entry_of row) at_part in
         let block_is : row.block ≡ x.block = mine.2.keys ∙ ap (λ (n : NetPlan). n.block) own.in_app.2 in (
           entry_of row,

@@ -40,7 +40,8 @@ module _ (ranges : List Range) {i : ℕ} (d : Range) (below : i < length ranges)
     counted_more next is k n at =
         counted_push (take i ranges) range counts (get_or counts range.region e) next (slice_get-get_or counts range.region e there) counted is k n at ∙ ap (of_region k) (sym one_further)
 
-  module _ (regions : List Region) (e : Region) (there : range.region < length regions) (after : Region) (same : (after.holes ≡ (get_or regions range.region e).holes) × (after.size ≡ (get_or regions range.region e).size)) where
+  module _ (regions : List Region) (e : Region) (there : range.region < length regions) (after : Region)
+      (same : (after.holes ≡ (get_or regions range.region e).holes) × (after.size ≡ (get_or regions range.region e).size)) where
     abbrev before : Region
     before = get_or regions range.region e
 

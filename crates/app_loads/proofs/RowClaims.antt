@@ -33,12 +33,14 @@ count_run : {X : Type 0} (p : X → Bool) (xs : List X) (at end : ℕ) → at �
     ((k : ℕ) (x : X) → end ≤ k → slice_get xs k ≡ Some x → p x ≡ false) → count_by p xs ≡ end - at
 count_run p [] at end le within before inside after = omega (arith, le, within)
 count_run p (x ∷ xs) zero zero le within before inside after =
-    let rest = count_run p xs 0 0 (omega arith) (omega arith) (λ k y less e. absurd (omega (arith, less))) (λ k y low less e. absurd (omega (arith, less))) (λ k y low e. after (suc k) y (omega arith) e) in
+    let rest = count_run p xs 0 0 (omega arith) (omega arith) (λ k y less e. absurd (omega (arith, less)))
+    (λ k y low less e. absurd (omega (arith, less))) (λ k y low e. after (suc k) y (omega arith) e) in
     let one = count_by-cons p x xs in
     let here : one_if (p x) ≡ 0 = ap one_if (after 0 x (omega arith) refl) in
     omega (arith, rest, one, here)
 count_run p (x ∷ xs) zero (suc end) le within before inside after =
-    let rest = count_run p xs 0 end (omega arith) (omega (arith, within)) (λ k y less e. absurd (omega (arith, less))) (λ k y low less e. inside (suc k) y (omega arith) (omega (arith, less)) e) (λ k y low e. after (suc k) y (omega (arith, low)) e) in
+    let rest = count_run p xs 0 end (omega arith) (omega (arith, within)) (λ k y less e. absurd (omega (arith, less)))
+    (λ k y low less e. inside (suc k) y (omega arith) (omega (arith, less)) e) (λ k y low e. after (suc k) y (omega (arith, low)) e) in
     let one = count_by-cons p x xs in
     let here : one_if (p x) ≡ 1 = ap one_if (inside 0 x (omega arith) (omega arith) refl) in
     omega (arith, rest, one, here)
@@ -87,7 +89,8 @@ up_to f next c le none =
     ∙ (flat_map-append f (range_with_len 0 (next + gap)) (range_with_len (0 + (next + gap)) 1)
     ∙ (ap (λ l. flat_map f l ++ flat_map f (range_with_len (0 + (next + gap)) 1)) (range_parts 0 next gap)
     ∙ (ap (λ l. l ++ flat_map f (range_with_len (0 + (next + gap)) 1)) (flat_map-append f (range_with_len 0 next) (range_with_len (0 + next) gap))
-    ∙ (ap (λ l. (flat_map f (range_with_len 0 next) ++ l) ++ flat_map f (range_with_len (0 + (next + gap)) 1)) (nothing_of f (0 + next) gap (λ i low high. none i (omega (arith, low)) (omega (arith, high, le))))
+    ∙ (ap (λ l. (flat_map f (range_with_len 0 next) ++ l) ++ flat_map f (range_with_len (0 + (next + gap)) 1))
+    (nothing_of f (0 + next) gap (λ i low high. none i (omega (arith, low)) (omega (arith, high, le))))
     ∙ (ap (λ l. l ++ flat_map f (range_with_len (0 + (next + gap)) 1)) (append-nil (flat_map f (range_with_len 0 next)))
     ∙ (ap (λ n. flat_map f (range_with_len 0 next) ++ flat_map f (range_with_len n 1)) place ∙ ap (λ l. flat_map f (range_with_len 0 next) ++ l) (append-nil (f c)))))))))
 
@@ -103,7 +106,8 @@ module _ (m : Description) (chips : List ℕ) where
     pub is : claims ≡ start ++ flat_map (run_claim m chips) (range_with_len 0 next)
 
   none_there : (i : ℕ) → ((k x : ℕ) → slice_get chips k ≡ Some x → x ≢ i) → run_claim m chips i ≡ []
-  none_there i other = ap (entries_claim m i) (count_run (λ k. k == i) chips 0 0 (omega arith) (omega arith) (λ k x less e. absurd (omega (arith, less))) (λ k x low less e. absurd (omega (arith, less))) (λ k x low e. ne_eqb x i (other k x e)))
+  none_there i other = ap (entries_claim m i) (count_run (λ k. k == i) chips 0 0 (omega arith) (omega arith) (λ k x less e. absurd (omega (arith, less)))
+      (λ k x low less e. absurd (omega (arith, less))) (λ k x low e. ne_eqb x i (other k x e)))
 
   module _ (sorted : AllPairs (λ a b. a ≤ b) chips) (inside : All (λ i. i < chip_count m) chips) where
     in_order : (j k x y : ℕ) → j < k → slice_get chips j ≡ Some x → slice_get chips k ≡ Some y → x ≤ y
@@ -337,7 +341,8 @@ rows_counted m nets chips claims start trees same is =
     is ∙ ap (λ l. start ++ l) (same_of (run_claim m chips) (row_claim m nets) 0 (chip_count m)
     (λ i low high. ap (entries_claim m i) (count_permuted (λ k. k == i) (flat_map (tree_places m) nets) chips same ∙ nets_count m i (omega (arith, high)) nets trees)))
 
-pub rows_counted_in : (m : Description) (nets : List AppNet) (chips lent : List ℕ) (claims start : List Claim) (r : Result (Unit {0}) Memory) → All (HasTree m) nets → IsPermutation (flat_map (tree_places m) nets) chips → lent ≡ chips →
+pub rows_counted_in : (m : Description) (nets : List AppNet) (chips lent : List ℕ) (claims start : List Claim) (r : Result (Unit {0}) Memory) →
+    All (HasTree m) nets → IsPermutation (flat_map (tree_places m) nets) chips → lent ≡ chips →
     OnOk r (claims ≡ start ++ flat_map (run_claim m lent) (range_with_len 0 (chip_count m))) → OnOk r (claims ≡ start ++ flat_map (row_claim m nets) (range_with_len 0 (chip_count m)))
 rows_counted_in m nets chips lent claims start (Ok u) trees same is claimed =
     rows_counted m nets chips claims start trees same (claimed ∙ ap (λ l. start ++ flat_map (run_claim m l) (range_with_len 0 (chip_count m))) is)

@@ -21,7 +21,8 @@ use Rattle.app_loads.specs.declared.loaded.{Claim.Claim, Range.Range}
 use Rattle.app_loads.specs.Host.{Free}
 use Rattle.app_loads.specs.Regions.{AreFreeBeside, IsFreeBeside, ShareNoPlace, place_of, range_has, is_taken, region_size, IsRangeWithin}
 use Rattle.app_loads.specs.Claims.{IsLeastOpenRange, IsOpenRange, IsRefusalDue}
-use Rattle.app_loads.specs.Taking.{free_places_in, frees, range_at, ServesClaim, RefusesClaim, IsFair, IsFairFor, HaveRoom, CanServe, HaveServed, AreTaken, AreTakenAlways, AreServedAlways, IsDueAlways, IsDueOf}
+use Rattle.app_loads.specs.Taking.{free_places_in, frees, range_at, ServesClaim, RefusesClaim, IsFair, IsFairFor, HaveRoom, CanServe, HaveServed, AreTaken}
+use Rattle.app_loads.specs.Taking.{AreTakenAlways, AreServedAlways, IsDueAlways, IsDueOf}
 use Rattle.app_loads.proofs.Others.{pairs_with_last}
 
 -- ---- lists
@@ -112,7 +113,8 @@ free_beside_more m taken old p before after range its beside at here = record {
 }
 
 -- a range that is open for a claim shares no place with those that are taken
-apart_from_open : (m : Description) (taken : List Range) (claim : Claim) (place : ℕ) → IsOpenRange m taken claim place → (other : Range) → Contains taken other → ShareNoPlace other (range_at m claim place)
+apart_from_open : (m : Description) (taken : List Range) (claim : Claim) (place : ℕ) → IsOpenRange m taken claim place →
+    (other : Range) → Contains taken other → ShareNoPlace other (range_at m claim place)
 apart_from_open m taken claim place may other has region k in_other in_mine =
     let parts = and_parts ((place_of m claim.region) == region) (in_range place claim.size k) in_mine in
     let region_is : (place_of m claim.region) ≡ region = eqb-true (place_of m claim.region) region parts.0 in
@@ -228,7 +230,8 @@ none_served m claims regions ranges none = subst (λ l. HaveServed m claims regi
 
 -- ---- one range is given back
 
-module _ (m : Description) (others : List Range) (range : Range) (rest : List Range) (old : List Region) (taken : AreTaken m others (range ∷ rest) old) (before : Region) (at : slice_get old range.region ≡ Some before) where
+module _ (m : Description) (others : List Range) (range : Range) (rest : List Range) (old : List Region) (taken : AreTaken m others (range ∷ rest) old)
+    (before : Region) (at : slice_get old range.region ≡ Some before) where
   beside_here : IsFreeBeside m (others ++ range ∷ rest) range.region (free_places_in before)
   beside_here = taken.free.each range.region (free_places_in before) (slice_get-mapped free_places_in old range.region before at)
 
@@ -265,7 +268,8 @@ module _ (m : Description) (others : List Range) (range : Range) (rest : List Ra
 
       either_side : (other : Range) → Contains (others ++ rest) other → range_has range.region k other ≡ true → ⊥
       either_side other has there = elim (among_either other others rest (contains_among other (others ++ rest) has)) [
-        | inl left ↦ (All-head (ShareNoPlace other) range rest (All-contains (λ a. All (ShareNoPlace a) (range ∷ rest)) others other across (among_contains other others left))) range.region k there (mine k here)
+        | inl left ↦ (All-head (ShareNoPlace other) range rest (All-contains (λ a. All (ShareNoPlace a) (range ∷ rest)) others other across (among_contains other others left)))
+            range.region k there (mine k here)
         | inr right ↦ (All-contains (ShareNoPlace range) rest other after (among_contains other rest right)) range.region k (mine k here) there
       ]
 
@@ -275,7 +279,8 @@ module _ (m : Description) (others : List Range) (range : Range) (rest : List Ra
     within = subst (λ n. All (IsRangeWithin m n) rest) (sym long) (All-tail (IsRangeWithin m (length old)) range rest taken.within);
     apart = AllPairs-append ShareNoPlace others rest (AllPairs-left ShareNoPlace others (range ∷ rest) taken.apart)
         (AllPairs-tail ShareNoPlace range rest (AllPairs-right ShareNoPlace others (range ∷ rest) taken.apart))
-        (All-each (λ a. All (ShareNoPlace a) rest) others (λ a has. All-tail (ShareNoPlace a) range rest (All-contains (λ z. All (ShareNoPlace z) (range ∷ rest)) others a (AllPairs-across ShareNoPlace others (range ∷ rest) taken.apart) has)));
+        (All-each (λ a. All (ShareNoPlace a) rest) others (λ a has.
+        All-tail (ShareNoPlace a) range rest (All-contains (λ z. All (ShareNoPlace z) (range ∷ rest)) others a (AllPairs-across ShareNoPlace others (range ∷ rest) taken.apart) has)));
     free = record {
       all = ap length (ap frees set ∙ map-set free_places_in old range.region after) ∙ (length-set (frees old) range.region (free_places_in after) ∙ taken.free.all);
       each = λ region f is.
@@ -315,7 +320,8 @@ module _ (m : Description) (others : List Range) (range : Range) (rest : List Ra
               let facts = in_facts range.place range.size k inside in
               let w = give_within in
               let below : ltb k after.size ≡ true = lt-ltb k after.size (omega (arith, facts, w, size)) in
-              ap (λ b. is_free before.holes k || b) inside ∙ (or_right (is_free before.holes k) true refl ∙ sym (ap (λ b. b && not (is_taken (others ++ rest) range.region k)) below ∙ ap (λ b. true && not b) (not_left k inside)))
+              ap (λ b. is_free before.holes k || b) inside ∙ (or_right (is_free before.holes k) true refl
+              ∙ sym (ap (λ b. b && not (is_taken (others ++ rest) range.region k)) below ∙ ap (λ b. true && not b) (not_left k inside)))
           | inr outside ↦
               ap (λ b. is_free before.holes k || b) outside
               ∙ (or-false (is_free before.holes k)
@@ -392,7 +398,8 @@ module _ (ranges : List Range) {others : List Range} {i : ℕ} {regions : List R
     ]
 
 -- where all are given back, none is left
-pub all_back : {m : Description} {others : List Range} {i : ℕ} (ranges : List Range) (regions : List Region) → length ranges ≤ i → AreFreeBeside m (others ++ drop i ranges) (frees regions) → AreFreeBeside m others (frees regions)
+pub all_back : {m : Description} {others : List Range} {i : ℕ} (ranges : List Range) (regions : List Region) → length ranges ≤ i →
+    AreFreeBeside m (others ++ drop i ranges) (frees regions) → AreFreeBeside m others (frees regions)
 all_back {m} {others} {i} ranges regions end free = subst (λ l. AreFreeBeside m l (frees regions)) (ap (λ l. others ++ l) (none_left ranges i end) ∙ append-nil others) free
   where
     none_left : {X : Type 0} (xs : List X) (n : ℕ) → length xs ≤ n → drop n xs ≡ []
@@ -491,7 +498,8 @@ module _ {m : Description} {claims : List Claim} {old mid : List Region} {ranges
       room_still m claims old mid ranges so_far claim is_claim before' at_claim after (slice_set mid at after) (ap (λ k. slice_set mid k after) at_is)
       (λ n le. stays n (let same = ap (λ k. of_region k ranges) at_is in omega (arith, le, counted, same)))
 
-pub all_served : {m : Description} {claims : List Claim} {old mid : List Region} {ranges : List Range} {i : ℕ} → length claims ≤ i → length ranges ≡ i → HaveServed m claims old ranges mid → AreServedAlways m claims old ranges
+pub all_served : {m : Description} {claims : List Claim} {old mid : List Region} {ranges : List Range} {i : ℕ} → length claims ≤ i →
+    length ranges ≡ i → HaveServed m claims old ranges mid → AreServedAlways m claims old ranges
 all_served end each_one so_far taken apart free =
     let first = so_far.served taken apart free in
     let few = first.few in

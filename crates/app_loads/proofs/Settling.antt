@@ -50,7 +50,8 @@ usable_there m s usable =
     let core_is : k % 17 + 1 ≡ s.core = omega (arith, some, most) in
     let same : spot_of m k ≡ s = same_spot (spot_of m k) s (ap (chip_of m) chip_is ∙ chip_of-index_of m s.chip inside) core_is in
     let z : 0 + k ≡ k = omega arith in
-    let at : slice_get (grid_spots m) k ≡ Some s = slice_get-map_range (spot_of m) 0 (17 * (m.width * m.height)) k (omega (arith, below, some, most)) ∙ (ap (λ i. Some (spot_of m i)) z ∙ ap Some same) in
+    let at : slice_get (grid_spots m) k ≡ Some s = slice_get-map_range (spot_of m) 0 (17 * (m.width * m.height)) k (omega (arith, below, some, most))
+    ∙ (ap (λ i. Some (spot_of m i)) z ∙ ap Some same) in
     Contains-filter (is_usable m) (grid_spots m) s (Contains-at (grid_spots m) k s at) usable
 
 -- ---- rows of a chip
@@ -59,7 +60,8 @@ pub has_chip-true : (m : Description) (c : Chip) (net : AppNet) → IsTreeChip m
 has_chip-true m c net on = elim (tree_cases m net.tree.root net.tree.edges c on) [
   | inl at ↦ or_left (chip_eq c net.tree.root) (list_any (λ (e : Edge). option_map_or (chip_eq c) (end_of m e) false) net.tree.edges) (chip_eq-from_same c net.tree.root at)
   | inr into ↦ or_right (chip_eq c net.tree.root) (list_any (λ (e : Edge). option_map_or (chip_eq c) (end_of m e) false) net.tree.edges)
-      (among_any (λ (e : Edge). option_map_or (chip_eq c) (end_of m e) false) into.0 net.tree.edges (contains_among into.0 net.tree.edges into.1) (ap (λ o. option_map_or (chip_eq c) o false) into.2 ∙ chip_eq-from_same c c refl))
+      (among_any (λ (e : Edge). option_map_or (chip_eq c) (end_of m e) false) into.0 net.tree.edges (contains_among into.0 net.tree.edges into.1)
+      (ap (λ o. option_map_or (chip_eq c) o false) into.2 ∙ chip_eq-from_same c c refl))
 ]
 
 pub has_chip-tree : (m : Description) (c : Chip) (net : AppNet) → has_chip m c net ≡ true → IsTreeChip m net.tree.root net.tree.edges c
@@ -78,7 +80,8 @@ has_chip-tree m c net e = elim (or_cases (chip_eq c net.tree.root) (list_any (λ
 abbrev one_if : Bool → ℕ
 one_if b = if b then 1 else 0
 
-originals_count : (m : Description) (c : Chip) (nets : List AppNet) (blocks : List Block) (os : List Original) → length blocks ≡ length nets → AreOriginals m c (nets_with nets blocks) os → length os ≡ count_by (has_chip m c) nets
+originals_count : (m : Description) (c : Chip) (nets : List AppNet) (blocks : List Block) (os : List Original) → length blocks ≡ length nets →
+    AreOriginals m c (nets_with nets blocks) os → length os ≡ count_by (has_chip m c) nets
 originals_count m c [] [] os long are = ap length are
 originals_count m c [] (b ∷ bs) os long are = absurd (omega (arith, long))
 originals_count m c (n ∷ ns) [] os long are = absurd (omega (arith, long))
@@ -98,7 +101,8 @@ originals_count m c (n ∷ ns) (b ∷ bs) os long (inr off) =
     not_there (inl yes') = absurd (off.0 (has_chip-tree m c n yes'))
     not_there (inr no') = no'
 
-pub plain_count : (m : Description) (c : Chip) (nets : List AppNet) (blocks : List Block) (rows : List Row) → length blocks ≡ length nets → IsPlainTable m (nets_with nets blocks) c rows → length rows ≡ count_by (has_chip m c) nets
+pub plain_count : (m : Description) (c : Chip) (nets : List AppNet) (blocks : List Block) (rows : List Row) → length blocks ≡ length nets →
+    IsPlainTable m (nets_with nets blocks) c rows → length rows ≡ count_by (has_chip m c) nets
 plain_count m c nets blocks rows long plain =
     let same = length_permutation (map row_of plain.originals) rows plain.one_row_each in
     let mapped = length-map plain.originals row_of in
@@ -121,12 +125,14 @@ module _ (s : State) (app : LoadedApp) (can : CanSettle s app) where
   its_machine = s.setup.machine
 
   -- a range of a chip's entries is as long as nets have the chip
-  range_size : (range : Range) → Contains app.ranges range → (c : Chip) → IsInside its_machine c → range.region ≡ place_of its_machine (Rows c) → range.size ≡ count_by (has_chip its_machine c) app.plan.nets
+  range_size : (range : Range) → Contains app.ranges range → (c : Chip) → IsInside its_machine c → range.region ≡ place_of its_machine (Rows c) →
+      range.size ≡ count_by (has_chip its_machine c) app.plan.nets
   range_size range has c inside region =
       let claimed = AllZip-at_second (IsRangeFor its_machine) (claims_of its_machine app.plan) app.ranges can.loaded.ranges has.0 range (member_at app.ranges range has) in
       let of_region : place_of its_machine claimed.0.region ≡ 1 + (chip_count its_machine + index_of its_machine c) = sym claimed.2.0 ∙ region in
       claimed.2.1
-      ∙ (row_size its_machine app.plan can.loaded.plan claimed.0 (Contains-at (claims_of its_machine app.plan) has.0 claimed.0 claimed.1) (index_of its_machine c) (index_below its_machine c inside) of_region
+      ∙ (row_size its_machine app.plan can.loaded.plan claimed.0 (Contains-at (claims_of its_machine app.plan) has.0 claimed.0 claimed.1)
+      (index_of its_machine c) (index_below its_machine c inside) of_region
       ∙ ap (λ (d : Chip). count_by (has_chip its_machine d) app.plan.nets) (chip_of-index_of its_machine c inside))
 
   module _ (none : app.plan.nets ≡ []) where
@@ -238,13 +244,15 @@ sent_long spots app (suc n) before after sent =
     let one = sent.4 in
     ap length one.is ∙ (length-set sent.0 one.vertex (one.queue ++ _ ∷ []) ∙ sent_long spots app n before sent.0 sent.2)
 
-sent_at_start : (spots : List Spot) (app : LoadedApp) (n : ℕ) (before after : List (List McCopy)) → All (λ q. All (λ (k : McCopy). k.hop ≡ 0) q) before → AreSent spots app n before after → All (λ q. All (λ (k : McCopy). k.hop ≡ 0) q) after
+sent_at_start : (spots : List Spot) (app : LoadedApp) (n : ℕ) (before after : List (List McCopy)) → All (λ q. All (λ (k : McCopy). k.hop ≡ 0) q) before →
+    AreSent spots app n before after → All (λ q. All (λ (k : McCopy). k.hop ≡ 0) q) after
 sent_at_start spots app zero before after start sent = subst (All (λ q. All (λ (k : McCopy). k.hop ≡ 0) q)) (sym sent) start
 sent_at_start spots app (suc n) before after start sent =
     let one = sent.4 in
     let rest = sent_at_start spots app n before sent.0 start sent.2 in
     subst (All (λ q. All (λ (k : McCopy). k.hop ≡ 0) q)) (sym one.is)
-    (All-set (λ q. All (λ (k : McCopy). k.hop ≡ 0) q) sent.0 one.vertex (one.queue ++ _ ∷ []) (All-push (λ (k : McCopy). k.hop ≡ 0) one.queue _ (All-at (λ q. All (λ (k : McCopy). k.hop ≡ 0) q) sent.0 one.vertex one.queue rest one.at) refl) rest)
+    (All-set (λ q. All (λ (k : McCopy). k.hop ≡ 0) q) sent.0 one.vertex (one.queue ++ _ ∷ [])
+    (All-push (λ (k : McCopy). k.hop ≡ 0) one.queue _ (All-at (λ q. All (λ (k : McCopy). k.hop ≡ 0) q) sent.0 one.vertex one.queue rest one.at) refl) rest)
 
 -- a mesh with other tables, unsent copies, deliveries and records
 pub changed_mesh : (s : State) (tables : List (List Entry)) (q : List (List McCopy)) (delivered : List Delivery) (dumped : List DumpRec) → IsMesh s → length tables ≡ length s.setup.tables →
@@ -299,7 +307,8 @@ module _ {s t : State} {app : LoadedApp} (same : s ≡ t) (can : CanSettle t app
   parted_copy {rows} plain = can_copy s app own whole (here rows plain)
 
   -- packets were sent, and the tables are others
-  module _ {given q put : List (List McCopy)} {u : Setup} (is : given ≡ s.unsent) (put_is : put ≡ q) (sent : AreSent s.setup.spots app (length app.plan.packets) given q) (setup : u ≡ record s.setup { tables = u.tables }) where
+  module _ {given q put : List (List McCopy)} {u : Setup} (is : given ≡ s.unsent) (put_is : put ≡ q) (sent : AreSent s.setup.spots app (length app.plan.packets) given q)
+      (setup : u ≡ record s.setup { tables = u.tables }) where
     sent_from : AreSent s.setup.spots app (length app.plan.packets) s.unsent q
     sent_from = subst (λ (l : List (List McCopy)). AreSent s.setup.spots app (length app.plan.packets) l q) is sent
 

@@ -118,11 +118,13 @@ module _ (sources : List ℕ) (old cur : List (List McCopy)) (queues : All (λ v
   pub emptied_beside : (q : List McCopy) → q ≡ [] → IsSameBeside sources old (slice_set cur v q)
   emptied_beside q none = subst (λ (l : List McCopy). IsSameBeside sources old (slice_set cur v l)) (sym none) cleared_beside
 
-  pub emptied_more : (q : List McCopy) → q ≡ [] → ((w : ℕ) → Contains (take i sources) w → slice_get cur w ≡ Some []) → (w : ℕ) → Contains (take (i + 1) sources) w → slice_get (slice_set cur v q) w ≡ Some []
+  pub emptied_more : (q : List McCopy) → q ≡ [] → ((w : ℕ) → Contains (take i sources) w → slice_get cur w ≡ Some []) → (w : ℕ) →
+      Contains (take (i + 1) sources) w → slice_get (slice_set cur v q) w ≡ Some []
   emptied_more q none so_far w has = ap (λ (l : List McCopy). slice_get (slice_set cur v l) w) none ∙ cleared_more so_far w has
 
 -- all are emptied
-pub all_cleared : (sources : List ℕ) (old cur : List (List McCopy)) (i : ℕ) → length sources ≤ i → IsSameBeside sources old cur → ((w : ℕ) → Contains (take i sources) w → slice_get cur w ≡ Some []) → AreCleared sources old cur
+pub all_cleared : (sources : List ℕ) (old cur : List (List McCopy)) (i : ℕ) → length sources ≤ i → IsSameBeside sources old cur →
+    ((w : ℕ) → Contains (take i sources) w → slice_get cur w ≡ Some []) → AreCleared sources old cur
 all_cleared sources old cur i end same empty = record { beside = same; empty = λ v has. empty v (subst (λ (l : List ℕ). Contains l v) (sym (take_all i sources end)) has) }
 
 -- Where the sources had nothing unsent, all is as before.

@@ -153,7 +153,8 @@ keys_few nets i all below =
     (omega (arith, length-map nets (λ (net : DrawnNet). net.keys), below))
     (All-map (λ k. k ≤ 16) (λ (net : DrawnNet). net.keys) nets (λ k d low. (all k d low).few_keys))
 
-IsLow : ℕ × ℕ → Type 0
+-- the numbers of a chip of the board are low
+unfoldable pub IsLow : ℕ × ℕ → Type 0
 IsLow p = (p.0 < 10) × (p.1 < 10)
 
 pair_short : (p : ℕ × ℕ) → IsLow p → length (compact_text (pair_data p)) ≤ 300
@@ -167,7 +168,7 @@ are_low : list_all (λ (p : ℕ × ℕ). nat_lt p.0 10 && nat_lt p.1 10) dead_pa
 unfolding dead_pairs
 are_low = refl
 
-pairs_low : All IsLow dead_pairs
+pub pairs_low : All IsLow dead_pairs
 unfolding IsLow
 pairs_low = all_low dead_pairs are_low
   where

@@ -1,7 +1,7 @@
 -- The text of a generated job is read as its value.
 use Rattle.std.proofs.Common.{◌≡◌, ℕ, ◌+◌, ◌%◌, ◌^◌, ◌<◌, ◌≤◌, Bool, true, false, List, [], ◌∷◌, ◌++◌, map, length, codes, decimal, Some, option_and_then, option_map, refl, sym, ap, ◌∙◌, arith}
 use Rattle.std.proofs.lemmas.{Bool.lt-ltb, Fmt.decimal_by_steps}
-use Rattle.std.proofs.lemmas.{List.append-nil, List.Elements.All-from_recursion, List.Elements.All-head, List.Elements.All-tail, Str.IsUtf8-append}
+use Rattle.std.proofs.lemmas.{List.append-nil, List.Elements.All-head, List.Elements.All-tail, Str.IsUtf8-append}
 use Rattle.std.specs.{List.All, Str.IsUtf8}
 use Rattle.json.specs.Json as json
 use Rattle.json.specs.{Lex.tokens, Print.quoted}
@@ -17,8 +17,9 @@ use Rattle.job_text.proofs.Readings.{json_of-utf8}
 use Rattle.job_gen.specs.declared.draws.{DrawnNet.DrawnNet, DrawnPacket.DrawnPacket, Drawn.Drawn}
 use Rattle.job_gen.specs.DrawnFacts.{IsDrawn, IsDrawnNet, IsDrawnPacket}
 use Rattle.job_gen.specs.Draws.{drawn}
-use Rattle.job_gen.specs.Values.{dead_pairs, gen_text_of, gen_value, generated_net_name, generated_vertex_name, graph_data, job_data, machine_data, name_data, net_data, numbered, packet_data, pair_data, run_data, vertex_data}
-use Rattle.job_gen.proofs.{DrawnLaws.is_drawn, LengthLemmas.keys_few, TextLemmas.depth-gen}
+use Rattle.job_gen.specs.Values.{dead_pairs, gen_text_of, gen_value, generated_net_name, generated_vertex_name, graph_data, job_data, machine_data, name_data, net_data}
+use Rattle.job_gen.specs.Values.{numbered, packet_data, pair_data, run_data, vertex_data}
+use Rattle.job_gen.proofs.{DrawnLaws.is_drawn, LengthLemmas.IsLow, LengthLemmas.keys_few, LengthLemmas.pairs_low, TextLemmas.depth-gen}
 
 -- ---- what a value needs so that its text is read as it
 
@@ -198,25 +199,17 @@ packet_back nets p low is =
     (one_more (codes "payload") (number (unsigned p.payload)) no_members (IsUtf8-are_ascii (codes "payload") refl) carried no_more)))
     (rw (number_of-decimal p.index low, number_of-decimal p.payload (omega (arith, payload))) refl)
 
--- the numbers of a chip are small
-abbrev IsSmallPair : ℕ × ℕ → Type 0
-IsSmallPair p = (p.0 < 8) × (p.1 < 8)
-
-pair_back : (p : ℕ × ℕ) → IsSmallPair p → ReadsBack (pair_data p)
+pair_back : (p : ℕ × ℕ) → IsLow p → ReadsBack (pair_data p)
+unfolding IsLow
 pair_back p is =
     array_back (item (number (unsigned p.0)) (item (number (unsigned p.1)) no_items))
     (item_back (number (unsigned p.0)) (item (number (unsigned p.1)) no_items) (number_back p.0 (omega (arith, is.0)))
     (item_back (number (unsigned p.1)) no_items (number_back p.1 (omega (arith, is.1))) none_back))
 
-small_pairs : All IsSmallPair dead_pairs
-unfolding dead_pairs
-small_pairs = All-from_recursion IsSmallPair dead_pairs
-    ((omega arith, omega arith), ((omega arith, omega arith), ((omega arith, omega arith), ((omega arith, omega arith), ((omega arith, omega arith), ((omega arith, omega arith), ((omega arith, omega arith), ((omega arith, omega arith), ((omega arith, omega arith), ((omega arith, omega arith), ((omega arith, omega arith), ((omega arith, omega arith), ((omega arith, omega arith), ((omega arith, omega arith), ((omega arith, omega arith), ((omega arith, omega arith), tt))))))))))))))))
-
 machine_back : ReadsBack machine_data
 unfolding machine_data
 machine_back =
-    let dead = array_back (items_of (map pair_data dead_pairs)) (mapped_back IsSmallPair pair_data pair_back dead_pairs small_pairs) in
+    let dead = array_back (items_of (map pair_data dead_pairs)) (mapped_back IsLow pair_data pair_back dead_pairs pairs_low) in
     let eight = number_back 8 (omega arith) in
     let last : Members = member (codes "width") (number (unsigned 8)) no_members in
     let second : Members = member (codes "height") (number (unsigned 8)) last in
@@ -255,7 +248,14 @@ run_back packets back =
     (one_more (codes "target") (number (unsigned 0)) fifth (IsUtf8-are_ascii (codes "target") refl) (number_back 0 (omega arith))
     (one_more (codes "turns") (number (unsigned 64)) sixth (IsUtf8-are_ascii (codes "turns") refl) (number_back 64 (omega arith))
     (one_more (codes "workers") (number (unsigned 4)) no_members (IsUtf8-are_ascii (codes "workers") refl) (number_back 4 (omega arith)) no_more))))))
-    (rw (sent.same, number_of-decimal 16 (omega arith), number_of-decimal 1200 (omega arith), number_of-decimal 0 (omega arith), number_of-decimal 64 (omega arith), number_of-decimal 4 (omega arith)) refl)
+    (rw (
+      sent.same,
+      number_of-decimal 16 (omega arith),
+      number_of-decimal 1200 (omega arith),
+      number_of-decimal 0 (omega arith),
+      number_of-decimal 64 (omega arith),
+      number_of-decimal 4 (omega arith),
+    ) refl)
 
 job_back : (job : Drawn) → IsDrawn job → ItemsReadBack (items_of (map packet_data job.packets)) → ReadsBack (job_data job)
 unfolding job_data

@@ -1,5 +1,6 @@
 -- A router looks at a copy's hop number and what its table gives the key alone: so a packet with a key alike goes the same way.
-use Rattle.std.proofs.Common.{◌≡◌, ℕ, cond, inl, inr, subst, suc, zero, ◌*◌, ◌<◌, ◌&&◌, ◌==◌, Bool, true, false, nat_lt, if◌then◌else◌, List, [], ◌∷◌, ◌++◌, length, map, set, get_or, drop, refl, sym, ap, ◌∙◌, Option, None, Some, arith}
+use Rattle.std.proofs.Common.{◌≡◌, ℕ, cond, inl, inr, subst, suc, zero, ◌*◌, ◌<◌, ◌&&◌, ◌==◌, Bool, true, false, nat_lt, if◌then◌else◌, List, [], ◌∷◌, ◌++◌, length, map}
+use Rattle.std.proofs.Common.{set, get_or, drop, refl, sym, ap, ◌∙◌, Option, None, Some, arith}
 use Rattle.std.proofs.lemmas.Bool.{cases_Bool, eqb-true, eq-eqb}
 use Rattle.std.proofs.lemmas.List.{append_assoc, append-nil, drop_at, length-map, map-append, map-set}
 use Rattle.std.proofs.lemmas.List.Elements.{All-cons, All-head, All-tail, All-weaker}
@@ -283,7 +284,15 @@ module _ (s t : State) (v : ℕ) (k : McCopy) (rest : List McCopy) (may : MaySen
         let at : IsSameAtRest k.key x r s = same_at_rest k.key x r s may_r.kept.mesh may.kept.mesh may_r.quiet may.quiet same in
         let i : ℕ = queue_at s.setup.machine spot.chip Local in
         let made : Setup → List (List McCopy) → List (Option Hand) → List (List McCopy) → State =
-        λ u inputs hands cores. record { setup = u; unsent = unsent; inputs = set inputs (queue_at u.machine spot.chip Local) (x ∷ []); hands = hands; cores = cores; delivered = r.delivered; dumped = r.dumped }
+        λ u inputs hands cores. record {
+          setup = u;
+          unsent = unsent;
+          inputs = set inputs (queue_at u.machine spot.chip Local) (x ∷ []);
+          hands = hands;
+          cores = cores;
+          delivered = r.delivered;
+          dumped = r.dumped;
+        }
         in
         let with_inputs : List (List McCopy) → State = λ inputs. record (alike r.delivered s) { inputs = inputs } in
         begun_r

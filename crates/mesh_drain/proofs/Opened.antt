@@ -66,7 +66,12 @@ opens u nets = ap (λ l. record (empty_mesh u) { unsent = l }) (opened_none u.sp
 pub grows : (u : Setup) (nets : List NetPlan) (packets : List Packet) (i : ℕ) (d : Packet) (n : NetPlan) (v : ℕ) (copy : McCopy) (s t : State) →
     (k : Known u.spots nets (slice_index_or packets i d)) → i < length packets →
     s ≡ opened_mesh u nets (take i packets) →
-    copy ≡ record { packet = i; key = (slice_index_or nets (slice_index_or packets i d).net n).block.key + (slice_index_or packets i d).index; payload = (slice_index_or packets i d).payload; hop = 0 } →
+    copy ≡ record {
+      packet = i;
+      key = (slice_index_or nets (slice_index_or packets i d).net n).block.key + (slice_index_or packets i d).index;
+      payload = (slice_index_or packets i d).payload;
+      hop = 0;
+    } →
     v ≡ k.source →
     t ≡ record s { unsent = push_at s.unsent v copy (slice_get s.unsent v) } →
     t ≡ opened_mesh u nets (take (i + 1) packets)

@@ -73,7 +73,8 @@ module _ (s : State) (kept : MeetsSomeLedger s) (quiet : NothingWaits s) (v : �
         collected = quiet.cores_empty;
         live = All-cons (λ (x : Waiting). IsLiveChip s.setup.machine x.chip) begun [] live_chip (All-nil (λ (x : Waiting). IsLiveChip s.setup.machine x.chip));
         listed = λ j. written (λ q. length q ≤ times s.setup.machine j (begun ∷ [])) s.inputs i j (k ∷ []) there.0
-            (λ same. let one = count_by-cons (λ (x : Waiting). queue_at s.setup.machine x.chip x.port == j) begun [] ∙ ap (λ b. (if b then 1 else 0) + 0) (ap (λ n. i == n) (sym same) ∙ nat_eq_same i) in omega (arith, one))
+            (λ same. let one = count_by-cons (λ (x : Waiting). queue_at s.setup.machine x.chip x.port == j) begun []
+            ∙ ap (λ b. (if b then 1 else 0) + 0) (ap (λ n. i == n) (sym same) ∙ nat_eq_same i) in omega (arith, one))
             (λ other. let none : length (slice_index_or s.inputs j []) ≡ 0 = ap length (empty_at s quiet j) in omega (arith, none));
         of_packet = λ j. written (All Of) s.inputs i j (k ∷ []) there.0
             (λ same. All-cons Of k [] refl (All-nil Of))

@@ -1,5 +1,6 @@
 -- What each event of the packet under way does.
-use Rattle.std.proofs.Common.{◌≡◌, ◌≢◌, ℕ, zero, suc, ◌+◌, ◌<◌, ◌≤◌, ◌==◌, ◌&&◌, ◌||◌, refl, sym, ap, ◌∙◌, subst, arith, inl, List, [], ◌∷◌, ◌++◌, set, length, Option, Some, None, Bool, true, false, if◌then◌else◌, unwrap_or, nat_lt}
+use Rattle.std.proofs.Common.{◌≡◌, ◌≢◌, ℕ, zero, suc, ◌+◌, ◌<◌, ◌≤◌, ◌==◌, ◌&&◌, ◌||◌, refl, sym, ap, ◌∙◌, subst, arith, inl, List, [], ◌∷◌, ◌++◌, set, length, Option}
+use Rattle.std.proofs.Common.{Some, None, Bool, true, false, if◌then◌else◌, unwrap_or, nat_lt}
 use Rattle.std.proofs.lemmas.{Bool.and_from, Bool.eqb-true, Bool.lt-ltb, List.get_or-set_same, List.get_or-set_other}
 use Rattle.std.proofs.lemmas.List.Elements.{All-head, All-tail, All-nil, All-cons, All-append}
 use Rattle.std.proofs.lemmas.Option.{slice_get-get_or, get_or_from_slice_get}
@@ -134,7 +135,8 @@ module _ (s : State) (w : List Waiting) (a : Waiting) (u : WaitsAlone s (w ++ a 
   unfolding i queue
   listed_here =
       let most = u.listed (queue_at s.setup.machine a.chip a.port) in
-      let more = times_more s.setup.machine (queue_at s.setup.machine a.chip a.port) w a ∙ ap (λ b. times s.setup.machine (queue_at s.setup.machine a.chip a.port) w + (if b then 1 else 0)) (nat_eq_same (queue_at s.setup.machine a.chip a.port)) in
+      let more = times_more s.setup.machine (queue_at s.setup.machine a.chip a.port) w a
+      ∙ ap (λ b. times s.setup.machine (queue_at s.setup.machine a.chip a.port) w + (if b then 1 else 0)) (nat_eq_same (queue_at s.setup.machine a.chip a.port)) in
       omega (arith, most, more)
 
   -- what the hand holds that was just made
@@ -382,7 +384,8 @@ module _ (s : State) (w : List Waiting) (c : Chip) (o : Out) (os : List Out) (u 
         collected = u.collected;
         live = All-append Live w (next ∷ []) u.live (All-cons Live next [] far.live (All-nil Live));
         listed = λ x. written (λ q. length q ≤ times s.setup.machine x (w ++ next ∷ [])) s.inputs i x (onward u.copy ∷ []) far_there
-            (λ here. let more = times_more s.setup.machine x w next ∙ ap (λ y. times s.setup.machine x w + (if y then 1 else 0)) (ap (λ y. y == x) (far.place ∙ here) ∙ nat_eq_same x) in omega (arith, more))
+            (λ here. let more = times_more s.setup.machine x w next
+            ∙ ap (λ y. times s.setup.machine x w + (if y then 1 else 0)) (ap (λ y. y == x) (far.place ∙ here) ∙ nat_eq_same x) in omega (arith, more))
             (λ other. let most = u.listed x in let more = times_more s.setup.machine x w next in omega (arith, most, more));
         of_packet = λ x. written (All Of) s.inputs i x (onward u.copy ∷ []) far_there
             (λ here. All-cons Of (onward u.copy) [] refl (All-nil Of))

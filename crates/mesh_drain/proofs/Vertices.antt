@@ -1,5 +1,6 @@
 -- No copy is dropped at an output that leads to a vertex, where none waits for one.
-use Rattle.std.proofs.Common.{◌≡◌, ℕ, ◌+◌, ◌<◌, ◌≤◌, refl, sym, ap, ◌∙◌, subst, arith, Bool, true, false, ◌&&◌, not, if◌then◌else◌, List, [], ◌∷◌, ◌++◌, append_assoc, append-nil, length, set, get_or, Option, Some, None, unwrap_or}
+use Rattle.std.proofs.Common.{◌≡◌, ℕ, ◌+◌, ◌<◌, ◌≤◌, refl, sym, ap, ◌∙◌, subst, arith, Bool, true, false, ◌&&◌, not, if◌then◌else◌, List, [], ◌∷◌, ◌++◌, append_assoc}
+use Rattle.std.proofs.Common.{append-nil, length, set, get_or, Option, Some, None, unwrap_or}
 use Rattle.std.proofs.{Math.Seq.set-get_or, lemmas.Bool.lt-ltb, lemmas.List.get_or_default}
 use Rattle.std.proofs.lemmas.List.Elements.{All-nil, All-cons, All-append}
 use Rattle.std.proofs.lemmas.Option.{slice_get-get_or, slice_get_within}
@@ -135,7 +136,8 @@ dump_leads_on s c o mesh none = by_hand (slice_get s.hands (index_of s.setup.mac
         ap (has_room_behind s) is ∙ (ap (has_room s.setup.capacity) (there ∙ ap Some empty) ∙ lt-ltb 0 s.setup.capacity mesh.room)
 
     by_room : (h : Hand) (served room : Bool) → has_room_behind s (behind s.setup c o) ≡ room →
-        DropsAtNoVertex s (unwrap_or (if served && not room then (let next = after_serving s c o h in Some (record next { dumped = next.dumped ++ record { chip = c; out = o; copy = h.copy } ∷ [] })) else None) s)
+        DropsAtNoVertex s (unwrap_or (if served && not room then (let next =
+        after_serving s c o h in Some (record next { dumped = next.dumped ++ record { chip = c; out = o; copy = h.copy } ∷ [] })) else None) s)
     by_room h true true full = drops_none s s refl
     by_room h true false full =
         let one : DumpRec = record { chip = c; out = o; copy = h.copy } in

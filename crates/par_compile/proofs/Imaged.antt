@@ -1,5 +1,6 @@
 -- The image of final tables is valid, has the entries of each chip, and loads them.
-use Rattle.std.proofs.Common.{◌≡◌, ℕ, zero, suc, ◌+◌, ◌*◌, ◌/◌, ◌%◌, ◌<◌, ◌≤◌, ◌==◌, false, List, [], ◌∷◌, ◌++◌, length, get_or, take, map, Some, Result, Ok, refl, sym, ap, ◌∙◌, subst, arith, inl, inr}
+use Rattle.std.proofs.Common.{◌≡◌, ℕ, zero, suc, ◌+◌, ◌*◌, ◌/◌, ◌%◌, ◌<◌, ◌≤◌, ◌==◌, false, List, [], ◌∷◌, ◌++◌, length, get_or, take, map, Some, Result, Ok, refl, sym}
+use Rattle.std.proofs.Common.{ap, ◌∙◌, subst, arith, inl, inr}
 use Rattle.std.proofs.lemmas.Bool.{cases_order, eqb-true, eq-eqb, false_from_ne_true, cond-true, cond-false}
 use Rattle.std.proofs.lemmas.List.{append-nil, length-append, length-map, take_all}
 use Rattle.std.proofs.lemmas.List.Elements.{All-nil, All-cons, All-append, All-head, All-tail}
@@ -107,7 +108,8 @@ module _ (m : Description) (some : 0 < m.height) where
       by [] rest = rest
       by (e ∷ es) rest =
           let at : index_of m (chip_of m n) ≡ n = index_of-chip_of m n in
-          let other : (index_of m (chip_of m n) == i) ≡ false = false_from_ne_true (index_of m (chip_of m n) == i) (λ hit. let is : index_of m (chip_of m n) ≡ i = eqb-true (index_of m (chip_of m n)) i hit in omega (arith, at, is, less)) in
+          let other : (index_of m (chip_of m n) == i) ≡ false =
+          false_from_ne_true (index_of m (chip_of m n) == i) (λ hit. let is : index_of m (chip_of m n) ≡ i = eqb-true (index_of m (chip_of m n)) i hit in omega (arith, at, is, less)) in
           cond-false (index_of m (chip_of m n) == i) (e ∷ es) (rows_of_index m.height (tables_from m (n + 1) fs) i) other ∙ rest
 
   -- the rows of a chip are the entries of its final table
@@ -129,7 +131,8 @@ module _ (m : Description) (some : 0 < m.height) where
       by [] rest = rest
       by (e ∷ es) rest =
           let place : index_of m (chip_of m n) ≡ n = index_of-chip_of m n in
-          let other : (index_of m (chip_of m n) == i) ≡ false = false_from_ne_true (index_of m (chip_of m n) == i) (λ hit. let is_i : index_of m (chip_of m n) ≡ i = eqb-true (index_of m (chip_of m n)) i hit in omega (arith, place, is_i, at)) in
+          let other : (index_of m (chip_of m n) == i) ≡ false =
+          false_from_ne_true (index_of m (chip_of m n) == i) (λ hit. let is_i : index_of m (chip_of m n) ≡ i = eqb-true (index_of m (chip_of m n)) i hit in omega (arith, place, is_i, at)) in
           cond-false (index_of m (chip_of m n) == i) (e ∷ es) (rows_of_index m.height (tables_from m (n + 1) fs) i) other ∙ rest
 
 -- ---- the image

@@ -115,7 +115,8 @@ module _ (m : Description) (nets : List NetPlan) (target : ℕ) (lists : List (L
       keeps c f marks originals is = record {
         rows = λ k d below.
             let final = is.stands.shortened.final in
-            let block = subst (λ (es : List Entry). All (λ (e : Entry). (bit_and e.key e.mask ≡ e.key) × (e.mask < 2 ^ 32)) es) (sym final.entries) (of_block (rows_at final.rows final.kept)) k d below in
+            let block = subst (λ (es : List Entry). All (λ (e : Entry). (bit_and e.key e.mask ≡ e.key) × (e.mask < 2 ^ 32)) es)
+            (sym final.entries) (of_block (rows_at final.rows final.kept)) k d below in
             let leads = rows_lead m nets routed c is.table.rows (is_plain m nets c marks is.table originals is.plain) in
             (block.0, block.1, lead is.table.rows leads (get_or f.entries k d).route (is.stands.routes k d below));
       }
@@ -135,7 +136,8 @@ module _ (m : Description) (nets : List NetPlan) (target : ℕ) (lists : List (L
       let there = Contains-permutation serves.originals (served here.2.table.rows) x serves.served mine.1 in
       let matching : Matches x.block key = ap (λ (b : Block). bit_and key b.mask) mine.2.keys ∙ (k.matches ∙ sym (ap (λ (b : Block). b.key) mine.2.keys)) in
       let ports : port ≡ x.port = one_port m net.tree.root net.tree.edges net.targets tree c port x.port comes mine.2.port in
-      let table : slice_index_or (map loaded_of finals) (index_of m c) [] ≡ loaded_of f = get_or_from_slice_get (map loaded_of finals) (index_of m c) (loaded_of f) [] (slice_get-mapped loaded_of finals (index_of m c) f placed.1) in
+      let table : slice_index_or (map loaded_of finals) (index_of m c) [] ≡ loaded_of f =
+      get_or_from_slice_get (map loaded_of finals) (index_of m c) (loaded_of f) [] (slice_get-mapped loaded_of finals (index_of m c) f placed.1) in
       same_output (slice_index_or (map loaded_of finals) (index_of m c) []) (loaded_of f) port x.port key x.route o (is_wanted net.tree.edges net.targets c o) table ports
       (gives_route here.2.table.rows f x here.2.stands.serves there key k.fits matching) (mine.2.outputs o valid)
 

@@ -70,7 +70,8 @@ pub record AreGiven (target : ℕ) (works rest : List Work) (finals : List Final
   pub left : All IsLeft rest
 
 -- one more
-pub given_more : (target : ℕ) (works rest : List Work) (finals : List Final) (w : Work) (f : Final) → AreGiven target works (w ∷ rest) finals → GivesFinal target w f → AreGiven target works rest (finals ++ f ∷ [])
+pub given_more : (target : ℕ) (works rest : List Work) (finals : List Final) (w : Work) (f : Final) → AreGiven target works (w ∷ rest) finals →
+    GivesFinal target w f → AreGiven target works rest (finals ++ f ∷ [])
 given_more target works rest finals w f so_far more = record {
   front = so_far.front ++ w ∷ [];
   whole = append_assoc so_far.front (w ∷ []) rest ∙ so_far.whole;

@@ -1,5 +1,6 @@
 -- The cores that are free, as a machine.
-use Rattle.std.proofs.Common.{◌≡◌, ℕ, ◌+◌, ◌-◌, ◌*◌, ◌/◌, ◌%◌, ◌<◌, ◌≤◌, refl, sym, ap, ◌∙◌, subst, arith, inl, inr, List, [], ◌∷◌, ◌++◌, map, take, Bool, true, false, not, ◌||◌, cond, Option, Some, None}
+use Rattle.std.proofs.Common.{◌≡◌, ℕ, ◌+◌, ◌-◌, ◌*◌, ◌/◌, ◌%◌, ◌<◌, ◌≤◌, refl, sym, ap, ◌∙◌, subst, arith, inl, inr, List, [], ◌∷◌, ◌++◌, map, take, Bool, true, false}
+use Rattle.std.proofs.Common.{not, ◌||◌, cond, Option, Some, None}
 use Rattle.std.proofs.lemmas.Bool.{and_from, and_parts, cases_Bool, leb-true, ltb-true, not-true, or_parts}
 use Rattle.std.proofs.lemmas.List.FromFn.{filter_of_map_range_with_len_more, get_or-map-range_with_len, length-map-range_with_len}
 use Rattle.std.proofs.lemmas.{List.Elements.All-append, List.Elements.All-weaker, List.Folds.list_any-append, Option.slice_get-get_or}
@@ -119,7 +120,8 @@ placed_free h vertices spots memory placed none =
     let at : slice_get spots has.0 ≡ Some s = slice_get-get_or spots has.0 s has.1 ∙ ap Some has.2 in
     let of = slice_get_there vertices has.0 (subst (λ n. has.0 < n) placed.all has.1) in
     let core : IsCoreFor (free_machine h) placed.order (take has.0 vertices) (take has.0 spots) of.0 s =
-    subst (λ (o : Option Edge). MatchOption o (IsCoreFor (free_machine h) placed.order (take has.0 vertices) (take has.0 spots) of.0 s) (λ device. HasDeviceRoom (free_machine h) device × (s ≡ device_spot device)))
+    subst (λ (o : Option Edge). MatchOption o (IsCoreFor (free_machine h) placed.order (take has.0 vertices) (take has.0 spots) of.0 s)
+    (λ device. HasDeviceRoom (free_machine h) device × (s ≡ device_spot device)))
     (All-at (λ (v : Vertex). v.device ≡ None) vertices has.0 of.0 none of.1) (placed.first.each has.0 of.0 s of.1 at)
     in
     usable_free h s (and_parts _ _ core.free).0)

@@ -75,7 +75,8 @@ module _ (h g new other : Host) (n : ℕ) (job : AppJob) (valid : IsValidJob job
   same_ranges : one.ranges ≡ two.ranges
   same_ranges =
       one_served h.mesh.setup.machine (all_ranges h.apps) (claims_of h.mesh.setup.machine a.plan) one.ranges two.ranges a.loaded.served
-      (subst (λ (p : AppPlan). AreServed h.mesh.setup.machine (all_ranges h.apps) (claims_of h.mesh.setup.machine p) two.ranges) (sym same_job_plan) (served_there h g alike.machine alike.apps job valid b.plan two.ranges b.loaded.served))
+      (subst (λ (p : AppPlan). AreServed h.mesh.setup.machine (all_ranges h.apps) (claims_of h.mesh.setup.machine p) two.ranges) (sym same_job_plan)
+      (served_there h g alike.machine alike.apps job valid b.plan two.ranges b.loaded.served))
 
   new_machine : new.mesh.setup.machine ≡ other.mesh.setup.machine
   new_machine = ap (λ (m : State). m.setup.machine) a.loaded.mesh ∙ (alike.machine ∙ sym (ap (λ (m : State). m.setup.machine) b.loaded.mesh))
@@ -141,8 +142,10 @@ module _ (h g new other : Host) (n : ℕ) (job : AppJob) (valid : IsValidJob job
         let more : length a.plan.packets ≡ length b.plan.packets = ap (λ (p : AppPlan). length p.packets) same_job_plan in
         omega (arith, a.loaded.packets, b.loaded.packets, alike.packets, more);
     unsent = same_unsent;
-    quiet = same_quiet h.mesh new.mesh (ap (λ (m : State). m.inputs) a.loaded.mesh) (ap (λ (m : State). m.hands) a.loaded.mesh) (ap (λ (m : State). m.cores) a.loaded.mesh) (ap (λ (m : State). m.dumped) a.loaded.mesh) alike.quiet;
-    other_quiet = same_quiet g.mesh other.mesh (ap (λ (m : State). m.inputs) b.loaded.mesh) (ap (λ (m : State). m.hands) b.loaded.mesh) (ap (λ (m : State). m.cores) b.loaded.mesh) (ap (λ (m : State). m.dumped) b.loaded.mesh) alike.other_quiet;
+    quiet = same_quiet h.mesh new.mesh (ap (λ (m : State). m.inputs) a.loaded.mesh) (ap (λ (m : State). m.hands) a.loaded.mesh)
+        (ap (λ (m : State). m.cores) a.loaded.mesh) (ap (λ (m : State). m.dumped) a.loaded.mesh) alike.quiet;
+    other_quiet = same_quiet g.mesh other.mesh (ap (λ (m : State). m.inputs) b.loaded.mesh) (ap (λ (m : State). m.hands) b.loaded.mesh)
+        (ap (λ (m : State). m.cores) b.loaded.mesh) (ap (λ (m : State). m.dumped) b.loaded.mesh) alike.other_quiet;
   }
 
 alike_after_load : (h g new other : Host) (n : ℕ) (job : AppJob) (a b : LoadAnswer) → IsValidJob job → AreAlike h g → length h.mesh.unsent ≡ length h.mesh.setup.spots → a ≡ b →

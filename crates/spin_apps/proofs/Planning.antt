@@ -108,7 +108,8 @@ packets_are m spots nets apps packets are all = All-weaker (IsRunPacket nets) (I
 pub nets_on : (n : ℕ) (spots : List Spot) (nets : List Net) → length spots ≡ n → All (IsValidNet n) nets → All (IsValidNet (length spots)) nets
 nets_on n spots nets same valid = subst (λ k. All (IsValidNet k) nets) (sym same) valid
 
-module _ {h : Host} {m : Description} {job : AppJob} {spots : List Spot} {sdram : List ℕ} {packets : List Packet} (apps : List AppNet) (machine : h.mesh.setup.machine ≡ m) (placed : IsPlaced h job spots)
+module _ {h : Host} {m : Description} {job : AppJob} {spots : List Spot} {sdram : List ℕ} {packets : List Packet}
+    (apps : List AppNet) (machine : h.mesh.setup.machine ≡ m) (placed : IsPlaced h job spots)
     (bytes : sdram ≡ map (λ (v : Vertex). v.sdram) job.graph.vertices) (are : AllZip (IsNetFor m spots) job.graph.nets apps) (copied : packets ≡ job.run.packets) where
   abbrev made : AppPlan
   made = record { spots = spots; sdram = sdram; nets = apps; packets = packets }

@@ -38,7 +38,8 @@ IsInOrder edges = AllPairs (λ e f. IsEdgeBefore f e → ⊥) edges
 -- an edge before the first of a list in order does not stand there
 not_there : (e f : Edge) (fs : List Edge) → IsInOrder (f ∷ fs) → IsEdgeBefore e f → times e (f ∷ fs) ≤ 0
 not_there e f fs up before =
-    let none : All (λ g. count_at (edge_eq e g) ≤ 0) (f ∷ fs) = All-cons (λ g. count_at (edge_eq e g) ≤ 0) f fs (off f (λ same. not_before_itself f (subst (λ g. IsEdgeBefore g f) same before)) (edge_eq e f) refl)
+    let none : All (λ g. count_at (edge_eq e g) ≤ 0) (f ∷ fs) =
+    All-cons (λ g. count_at (edge_eq e g) ≤ 0) f fs (off f (λ same. not_before_itself f (subst (λ g. IsEdgeBefore g f) same before)) (edge_eq e f) refl)
     (λ k d below.
     let later : IsEdgeBefore (get_or fs k d) f → ⊥ = AllPairs-head (λ (a b : Edge). IsEdgeBefore b a → ⊥) f fs up k d below in
     off (get_or fs k d) (λ same. later (subst (λ g. IsEdgeBefore g f) same before)) (edge_eq e (get_or fs k d)) refl) in

@@ -116,7 +116,8 @@ module _ (m : Description) (v : Image) where
         λ k. Split (same.0 k) (same.2 k) (rows k)
 
 -- the net that a wrong verdict names is the same for each list of memories
-pub wrong_named : (m : Description) (v : Image) (nets : List NetPlan) (verdict : Verdict) (i : ℕ) (c : Chip) (key : ℕ) (Is : List (List Entry) → NetPlan → Type 0) (Loaded : List (List Entry) → Type 0) →
+pub wrong_named : (m : Description) (v : Image) (nets : List NetPlan) (verdict : Verdict) (i : ℕ) (c : Chip) (key : ℕ)
+    (Is : List (List Entry) → NetPlan → Type 0) (Loaded : List (List Entry) → Type 0) →
     IsVerdict m nets v verdict → verdict ≡ Wrong i c key →
     ((memories : List (List Entry)) → Loaded memories → (net : NetPlan) × (slice_get nets i ≡ Some net) × Is memories net) →
     (net : NetPlan) × (slice_get nets i ≡ Some net) × ((memories : List (List Entry)) → Loaded memories → Is memories net)

@@ -41,7 +41,8 @@ module _ (m : Description) (graph : Graph) where
   none_due trees nets r are (keys_out spots memory placed i v out at is) = keying.not_both graph.nets are.blocks i are.keyed out
 
   -- Whatever is answered, if what it says is so, it is the refusal that is due.
-  pub refused_where : {X : Type 0} (P : X → Type 0) → ((x : X) → P x → (r : Refusal) → IsJobRefusal m graph r → ⊥) → (result : Result X Refusal) → IfOk result P → IfErr result (HasNoAnswer m graph) → (r : Refusal) →
+  pub refused_where : {X : Type 0} (P : X → Type 0) → ((x : X) → P x → (r : Refusal) → IsJobRefusal m graph r → ⊥) →
+      (result : Result X Refusal) → IfOk result P → IfErr result (HasNoAnswer m graph) → (r : Refusal) →
       IsJobRefusal m graph r → IsRefusedBy result r Memory
   refused_where P never (Ok x) is cause r due = absurd (never x is r due)
   refused_where P never (Err s) is (inl other) r due = inl (ap Err (one_due s r other due))
@@ -51,7 +52,8 @@ module _ (m : Description) (graph : Graph) where
       IsJobRefusal m graph r → IsRefusedBy result r Memory
   refused_nets trees = refused_where (AreNetsWith m graph trees) (λ nets are r due. none_due trees nets r are due)
 
-  pub refused_answer : (trees : List (List Edge)) (bytes : List ℕ) (result : Result (List ℕ) Refusal) → IfOk result (IsAnswer m graph trees bytes) → IfErr result (HasNoAnswer m graph) → (r : Refusal) →
+  pub refused_answer : (trees : List (List Edge)) (bytes : List ℕ) (result : Result (List ℕ) Refusal) →
+      IfOk result (IsAnswer m graph trees bytes) → IfErr result (HasNoAnswer m graph) → (r : Refusal) →
       IsJobRefusal m graph r → IsRefusedBy result r Memory
   refused_answer trees bytes = refused_where (IsAnswer m graph trees bytes) (λ text is r due. none_due trees is.nets r is.are due)
 

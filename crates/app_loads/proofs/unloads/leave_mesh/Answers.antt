@@ -41,7 +41,8 @@ give_all-requires c = record {
   taken = (
     c.args.mesh.setup.machine,
     c.requires.can.others,
-    taken_still c.args.mesh.setup.machine c.requires.can.others c.args.app.now.ranges c.as_slice.result.now c.args.regions.now c.make_ready.new.regions c.make_ready.ensures.same c.as_slice.ensures c.requires.can.taken,
+    taken_still c.args.mesh.setup.machine c.requires.can.others c.args.app.now.ranges c.as_slice.result.now c.args.regions.now
+        c.make_ready.new.regions c.make_ready.ensures.same c.as_slice.ensures c.requires.can.taken,
   );
   room = subst (λ (l : List Range). HaveRoom l c.make_ready.new.regions) (sym c.as_slice.ensures) c.in-Ok.ensures.room;
 }

@@ -53,7 +53,9 @@ loop-number-preserved c =
     let d : Packet = record { net = 0; index = 0; payload = None } in
     let k = known c.args.mesh.now.setup.spots c.args.nets.now c.args.packets.now c.requires.listed.of_nets c.requires.listed.sources c.loop-number.number d c.loop-number-test.true in
     record {
-      opened = grows c.args.mesh.now.setup c.args.nets.now c.args.packets.now c.loop-number.number d c.index-nets-net.result (slice_index_or c.args.sources.now (slice_index_or c.args.packets.now c.loop-number.number d).net 0) c.first_copy-copy.result c.loop-number.mesh c.add.new.self
+      opened = grows c.args.mesh.now.setup c.args.nets.now c.args.packets.now c.loop-number.number d c.index-nets-net.result
+          (slice_index_or c.args.sources.now (slice_index_or c.args.packets.now c.loop-number.number d).net 0) c.first_copy-copy.result c.loop-number.mesh c.add.new.self
           k c.loop-number-test.true c.loop-number.invariant.opened c.first_copy-copy.ensures
-          (listed_source c.args.mesh.now.setup.spots c.args.nets.now c.args.sources.now (slice_index_or c.args.packets.now c.loop-number.number d) 0 c.requires.listed.vertices k).1 c.in_ok-add.ensures.ok;
+          (listed_source c.args.mesh.now.setup.spots c.args.nets.now c.args.sources.now (slice_index_or c.args.packets.now c.loop-number.number d) 0 c.requires.listed.vertices k).1
+          c.in_ok-add.ensures.ok;
     }

@@ -23,7 +23,8 @@ take-requires c = record {
       finds_host steps i c.step-item.result c.loop-step.hosted at c.loop-step.invariant.find;
   numbers = let few = c.loop-step.invariant.few in
       omega (arith, few, c.loop-step-test.true, c.requires.few);
-  valid = All-at IsValidStep c.args.steps.now c.loop-step.step-index c.step-item.result c.requires.valid (slice_get_read c.args.steps.now _ c.loop-step.step-index c.step-item.result refl c.loop-step-test.true c.step-item.is);
+  valid = All-at IsValidStep c.args.steps.now c.loop-step.step-index c.step-item.result c.requires.valid
+      (slice_get_read c.args.steps.now _ c.loop-step.step-index c.step-item.result refl c.loop-step-test.true c.step-item.is);
 }
 
 pub loop-step-preserved : goal.loop-step-preserved

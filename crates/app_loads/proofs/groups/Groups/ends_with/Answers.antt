@@ -11,5 +11,6 @@ returns c is =
     let b = c.self.inside.groups.ok in
     let long : c.len-count.result ≡ length gs = omega (arith, a, b) in
     subst (λ (l : List Grouped). drop c.args.before (all_grouped l) ≡ deliveries_at (last_arrivals l) (sent_of c.args.copy)) c.self.view_is
-    (behind_others gs c.len-count.result c.index.result.now long c.if-count-eq0.false c.index.ensures c.args.before c.self.inside.count (c.self.inside.count - c.args.before) (sent_of c.args.copy) c.self.invariant
+    (behind_others gs c.len-count.result c.index.result.now long c.if-count-eq0.false c.index.ensures c.args.before c.self.inside.count
+    (c.self.inside.count - c.args.before) (sent_of c.args.copy) c.self.invariant
     c.if-self-before.false refl (c.ends_with.ensures is))
