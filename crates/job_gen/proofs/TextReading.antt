@@ -248,14 +248,8 @@ run_back packets back =
     (one_more (codes "target") (number (unsigned 0)) fifth (IsUtf8-are_ascii (codes "target") refl) (number_back 0 (omega arith))
     (one_more (codes "turns") (number (unsigned 64)) sixth (IsUtf8-are_ascii (codes "turns") refl) (number_back 64 (omega arith))
     (one_more (codes "workers") (number (unsigned 4)) no_members (IsUtf8-are_ascii (codes "workers") refl) (number_back 4 (omega arith)) no_more))))))
-    (rw (
-      sent.same,
-      number_of-decimal 16 (omega arith),
-      number_of-decimal 1200 (omega arith),
-      number_of-decimal 0 (omega arith),
-      number_of-decimal 64 (omega arith),
-      number_of-decimal 4 (omega arith),
-    ) refl)
+    (rw (sent.same, number_of-decimal 16 (omega arith), number_of-decimal 1200 (omega arith))
+    (rw (number_of-decimal 0 (omega arith), number_of-decimal 64 (omega arith), number_of-decimal 4 (omega arith)) refl))
 
 job_back : (job : Drawn) → IsDrawn job → ItemsReadBack (items_of (map packet_data job.packets)) → ReadsBack (job_data job)
 unfolding job_data
