@@ -55,9 +55,8 @@ arrives_at_core s v k room =
 -- the chip of a vertex is inside the grid
 vertex_inside : (s : State) → IsMesh s → (v : ℕ) (spot : Spot) → slice_get s.setup.spots v ≡ Some spot → IsInside s.setup.machine spot.chip
 vertex_inside s mesh v spot is =
-    let within = slice_get_within s.setup.spots v spot is in
     let there : slice_index_or s.setup.spots v spot ≡ spot = get_or_from_slice_get s.setup.spots v spot spot is in
-    let site : IsSite s.setup.machine spot = subst (λ (x : Spot). IsSite s.setup.machine x) there (mesh.sites v spot within) in
+    let site : IsSite s.setup.machine spot = subst (λ (x : Spot). IsSite s.setup.machine x) there (mesh.sites v spot (slice_get_within s.setup.spots v spot is)) in
     live_inside s.setup.machine spot.chip (site_parts s.setup.machine spot site).0
 
 inject_by_room : (s : State) (v : ℕ) (spot : Spot) (k : McCopy) (rest : List McCopy) → IsInside s.setup.machine spot.chip →

@@ -64,11 +64,10 @@ length_of_net : (i : ℕ) (net : NetPlan) (p : Packet) (v : ℕ) (spots : List S
     length (gathered (delivery_at i net p) v spots) ≡ count_by (λ (spot : Spot). list_any (spot_eq spot) net.targets) spots
 length_of_net i net p v [] = refl
 length_of_net i net p v (x ∷ spots) =
-    let first = length_at i net p v x in
     let rest = length_of_net i net p (v + 1) spots in
     let whole = length-append (delivery_at i net p v x) (gathered (delivery_at i net p) (v + 1) spots) in
     let counts = count_by-cons (λ (spot : Spot). list_any (spot_eq spot) net.targets) x spots in
-    omega (arith, first, rest, whole, counts)
+    omega (arith, length_at i net p v x, rest, whole, counts)
 
 module _ (spots : List Spot) (nets : List NetPlan) (each : (i : ℕ) (p : Packet) (o : Option NetPlan) → slice_get nets p.net ≡ o → length (deliveries_of spots i p o) ≡ targets_of_net o) where
   length_of_packets : (i : ℕ) (ps : List Packet) → length (gathered (λ j (p : Packet). deliveries_of spots j p (slice_get nets p.net)) i ps) ≡ expected_count nets ps
@@ -139,7 +138,5 @@ module _ (s : State) (nets : List NetPlan) (packets : List Packet) (mesh : IsMes
 
   pub as_many : length s.delivered ≡ expected_count nets packets
   as_many =
-      let a = no_more in
-      let b = no_fewer in
       let long : length all_asked ≡ expected_count nets packets = length_of_packets s.setup.spots nets of_packet_long 0 packets in
-      omega (arith, a, b, long)
+      omega (arith, no_more, no_fewer, long)

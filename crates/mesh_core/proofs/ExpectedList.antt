@@ -155,8 +155,7 @@ module _ (spots : List Spot) (nets : List NetPlan) (packets : List Packet) where
   -- the list is in order
   packet_of : (i : ℕ) (p : Packet) (net : Option NetPlan) (y : Delivery) → Among y (deliveries_of spots i p net) → y.copy.packet ≡ i
   packet_of i p net y a =
-      let of = of_net_parts i p net y a in
-      ap (λ (d : Delivery). d.copy.packet) of.2.3.is_delivery
+      ap (λ (d : Delivery). d.copy.packet) (of_net_parts i p net y a).2.3.is_delivery
 
   one_at : (i : ℕ) (net : NetPlan) (p : Packet) (v : ℕ) (spot : Spot) → Ordered ComesBefore (delivery_at i net p v spot)
   one_at i net p v spot = by_test (list_any (spot_eq spot) net.targets)
@@ -207,8 +206,7 @@ module _ (s : State) (nets : List NetPlan) (packets : List Packet) (mesh : IsMes
   pub listed_once : (y : Delivery) → Among y the_list → count_by (is_of y.copy.packet y.vertex) s.delivered ≡ 1
   listed_once y there =
       let l = listed_parts s.setup.spots nets packets y there in
-      let has = net_in_list nets l.packet l.net l.is_net in
-      let w = some_way s.setup.machine s.setup.spots nets stand l.net has l.spot l.is_target in
+      let w = some_way s.setup.machine s.setup.spots nets stand l.net (net_in_list nets l.packet l.net l.is_net) l.spot l.is_target in
       let place : w.2 ≡ l.vertex = AllPairs-apart s.setup.spots l.spot mesh.different w.2 l.vertex (vertex_at_stands s.setup.spots l.spot w.2 w.3.ends) l.is_spot in
       let one : count_by (is_of l.number w.2) s.delivered ≡ 1 = expected.each_once l.number l.packet l.net l.is_packet l.is_net l.spot w.0 w.1 w.2 w.3 in
       let number : y.copy.packet ≡ l.number = ap (λ (d : Delivery). d.copy.packet) l.is_delivery in

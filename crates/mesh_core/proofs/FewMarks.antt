@@ -65,10 +65,9 @@ few_different spots ts different within =
         let in_a = within i nothing (in_ts i low_i) in
         let in_b = within j nothing (in_ts j low) in
         let places : place_in spots a ≡ place_in spots b = sym (read i d low_i) ∙ (e ∙ read j d low) in
-        let at_a = there a in_a in
         let at_b = there b in_b in
         different i j nothing before (in_ts j low)
-        (at_a.1 ∙ (ap (λ n. slice_index_or spots n a) places ∙ (get_or_default spots (place_in spots b) a b at_b.0 ∙ sym at_b.1)))
+        ((there a in_a).1 ∙ (ap (λ n. slice_index_or spots n a) places ∙ (get_or_default spots (place_in spots b) a b at_b.0 ∙ sym at_b.1)))
 
 module _ (s : State) (nets : List NetPlan) (packets : List Packet) (job : MeetsJobLedger s nets packets) where
   stand : AreNetsOn s.setup.machine s.setup.spots nets

@@ -18,8 +18,7 @@ few_outs : (r : Route) → length (outs_of r) ≤ 24
 few_outs r =
     let counted = length-filter (has r) all_outs in
     let within = count_by-le-length (has r) all_outs in
-    let all = all_few in
-    omega (arith, counted, within, all)
+    omega (arith, counted, within, all_few)
 
 few_outputs : (s : State) (c : Chip) (port : Port) (k : McCopy) → length (outputs s.setup c port k) ≤ 24
 few_outputs s c port k = by_last (k.hop == last_hop) (outs_of (lookup (table_at s.setup.machine s.setup.tables c) k.key port))
@@ -43,8 +42,7 @@ few_come s x come move = by_station x.copy x.station move
     by_station k (unsent v) m = one _ m.2
     by_station k (in_queue c port) m =
         let long : length come ≡ length (outputs s.setup c port k) = ap length m ∙ length-map (outputs s.setup c port k) (λ o. mark k (in_hand c o)) in
-        let few = few_outputs s c port k in
-        omega (arith, long, few)
+        omega (arith, long, few_outputs s c port k)
     by_station k (in_hand c o) (inl m) = one _ m
     by_station k (in_hand c o) (inr m) = crossing k c o m
     by_station k (at_core v) m = one _ m

@@ -22,5 +22,4 @@ light weight_of [] n each = omega arith
 light weight_of (y ∷ ys) n each =
     let first = each y (inl refl) in
     let rest = light weight_of ys n (λ z a. each z (inr a)) in
-    let whole = sum_by-cons weight_of y ys in
-    omega (arith, first, rest, whole)
+    omega (arith, first, rest, sum_by-cons weight_of y ys)

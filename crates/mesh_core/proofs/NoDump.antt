@@ -70,8 +70,7 @@ module _ (s : State) (nets : List NetPlan) (labels : ℕ → Label) (numbers : L
                 let fewer = count_le (λ (j : McCopy). j.packet == i) (λ j. false) free.0 (λ j among same.
                 absurd (All-contains (λ (d : McCopy). d.packet ≢ k.packet) free.0 j free.2 (among_contains j free.0 among) (eqb-true j.packet i same ∙ sym number)))
                 in
-                let zero_count = count_by-none free.0 in
-                omega (arith, fewer, zero_count)
+                omega (arith, fewer, count_by-none free.0)
 
     room : has_room_behind s (behind s.setup c o) ≡ true
     room = room_of s (behind s.setup c o) free.0 free.1 (omega (arith, short, roomy))

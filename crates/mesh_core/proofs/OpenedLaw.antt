@@ -276,8 +276,7 @@ module _ (setup : Setup) (nets : List NetPlan) (packets : List Packet) where
             (record { net = u.sent.net; label = label_in u.sent.net u.packet }, ap (asked_by nets packets) (unsent_number k u) ∙ asked);
         each_asked = λ i a is.
             let parts = asked_parts nets packets i a is in
-            let in_list = net_in_list nets parts.packet parts.net parts.is_net in
-            let on_spot = All-contains (λ n. Contains spots n.source) nets parts.net stand.sources in_list in
+            let on_spot = All-contains (λ n. Contains spots n.source) nets parts.net stand.sources (net_in_list nets parts.packet parts.net parts.is_net) in
             let start = vertex_there spots parts.net.source on_spot in (
               mark (first_copy i parts.net parts.packet) (unsent start.0),
               has_mark i parts.packet parts.net start.0 parts.is_packet parts.is_net start.1,

@@ -69,8 +69,7 @@ module _ (s : State) (nets : List NetPlan) (labels : ℕ → Label) (ledger : Me
       let px : p x ≡ true = and_from (x.copy.packet == x.copy.packet) (is_on_trail t.from t.to t.branch x) (eq-eqb x.copy.packet x.copy.packet refl) t.on in
       let py : p y ≡ true = and_from (y.copy.packet == x.copy.packet) (is_on_trail t.from t.to t.branch y) (eq-eqb y.copy.packet x.copy.packet same) on in
       let two = count_two p x y (marks_of s) apart px py (contains_among x (marks_of s) has) (contains_among y (marks_of s) there) in
-      let one = t.once in
-      absurd (omega (arith, two, one))
+      absurd (omega (arith, two, t.once))
 
   -- ---- behind a hand
 
@@ -196,9 +195,7 @@ module _ (s : State) (nets : List NetPlan) (labels : ℕ → Label) (ledger : Me
         and_from (j.packet == a.packet) (is_on_trail t.from t.to t.branch (mark j at)) (eq-eqb j.packet a.packet same) (same_trail a t j among same))
         in
         let mapped : count_by p (marks_at at q) ≡ count_by (λ j. p (mark j at)) q = count_by-map p (λ (j : McCopy). mark j at) q in
-        let all = part p in
-        let one = t.once in
-        omega (arith, fewer, mapped, all, one)
+        omega (arith, fewer, mapped, part p, t.once)
   ]
 
   -- the mark of a copy in a queue
@@ -230,8 +227,7 @@ module _ (s : State) (nets : List NetPlan) (labels : ℕ → Label) (ledger : Me
       subst (λ l. count_by p (marks_at (in_queue (chip_of s.setup.machine (l / 7)) (port_of (l % 7))) q) ≤ count_by p (input_marks s)) n_is
       (count_gathered_part (λ l copies. marks_at (in_queue (chip_of s.setup.machine (l / 7)) (port_of (l % 7))) copies) p 0 s.inputs i q at)
       in
-      let whole = in_input_marks p in
-      omega (arith, part, whole))
+      omega (arith, part, in_input_marks p))
       (λ x t j among same.
       let there = comes_parts t.branch x.hop c port t.on in
       let place : slice_get t.branch x.hop ≡ Some (record { chip = c; out = there.exit.out }) =
@@ -247,8 +243,7 @@ module _ (s : State) (nets : List NetPlan) (labels : ℕ → Label) (ledger : Me
       let part : count_by p (marks_at (at_core v) q) ≤ count_by p (core_marks s) =
       subst (λ l. count_by p (marks_at (at_core l) q) ≤ count_by p (core_marks s)) n_is (count_gathered_part (λ l copies. marks_at (at_core l) copies) p 0 s.cores v q at)
       in
-      let whole = in_core_marks p in
-      omega (arith, part, whole))
+      omega (arith, part, in_core_marks p))
       (λ x t j among same.
       let is_to : v ≡ t.to = eqb-true v t.to ((and_parts (v == t.to) (x.hop == length t.branch) t.on).0) in
       ends_on s t.net x.packet t.tracked t.target t.way.is_target t.branch t.from t.to t.way (mark j (at_core v)) (waiting_mark (core v) q at j among) same

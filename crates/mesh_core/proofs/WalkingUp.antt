@@ -230,8 +230,7 @@ module _ (s : State) (net : NetPlan) (packet : ℕ) (tracked : IsTracked s net p
     told_unsent : ((k : Mark) → Contains (marks_of s) k → k.copy.packet ≡ packet → is_on_trail from to xs k ≡ true → IsBefore 0 k.copy.hop k.station) →
         IsFoundThere s packet xs from to Unsent
     told_unsent before =
-        let once = only_one in
-        let k = counted (is_packet_on_trail packet from to xs) (marks_of s) (omega (arith, once)) in
+        let k = counted (is_packet_on_trail packet from to xs) (marks_of s) (omega (arith, only_one)) in
         let has = among_contains k.0 (marks_of s) k.1 in
         let of_packet : k.0.copy.packet ≡ packet =
         eqb-true k.0.copy.packet packet ((and_parts (k.0.copy.packet == packet) (is_on_trail from to xs k.0) k.2).0)

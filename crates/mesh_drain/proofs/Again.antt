@@ -204,14 +204,12 @@ same_at_rest : (key : ℕ) (k : McCopy) (s t : State) → IsMesh s → IsMesh t 
 same_at_rest key k s t mesh_s mesh_t quiet_s quiet_t same =
     let chips = ap (λ (u : Setup). u.machine.width * u.machine.height) same in
     let spots = ap (λ (u : Setup). length u.spots) same in
-    let is = mesh_s.input_lists in
-    let it = mesh_t.input_lists in
     let hs = mesh_s.hand_list in
     let ht = mesh_t.hand_list in
     let cs = mesh_s.core_lists in
     let ct = mesh_t.core_lists in
     record {
-      inputs = all_same [] s.inputs t.inputs quiet_s.inputs_empty quiet_t.inputs_empty (is ∙ (ap (λ n. 7 * n) chips ∙ sym it)) ∙ sym
+      inputs = all_same [] s.inputs t.inputs quiet_s.inputs_empty quiet_t.inputs_empty (mesh_s.input_lists ∙ (ap (λ n. 7 * n) chips ∙ sym mesh_t.input_lists)) ∙ sym
           (all_mapped (map (numbered key k)) [] refl t.inputs quiet_t.inputs_empty);
       hands = all_same None s.hands t.hands quiet_s.hands_empty quiet_t.hands_empty (hs ∙ (chips ∙ sym ht)) ∙ sym (all_mapped (held key k) None refl t.hands quiet_t.hands_empty);
       cores = all_same [] s.cores t.cores quiet_s.cores_empty quiet_t.cores_empty (cs ∙ (spots ∙ sym ct)) ∙ sym (all_mapped (map (numbered key k)) [] refl t.cores quiet_t.cores_empty);

@@ -42,8 +42,7 @@ module _ (s : State) (kept : MeetsSomeLedger s) (quiet : NothingWaits s) (v : �
   unfolding sent_mesh
   injected_is =
       let i : ℕ = queue_at s.setup.machine spot.chip Local in
-      let there = queue_there s [] kept spot.chip Local live_chip in
-      let at : slice_get s.inputs i ≡ Some [] = there.1 ∙ ap Some (empty_at s quiet i) in
+      let at : slice_get s.inputs i ≡ Some [] = (queue_there s [] kept spot.chip Local live_chip).1 ∙ ap Some (empty_at s quiet i) in
       let room : has_room s.setup.capacity (slice_get s.inputs i) ≡ true = ap (has_room s.setup.capacity) at ∙ lt-ltb 0 s.setup.capacity kept.mesh.room in
       let after : Option (List McCopy) → State = λ q. record s { unsent = slice_set s.unsent v rest; inputs = push_at s.inputs i k q } in
       moved s sent_mesh (Inject v)
@@ -130,10 +129,8 @@ few_in_mesh s mesh =
     let a = parts i below_i in
     subst (λ n. n < 24 * (s.setup.machine.width * s.setup.machine.height)) (sym (is i d below)) (spot_place-below s.setup.machine (get_or s.setup.spots i nowhere) a.0 a.1))
     in
-    let w = mesh.size.width_to_64 in
-    let h = mesh.size.height_to_64 in
-    let area : s.setup.machine.width * s.setup.machine.height ≤ s.setup.machine.width * 64 = mul-le-mul_left s.setup.machine.width h in
-    omega (arith, few, long, w, area)
+    let area : s.setup.machine.width * s.setup.machine.height ≤ s.setup.machine.width * 64 = mul-le-mul_left s.setup.machine.width mesh.size.height_to_64 in
+    omega (arith, few, long, mesh.size.width_to_64, area)
 
 pub few_spots : (s : State) → MeetsSomeLedger s → length s.setup.spots ≤ 98304
 few_spots s kept = few_in_mesh s kept.mesh

@@ -114,14 +114,12 @@ come_lighter s x come small next move = by_bound (4 * last_hop + 4) (advance_bel
         let mine : advance_weight_of x ≡ 25 * heavy n = ap (λ k. heavy (k - advance x)) (sym is) ∙ ap heavy left in
         let each : (y : Mark) → Among y come → advance_weight_of y ≤ heavy n =
         λ y a.
-        let further = move_advances s x come next move y a in
-        let fewer : b - advance y ≤ n = omega (arith, further) in
+        let fewer : b - advance y ≤ n = omega (arith, move_advances s x come next move y a) in
         subst (λ k. heavy (k - advance y) ≤ heavy n) is (heavy_grows (b - advance y) n fewer)
         in
         let all = light advance_weight_of come (heavy n) each in
         let few = mul-le-mul_left (heavy n) (few_come s x come move) in
-        let one = one_heavy n in
-        omega (arith, mine, all, few, one)
+        omega (arith, mine, all, few, one_heavy n)
 
 -- ---- events
 
@@ -141,20 +139,16 @@ moved_lighter s t e mesh is =
     sum_taken_out : (y : Mark) (from rest : List Mark) → TakenOut y from rest → sum_by advance_weight_of from ≡ sum_by advance_weight_of rest + advance_weight_of y
     sum_taken_out y from rest out =
         let whole = sum_by-append advance_weight_of out.front (y ∷ out.back) in
-        let less = sum_by-append advance_weight_of out.front out.back in
-        let head = sum_by-cons advance_weight_of y out.back in
         let b : sum_by advance_weight_of from ≡ sum_by advance_weight_of (out.front ++ y ∷ out.back) = ap (sum_by advance_weight_of) out.before_is in
         let a : sum_by advance_weight_of rest ≡ sum_by advance_weight_of (out.front ++ out.back) = ap (sum_by advance_weight_of) out.after_is in
-        omega (arith, whole, less, head, a, b)
+        omega (arith, whole, sum_by-append advance_weight_of out.front out.back, sum_by-cons advance_weight_of y out.back, a, b)
 
     sum_put_in : (ys rest to : List Mark) → PutIn ys rest to → sum_by advance_weight_of to ≡ sum_by advance_weight_of rest + sum_by advance_weight_of ys
     sum_put_in ys rest to put =
-        let whole = sum_by-append advance_weight_of put.front put.back in
         let more = sum_by-append advance_weight_of put.front (ys ++ put.back) in
-        let inner = sum_by-append advance_weight_of ys put.back in
         let b : sum_by advance_weight_of rest ≡ sum_by advance_weight_of (put.front ++ put.back) = ap (sum_by advance_weight_of) put.before_is in
         let a : sum_by advance_weight_of to ≡ sum_by advance_weight_of (put.front ++ (ys ++ put.back)) = ap (sum_by advance_weight_of) put.after_is in
-        omega (arith, whole, more, inner, a, b)
+        omega (arith, sum_by-append advance_weight_of put.front put.back, more, sum_by-append advance_weight_of ys put.back, a, b)
 
 -- an event never makes them heavier
 pub event_lighter : (s : State) (e : Event) → IsMesh s → weight_in (after_event s e) ≤ weight_in s

@@ -55,8 +55,7 @@ pub times_more : (m : Description) (i : ℕ) (w : List Waiting) (a : Waiting) �
 times_more m i w a =
     let p : Waiting → Bool = λ x. queue_at m x.chip x.port == i in
     let whole = count_by-append p w (a ∷ []) in
-    let last = count_by-cons p a [] in
-    omega (arith, whole, last)
+    omega (arith, whole, count_by-cons p a [])
 
 -- ---- the ledger goes with it
 
@@ -79,8 +78,7 @@ module _ (s : State) (waiting : List Waiting) where
       (queue_at s.setup.machine c port < length s.inputs) × (slice_get s.inputs (queue_at s.setup.machine c port) ≡ Some (slice_index_or s.inputs (queue_at s.setup.machine c port) []))
   queue_there kept c port live =
       let below = queue_at-below s.setup.machine c port (live_inside s.setup.machine c live) in
-      let long = kept.mesh.input_lists in
-      let within : queue_at s.setup.machine c port < length s.inputs = omega (arith, below, long) in
+      let within : queue_at s.setup.machine c port < length s.inputs = omega (arith, below, kept.mesh.input_lists) in
       (within, slice_get-get_or s.inputs (queue_at s.setup.machine c port) [] within)
 
 -- ---- Take
@@ -126,9 +124,8 @@ module _ (s : State) (w : List Waiting) (a : Waiting) (u : WaitsAlone s (w ++ a 
       by_test : (b : Bool) → (queue_at s.setup.machine a.chip a.port == j) ≡ b → length (slice_index_or s.inputs j []) ≤ times s.setup.machine j w
       by_test true e = absurd (other (eqb-true (queue_at s.setup.machine a.chip a.port) j e))
       by_test false e =
-          let most = u.listed j in
           let more = times_more s.setup.machine j w a ∙ ap (λ b. times s.setup.machine j w + (if b then 1 else 0)) e in
-          omega (arith, most, more)
+          omega (arith, u.listed j, more)
 
   -- this one once less
   listed_here : length queue ≤ times s.setup.machine i w + 1

@@ -44,10 +44,9 @@ module _ (s t : State) (w : List Waiting) (c : Chip) (o : Out) (is : t ≡ after
       let there : Waiting = next s w c o rest u i to in
       let list : w' ≡ w ++ there ∷ [] = more ∙ ap (λ x. w ++ option_to_list x) (ap (λ n. next_place n c o) kept ∙ next_is s w c o rest u i to) in
       let long : length w' ≡ length w + 1 = ap length list ∙ length-append w (there ∷ []) in
-      let lighter = send_link_lighter s w c o rest u i to in
       let same : weight_in t ≡ weight_in (after_event s (Send c o)) = ap weight_in is in (
         subst (λ l. IsServing t l c rest) (sym list) (subst (λ x. IsServing x (w ++ there ∷ []) c rest) (sym is) (send_link s w c o rest u i to)),
-        omega (arith, lighter, same, long),
+        omega (arith, send_link_lighter s w c o rest u i to, same, long),
       )
 
   -- to a vertex, which takes it
@@ -94,8 +93,7 @@ pub begins : (s t : State) (v : ℕ) (w items : List Waiting) (spots : List Spot
 begins s t v w items spots d kept quiet below some is list none more =
     let spot : Spot = get_or s.setup.spots v d in
     let stands : slice_get s.setup.spots v ≡ Some spot = slice_get-get_or s.setup.spots v d below in
-    let long = kept.mesh.unsent_lists in
-    let there = slice_get-get_or s.unsent v [] (omega (arith, below, long)) in
+    let there = slice_get-get_or s.unsent v [] (omega (arith, below, kept.mesh.unsent_lists)) in
     let first = has_first (get_or s.unsent v []) (λ empty. some (there ∙ ap Some empty)) in
     let at : List Spot → Waiting = λ l. record { chip = (get_or l v d).chip; port = Local } in
     let same : items ≡ at s.setup.spots ∷ [] = more ∙ (ap (λ l. l ++ at spots ∷ []) none ∙ ap (λ l. at l ∷ []) list) in
@@ -143,8 +141,7 @@ one_vertex_more now after v within is before i below =
 
 pub all_vertices : (s : State) (n : ℕ) → MeetsSomeLedger s → length s.setup.spots ≤ n → ((i : ℕ) → i < n → get_or s.unsent i [] ≡ []) → All (λ (q : List McCopy). q ≡ []) s.unsent
 all_vertices s n kept all before = λ i d below.
-    let long = kept.mesh.unsent_lists in
-    get_or_default s.unsent i d [] below ∙ before i (omega (arith, below, long, all))
+    get_or_default s.unsent i d [] below ∙ before i (omega (arith, below, kept.mesh.unsent_lists, all))
 
 -- one place less waits, and no more is to be done
 pub popped_smaller : (s t : State) (w left after : List Waiting) (a : Waiting) → w ≡ left ++ a ∷ [] → work t after ≤ work s left → work t after < work s w

@@ -129,9 +129,7 @@ dump_leads_on s c o mesh none = by_hand (slice_get s.hands (index_of s.setup.mac
   where
     room_at : (v : ℕ) → behind s.setup c o ≡ core v → has_room_behind s (behind s.setup c o) ≡ true
     room_at v is =
-        let below = core_there s.setup c o v is in
-        let lists = mesh.core_lists in
-        let there : slice_get s.cores v ≡ Some (get_or s.cores v []) = slice_get-get_or s.cores v [] (omega (arith, below, lists)) in
+        let there : slice_get s.cores v ≡ Some (get_or s.cores v []) = slice_get-get_or s.cores v [] (omega (arith, core_there s.setup c o v is, mesh.core_lists)) in
         let empty : get_or s.cores v [] ≡ [] = All-at (λ (l : List McCopy). l ≡ []) s.cores v (get_or s.cores v []) none there in
         ap (has_room_behind s) is ∙ (ap (has_room s.setup.capacity) (there ∙ ap Some empty) ∙ lt-ltb 0 s.setup.capacity mesh.room)
 
@@ -198,8 +196,7 @@ quiet_still s t same none quiet = record {
 -- all vertices have taken what waited for them
 pub all_collected : (s : State) (n : ℕ) → IsMesh s → length s.setup.spots ≤ n → ((i : ℕ) → i < n → get_or s.cores i [] ≡ []) → AreCollected s
 all_collected s n mesh all before = λ i d below.
-    let long = mesh.core_lists in
-    get_or_default s.cores i d [] below ∙ before i (omega (arith, below, long, all))
+    get_or_default s.cores i d [] below ∙ before i (omega (arith, below, mesh.core_lists, all))
 
 -- one vertex has taken all that waited for it
 pub collected_there : (before now : List (List McCopy)) (v : ℕ) (q : List McCopy) → now ≡ set before v q → slice_get now v ≡ Some [] → now ≡ set before v []

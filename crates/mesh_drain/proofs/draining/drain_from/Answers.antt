@@ -5,9 +5,8 @@ use Rattle.mesh_drain.proofs.draining.drain_from.Goals as goal
 
 pub overflow_cast-vertex : goal.overflow_cast-vertex
 overflow_cast-vertex c =
-    let few = few_spots c.args.mesh.now c.requires.kept in
     let below = c.requires.alone.there c.loop-vertex.vertex-index 0 c.loop-vertex-test.true in
-    omega (arith, few, below)
+    omega (arith, few_spots c.args.mesh.now c.requires.kept, below)
 
 pub send_all-requires : goal.send_all-requires
 send_all-requires c = record {

@@ -5,10 +5,7 @@ use Rattle.mesh_drain.proofs.draining.send_each.Goals as goal
 
 pub overflow_cast-vertex : goal.overflow_cast-vertex
 overflow_cast-vertex c =
-    let few = few_spots c.args.mesh.now c.requires.kept in
-    let list = ap length c.spots-count.ensures in
-    let below = c.loop-vertex-test.true in
-    omega (arith, few, list, below)
+    omega (arith, few_spots c.args.mesh.now c.requires.kept, ap length c.spots-count.ensures, c.loop-vertex-test.true)
 
 pub send_all-requires : goal.send_all-requires
 send_all-requires c = record {

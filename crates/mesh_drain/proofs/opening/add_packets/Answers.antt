@@ -35,18 +35,15 @@ overflow_cast-sources c =
     let d : Packet = record { net = 0; index = 0; payload = None } in
     let k = known c.args.mesh.now.setup.spots c.args.nets.now c.args.packets.now c.requires.listed.of_nets c.requires.listed.sources c.loop-number.number d c.loop-number-test.true in
     let source = (listed_source c.args.mesh.now.setup.spots c.args.nets.now c.args.sources.now (slice_index_or c.args.packets.now c.loop-number.number d) 0 c.requires.listed.vertices k).1 in
-    let below = k.below in
-    let few = few_in_mesh c.args.mesh.now c.every_mesh_is_one.ensures in
-    omega (arith, source, below, few)
+    omega (arith, source, k.below, few_in_mesh c.args.mesh.now c.every_mesh_is_one.ensures)
 
 pub add-requires-clause-exists : goal.add-requires-clause-exists
 add-requires-clause-exists c =
     let d : Packet = record { net = 0; index = 0; payload = None } in
     let k = known c.args.mesh.now.setup.spots c.args.nets.now c.args.packets.now c.requires.listed.of_nets c.requires.listed.sources c.loop-number.number d c.loop-number-test.true in
     let source = (listed_source c.args.mesh.now.setup.spots c.args.nets.now c.args.sources.now (slice_index_or c.args.packets.now c.loop-number.number d) 0 c.requires.listed.vertices k).1 in
-    let below = k.below in
     let same = ap (λ s. length s.setup.spots) c.loop-number.invariant.opened in
-    omega (arith, source, below, same)
+    omega (arith, source, k.below, same)
 
 pub loop-number-preserved : goal.loop-number-preserved
 loop-number-preserved c =

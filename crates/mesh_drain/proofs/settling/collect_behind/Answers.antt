@@ -6,10 +6,7 @@ use Rattle.mesh_drain.proofs.settling.collect_behind.Goals as goal
 
 pub overflow_cast-vertex : goal.overflow_cast-vertex
 overflow_cast-vertex c =
-    let few = few_in_mesh c.args.mesh.now c.every_mesh_is_one.ensures in
-    let lists = c.every_mesh_is_one.ensures.core_lists in
-    let below = c.in-Core.ensures.place in
-    omega (arith, few, lists, below)
+    omega (arith, few_in_mesh c.args.mesh.now c.every_mesh_is_one.ensures, c.every_mesh_is_one.ensures.core_lists, c.in-Core.ensures.place)
 
 pub returns-in-Core-clause-collected : goal.returns-in-Core-clause-collected
 returns-in-Core-clause-collected c =

@@ -11,10 +11,7 @@ loop-vertex-init c = record { reached = reached_none c.args.mesh.now; others = s
 
 pub overflow_cast-vertex : goal.overflow_cast-vertex
 overflow_cast-vertex c =
-    let few = few_in_mesh c.args.mesh.now c.every_mesh_is_one.ensures in
-    let list = ap length c.spots-vertices.ensures in
-    let below = c.loop-vertex-test.true in
-    omega (arith, few, list, below)
+    omega (arith, few_in_mesh c.args.mesh.now c.every_mesh_is_one.ensures, ap length c.spots-vertices.ensures, c.loop-vertex-test.true)
 
 pub empty_core-requires : goal.empty_core-requires
 empty_core-requires c =
