@@ -142,12 +142,10 @@ module _ (s t : State) (nets : List NetPlan) (labels : ℕ → Label) (mesh : Is
         let first = one_takes v (within v (inl refl)) in
         let both = sum_by-append left_there v.come (all_come vs) in
         let all = sum_by-cons left_there v.leaves (all_left vs) in
-        let took = sum_by-cons taken_there v vs in
-        omega (arith, rest, first, both, all, took)
+        omega (arith, rest, first, both, all, sum_by-cons taken_there v vs)
 
     -- what is left of the way for the mesh's marks
     pub way_takes : sum_by (left_for n w) (marks_of t) + sum_by (λ (v : Moved s). taken_for n w v.leaves) bag.moves ≤ sum_by (left_for n w) (marks_of s)
     way_takes =
-        let even = even_weights s t bag left_there in
         let less = all_take bag.moves (λ v a. a) in
-        omega (arith, even, less)
+        omega (arith, even_weights s t bag left_there, less)

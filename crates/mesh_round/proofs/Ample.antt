@@ -48,8 +48,7 @@ few_numbers {X} number n xs below each =
     (λ x a. sym (once_in_range (number x) 0 n (omega arith) (let low = below x a in omega (arith, low)))) in
     let swapped = sum_swap (λ x i. one_if (number x == i)) xs (range_with_len 0 n) in
     let within = sum_within (λ i. sum_by (λ x. one_if (number x == i)) xs) (λ i. 1) (range_with_len 0 n) (λ i a. each i (let low = (range_parts 0 n i a).1 in omega (arith, low))) in
-    let long = many 0 n in
-    omega (arith, all, spread, swapped, within, long)
+    omega (arith, all, spread, swapped, within, many 0 n)
   where
     one : X → ℕ
     one x = 1
@@ -135,8 +134,7 @@ module _ (m : State) (f : Flow) (n : State) (nets : List NetPlan) (packets : Lis
         let place : 0 + i ≡ i = omega arith in
         let here_it : sum_by (λ x. one_if (p x)) (at (0 + i) q.0) ≡ count_by p (marks_at (station_of u (input i)) (held_in m (input i))) =
         ap (λ l. sum_by (λ x. one_if (p x)) (at l q.0)) place ∙ ap (λ copies. count_by p (marks_at (station_of u (input i)) copies)) (sym list) in
-        let parts = in_parts m f n mesh after passes p m in
-        omega (arith, all, part, here_it, parts)
+        omega (arith, all, part, here_it, in_parts m f n mesh after passes p m)
     | inr past ↦
         let none : count_by p (marks_at (station_of u (input i)) (held_in m (input i))) ≡ 0 = ap (λ copies. count_by p (marks_at (station_of u (input i)) copies)) (get_or_past m.inputs i [] past) in
         omega (arith, none)
@@ -151,8 +149,7 @@ module _ (m : State) (f : Flow) (n : State) (nets : List NetPlan) (packets : Lis
         let place : 0 + v ≡ v = omega arith in
         let here_it : sum_by (λ x. one_if (p x)) (at (0 + v) q.0) ≡ count_by p (marks_at (station_of u (core v)) (held_in m (core v))) =
         ap (λ l. sum_by (λ x. one_if (p x)) (at l q.0)) place ∙ ap (λ copies. count_by p (marks_at (station_of u (core v)) copies)) (sym list) in
-        let parts = in_parts m f n mesh after passes p m in
-        omega (arith, all, part, here_it, parts)
+        omega (arith, all, part, here_it, in_parts m f n mesh after passes p m)
     | inr past ↦
         let none : count_by p (marks_at (station_of u (core v)) (held_in m (core v))) ≡ 0 = ap (λ copies. count_by p (marks_at (station_of u (core v)) copies)) (get_or_past m.cores v [] past) in
         omega (arith, none)
@@ -188,10 +185,9 @@ module _ (m : State) (f : Flow) (n : State) (nets : List NetPlan) (packets : Lis
           let hop = same_hop (behind u c o) x j r s same in
           let key = (same_net (mark x at) (mark j at) r s same).1 in
           let on : on_trail r.trail.from r.trail.to r.trail.branch j.hop at ≡ true = ap (λ h. on_trail r.trail.from r.trail.to r.trail.branch h at) hop ∙ r.trail.on in
-          let place = to_go_same x j at hop in
           and_from (j.key == x.key) _ (eq-eqb j.key x.key key)
           (and_from _ (to_go (mark j at) == to_go (mark x at)) (and_from (j.packet == x.packet) (is_on_trail r.trail.from r.trail.to r.trail.branch (mark j at)) (eq-eqb j.packet x.packet same) on)
-          (eq-eqb (to_go (mark j at)) (to_go (mark x at)) place))
+          (eq-eqb (to_go (mark j at)) (to_go (mark x at)) (to_go_same x j at hop)))
 
       fewer : (ks : List McCopy) → ((j : McCopy) → Among j ks → IsRight (mark j at)) → count_by (λ (j : McCopy). j.packet == x.packet) ks ≤ count_by is_here (marks_at at ks)
       fewer ks each =
@@ -210,9 +206,8 @@ module _ (m : State) (f : Flow) (n : State) (nets : List NetPlan) (packets : Lis
           let held = fewer (held_in m (behind u c o)) (λ j a. right_in j (among_left j (held_in m (behind u c o)) (f.entered (behind u c o)) a)) in
           let entered = fewer (f.entered (behind u c o)) (λ j a. right_in j (among_right j (held_in m (behind u c o)) (f.entered (behind u c o)) a)) in
           let was = queue_counts is_here (behind u c o) in
-          let came = crossing_comes m f n mesh after passes is_here c o live is in
           let once = passed_once m n nets labels mesh right ledger (round_keeps m n f nets mesh after passes right labels ledger) bag (mark x at) r in
-          omega (arith, both, held, entered, was, came, once)
+          omega (arith, both, held, entered, was, crossing_comes m f n mesh after passes is_here c o live is, once)
 
     -- ---- a dump record of the output
 
@@ -300,8 +295,7 @@ module _ (m : State) (f : Flow) (n : State) (nets : List NetPlan) (packets : Lis
                 omega (arith, first, none, some, its, one)
             | inr other ↦
                 let zero_it : one_if (k.packet == i) ≡ 0 = ap one_if other in
-                let rest = of_queue in
-                omega (arith, first, zero_it, rest)
+                omega (arith, first, zero_it, of_queue)
           ]
         where
           of_queue : count_by (λ (j : McCopy). j.packet == i) all_in ≤ 1
@@ -329,12 +323,9 @@ module _ (m : State) (f : Flow) (n : State) (nets : List NetPlan) (packets : Lis
       -- so the queue was never full, where it has room for them all
       never_full : length packets ≤ u.capacity → (e : ℕ × ℕ) → WasFullAt m f (behind u c o) e → ⊥
       never_full roomy e full =
-          let few = few_in in
           let both = length-append (held_in m (behind u c o)) (f.entered (behind u c o)) in
           let room = room_of (behind u c o) (somewhere m f n nets labels mesh passes right ledger c o k hand) in
-          let come = full.0 in
-          let even = full.2 in
-          omega (arith, few, both, room, come, even, roomy)
+          omega (arith, few_in, both, room, full.0, full.2, roomy)
         where
           room_of : (b : Queue) → b ≢ nowhere → capacity_of u b ≡ u.capacity
           room_of (input i) there = refl
@@ -357,8 +348,7 @@ no_dump patience turns m n f nets packets one_way patient mesh after round right
         some_fulls [] k none many enough = absurd none
         some_fulls (j ∷ ks) k there many enough =
             let some : 1 ≤ length (j ∷ ks) = omega arith in
-            let times = mul-le-mul_left patience some in
-            omega (arith, patient, times, enough)
+            omega (arith, patient, mul-le-mul_left patience some, enough)
 
         by_fulls : (es : List (ℕ × ℕ)) → All (WasFullAt m f (behind m.setup d.chip d.out)) es → 1 ≤ length es → ((e : ℕ × ℕ) → WasFullAt m f (behind m.setup d.chip d.out) e → ⊥) → ⊥
         by_fulls [] all some never = absurd (omega (arith, some))

@@ -190,8 +190,7 @@ module _ (m : State) (f : Flow) (n : State) (nets : List NetPlan) (labels : ℕ 
         let e : Chip = ends.0 in
         let o : Out = Link (opposite_of g) in
         let far : far_of u.machine e (opposite_of g) ≡ Some c = far_back u.machine c e g inside ends.1 in
-        let link = live_back u.machine c e g ends.1 live in
-        let is : behind u e o ≡ at_port u c (ByLink g) = behind_far (λ x. true) m f n mesh passes c e g link far in
+        let is : behind u e o ≡ at_port u c (ByLink g) = behind_far (λ x. true) m f n mesh passes c e g (live_back u.machine c e g ends.1 live) far in
         let in_all : Among k (f.entered (behind u e o) ++ map onward (dumped_at f e o)) =
         among_left k (f.entered (behind u e o)) (map onward (dumped_at f e o)) (subst (λ q. Among k (f.entered q)) (sym is) came) in
         let hand = hand_right e o b (λ p j left small. before e p (live_inside u.machine e ends.3) j (left_came (at_port u e p) j left) small) ends.3 tt k in_all low in

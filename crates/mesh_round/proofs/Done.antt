@@ -100,9 +100,7 @@ module _ (u : Setup) where
           ∙ (sym (append-nil (filter (leaves p) (k ∷ []))) ∙ sym (ap all (here j index ((p, k) ∷ []) same))))
       | other apart not ↦
           gathered_none at 0 all_ports (λ i port at_i. none port (λ e.
-          let a = port_below p in
-          let b = port_below port in
-          apart (omega (arith, e, a, b))))
+          apart (omega (arith, e, port_below p, port_below port))))
           ∙ sym (ap all (elsewhere j index ((p, k) ∷ []) apart))
     ]
       where

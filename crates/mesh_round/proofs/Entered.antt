@@ -213,8 +213,7 @@ module _ (p : Mark → Bool) (m : State) (f : Flow) (n : State) (mesh : IsMesh m
         let ends = live_ends u.machine c g live in
         let e : Chip = ends.0 in
         let back : far_of u.machine e (opposite_of g) ≡ Some c = far_back u.machine c e g inside ends.1 in
-        let link = live_back u.machine c e g ends.1 live in
-        inr (only_source e (Some (Link (opposite_of g))) (at_port u c (ByLink g)) ends.3 tt (behind_far c e g link back)
+        inr (only_source e (Some (Link (opposite_of g))) (at_port u c (ByLink g)) ends.3 tt (behind_far c e g (live_back u.machine c e g ends.1 live) back)
         (only_far c e g inside (live_inside u.machine e ends.3) back))
     | inr dead ↦ inl (nothing_came (at_port u c (ByLink g)) (passes.dead_ports c g inside dead))
   ]

@@ -117,8 +117,7 @@ module _ (u : Setup) (nets : List NetPlan) (packets : List Packet) (stand : AreN
       let many = many_ways u.machine u.spots net (tree_of net has) (source_of net has) (targets_of net has) in
       let first = sum_plus (λ (w : Counted). w.sending + counted_from w.counted w.branch 0) (λ (w : Counted). 1) ws in
       let second = sum_plus (λ (w : Counted). w.sending) (λ (w : Counted). counted_from w.counted w.branch 0) ws in
-      let ones = sum_ones ws in
-      omega (arith, places, sends, many, first, second, ones)
+      omega (arith, places, sends, many, first, second, sum_ones ws)
     where
       sum_ones : (ws : List Counted) → sum_by (λ (w : Counted). 1) ws ≡ length ws
       sum_ones [] = refl
@@ -282,25 +281,20 @@ module _ (m n : State) (f : Flow) (nets : List NetPlan) (packets : List Packet) 
         let in_ways : Among x ways =
         subst (λ i. Among (of_packet i found.way) ways) zero_more (to_packet u nets packets stand 0 packets number asked.packet asked.is_packet found.way found.among)
         in
-        let part = part_of_sum moves_take x ways in_ways in
         let one = part_of_sum (λ (w : Moved m). taken_for number found.way w.leaves) v bag.moves a in
         let packet : is_packet_on_trail number found.way.from found.way.to found.way.branch v.leaves ≡ true =
         and_from (number == number) (is_on_trail found.way.from found.way.to found.way.branch v.leaves) (eq-eqb number number refl) found.on
         in
         let took : taken_for number found.way v.leaves ≡ taken_at found.way v.leaves.copy.hop v.leaves.station = ap (λ b. cond b (taken_at found.way v.leaves.copy.hop v.leaves.station) 0) packet in
-        let some = found.one in
-        omega (arith, part, one, took, some)
+        omega (arith, part_of_sum moves_take x ways in_ways, one, took, found.one)
 
   -- A round in which a copy moves takes at least one.
   pub round_takes : HasMoved m f → suc (ahead ways (marks_of n)) ≤ ahead ways (marks_of m)
   round_takes moved =
-      let some = some_steps m f n mesh after passes moved in
-      let left = left_counts is_step bag.moves in
-      let found = counted is_step (all_left bag.moves) (omega (arith, some, left)) in
+      let found = counted is_step (all_left bag.moves) (omega (arith, some_steps m f n mesh after passes moved, left_counts is_step bag.moves)) in
       let of = left_among bag.moves found.0 found.1 in
       let one = takes_one of.0 of.1 (ap is_step of.2 ∙ found.2) in
-      let all = all_take in
-      omega (arith, one, all)
+      omega (arith, one, all_take)
 
 -- ---- all rounds
 
@@ -316,11 +310,10 @@ module _ (patience turns : ℕ) (m : State) (nets : List NetPlan) (packets : Lis
   so_far n none each = omega arith
   so_far n (more f k n' before after round) each =
       let was = rounds_stand patience turns m k nets packets mesh right job before in
-      let rest = so_far k before each.0 in
       let one =
       round_takes k n' f nets packets was.mesh after round.passes (subst (λ (s : Setup). AreRight s.machine s.tables nets) (sym was.setup) right) was.job one_way m.setup was.setup stand each.1
       in
-      omega (arith, rest, one)
+      omega (arith, so_far k before each.0, one)
 
   -- each way of a packet has one mark
   one_mark : (x : PacketWay) → Among x of_job → count_by (is_packet_on_trail x.packet x.way.from x.way.to x.way.branch) (marks_of m) ≤ 1
@@ -334,9 +327,8 @@ module _ (patience turns : ℕ) (m : State) (nets : List NetPlan) (packets : Lis
       let asked : asked_by nets packets x.packet ≡ Some (asks it.net p) = asked_from nets packets x.packet p it.net at it.at in
       let of = asked_of_net nets packets job.of_nets x.packet (asks it.net p) asked in
       let k = job.ledger.each_asked x.packet (asks it.net p) asked in
-      let label = job.ledger.ledger.labelled k.0 k.1 in
       let key : k.0.copy.key ≡ (asks it.net p).label.key =
-      label.0 ∙ (ap (λ i. (label_of (asked_by nets packets i)).key) k.2 ∙ ap (λ (o : Option Asked). (label_of o).key) asked)
+      (job.ledger.ledger.labelled k.0 k.1).0 ∙ (ap (λ i. (label_of (asked_by nets packets i)).key) k.2 ∙ ap (λ (o : Option Asked). (label_of o).key) asked)
       in
       let once = job.ledger.ledger.once_on_each k.0 k.1 it.net of.0 (subst (IsKeyOf it.net.block) (sym key) of.1) it.target x.way.branch x.way.from x.way.to it.is_way in
       let mine : count_by (is_packet_on_trail x.packet x.way.from x.way.to x.way.branch) (marks_of m) ≡ 1 =
@@ -348,6 +340,5 @@ module _ (patience turns : ℕ) (m : State) (nets : List NetPlan) (packets : Lis
   pub few_rounds : (n : State) (rounds : HasRounds patience turns m n) → MoveEach rounds → rounds_in rounds ≤ most_moves nets packets
   unfolding all_ways
   few_rounds n rounds each =
-      let all = so_far n rounds each in
       let most = most_from_packets m.setup nets packets stand (marks_of m) 0 packets one_mark in
-      omega (arith, all, most)
+      omega (arith, so_far n rounds each, most)

@@ -59,20 +59,16 @@ module _ (s : State) (mesh : IsMesh s) (nets : List NetPlan) (labels : ℕ → L
     empty_room lists empty i below =
         let there = slice_get_there lists i below in
         let none : there.0 ≡ [] = All-at (λ q. q ≡ []) lists i there.0 empty there.1 in
-        let room = mesh.room in
-        ap (has_room s.setup.capacity) (there.1 ∙ ap Some none) ∙ lt-ltb 0 s.setup.capacity (omega (arith, room))
+        ap (has_room s.setup.capacity) (there.1 ∙ ap Some none) ∙ lt-ltb 0 s.setup.capacity (omega (arith, mesh.room))
 
     room_behind : (c : Chip) (o : Out) → (behind s.setup c o ≡ nowhere → vertex_behind s.setup.spots c o ≡ None → ⊥) → Leads s.setup c o → has_room_behind s (behind s.setup c o) ≡ true
     room_behind c o on (by_link d e out live far is) =
         let inside = far_inside m c e d (live_inside m c (live_ends m c d live).2) far in
         let below = queue_at-below m e (ByLink (opposite_of d)) inside in
-        let long = mesh.input_lists in
-        ap (has_room_behind s) is ∙ empty_room s.inputs rest.waits.inputs_empty (queue_at m e (ByLink (opposite_of d))) (omega (arith, below, long))
+        ap (has_room_behind s) is ∙ empty_room s.inputs rest.waits.inputs_empty (queue_at m e (ByLink (opposite_of d))) (omega (arith, below, mesh.input_lists))
     room_behind c o on (to_vertex v dead vertex is) =
         let spot = vertex_behind_stands s.setup.spots c o v vertex in
-        let below = slice_get_within s.setup.spots v spot.0 spot.1 in
-        let long = mesh.core_lists in
-        ap (has_room_behind s) is ∙ empty_room s.cores rest.waits.cores_empty v (omega (arith, below, long))
+        ap (has_room_behind s) is ∙ empty_room s.cores rest.waits.cores_empty v (omega (arith, slice_get_within s.setup.spots v spot.0 spot.1, mesh.core_lists))
     room_behind c o on (to_none no_vertex is) = absurd (on is no_vertex)
 
     by_records : (records : List DumpRec) → s.dumped ≡ records → s.dumped ≢ [] → put_back_answer s ≡ Moved

@@ -40,13 +40,11 @@ come_lighter {s} v = by_far (to_go v.leaves) refl (some_to_go v)
         let mine : work_weight_of v.leaves ≡ 25 * heavy n = ap heavy is in
         let each : (y : Mark) → Among y v.come → work_weight_of y ≤ heavy n =
         λ y a.
-        let nearer = move_nears s v.leaves v.come v.small v.is_move y a in
-        heavy_grows (to_go y) n (omega (arith, nearer, is))
+        heavy_grows (to_go y) n (omega (arith, move_nears s v.leaves v.come v.small v.is_move y a, is))
         in
         let all = light work_weight_of v.come (heavy n) each in
         let few = mul-le-mul_left (heavy n) (few_come s v.leaves v.come v.is_move) in
-        let one = one_heavy n in
-        omega (arith, mine, all, few, one)
+        omega (arith, mine, all, few, one_heavy n)
 
 -- ---- all moves of a bag
 
@@ -87,12 +85,9 @@ even_weights s t bag w =
     let out = all_left bag.moves in
     let put = all_come bag.moves in
     let even = same_sums (marks_of t ++ out) (marks_of s ++ put) (λ p.
-    let balance = bag.balance p in
-    let left = left_counts p bag.moves in
-    let come = come_counts p bag.moves in
     let after = count_by-append p (marks_of t) out in
     let before = count_by-append p (marks_of s) put in
-    omega (arith, balance, left, come, after, before)) w in
+    omega (arith, bag.balance p, left_counts p bag.moves, come_counts p bag.moves, after, before)) w in
     let after = sum_by-append w (marks_of t) out in
     let before = sum_by-append w (marks_of s) put in
     omega (arith, even, after, before)
@@ -101,9 +96,7 @@ even_weights s t bag w =
 bag_lighter : (s t : State) (bag : Bag s t) → work_in t + length bag.moves ≤ work_in s
 unfolding work_in
 bag_lighter s t bag =
-    let even = even_weights s t bag work_weight_of in
-    let less = lighter bag.moves in
-    omega (arith, even, less)
+    omega (arith, even_weights s t bag work_weight_of, lighter bag.moves)
 
 pub round_lighter : (m n : State) (f : Flow) → IsMesh m → IsMesh n → Passes m f n → work_in n ≤ work_in m
 round_lighter m n f mesh after passes =
@@ -113,5 +106,4 @@ round_lighter m n f mesh after passes =
 pub moved_lighter : (m n : State) (f : Flow) → IsMesh m → IsMesh n → Passes m f n → HasMoved m f → work_in n < work_in m
 moved_lighter m n f mesh after passes moved =
     let less = bag_lighter m n (bag_of_round m f n mesh after passes) in
-    let some = some_moves m f n mesh after passes moved in
-    omega (arith, less, some)
+    omega (arith, less, some_moves m f n mesh after passes moved)

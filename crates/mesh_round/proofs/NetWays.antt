@@ -171,8 +171,7 @@ module _ (m : Description) (root : Chip) (edges : List Edge) where
   few_chips : (cs : List Chip) → ((c : Chip) → Among c cs → IsTreeChip m root edges c) → IsApart cs → length cs ≤ 1 + length edges
   few_chips cs on apart =
       let few = length_le_from_apart (numbers cs on) (1 + length edges) (numbers_apart cs on apart) (numbers_below cs on) in
-      let many = many_numbers cs on in
-      omega (arith, few, many)
+      omega (arith, few, many_numbers cs on)
 
 -- ---- the ways of a net
 
@@ -294,9 +293,7 @@ module _ (m : Description) (spots : List Spot) (net : NetPlan) (tree : IsRouting
       here (Some x) at c a later =
           let chip : c ≡ x.chip = only x c (come_in earlier j x.chip (arrival_at branch j)) a in
           let one = same_place m root edges chips tree t t branch branch is is j later.place x later.exit at later.at (sym chip ∙ sym later.chip) in
-          let place = one.0 in
-          let behind = later.behind in
-          omega (arith, place, behind)
+          omega (arith, one.0, later.behind)
       here None at c a later = absurd a
 
   all_apart : (earlier : List Counted) (ts : List Spot) (within : (t : Spot) → Among t ts → Contains net.targets t) → AreBefore earlier → IsApart (all_chips earlier ts within)
@@ -339,9 +336,8 @@ module _ (m : Description) (spots : List Spot) (net : NetPlan) (tree : IsRouting
   pub few_places : sum_by (λ (w : Counted). counted_from w.counted w.branch 0) net_ways ≤ 1 + length net.tree.edges
   unfolding net_ways
   few_places =
-      let many = many_chips [] net.targets own in
       let few = few_chips m root edges (all_chips [] net.targets own) (all_on_tree [] net.targets own) (all_apart [] net.targets own (λ e a. absurd a)) in
-      omega (arith, many, few)
+      omega (arith, many_chips [] net.targets own, few)
 
   -- ---- which ways there are
 
@@ -390,8 +386,7 @@ module _ (m : Description) (spots : List Spot) (net : NetPlan) (tree : IsRouting
       let it = way_to (e ∷ earlier) t (within t (inl refl)) in
       let rest = none_sends it.0 (e ∷ earlier) ts (λ u a. within u (inr a)) in
       let all = sum_by-cons (λ (w : Counted). w.sending) it.0 (ways_to (it.0 ∷ e ∷ earlier) ts (λ u a. within u (inr a))) in
-      let mine = it.2.1 in
-      omega (arith, rest, all, mine)
+      omega (arith, rest, all, it.2.1)
 
   sends_once : (ts : List Spot) (within : (t : Spot) → Among t ts → Contains net.targets t) → sum_by (λ (w : Counted). w.sending) (ways_to [] ts within) ≤ 1
   unfolding ways_to
@@ -400,8 +395,7 @@ module _ (m : Description) (spots : List Spot) (net : NetPlan) (tree : IsRouting
       let it = way_to [] t (within t (inl refl)) in
       let rest = none_sends it.0 [] ts (λ u a. within u (inr a)) in
       let all = sum_by-cons (λ (w : Counted). w.sending) it.0 (ways_to (it.0 ∷ []) ts (λ u a. within u (inr a))) in
-      let mine = it.2.1 in
-      omega (arith, rest, all, mine)
+      omega (arith, rest, all, it.2.1)
 
   pub one_sends : sum_by (λ (w : Counted). w.sending) net_ways ≤ 1
   unfolding net_ways

@@ -48,8 +48,7 @@ module _ (r : Round) where
   -- what is not sent yet has passed no router
   at_start : All (λ (q : List McCopy). All (λ k. k.hop ≡ 0) q) r.n.unsent
   at_start v d below =
-      let long = r.played.unsent_long in
-      let was : All (λ (k : McCopy). k.hop ≡ 0) (slice_index_or r.m.unsent v []) = r.mesh.unsent_at_start v [] (omega (arith, below, long)) in
+      let was : All (λ (k : McCopy). k.hop ≡ 0) (slice_index_or r.m.unsent v []) = r.mesh.unsent_at_start v [] (omega (arith, below, r.played.unsent_long)) in
       let rest = All-right (λ (k : McCopy). k.hop ≡ 0) (sent_by v r.items) (slice_index_or r.n.unsent v []) (subst (All (λ (k : McCopy). k.hop ≡ 0)) (r.played.unsent v) was) in
       subst (All (λ (k : McCopy). k.hop ≡ 0)) (get_or_default r.n.unsent v [] d below) rest
 
@@ -58,10 +57,9 @@ module _ (r : Round) where
       slice_get r.n.inputs (queue_at u.machine c port) ≡ Some []
   still_empty c port inside was entered =
       let long = r.played.inputs_long ∙ r.mesh.input_lists in
-      let below = queue_at-below u.machine c port inside in
       let held : held_in r.m (at_port u c port) ≡ [] = get_or_from_slice_get r.m.inputs (queue_at u.machine c port) [] [] was in
       let none = both_none ((flow_of r).left (at_port u c port)) (held_in r.n (at_port u c port)) (sym (in_order r (at_port u c port)) ∙ ap₂ (λ (a b : List McCopy). a ++ b) held entered) in
-      slice_get-get_or r.n.inputs (queue_at u.machine c port) [] (omega (arith, below, long)) ∙ ap Some none.1
+      slice_get-get_or r.n.inputs (queue_at u.machine c port) [] (omega (arith, queue_at-below u.machine c port inside, long)) ∙ ap Some none.1
 
   still_mesh : IsMesh (record r.n { setup = r.m.setup })
   still_mesh = record {
@@ -115,11 +113,9 @@ module _ (r : Round) where
       inr (v, slice_get_within u.spots v on.spot on.stands, not_empty k (sent_by v r.items) among)
   moved_by (got j v place k) has =
       let done = done_of r (got j v place k) has in
-      let below = slice_get_within u.spots v done.1.spot done.1.stands in
-      let long = r.mesh.core_lists in
       let q = vertex_place u v in
       let among = among_into (left_by q) (got j v place k) k r.items has (first_here place q k done.2) in
-      let there : v < length r.m.cores = omega (arith, below, long) in
+      let there : v < length r.m.cores = omega (arith, slice_get_within u.spots v done.1.spot done.1.stands, r.mesh.core_lists) in
       let is = told_at r (λ i. left i r.items) (core v) q refl there (stands r (core v)) in
       inl (core v, there, λ none. not_empty k (left q r.items) among (sym is ∙ none))
 

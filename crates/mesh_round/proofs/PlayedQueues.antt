@@ -67,10 +67,7 @@ module _ (r : Round) where
       by : (x : Stands r q) → All (IsMoment (by_place r q (λ p. entered p.at r.items) [] x) (by_place r q (λ p. left p.at r.items) [] x)) (by_place r q (λ p. (goes r q p).fulls) (nowhere_fulls r) x)
       by (found p) = λ i d below.
           let moment = (goes r q p).full i d below in
-          let held = ap length p.before in
-          let room = p.room in
-          let is = moment.full in
-          (moment.entered_by_then, moment.left_by_then, omega (arith, is, held, room))
+          (moment.entered_by_then, moment.left_by_then, omega (arith, moment.full, ap length p.before, p.room))
       by (beyond out some before after) = All-nil (IsMoment [] [])
       by (dark is) =
           let none = ap length (ap (held_in r.m) is) in
@@ -109,10 +106,7 @@ module _ (r : Round) where
   small_held : (q : ℕ) → q < port_count u + length u.spots → All IsSmall (held_at r.m q)
   small_held q below =
       let fits = All-append (FitsQueue u.capacity) r.m.inputs r.m.cores r.mesh.inputs_within r.mesh.cores_within in
-      let long = length-append r.m.inputs r.m.cores in
-      let inputs = r.mesh.input_lists in
-      let cores = r.mesh.core_lists in
-      let queue = fits q [] (omega (arith, below, long, inputs, cores)) in
+      let queue = fits q [] (omega (arith, below, length-append r.m.inputs r.m.cores, r.mesh.input_lists, r.mesh.core_lists)) in
       λ i d within. let hop = queue.hops i d within in omega (arith, hop)
 
   small_at : (q : ℕ) → q < port_count u + length u.spots → All IsSmall (left q r.items ++ held_at r.n q)

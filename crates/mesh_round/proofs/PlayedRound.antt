@@ -128,10 +128,9 @@ module _ (r : Round) where
 
   collected : (v : ℕ) → v < length u.spots → delivered_to (flow_of r) v ≡ (flow_of r).left (core v)
   collected v below =
-      let long = r.mesh.core_lists in
       delivered_is v
       ∙ (sym (all_agree (left_by (vertex_place u v)) (λ x. copies_to v (delivered_of x)) (collected_by u v))
-      ∙ sym (told_at r (λ q. left q r.items) (core v) (vertex_place u v) refl (omega (arith, below, long)) (stands r (core v))))
+      ∙ sym (told_at r (λ q. left q r.items) (core v) (vertex_place u v) refl (omega (arith, below, r.mesh.core_lists)) (stands r (core v))))
 
   -- ---- outputs
 
@@ -157,9 +156,7 @@ module _ (r : Round) where
       | by_link d e out lives far at ↦ inr (subst (IsQueueOf r.m) (sym at) (is_input e (ByLink (opposite_of d)) (far_inside u.machine c e d inside far)))
       | to_vertex v dead stands at ↦
           let spot = vertex_behind_stands u.spots c o v stands in
-          let below = slice_get_within u.spots v spot.0 spot.1 in
-          let long = r.mesh.core_lists in
-          let there : IsQueueOf r.m (core v) = omega (arith, below, long) in
+          let there : IsQueueOf r.m (core v) = omega (arith, slice_get_within u.spots v spot.0 spot.1, r.mesh.core_lists) in
           inr (subst (IsQueueOf r.m) (sym at) there)
       | to_none none at ↦ inl at
     ]
@@ -200,8 +197,7 @@ module _ (r : Round) where
             let passing = length-filter of (records r.items) in
             let few = count_by-le-length of (records r.items) in
             let fewer : length (dumped_at (flow_of r) c o) ≤ length (records r.items) = omega (arith, dumped, passing, few) in
-            let times = mul-le-mul_left r.patience fewer in
-            omega (arith, many, times)
+            omega (arith, many, mul-le-mul_left r.patience fewer)
 
     -- what was taken for the output was served there
     taken_is : IsOutput o → IsPermutation (taken_for u (flow_of r) c o) (copies_of at_output)

@@ -19,8 +19,7 @@ unfolding heavy
 heavier m zero below = absurd (omega (arith, below))
 heavier m (suc n) below =
     let grows = heavy_grows m n (omega (arith, below)) in
-    let one = one_heavy n in
-    omega (arith, grows, one)
+    omega (arith, grows, one_heavy n)
 
 -- a dumped copy that crosses its output is lighter than it was
 lighter_mark : (s : State) (k : McCopy) (c : Chip) (o : Out) (come : List Mark) → Crosses s k c o come →
@@ -69,8 +68,7 @@ back_lighter s t back =
     let x : Mark = mark r.copy (dumped r.chip r.out) in
     let put : PutIn (one.0 ∷ []) (marks_of between) (marks_of next) = subst (λ (ys : List Mark). PutIn ys (marks_of between) (marks_of next)) one.1 arrival.1 in
     let sums = sum_exchanged work_weight_of x one.0 (marks_of s) (marks_of between) (marks_of next) (dumped_out s r back.rest back.records) put in
-    let less = one.2 in
-    let lower : sum_by work_weight_of (marks_of next) < sum_by work_weight_of (marks_of s) = omega (arith, sums, less) in
+    let lower : sum_by work_weight_of (marks_of next) < sum_by work_weight_of (marks_of s) = omega (arith, sums, one.2) in
     subst (λ (u : State). sum_by work_weight_of (marks_of u) < sum_by work_weight_of (marks_of s)) back.is lower
 
 -- A copy that is put back leaves less to be done.

@@ -51,9 +51,8 @@ sum_at-agree h k a (x ∷ xs) same =
 
 sum_single : {X : Type 0} (g : X → ℕ) (x : X) → sum_by g (x ∷ []) ≡ g x
 sum_single g x =
-    let first = sum_by-cons g x [] in
     let none : sum_by g [] ≡ 0 = refl in
-    omega (arith, first, none)
+    omega (arith, sum_by-cons g x [], none)
 
 module _ (m : State) (f : Flow) (n : State) (mesh : IsMesh m) (after : IsMesh n) (passes : Passes m f n) where
   abbrev u : Setup
@@ -64,9 +63,8 @@ module _ (m : State) (f : Flow) (n : State) (mesh : IsMesh m) (after : IsMesh n)
   sent_small : (v : ℕ) → v < length u.spots → (k : McCopy) → Among k (f.sent v) → k.hop ≤ last_hop
   sent_small v below k a =
       let there : v < length m.unsent = omega (arith, below, mesh.unsent_lists) in
-      let all = mesh.unsent_at_start v [] there in
       let zero : k.hop ≡ 0 = All-contains (λ (j : McCopy). j.hop ≡ 0) (f.sent v ++ slice_index_or n.unsent v []) k
-      (subst (All (λ (j : McCopy). j.hop ≡ 0)) (passes.unsent v below) all)
+      (subst (All (λ (j : McCopy). j.hop ≡ 0)) (passes.unsent v below) (mesh.unsent_at_start v [] there))
       (among_contains k (f.sent v ++ slice_index_or n.unsent v []) (among_left k (f.sent v) (slice_index_or n.unsent v []) a)) in
       omega (arith, zero)
 
@@ -106,8 +104,7 @@ module _ (m : State) (f : Flow) (n : State) (mesh : IsMesh m) (after : IsMesh n)
           IsMoveOf m k (in_hand c o) (mark (onward k) (station_of u (behind u c o)) ∷ []) × (k.hop ≤ last_hop)
       crosses c o live is k a =
           let of = among_map back k (f.entered (behind u c o)) a in
-          let fits = entered_is m f n passes c o live is of.0 of.1 in
-          let small : k.hop ≤ last_hop = subst (λ (j : McCopy). j.hop ≤ last_hop) (sym of.2) (omega (arith, fits.1)) in
+          let small : k.hop ≤ last_hop = subst (λ (j : McCopy). j.hop ≤ last_hop) (sym of.2) (omega (arith, (entered_is m f n passes c o live is of.0 of.1).1)) in
           (inr (crosses_behind m k c o live (λ none. subst (λ xs. Among of.0 xs) (ap f.entered none ∙ passes.nowhere_empty) of.1)), small)
 
   dumped_part : Part m (λ p. sum_by (λ (r : DumpRec). count_by p (mark r.copy (in_hand r.chip r.out) ∷ [])) f.dumped)
@@ -397,12 +394,7 @@ module _ (m : State) (f : Flow) (n : State) (mesh : IsMesh m) (after : IsMesh n)
             let c = cores_even p in
             let d = delivered_even p in
             let e = dumped_even p in
-            let came_all = came_by_parts p in
-            let injected = injected_is p in
-            let crossed = crossed_is p in
-            let hands = hands_even p in
-            let collected = collected_is p in
-            omega (arith, leaving, coming, before, later, hands_m, hands_n, a, b, c, d, e, came_all, injected, crossed, hands, collected);
+            omega (arith, leaving, coming, before, later, hands_m, hands_n, a, b, c, d, e, came_by_parts p, injected_is p, crossed_is p, hands_even p, collected_is p);
         setup = passes.setup;
       }
 
@@ -411,10 +403,9 @@ module _ (m : State) (f : Flow) (n : State) (mesh : IsMesh m) (after : IsMesh n)
   all_copies : (at : Station) (ks : List McCopy) → is_step_at at ≡ true → count_by is_step (marks_at at ks) ≡ length ks
   all_copies at [] is = refl
   all_copies at (k ∷ ks) is =
-      let rest = all_copies at ks is in
       let first = sum_by-cons (λ x. one_where (is_step x)) (mark k at) (marks_at at ks) in
       let one : one_where (is_step_at at) ≡ 1 = ap one_where is in
-      omega (arith, rest, first, one)
+      omega (arith, all_copies at ks is, first, one)
 
   some_items : {X : Type 0} (xs : List X) → xs ≢ [] → 1 ≤ length xs
   some_items [] none = absurd (none refl)
@@ -447,8 +438,7 @@ module _ (m : State) (f : Flow) (n : State) (mesh : IsMesh m) (after : IsMesh n)
       let all = all_copies (station_of u (input i)) (f.left (input i)) refl in
       let part = by_part (count_left is_step taken_part.moves) _ (count_by is_step (marks_at (station_of u (input i)) (f.left (input i)))) (taken_part.leaving is_step)
       (part_of_sum (λ j. count_by is_step (marks_at (station_of u (input j)) (f.left (input j)))) i (range_with_len 0 (7 * (u.machine.width * u.machine.height))) there) (omega (arith, all, some)) in
-      let long = steps in
-      omega (arith, long, part)
+      omega (arith, steps, part)
   some_steps (inl (core v, is, left)) =
       let below : v < length u.spots = omega (arith, is, mesh.core_lists) in
       let some = some_items (f.left (core v)) left in
@@ -458,8 +448,7 @@ module _ (m : State) (f : Flow) (n : State) (mesh : IsMesh m) (after : IsMesh n)
       let few = count_by-le-length (λ (d : Delivery). d.vertex == v) f.delivered in
       let all = sum_ones f.delivered in
       let part = by_part (count_left is_step delivered_part.moves) _ (length f.delivered) (delivered_part.leaving is_step) (omega (arith, all)) (omega (arith, some, same, mapped, filtered, few)) in
-      let long = steps in
-      omega (arith, long, part)
+      omega (arith, steps, part)
     where
       sum_ones : (ds : List Delivery) → sum_by (λ (d : Delivery). count_by is_step (mark d.copy (at_core d.vertex) ∷ [])) ds ≡ length ds
       sum_ones [] = refl
@@ -471,8 +460,7 @@ module _ (m : State) (f : Flow) (n : State) (mesh : IsMesh m) (after : IsMesh n)
       let spot = slice_get_there u.spots v below in
       let part = by_part (count_left is_step sent_part.moves) _ (count_by is_step (marks_at (unsent (0 + v)) (f.sent (0 + v)))) (sent_part.leaving is_step)
       (part_of_sum_at (λ w (spot : Spot). count_by is_step (marks_at (unsent w) (f.sent w))) 0 u.spots v spot.0 spot.1) (omega (arith, all, some, zero_plus v)) in
-      let long = steps in
-      omega (arith, long, part)
+      omega (arith, steps, part)
     where
       zero_plus : (w : ℕ) → count_by is_step (marks_at (unsent (0 + w)) (f.sent (0 + w))) ≡ count_by is_step (marks_at (unsent w) (f.sent w))
       zero_plus w = let same : 0 + w ≡ w = omega arith in ap (λ n. count_by is_step (marks_at (unsent n) (f.sent n))) same
@@ -493,14 +481,12 @@ module _ (m : State) (f : Flow) (n : State) (mesh : IsMesh m) (after : IsMesh n)
 
   there : (c : Chip) → IsLiveChip u.machine c → Among c (live_chips u.machine)
   there c live =
-      let one = live_chip_once u.machine c live in
-      let found = counted (chip_eq c) (live_chips u.machine) (omega (arith, one)) in
+      let found = counted (chip_eq c) (live_chips u.machine) (omega (arith, live_chip_once u.machine c live)) in
       subst (λ e. Among e (live_chips u.machine)) (sym (chip_eq_true c found.0 found.2)) found.1
 
   among_outs : (o : Out) → IsOutput o → Among o all_outs
   among_outs o is =
-      let one = all_once o is in
-      let found = counted (out_eq o) all_outs (omega (arith, one)) in
+      let found = counted (out_eq o) all_outs (omega (arith, all_once o is)) in
       subst (λ p. Among p all_outs) (sym (out_eq_true o found.0 found.2)) found.1
 
   -- what entered the queue behind an output is among what came
@@ -512,8 +498,6 @@ module _ (m : State) (f : Flow) (n : State) (mesh : IsMesh m) (after : IsMesh n)
       let b = count_come-append p taken_part.moves (crossed_part.moves ++ (dumped_part.moves ++ delivered_part.moves)) in
       let d = count_come-append p crossed_part.moves (dumped_part.moves ++ delivered_part.moves) in
       let whole : count_come p bag_of_round.moves ≡ count_come p (sent_part.moves ++ (taken_part.moves ++ (crossed_part.moves ++ (dumped_part.moves ++ delivered_part.moves)))) = refl in
-      let coming = crossed_part.coming p in
-      let crossed = crossed_is p in
       let of_chip = part_of_sum (λ e. sum_by (λ q. came_in p (behind u e q)) all_outs) c (live_chips u.machine) (there c live) in
       let of_out = part_of_sum (λ q. came_in p (behind u c q)) o all_outs (among_outs o is) in
-      omega (arith, a, b, d, whole, coming, crossed, of_chip, of_out)
+      omega (arith, a, b, d, whole, crossed_part.coming p, crossed_is p, of_chip, of_out)

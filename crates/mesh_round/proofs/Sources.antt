@@ -43,8 +43,7 @@ once_in_range i a (suc n) from below =
           omega (arith, all, one, rest)
       | inr other ↦
           let none : first (i == a) ≡ 0 = ap first other in
-          let apart = differ i a other in
-          let rest = once_in_range i (a + 1) n (omega (arith, from, apart)) (omega (arith, below)) in
+          let rest = once_in_range i (a + 1) n (omega (arith, from, differ i a other)) (omega (arith, below)) in
           omega (arith, all, none, rest)
     ]
   where
@@ -133,8 +132,7 @@ choice_once None is =
 choice_once (Some o) is =
     let all = sum_by-cons (λ y. one_where (choice_eq (Some o) y)) None (map Some all_outs) in
     let rest = sum_map Some (λ y. one_where (choice_eq (Some o) y)) all_outs in
-    let one = all_once o is in
-    omega (arith, all, rest, one)
+    omega (arith, all, rest, all_once o is)
 
 -- each chip with each of its sources
 abbrev pub sources : Description → List (Chip × Option Out)

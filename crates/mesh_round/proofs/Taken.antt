@@ -121,8 +121,7 @@ module _ (p : Mark → Bool) (m : State) (f : Flow) (n : State) (mesh : IsMesh m
   dead_link : (c : Chip) (d : Dir) → is_live_chip u.machine c ≡ false → is_live_link u.machine c d ≡ false
   dead_link c d dead = elim (cases_Bool (is_live_link u.machine c d)) [
     | inl live ↦
-        let ends = live_ends u.machine c d live in
-        absurd (answers_none (is_live_chip u.machine c) ends.2 dead)
+        absurd (answers_none (is_live_chip u.machine c) (live_ends u.machine c d live).2 dead)
     | inr none ↦ none
   ]
 

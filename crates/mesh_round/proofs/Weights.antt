@@ -38,8 +38,7 @@ sum_outputs u c port k w = by_hop (k.hop == last_hop) refl
     among_outs r o a =
         both_ways (list_any (out_eq o) (filter (has r) all_outs)) (has r o)
         (λ any. let found = any_among (out_eq o) (filter (has r) all_outs) any in
-        let same = out_eq_true o found.0 found.2 in
-        ap (has r) same ∙ (among_filter (has r) found.0 all_outs found.1).1)
+        ap (has r) (out_eq_true o found.0 found.2) ∙ (among_filter (has r) found.0 all_outs found.1).1)
         (λ it. among_any (out_eq o) o (filter (has r) all_outs) (contains_among o (filter (has r) all_outs) (Contains-filter (has r) all_outs o (among_contains o all_outs a) it)) (out_eq_same o))
 
     by_hop : (b : Bool) → (k.hop == last_hop) ≡ b → sum_by w (outputs u c port k) ≡ sum_by (λ o. cond (leaves_by u c o port k) (w o) 0) all_outs
@@ -96,10 +95,9 @@ module _ (m : State) (f : Flow) (n : State) (passes : Passes m f n) (c : Chip) (
       let before = sum_map onward h (taken_for m.setup f c o) in
       let took = sum_agree (λ k. h (onward k)) w (taken_for m.setup f c o) (λ k a. ap w (back_onward k (taken_low k a))) in
       let parts = sum_by-append h entered (map onward (dumped_at f c o)) in
-      let cross = sum_map back w entered in
       let drop = sum_map onward h (dumped_at f c o) in
       let dropped = sum_agree (λ k. h (onward k)) w (dumped_at f c o) (λ k a. ap w (back_onward k (dumped_low k a))) in
-      omega (arith, all, before, took, parts, cross, drop, dropped)
+      omega (arith, all, before, took, parts, sum_map back w entered, drop, dropped)
 
   -- what entered the queue behind the output has a hop number of at least 1
   pub entered_is : (k : McCopy) → Among k (f.entered (behind m.setup c o)) → (onward (back k) ≡ k) × (k.hop ≤ last_hop)

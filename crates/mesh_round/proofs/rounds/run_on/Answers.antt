@@ -34,8 +34,7 @@ returns-in-Err-clause-refused g c =
 pub returns-in-Err-clause-ready_still : goal.returns-in-Err-clause-ready_still
 returns-in-Err-clause-ready_still g c =
     let is = c.loop.invariant.0 in
-    let raised = c.in-Err.ensures.back is.mesh is.ready.mesh is.raised in
-    subst MayGoOn (sym (c.lower.ensures is.mesh is.ready.mesh raised)) is.ready
+    subst MayGoOn (sym (c.lower.ensures is.mesh is.ready.mesh (c.in-Err.ensures.back is.mesh is.ready.mesh is.raised))) is.ready
 
 pub loop-preserved-in-Ok-true : goal.loop-preserved-in-Ok-true
 loop-preserved-in-Ok-true g c =
