@@ -113,9 +113,8 @@ module _ (m : Description) where
   long =
       let one = length-replicate n (all_free m.sdram) in
       let two = length-replicate n (all_free 1024) in
-      let both = length-append memories tables in
       let whole : length (open_regions m) ≡ suc (length (memories ++ tables)) = refl in
-      omega (arith, one, two, both, whole)
+      omega (arith, one, two, length-append memories tables, whole)
 
   at_size : (region : ℕ) (f : Free) → slice_get (open_regions m) region ≡ Some f → f ≡ all_free (region_size m region)
   at_size zero f is = sym (same_Some _ _ is)
@@ -140,14 +139,12 @@ module _ (m : Description) where
       by_kind true le =
           subst (λ b. f ≡ all_free (if b then m.sdram else 1024)) (sym le) (
           let below = leb-true (suc i) n le in
-          let e = one in
-          got ∙ (get_or_append_left memories tables d i (omega (arith, e, below)) ∙ get_or-replicate n i (all_free m.sdram) d (omega (arith, below))))
+          got ∙ (get_or_append_left memories tables d i (omega (arith, one, below)) ∙ get_or-replicate n i (all_free m.sdram) d (omega (arith, below))))
       by_kind false le =
           subst (λ b. f ≡ all_free (if b then m.sdram else 1024)) (sym le) (
           let above = leb-false (suc i) n le in
           let all = long in
-          let w = within in
-          got ∙ (get_or-append_right memories tables n i d one (omega (arith, above)) ∙ get_or-replicate n (i - n) (all_free 1024) d (omega (arith, w, all, above))))
+          got ∙ (get_or-append_right memories tables n i d one (omega (arith, above)) ∙ get_or-replicate n (i - n) (all_free 1024) d (omega (arith, within, all, above))))
 
   -- nothing is taken of any region
   none_taken : (region : ℕ) (f : Free) → slice_get (open_regions m) region ≡ Some f → IsFreeBeside m [] region f

@@ -68,5 +68,4 @@ pub all_blocks : {claims : List Claim} {ranges : List Range} {nets at : ℕ} (bl
     HaveBlocksBelow claims ranges blocks at → HaveBlocks claims ranges blocks
 all_blocks {claims} blocks keyed end long so_far net block has =
     let found = keyed.all net (let w = slice_get_within blocks net block has in omega (arith, w, long)) in
-    let inside = slice_get_within claims found.0 found.1 found.2 in
-    so_far found.0 net found.1 block (omega (arith, inside, end)) found.2 found.3 has
+    so_far found.0 net found.1 block (omega (arith, slice_get_within claims found.0 found.1 found.2, end)) found.2 found.3 has

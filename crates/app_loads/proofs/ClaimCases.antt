@@ -300,8 +300,7 @@ module _ (m : Description) (plan : AppPlan) (valid : IsPlan m plan) where
             let is = unless_zero (count_by (has_chip m (chip_of m found.0)) plan.nets)
             (record { region = Rows (chip_of m found.0); size = count_by (has_chip m (chip_of m found.0)) plan.nets; align = 1; fixed = None; refusal = RowsOut (chip_of m found.0) }) claim found.2 in
             let r : place_of m claim.region ≡ 1 + (n + index_of m (chip_of m found.0)) = ap (λ (x : Claim). place_of m x.region) is.0 in
-            let index = index_of-chip_of m found.0 in
-            let same : found.0 ≡ i = omega (arith, r, region, index) in
+            let same : found.0 ≡ i = omega (arith, r, region, index_of-chip_of m found.0) in
             ap (λ (x : Claim). x.size) is.0 ∙ ap (λ k. count_by (has_chip m (chip_of m k)) plan.nets) same
             )
       ]

@@ -90,8 +90,7 @@ size_is keys size some few power enough half_below = by_power power.0 power.1
         lower j less =
             let z : 0 + j ≡ j = omega arith in
             let up : 2 ^ (j + 1) ≤ 2 ^ k = pow_mono (omega (arith, less)) in
-            let twice = pow_more 2 j in
-            let w : 2 ^ j < keys = omega (arith, up, twice, is, half_below, some) in
+            let w : 2 ^ j < keys = omega (arith, up, pow_more 2 j, is, half_below, some) in
             ap (λ i. leb keys (2 ^ i)) z ∙ lt-leb keys (2 ^ j) w
 
 -- ---- all claims

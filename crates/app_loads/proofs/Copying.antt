@@ -179,8 +179,7 @@ pub all_in_order : (lists sorted left : List (List Mark)) → left ≡ drop (len
     AllZip IsTableOf (take (length sorted) lists) (tables_in sorted) → AllZip IsTableOf lists (tables_in sorted)
 all_in_order lists sorted left is none so_far =
     let d = length-drop (length sorted) lists in
-    let l = ap length is in
-    subst (λ (xs : List (List Mark)). AllZip IsTableOf xs (tables_in sorted)) (take_all (length sorted) lists (omega (arith, d, l, none))) so_far
+    subst (λ (xs : List (List Mark)). AllZip IsTableOf xs (tables_in sorted)) (take_all (length sorted) lists (omega (arith, d, ap length is, none))) so_far
 
 -- the rows of a list of original blocks
 pub rows_listed : (marks : List Mark) (lists : List (List Mark)) (j : ℕ) (d : List Mark) → marks ≡ get_or lists j d → (get_or (tables_in lists) j (table_of_sorted d)).rows ≡ map row_of_mark marks
@@ -290,12 +289,11 @@ module _ {m : Description} {old cur : List (List Entry)} {rows : List Table} {ra
         table_long =
             let f = fit.0 in
             let t = T_long in
-            let l = ap length table_is in
             let one = length-append (take range.place T) (b ++ drop (range.place + length b) T) in
             let two = length-append b (drop (range.place + length b) T) in
             let three = length-take-le range.place T (omega (arith, f, t)) in
             let four = length-drop (range.place + length b) T in
-            omega (arith, f, t, l, one, two, three, four, b_long)
+            omega (arith, f, t, ap length table_is, one, two, three, four, b_long)
 
         outside : (k : ℕ) → in_range range.place range.size k ≡ false → slice_get table k ≡ slice_get T k
         outside k out =
@@ -325,9 +323,8 @@ module _ {m : Description} {old cur : List (List Entry)} {rows : List Table} {ra
         earlier_apart other has =
             let less : has.0 < i = (let w = has.1 in let l = length-take-le i ranges (omega (arith, below)) in omega (arith, w, l)) in
             let same : get_or ranges has.0 other ≡ other = sym (get_or-take i ranges has.0 other less) ∙ has.2 in
-            let pair = can.apart has.0 i other less below in
             let here : get_or ranges i other ≡ range = get_or_from_slice_get ranges i range other at in
-            subst (λ (r : Range). ShareNoPlace r range) same (subst (λ (r : Range). ShareNoPlace (get_or ranges has.0 other) r) here pair)
+            subst (λ (r : Range). ShareNoPlace r range) same (subst (λ (r : Range). ShareNoPlace (get_or ranges has.0 other) r) here (can.apart has.0 i other less below))
 
         pub copied_more : AreCopied m rows (take (i + 1) ranges) old (slice_set cur j table)
         copied_more = record {

@@ -164,8 +164,7 @@ module _ (one_way : HasOneWay) (s t : State) (nets : List NetPlan) (asked : ℕ 
       (and_from (d.vertex == w.vertex) (d.copy.hop == length v.branch) (eq-eqb d.vertex w.vertex same.1)
       (eq-eqb d.copy.hop (length v.branch) (u.hops ∙ ap length branch))))
       in
-      let all = few_delivered trail s in
-      omega (arith, one, fewer, all)
+      omega (arith, one, fewer, few_delivered trail s)
 
   -- so there are no more of them than on the other mesh
   pub no_more : length (filter is_own s.delivered) ≤ length (filter is_own t.delivered)

@@ -113,9 +113,8 @@ module _ (ds : List Delivery) where
 pub passes_once : {X : Type 0} (p : X → Bool) (xs : List X) (x : X) → Among x xs → p x ≡ true → 1 ≤ count_by p xs
 passes_once p [] x a passes = absurd a
 passes_once p (y ∷ ys) x (inl is) passes =
-    let one = count_by-cons p y ys in
     let here : (if p y then 1 else 0) ≡ 1 = ap (λ b. one_if b) (ap p (sym is) ∙ passes) in
-    omega (arith, one, here)
+    omega (arith, count_by-cons p y ys, here)
   where
     one_if : Bool → ℕ
     one_if b = if b then 1 else 0

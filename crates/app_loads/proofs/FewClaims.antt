@@ -30,17 +30,14 @@ few_gathered : {X : Type 0} (f : ℕ → X → List Claim) → ((j : ℕ) (x : X
 few_gathered f one i [] = omega arith
 few_gathered f one i (x ∷ xs) =
     let whole = length-append (f i x) (gathered f (i + 1) xs) in
-    let here = one i x in
     let rest = few_gathered f one (i + 1) xs in
-    omega (arith, whole, here, rest)
+    omega (arith, whole, one i x, rest)
 
 few_mapped : {X : Type 0} (f : X → List Claim) → ((x : X) → length (f x) ≤ 1) → (xs : List X) → length (flat_map f xs) ≤ length xs
 few_mapped f one [] = omega arith
 few_mapped f one (x ∷ xs) =
     let whole = length-append (f x) (flat_map f xs) in
-    let here = one x in
-    let rest = few_mapped f one xs in
-    omega (arith, whole, here, rest)
+    omega (arith, whole, one x, few_mapped f one xs)
 
 module _ (m : Description) (size : HasSize m) (plan : AppPlan) (valid : IsPlan m plan) where
   pub few_claims : length (claims_of m plan) ≤ 262144
@@ -61,15 +58,13 @@ module _ (m : Description) (size : HasSize m) (plan : AppPlan) (valid : IsPlan m
       let long : ℕ = count_by (has_chip m (chip_of m i)) plan.nets in
       one_unless (long == 0) (record { region = Rows (chip_of m i); size = long; align = 1; fixed = None; refusal = RowsOut (chip_of m i) })) (range_with_len 0 (chip_count m))
       in
-      let pairs = length-zip plan.spots plan.sdram in
       let spots = few_spots m plan.spots valid.different valid.usable in
       let chips : chip_count m ≤ 64 * 64 = mul-le m.width m.height 64 64 size.width_to_64 size.height_to_64 in
       let indices : length (range_with_len 0 (chip_count m)) ≡ chip_count m = length-range_with_len 0 (chip_count m) in
-      omega (arith, first, second, third, of_memory, of_fixed, of_keys, of_rows, pairs, spots, chips, indices, valid.few_nets)
+      omega (arith, first, second, third, of_memory, of_fixed, of_keys, of_rows, length-zip plan.spots plan.sdram, spots, chips, indices, valid.few_nets)
 
 -- an application has as few
 pub few_ranges : (m : Description) → HasSize m → (app : LoadedApp) → IsLoadedOn m app → length app.ranges ≤ 262144
 few_ranges m size app is =
     let same = AllZip-long (IsRangeFor m) (claims_of m app.plan) app.ranges is.ranges in
-    let few = few_claims m size app.plan is.plan in
-    omega (arith, same, few)
+    omega (arith, same, few_claims m size app.plan is.plan)

@@ -34,8 +34,7 @@ joined_of sent all own q arrivals other all_is own_is same =
 pub at_last : (sent : List Sent) (q p : Sent) → slice_get sent (length sent - 1) ≡ Some q → q ≡ p → (before : List Sent) × (sent ≡ before ++ p ∷ [])
 at_last sent q p at is =
     let n : ℕ = length sent - 1 in
-    let below = slice_get_within sent n q at in
-    (take n sent, sym (take_all (n + 1) sent (omega (arith, below))) ∙ (take_more_at sent n q at ∙ ap (λ x. take n sent ++ x ∷ []) is))
+    (take n sent, sym (take_all (n + 1) sent (omega (arith, slice_get_within sent n q at))) ∙ (take_more_at sent n q at ∙ ap (λ x. take n sent ++ x ∷ []) is))
 
 -- the last packet's deliveries come last
 pub last_packet : (sent before : List Sent) (p : Sent) (arrivals : List Arrival) → sent ≡ before ++ p ∷ [] → deliveries_in sent arrivals ≡ deliveries_in before arrivals ++ deliveries_at arrivals p
@@ -184,18 +183,16 @@ module _ (p : Delivery → Bool) (all own others : List Delivery) (count left : 
   -- of a group that is left, no more pass than are left
   pub few_more : (g rest : List Delivery) (n : ℕ) → own ++ filter p (g ++ rest) ≡ filter p all → n ≡ length (filter p g) → n ≤ left
   few_more g rest n own_is n_is =
-      let whole = ap length own_is in
       let split = length-append own (filter p (g ++ rest)) in
       let parts = ap length (filter-append p g rest) in
       let sum = length-append (filter p g) (filter p rest) in
-      omega (arith, counted, so_far, whole, split, parts, sum, both, n_is)
+      omega (arith, counted, so_far, ap length own_is, split, parts, sum, both, n_is)
 
   -- and when it is put, the rest are still counted
   pub still_counted : (g rest put : List Delivery) (n : ℕ) → own ++ filter p (g ++ rest) ≡ filter p all → put ≡ own ++ filter p g → n ≡ length (filter p g) → (left - n) + length put ≡ count
   still_counted g rest put n own_is put_is n_is =
-      let few = few_more g rest n own_is n_is in
       let sum = ap length put_is ∙ length-append own (filter p g) in
-      omega (arith, so_far, few, sum, n_is)
+      omega (arith, so_far, few_more g rest n own_is n_is, sum, n_is)
 
   -- at the end those that are left are the others
   pub left_others : own ++ [] ≡ filter p all → others ++ [] ≡ filter q all → left ≡ length others
@@ -250,8 +247,7 @@ module _ (gs : List Grouped) (count : ℕ) (g : Grouped) (long : count ≡ lengt
       let is : all_grouped gs ≡ (split.0 ++ ends.before) ++ own = split.1 ∙ (ap (λ l. split.0 ++ l) ends.is ∙ sym (append_assoc split.0 ends.before own)) in
       let sum = ap length is ∙ length-append (split.0 ++ ends.before) own in
       let one = length-map g.arrivals (delivery_of p) in
-      let many = ends.long in
-      let place : length (split.0 ++ ends.before) ≡ first = omega (arith, total, within, less, sum, one, many) in
+      let place : length (split.0 ++ ends.before) ≡ first = omega (arith, total, within, less, sum, one, ends.long) in
       ap (drop first) is ∙ (drop_at (split.0 ++ ends.before) own first place ∙ ap (λ l. deliveries_at l p) (sym split.2))
 
   -- a packet more in the last group

@@ -37,12 +37,11 @@ served_on {old = old} {new = new} {number = number} {first = first} {plan = plan
 pub can_settle : {s : State} {old new : List Region} {number first : ℕ} {plan : AppPlan} {app : LoadedApp} → CanJoin s old first plan →
     IsServedApp s.setup.machine old number first plan app new → CanSettle s app
 can_settle {s} {new = new} {first = first} {plan = plan} {app = app} can served =
-    let m = s.setup.machine in
     let own = can.of_machine in
     let taken = served.taken own.taken own.apart own.free in
     let numbers = can.numbers in
     record {
-      loaded = loaded_from m own.taken new plan app can.valid served.plan_is (served.served own.taken own.apart own.free) taken served.blocks;
+      loaded = loaded_from s.setup.machine own.taken new plan app can.valid served.plan_is (served.served own.taken own.apart own.free) taken served.blocks;
       apart = AllPairs-right ShareNoPlace own.taken app.ranges taken.apart;
       numbers = subst (λ n. n + length app.plan.packets < 2 ^ 32) (sym served.first_is) (subst (λ (p : AppPlan). first + length p.packets < 2 ^ 32) (sym served.plan_is) numbers);
       vertices = can.vertices;

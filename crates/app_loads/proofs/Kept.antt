@@ -241,6 +241,4 @@ pub few_own : (p : Delivery → Bool) (xs ys own late : List Delivery) → own �
 few_own p xs ys own late own_is late_is fits =
     let a = ap length own_is ∙ length-filter p xs in
     let b = ap length late_is ∙ length-filter p ys in
-    let c = count_by-le-length p xs in
-    let d = count_by-le-length p ys in
-    omega (arith, a, b, c, d, fits)
+    omega (arith, a, b, count_by-le-length p xs, count_by-le-length p ys, fits)

@@ -256,8 +256,7 @@ module _ (s : State) where
             | inl e ↦
                 let queue = among_flat packet_numbers_of n s.unsent e in
                 let at = place_of queue.0 s.unsent queue.1 in
-                let own = sender_of at.0 queue.0 at.1 queue.2 in
-                flat_among (unsent_numbers s.unsent) n vertices at.0 (contains_among at.0 vertices own)
+                flat_among (unsent_numbers s.unsent) n vertices at.0 (contains_among at.0 vertices (sender_of at.0 queue.0 at.1 queue.2))
                 (subst (λ (q : List McCopy). Among n (packet_numbers_of q)) (sym (get_or_from_slice_get s.unsent at.0 queue.0 [] at.1)) queue.2)
           ]
         ]
@@ -283,8 +282,7 @@ module _ (s : State) where
   of_sender mesh vertices alone n a =
       let v = among_flat (unsent_numbers s.unsent) n vertices a in
       let there = All-contains (λ w. w < length s.setup.spots) vertices v.0 alone.there (among_contains v.0 vertices v.1) in
-      let long = mesh.unsent_lists in
-      let at = slice_get-get_or s.unsent v.0 [] (omega (arith, there, long)) in
+      let at = slice_get-get_or s.unsent v.0 [] (omega (arith, there, mesh.unsent_lists)) in
       in_unsent n (flat_among packet_numbers_of n s.unsent (get_or s.unsent v.0 []) (among_at s.unsent v.0 (get_or s.unsent v.0 []) at) v.2)
 
   -- so the least found is the least that waits, and where none is found, none waits

@@ -58,9 +58,8 @@ none_passes : {X : Type 0} (p : X → Bool) (xs : List X) → ((y : X) → Conta
 none_passes p [] fails = refl
 none_passes p (y ∷ ys) fails =
     let rest = none_passes p ys (λ z has. fails z (Contains-later y ys z has)) in
-    let one = count_by-cons p y ys in
     let here : one_if (p y) ≡ 0 = ap one_if (fails y (Contains-first y ys)) in
-    omega (arith, rest, one, here)
+    omega (arith, rest, count_by-cons p y ys, here)
 
 -- ---- one packet more
 

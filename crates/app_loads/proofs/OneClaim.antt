@@ -35,17 +35,14 @@ module _ (n : ℕ) where
   none_gathered f none i [] = refl
   none_gathered f none i (x ∷ xs) =
       let whole = count_by-append is_for (f i x) (gathered f (i + 1) xs) in
-      let here = none i x in
       let rest = none_gathered f none (i + 1) xs in
-      omega (arith, whole, here, rest)
+      omega (arith, whole, none i x, rest)
 
   none_mapped : {X : Type 0} (f : X → List Claim) → ((x : X) → count_by is_for (f x) ≡ 0) → (xs : List X) → count_by is_for (flat_map f xs) ≡ 0
   none_mapped f none [] = refl
   none_mapped f none (x ∷ xs) =
       let whole = count_by-append is_for (f x) (flat_map f xs) in
-      let here = none x in
-      let rest = none_mapped f none xs in
-      omega (arith, whole, here, rest)
+      omega (arith, whole, none x, none_mapped f none xs)
 
   abbrev fixed : ℕ → List AppNet → List Claim
   fixed i nets = gathered (λ j (net : AppNet). fixed_claim j net.fixed) i nets
@@ -89,9 +86,8 @@ module _ (n : ℕ) where
           count_by is_for (fixed j (net ∷ nets)) + count_by is_for (keys j (net ∷ nets)) ≤ 1
       by_test true is rest =
           let here : j ≡ n = eqb-true j n is in
-          let one = own true is in
           let none = none_above (j + 1) nets (omega (arith, here)) in
-          omega (arith, one, none, first, second)
+          omega (arith, own true is, none, first, second)
       by_test false is rest = let none = own false is in omega (arith, none, rest, first, second)
 
   module _ (m : Description) (plan : AppPlan) where
@@ -109,8 +105,7 @@ module _ (n : ℕ) where
         let long : ℕ = count_by (has_chip m (chip_of m i)) plan.nets in
         none_unless (long == 0) (record { region = Rows (chip_of m i); size = long; align = 1; fixed = None; refusal = refusals.RowsOut (chip_of m i) }) refl) (range_with_len 0 (chip_count m))
         in
-        let one = at_most_one 0 plan.nets in
-        omega (arith, first, second, third, none, no_row, one)
+        omega (arith, first, second, third, none, no_row, at_most_one 0 plan.nets)
 
   -- places at which a claim for the net stands are one
   one_place : (claims : List Claim) → count_by is_for claims ≤ 1 → (i j : ℕ) (a b : Claim) → slice_get claims i ≡ Some a → slice_get claims j ≡ Some b → is_for a ≡ true → is_for b ≡ true → i ≡ j
@@ -119,16 +114,13 @@ module _ (n : ℕ) where
   one_place (c ∷ claims) few zero (suc j) a b at also x y =
       let first = counts_one (is_for c) (ap is_for (same_Some c a at) ∙ x) in
       let later = count_some is_for b claims y (among_at claims j b also) in
-      let whole = count_by-cons is_for c claims in
-      absurd (omega (arith, few, first, later, whole))
+      absurd (omega (arith, few, first, later, count_by-cons is_for c claims))
   one_place (c ∷ claims) few (suc i) zero a b at also x y =
       let first = counts_one (is_for c) (ap is_for (same_Some c b also) ∙ y) in
       let later = count_some is_for a claims x (among_at claims i a at) in
-      let whole = count_by-cons is_for c claims in
-      absurd (omega (arith, few, first, later, whole))
+      absurd (omega (arith, few, first, later, count_by-cons is_for c claims))
   one_place (c ∷ claims) few (suc i) (suc j) a b at also x y =
-      let whole = count_by-cons is_for c claims in
-      ap suc (one_place claims (omega (arith, few, whole)) i j a b at also x y)
+      ap suc (one_place claims (omega (arith, few, count_by-cons is_for c claims)) i j a b at also x y)
 
 -- so a net's block is one
 pub one_block : (m : Description) (plan : AppPlan) (ranges : List Range) (net : ℕ) (block other : Block) → IsBlockOf (claims_of m plan) ranges net block →
@@ -138,6 +130,4 @@ one_block m plan ranges net block other x y =
     let at : x.at ≡ y.at = one_place net (claims_of m plan) (one_claim net m plan) x.at y.at x.claim y.claim x.is y.is (for x.claim x.its) (for y.claim y.its) in
     let range : x.range ≡ y.range = same_Some x.range y.range (sym x.got ∙ (ap (slice_get ranges) at ∙ y.got)) in
     let size : x.range.size ≡ y.range.size = ap (λ (r : Range). r.size) range in
-    let mask = x.mask in
-    let also_mask = y.mask in
-    same_block block other (x.key ∙ (ap (λ (r : Range). r.place) range ∙ sym y.key)) (omega (arith, size, mask, also_mask))
+    same_block block other (x.key ∙ (ap (λ (r : Range). r.place) range ∙ sym y.key)) (omega (arith, size, x.mask, y.mask))

@@ -72,16 +72,13 @@ of_part (y ∷ ys) (suc p) s j x e = let z : suc p + j ≡ suc (p + j) = omega a
 some_counted : {X : Type 0} (p : X → Bool) (xs : List X) (x : X) → Among x xs → p x ≡ true → 0 < count_by p xs
 some_counted p [] x a hit = absurd a
 some_counted p (y ∷ ys) x (inl here) hit =
-    let cons = count_by-cons p y ys in
     let one : cond (p y) 1 0 ≡ 1 = ap one_if (ap p (sym here) ∙ hit) in
-    omega (arith, cons, one)
+    omega (arith, count_by-cons p y ys, one)
   where
     one_if : Bool → ℕ
     one_if b = cond b 1 0
 some_counted p (y ∷ ys) x (inr later) hit =
-    let rest = some_counted p ys x later hit in
-    let cons = count_by-cons p y ys in
-    omega (arith, cons, rest)
+    omega (arith, count_by-cons p y ys, some_counted p ys x later hit)
 
 in_parts : (range : Range) (region k : ℕ) → range_has region k range ≡ true → (range.region ≡ region) × (range.place ≤ k) × (k < range.place + range.size)
 in_parts range region k e =
@@ -182,8 +179,7 @@ module _ (m : Description) (tables : List (List Entry)) (apps : List LoadedApp) 
         let app : LoadedApp = own.app in
         let load = loaded_at app own.in_apps in
         let f = facts_of m app load x own.in_app in
-        let net_is = f.is in
-        let on_net : has_chip m c f.net ≡ true = has_chip-true m c f.net (subst (λ (n : NetPlan). HasChip m n c) (sym net_is) on) in
+        let on_net : has_chip m c f.net ≡ true = has_chip-true m c f.net (subst (λ (n : NetPlan). HasChip m n c) (sym f.is) on) in
         let i : ℕ = index_of m c in
         let back = chip_of-index_of m c inside in
         let counted : 0 < count_by (has_chip m (chip_of m i)) app.plan.nets =
@@ -198,9 +194,8 @@ module _ (m : Description) (tables : List (List Entry)) (apps : List LoadedApp) 
         let mine = has_original m c (nets_of app) r.plain.originals r.plain.originals_are j x own.in_app.1 (subst (λ (n : NetPlan). HasChip m n c) (sym own.in_app.2) on) in
         let row : Row = row_of mine.0 in
         let in_rows = Contains-permutation (map row_of r.plain.originals) r.rows row r.plain.one_row_each (Contains-map row_of r.plain.originals mine.0 mine.1) in
-        let at_row = member_at r.rows row in_rows in
         let at_part : slice_get (take range.size (drop range.place table)) in_rows.0 ≡ Some (entry_of row) =
-        ap (λ l. slice_get l in_rows.0) r.entries ∙ slice_get-mapped entry_of r.rows in_rows.0 row at_row in
+        ap (λ l. slice_get l in_rows.0) r.entries ∙ slice_get-mapped entry_of r.rows in_rows.0 row (member_at r.rows row in_rows) in
         let at_table = of_part table range.place range.size in_rows.0 (entry_of row) at_part in
         let block_is : row.block ≡ x.block = mine.2.keys ∙ ap (λ (n : NetPlan). n.block) own.in_app.2 in (
           entry_of row,

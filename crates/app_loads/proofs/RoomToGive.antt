@@ -33,8 +33,7 @@ module _ (ranges : List Range) {i : ℕ} (d : Range) (below : i < length ranges)
     few_counted few =
         let was = counted range.region (get_or counts range.region e) (slice_get-get_or counts range.region e there) in
         let some : of_region range.region (take i ranges) ≤ length (take i ranges) = count_by-le-length (λ (r : Range). r.region == range.region) (take i ranges) in
-        let long = length-take i ranges in
-        omega (arith, was, some, long, few)
+        omega (arith, was, some, length-take i ranges, few)
 
     pub counted_more : (next : ℕ) → next ≡ get_or counts range.region e + 1 → (k n : ℕ) → slice_get (slice_set counts range.region next) k ≡ Some n → n ≡ of_region k (take (i + 1) ranges)
     counted_more next is k n at =

@@ -113,9 +113,7 @@ module _ (m : Description) (chips : List ℕ) where
     in_order : (j k x y : ℕ) → j < k → slice_get chips j ≡ Some x → slice_get chips k ≡ Some y → x ≤ y
     in_order j k x y less at_j at_k =
         let le = sorted j k x less (slice_get_within chips k y at_k) in
-        let first = get_or_from_slice_get chips j x x at_j in
-        let second = get_or_from_slice_get chips k y x at_k in
-        omega (arith, le, first, second)
+        omega (arith, le, get_or_from_slice_get chips j x x at_j, get_or_from_slice_get chips k y x at_k)
 
     pub run_more : (at end c : ℕ) (start claims after : List Claim) → slice_get chips at ≡ Some c → IsRunEnd chips at end → HaveRuns at start claims →
         after ≡ claims ++ entries_claim m c (end - at) → HaveRuns end start after
@@ -140,10 +138,9 @@ module _ (m : Description) (chips : List ℕ) where
         -- the item at the end is greater, and so are all after it
         at_end : (x : ℕ) → slice_get chips end ≡ Some x → c < x
         at_end x e =
-            let le = in_order at end c x after_at here e in
             elim (cases_eq x c) [
               | inl same ↦ absurd (run.other x c e here same)
-              | inr differ ↦ omega (arith, le, differ)
+              | inr differ ↦ omega (arith, in_order at end c x after_at here e, differ)
             ]
 
         beyond : (k x : ℕ) → end ≤ k → slice_get chips k ≡ Some x → c + 1 ≤ x
@@ -151,9 +148,8 @@ module _ (m : Description) (chips : List ℕ) where
           | inl same ↦ let w = at_end x (ap (slice_get chips) (sym same) ∙ e) in omega (arith, w)
           | inr more ↦
               let there = slice_get_there chips end (let w = slice_get_within chips k x e in omega (arith, low, more, w)) in
-              let w = at_end there.0 there.1 in
               let v = in_order end k there.0 x (omega (arith, low, more)) there.1 e in
-              omega (arith, w, v)
+              omega (arith, at_end there.0 there.1, v)
         ]
 
         counted : count_by (λ k. k == c) chips ≡ end - at
@@ -177,8 +173,7 @@ module _ (m : Description) (chips : List ℕ) where
         so_far.is
         ∙ ap (λ l. start ++ l) (
         let gap : ℕ = chip_count m - so_far.next in
-        let le = so_far.within in
-        let parts : so_far.next + gap ≡ chip_count m = omega (arith, le) in
+        let parts : so_far.next + gap ≡ chip_count m = omega (arith, so_far.within) in
         sym (
         ap (λ n. flat_map (run_claim m chips) (range_with_len 0 n)) (sym parts)
         ∙ (ap (flat_map (run_claim m chips)) (range_parts 0 so_far.next gap)

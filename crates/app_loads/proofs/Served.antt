@@ -27,7 +27,6 @@ module _ (m : Description) (plan : AppPlan) (valid : IsPlan m plan) (taken range
         let open' = served.first.each i claim range is got in
         let size : range.size ≡ claim.size = open'.size in
         let least : 2 ^ f.e ≤ 2 ^ 32 = pow_mono f.few in
-        let pos = pow_pos f.e in
         let claimed = f.size in
         let within = subst (λ r. range.place + claim.size ≤ r) (ap (λ r. region_size m (place_of m r)) f.region) open'.may.within in
         let below = slice_get_within plan.nets net f.net f.is in (
@@ -35,7 +34,7 @@ module _ (m : Description) (plan : AppPlan) (valid : IsPlan m plan) (taken range
             power = (f.e, size ∙ claimed);
             few = omega (arith, size, claimed, least);
             aligned = subst (λ s. range.place % s ≡ 0) (sym size) (f.aligned range.place open'.may.aligned open'.may.fixed);
-            small = omega (arith, within, pos, claimed);
+            small = omega (arith, within, pow_pos f.e, claimed);
           },
           below,
         );

@@ -71,9 +71,7 @@ module _ (ranges : List Range) (range : Range) where
       (k n : ℕ) → slice_get (slice_set counts range.region next) k ≡ Some n → n ≡ of_region k (ranges ++ range ∷ [])
   counted_push counts count next there counted is k n at = elim (set_cases counts range.region k count next n there at) [
     | inl mine ↦
-        let was = counted range.region count there in
-        let more = more_here in
-        let all : n ≡ of_region range.region (ranges ++ range ∷ []) = let value = mine.1 in omega (arith, value, is, was, more) in
+        let all : n ≡ of_region range.region (ranges ++ range ∷ []) = let value = mine.1 in omega (arith, value, is, counted range.region count there, more_here) in
         all ∙ ap (λ r. of_region r (ranges ++ range ∷ [])) (sym mine.0)
     | inr other ↦ counted k n other.1 ∙ sym (none_elsewhere k other.0)
   ]
@@ -136,8 +134,7 @@ module _ (m : Description) (claims : List Claim) (old mid : List Region) (ranges
   served_more after place new some set serves spare = record {
     served = λ taken apart free.
         let was = so_far.served taken apart free in
-        let t = so_far.taken taken apart free in
-        let now = serves m (taken ++ ranges) (beside_in (taken ++ ranges) t.free) in
+        let now = serves m (taken ++ ranges) (beside_in (taken ++ ranges) (so_far.taken taken apart free).free) in
         record {
           few = let w = slice_get_within claims (length ranges) claim is in omega (arith, w, length_push ranges r);
           each = λ i c' r' is_c is_r. elim (slice_get-push_cases ranges r r' i is_r) [
@@ -167,14 +164,11 @@ module _ (m : Description) (claims : List Claim) (old mid : List Region) (ranges
         };
     room = λ i region is_region. elim (set_cases mid number i before after region at (sym (ap (λ l. slice_get l i) set) ∙ is_region)) [
       | inl mine ↦
-          let more = more_here ranges r in
           let same : region.spare ≡ after.spare = ap (λ (x : Region). x.spare) mine.1 in
           let counted : of_region i (ranges ++ r ∷ []) ≡ of_region number (ranges ++ r ∷ []) = ap (λ n. of_region n (ranges ++ r ∷ [])) mine.0 in
-          omega (arith, more, spare, same, counted)
+          omega (arith, more_here ranges r, spare, same, counted)
       | inr other ↦
-          let was = so_far.room i region other.1 in
-          let same = none_elsewhere ranges r i other.0 in
-          omega (arith, was, same)
+          omega (arith, so_far.room i region other.1, none_elsewhere ranges r i other.0)
     ];
     long = ap length set ∙ (length-set mid number after ∙ so_far.long);
   }
@@ -317,9 +311,7 @@ module _ (m : Description) (others : List Range) (range : Range) (rest : List Ra
         runs = runs;
         free = λ k. free k ∙ elim (cases_Bool (in_range range.place range.size k)) [
           | inl inside ↦
-              let facts = in_facts range.place range.size k inside in
-              let w = give_within in
-              let below : ltb k after.size ≡ true = lt-ltb k after.size (omega (arith, facts, w, size)) in
+              let below : ltb k after.size ≡ true = lt-ltb k after.size (omega (arith, in_facts range.place range.size k inside, give_within, size)) in
               ap (λ b. is_free before.holes k || b) inside ∙ (or_right (is_free before.holes k) true refl
               ∙ sym (ap (λ b. b && not (is_taken (others ++ rest) range.region k)) below ∙ ap (λ b. true && not b) (not_left k inside)))
           | inr outside ↦
@@ -377,24 +369,18 @@ module _ (ranges : List Range) {others : List Range} {i : ℕ} {regions : List R
 
     pub spare_at : 0 < before.spare
     spare_at =
-        let most = room range.region before at_place in
-        let all = counted range.region in
         let one : one_if (range.region == range.region) ≡ 1 = ap one_if (eq-eqb range.region range.region refl) in
-        omega (arith, most, all, one)
+        omega (arith, room range.region before at_place, counted range.region, one)
 
     pub room_at : (after : Region) → before.spare ≤ after.spare + 1 → HaveRoom rest (slice_set regions range.region after)
     room_at after spare n region is = elim (set_cases regions range.region n before after region at_place is) [
       | inl mine ↦
-          let most = room range.region before at_place in
-          let all = counted range.region in
           let one : one_if (range.region == range.region) ≡ 1 = ap one_if (eq-eqb range.region range.region refl) in
           let same : region.spare ≡ after.spare = ap (λ (x : Region). x.spare) mine.1 in
           let number : count_by (λ (x : Range). x.region == n) rest ≡ count_by (λ (x : Range). x.region == range.region) rest = ap (λ k. count_by (λ (x : Range). x.region == k) rest) mine.0 in
-          omega (arith, most, all, one, same, number, spare)
+          omega (arith, room range.region before at_place, counted range.region, one, same, number, spare)
       | inr other ↦
-          let most = room n region other.1 in
-          let all = counted n in
-          omega (arith, most, all)
+          omega (arith, room n region other.1, counted n)
     ]
 
 -- where all are given back, none is left
@@ -468,9 +454,8 @@ module _ {m : Description} {claims : List Claim} {old mid : List Region} {ranges
     -- which are fewer than the claims
     pub few_held : length claims ≤ 262144 → get_or counts at f < 262144
     few_held few =
-        let held = count_held in
         let some : of_region at ranges ≤ length ranges = count_by-le-length (λ (range : Range). range.region == at) ranges in
-        omega (arith, below, each_one, few, held, some)
+        omega (arith, below, each_one, few, count_held, some)
 
     pub counts_more : (place : ℕ) (list : List Range) → list ≡ ranges ++ range_here place ∷ [] → (next : ℕ) → next ≡ get_or counts at f + 1 →
         (k n : ℕ) → slice_get (slice_set counts at next) k ≡ Some n → n ≡ of_region k list
@@ -502,5 +487,4 @@ pub all_served : {m : Description} {claims : List Claim} {old mid : List Region}
     length ranges ≡ i → HaveServed m claims old ranges mid → AreServedAlways m claims old ranges
 all_served end each_one so_far taken apart free =
     let first = so_far.served taken apart free in
-    let few = first.few in
-    record { first = first; all = omega (arith, end, each_one, few) }
+    record { first = first; all = omega (arith, end, each_one, first.few) }

@@ -105,9 +105,8 @@ pub plain_count : (m : Description) (c : Chip) (nets : List AppNet) (blocks : Li
     IsPlainTable m (nets_with nets blocks) c rows → length rows ≡ count_by (has_chip m c) nets
 plain_count m c nets blocks rows long plain =
     let same = length_permutation (map row_of plain.originals) rows plain.one_row_each in
-    let mapped = length-map plain.originals row_of in
     let counted = originals_count m c nets blocks plain.originals long plain.originals_are in
-    omega (arith, same, mapped, counted)
+    omega (arith, same, length-map plain.originals row_of, counted)
 
 pub rows_size : (m : Description) (i : ℕ) → region_size m (1 + (chip_count m + i)) ≡ 1024
 rows_size m i =
@@ -140,9 +139,7 @@ module _ (s : State) (app : LoadedApp) (can : CanSettle s app) where
     no_packet [] all = refl
     no_packet (p ∷ packets) all =
         let of_net = All-head (IsPacketOfApp app.plan.nets) p packets all in
-        let within = slice_get_within app.plan.nets p.net of_net.0 of_net.1 in
-        let empty = ap length none in
-        absurd (omega (arith, within, empty))
+        absurd (omega (arith, slice_get_within app.plan.nets p.net of_net.0 of_net.1, ap length none))
 
     -- an application without nets leaves a mesh as it is
     pub settled_bare : IsSettled app s s

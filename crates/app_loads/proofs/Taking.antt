@@ -41,22 +41,19 @@ module _ (m : Description) (taken : List Range) (claim : Claim) (f : Free) (besi
       let at : (k : ℕ) → p ≤ k → k < p + claim.size → (ltb k f.size ≡ true) × (not (is_taken taken (place_of m claim.region) k) ≡ true) =
       λ k low high. and_parts (ltb k f.size) (not (is_taken taken (place_of m claim.region) k)) (sym (beside.free k) ∙ free_in_range f.holes p claim.size k fits low high) in
       let last = ltb-true (p + claim.size - 1) f.size (at (p + claim.size - 1) (omega (arith, some)) (omega (arith, some))).0 in
-      let size = beside.size in
       record {
         aligned = aligned;
         fixed = fixed;
-        within = omega (arith, last, size, some);
+        within = omega (arith, last, beside.size, some);
         untaken = λ k mine. let i = in_facts p claim.size k mine in not-true (is_taken taken (place_of m claim.region) k) (at k i.0 i.1).1;
       }
 
   -- and one that may be taken lies in a hole
   pub hole_from_open : (p : ℕ) → IsOpenRange m taken claim p → is_hole_range f.holes p claim.size ≡ true
   hole_from_open p o =
-      let size = beside.size in
-      let within = o.within in
       range_of_free 0 f.size f.holes p claim.size beside.runs some
       (λ k low high.
-      beside.free k ∙ free_of (ltb k f.size) (is_taken taken (place_of m claim.region) k) (lt-ltb k f.size (omega (arith, within, size, high)))
+      beside.free k ∙ free_of (ltb k f.size) (is_taken taken (place_of m claim.region) k) (lt-ltb k f.size (omega (arith, o.within, beside.size, high)))
       (o.untaken k (in_from p claim.size k low high)))
 
 -- the first fit is the least range

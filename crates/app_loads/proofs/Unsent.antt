@@ -182,9 +182,8 @@ pub can_add : (setup_spots : List Spot) (queues : ℕ) (app : LoadedApp) (unsent
     AreSources setup_spots app.plan.nets sources → CanAdd sources app unsent
 can_add spots queues app unsent sources long packets blocks numbers are = record {
   queues = λ k d below. (
-      let at = slice_get-get_or sources k d below in
       let net = slice_get_there app.plan.nets k (let a = are.all in omega (arith, below, a)) in
-      let is = are.each k (get_or sources k d) net.0 net.1 at in
+      let is = are.each k (get_or sources k d) net.0 net.1 (slice_get-get_or sources k d below) in
       subst (λ n. get_or sources k d < n) (sym long) (vertex_at-below spots net.0.source (get_or sources k d) is)
       );
   packets = subst (λ n. All (IsPacketOn app.blocks n) app.plan.packets) (sym are.all) packets;

@@ -36,10 +36,7 @@ bounds-unsent-sources c =
 
 pub returns-clause-sent : goal.returns-clause-sent
 returns-clause-sent c spots are =
-    let long = ap length c.as_slice-packet-items.ensures in
-    let end = c.loop-at-test.false in
-    let most = c.loop-at.auto.at-end in
-    let all : c.loop-at.at ≡ length c.args.app.now.plan.packets = omega (arith, long, end, most) in
+    let all : c.loop-at.at ≡ length c.args.app.now.plan.packets = omega (arith, ap length c.as_slice-packet-items.ensures, c.loop-at-test.false, c.loop-at.auto.at-end) in
     subst (λ n. AreSent spots c.args.app.now n c.args.unsent.now c.loop-at.unsent) all (c.loop-at.invariant.sent spots are)
 
 pub loop-at-preserved : goal.loop-at-preserved
