@@ -30,9 +30,8 @@ use Rattle.spin_checks.proofs.Refusing.{none_due}
 
 tree_in_order : (m : Description) (edges : List Edge) → All (λ (e : Edge). IsInside m e.chip) edges → AreInPlaceOrder m edges → AllPairs (λ e f. IsEdgeBefore f e → ⊥) edges
 tree_in_order m edges inside up i j d less below before =
-    let rises = up i j d less below in
     let falls = before_place m (get_or edges j d) (get_or edges i d) (inside j d below) before in
-    omega (arith, rises, falls)
+    omega (arith, up i j d less below, falls)
 
 module _ (m : Description) (graph : Graph) (target : ℕ) (plan : Plan) (is : IsPlanOf m graph target plan) where
   its_tree : (i : ℕ) (p : NetPlan) → slice_get plan.nets i ≡ Some p → IsRoutingTree m p.tree.root p.tree.edges p.targets
@@ -63,9 +62,8 @@ module _ (m : Description) (graph : Graph) (target : ℕ) (plan : Plan) (is : Is
     one_tree_each = length-map plan.nets (λ (net : NetPlan). net.tree.edges) ∙ is.routing.planned.one_plan_each;
     one_plan_each = is.routing.planned.one_plan_each;
     each = λ i net block edges p net_at block_at edges_at p_at.
-        let planned = is.routing.planned.each i net block p net_at block_at p_at in
         let same : p.tree.edges ≡ edges = one_item_at (trees_of plan.nets) i i p.tree.edges edges refl (slice_get-mapped (λ (n : NetPlan). n.tree.edges) plan.nets i p p_at) edges_at in
-        subst (λ es. IsNetWith plan.placement.spots net block es p) same (net_with i net block p planned p_at);
+        subst (λ es. IsNetWith plan.placement.spots net block es p) same (net_with i net block p (is.routing.planned.each i net block p net_at block_at p_at) p_at);
   }
 
   all_good : All (HasGoodTree m) plan.nets
