@@ -40,8 +40,7 @@ agree_on f g (y ∷ xs) x same (inr has) = agree_on f g xs x (cc same) has
 wanted_by : (route : Route) (n : NetPlan) (c : Chip) → map (has route) all_outs ≡ map (is_wanted (east ∷ []) n.targets c) all_outs → HasWanted route n c
 unfolding HasWanted
 wanted_by route n c same o valid =
-    let one = all_once o valid in
-    let found = counted (out_eq o) all_outs (omega (arith, one)) in
+    let found = counted (out_eq o) all_outs (omega (arith, all_once o valid)) in
     subst (λ p. has route p ≡ is_wanted (east ∷ []) n.targets c p) (sym (out_eq_true o found.0 found.2))
     (agree_on (has route) (is_wanted (east ∷ []) n.targets c) all_outs found.0 same found.1)
 
