@@ -69,8 +69,7 @@ module _ (one_way : HasOneWay) (h g : Host) (app : LoadedApp) (apps : AreApps h)
   same_count =
       let spots = same_spots h g apps also alike.machine in
       let ledger : MeetsLedgerFor g.mesh (all_nets h.apps) (asked_of h.apps) =
-      subst (λ (l : List LoadedApp). MeetsLedgerFor g.mesh (all_nets l) (asked_of l)) (sym alike.apps) also.ledger
-      in
+      subst (λ (l : List LoadedApp). MeetsLedgerFor g.mesh (all_nets l) (asked_of l)) (sym alike.apps) also.ledger in
       let there = none_too h g alike apps.mesh app none in
       let few = no_more one_way h.mesh g.mesh (all_nets h.apps) (asked_of h.apps) alike.machine spots apps.ledger ledger (is_packet_of app) (no_mark g.mesh app there) alike.other_quiet.no_record in
       let many = no_more one_way g.mesh h.mesh (all_nets h.apps) (asked_of h.apps) (sym alike.machine) (sym spots) ledger apps.ledger

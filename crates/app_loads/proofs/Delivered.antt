@@ -73,8 +73,7 @@ module _ (s : State) (nets : List NetPlan) (asked : ℕ → Option Asked) (meets
   one_on_way i a is net in_nets key target branch from to way =
       let k = meets.each_asked i a is in
       let its : k.0.copy.key ≡ a.label.key =
-      (meets.ledger.labelled k.0 k.1).0 ∙ (ap (λ n. (label_of (asked n)).key) k.2 ∙ ap (λ (o : Option Asked). (label_of o).key) is)
-      in
+      (meets.ledger.labelled k.0 k.1).0 ∙ (ap (λ n. (label_of (asked n)).key) k.2 ∙ ap (λ (o : Option Asked). (label_of o).key) is) in
       ap (λ n. count_by (is_packet_on_trail n from to branch) (marks_of s)) (sym k.2)
       ∙ meets.ledger.once_on_each k.0 k.1 net in_nets (subst (λ n. IsKeyOf net.block n) (sym its) key) target branch from to way
 
@@ -111,8 +110,7 @@ module _ (one_way : HasOneWay) (s t : State) (nets : List NetPlan) (asked : ℕ 
       let v = has_arrived s nets asked meets d a in
       let one =
       one_on_way t nets asked also d.copy.packet v.for v.was_asked v.net v.in_nets (subst (λ n. IsKeyOf v.net.block n) v.key v.is_key) v.target v.branch v.from d.vertex
-      (there v.net v.target v.branch v.from d.vertex v.way)
-      in
+      (there v.net v.target v.branch v.from d.vertex v.way) in
       let k = counted (is_packet_on_trail d.copy.packet v.from d.vertex v.branch) (marks_of t) (omega (arith, one)) in
       let parts = and_parts (k.0.copy.packet == d.copy.packet) (on_trail v.from d.vertex v.branch k.0.copy.hop k.0.station) k.2 in
       let number : k.0.copy.packet ≡ d.copy.packet = eqb-true k.0.copy.packet d.copy.packet parts.0 in
@@ -148,22 +146,17 @@ module _ (one_way : HasOneWay) (s t : State) (nets : List NetPlan) (asked : ℕ 
       let key : IsKeyOf u.net.block v.for.label.key = subst (λ (x : Asked). IsKeyOf u.net.block x.label.key) what (subst (λ n. IsKeyOf u.net.block n) u.key u.is_key) in
       let net : u.net ≡ v.net = one_net nets meets.ledger.nets_stand.disjoint u.net v.net u.in_nets v.in_nets v.for.label.key key its in
       let at_w : IsWayOn s.setup.machine s.setup.spots u.net u.target u.branch u.from w.vertex =
-      subst (λ n. IsWayOn s.setup.machine s.setup.spots u.net u.target u.branch u.from n) same.1 u.way
-      in
+      subst (λ n. IsWayOn s.setup.machine s.setup.spots u.net u.target u.branch u.from n) same.1 u.way in
       let target : u.target ≡ v.target =
-      same_Some u.target v.target (sym (vertex_at_stands s.setup.spots u.target w.vertex at_w.ends) ∙ vertex_at_stands s.setup.spots v.target w.vertex way.ends)
-      in
+      same_Some u.target v.target (sym (vertex_at_stands s.setup.spots u.target w.vertex at_w.ends) ∙ vertex_at_stands s.setup.spots v.target w.vertex way.ends) in
       let along : IsWayOn s.setup.machine s.setup.spots v.net v.target u.branch u.from w.vertex =
       subst (λ (x : Spot). IsWayOn s.setup.machine s.setup.spots v.net x u.branch u.from w.vertex) target
-      (subst (λ (n : NetPlan). IsWayOn s.setup.machine s.setup.spots n u.target u.branch u.from w.vertex) net at_w)
-      in
+      (subst (λ (n : NetPlan). IsWayOn s.setup.machine s.setup.spots n u.target u.branch u.from w.vertex) net at_w) in
       let branch : u.branch ≡ v.branch =
-      (one_way s.setup.machine s.setup.spots nets v.net v.target u.branch v.branch u.from v.from w.vertex w.vertex meets.ledger.nets_stand v.in_nets along way).0
-      in
+      (one_way s.setup.machine s.setup.spots nets v.net v.target u.branch v.branch u.from v.from w.vertex w.vertex meets.ledger.nets_stand v.in_nets along way).0 in
       and_from (d.copy.packet == w.copy.packet) ((d.vertex == w.vertex) && (d.copy.hop == length v.branch)) (eq-eqb d.copy.packet w.copy.packet same.0)
       (and_from (d.vertex == w.vertex) (d.copy.hop == length v.branch) (eq-eqb d.vertex w.vertex same.1)
-      (eq-eqb d.copy.hop (length v.branch) (u.hops ∙ ap length branch))))
-      in
+      (eq-eqb d.copy.hop (length v.branch) (u.hops ∙ ap length branch)))) in
       omega (arith, one, fewer, few_delivered trail s)
 
   -- so there are no more of them than on the other mesh

@@ -50,14 +50,12 @@ module _ (m : Description) (size : HasSize m) (plan : AppPlan) (valid : IsPlan m
       let second = length-append fixed (keys ++ rows) in
       let third = length-append keys rows in
       let of_memory : length memory ≤ length (zip plan.spots plan.sdram) = few_gathered memory_claim (λ j need.
-      one_unless (need.1 == 0) (record { region = Memory need.0.chip; size = need.1; align = 1; fixed = None; refusal = MemoryOut j })) 0 (zip plan.spots plan.sdram)
-      in
+      one_unless (need.1 == 0) (record { region = Memory need.0.chip; size = need.1; align = 1; fixed = None; refusal = MemoryOut j })) 0 (zip plan.spots plan.sdram) in
       let of_fixed : length fixed ≤ length plan.nets = few_gathered (λ j (net : AppNet). fixed_claim j net.fixed) (λ j net. one_fixed j net.fixed) 0 plan.nets in
       let of_keys : length keys ≤ length plan.nets = few_gathered (λ j (net : AppNet). key_claim j net.keys net.fixed) (λ j net. one_of_keys j net.keys net.fixed) 0 plan.nets in
       let of_rows : length rows ≤ length (range_with_len 0 (chip_count m)) = few_mapped (row_claim m plan.nets) (λ i.
       let long : ℕ = count_by (has_chip m (chip_of m i)) plan.nets in
-      one_unless (long == 0) (record { region = Rows (chip_of m i); size = long; align = 1; fixed = None; refusal = RowsOut (chip_of m i) })) (range_with_len 0 (chip_count m))
-      in
+      one_unless (long == 0) (record { region = Rows (chip_of m i); size = long; align = 1; fixed = None; refusal = RowsOut (chip_of m i) })) (range_with_len 0 (chip_count m)) in
       let spots = few_spots m plan.spots valid.different valid.usable in
       let chips : chip_count m ≤ 64 * 64 = mul-le m.width m.height 64 64 size.width_to_64 size.height_to_64 in
       let indices : length (range_with_len 0 (chip_count m)) ≡ chip_count m = length-range_with_len 0 (chip_count m) in

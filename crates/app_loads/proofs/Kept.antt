@@ -190,11 +190,9 @@ module _ (xs ys : List Delivery) (s u : State) (v : ℕ) (k : McCopy) (rest : Li
   pub again_reached : IsReachedDropless (with_earlier xs s) (with_earlier ys u)
   again_reached =
       let may : MaySend (with_earlier xs s) =
-      record { kept = clean.kept; quiet = record { inputs_empty = clean.quiet.inputs_empty; hands_empty = clean.quiet.hands_empty; cores_empty = clean.quiet.cores_empty } }
-      in
+      record { kept = clean.kept; quiet = record { inputs_empty = clean.quiet.inputs_empty; hands_empty = clean.quiet.hands_empty; cores_empty = clean.quiet.cores_empty } } in
       let all : (xs ++ s.delivered) ++ own ≡ ys ++ s.delivered =
-      ap (λ l. (xs ++ l) ++ own) clean.none_delivered ∙ (ap (λ l. l ++ own) (append-nil xs) ∙ (sym put ∙ (sym (append-nil ys) ∙ ap (λ l. ys ++ l) (sym clean.none_delivered))))
-      in
+      ap (λ l. (xs ++ l) ++ own) clean.none_delivered ∙ (ap (λ l. l ++ own) (append-nil xs) ∙ (sym put ∙ (sym (append-nil ys) ∙ ap (λ l. ys ++ l) (sym clean.none_delivered)))) in
       subst (IsReachedDropless (with_earlier xs s))
       (ap (λ l. record s { unsent = slice_set s.unsent v rest; delivered = l }) all ∙ ap (with_earlier ys) (sym is))
       (comes (with_earlier xs s) k rest may refl first key)

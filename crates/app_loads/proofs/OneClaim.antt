@@ -99,12 +99,10 @@ module _ (n : ℕ) where
         let second = count_by-append is_for (fixed 0 plan.nets) (keys 0 plan.nets ++ rows) in
         let third = count_by-append is_for (keys 0 plan.nets) rows in
         let none : count_by is_for memory ≡ 0 = none_gathered memory_claim (λ j need.
-        none_unless (need.1 == 0) (record { region = Memory need.0.chip; size = need.1; align = 1; fixed = None; refusal = refusals.MemoryOut j }) refl) 0 (zip plan.spots plan.sdram)
-        in
+        none_unless (need.1 == 0) (record { region = Memory need.0.chip; size = need.1; align = 1; fixed = None; refusal = refusals.MemoryOut j }) refl) 0 (zip plan.spots plan.sdram) in
         let no_row : count_by is_for rows ≡ 0 = none_mapped (row_claim m plan.nets) (λ i.
         let long : ℕ = count_by (has_chip m (chip_of m i)) plan.nets in
-        none_unless (long == 0) (record { region = Rows (chip_of m i); size = long; align = 1; fixed = None; refusal = refusals.RowsOut (chip_of m i) }) refl) (range_with_len 0 (chip_count m))
-        in
+        none_unless (long == 0) (record { region = Rows (chip_of m i); size = long; align = 1; fixed = None; refusal = refusals.RowsOut (chip_of m i) }) refl) (range_with_len 0 (chip_count m)) in
         omega (arith, first, second, third, none, no_row, at_most_one 0 plan.nets)
 
   -- places at which a claim for the net stands are one

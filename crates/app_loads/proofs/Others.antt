@@ -29,8 +29,7 @@ module _ {X Y : Type 0} (f : X → List Y) (p : X → Bool) where
   Contains-left_in xs y has = among_contains y (flat_map f xs) (among_left_in xs y (contains_among y (flat_map f (filter p xs)) has))
 
   pub All-left_in : (P : Y → Type 0) (xs : List X) → All P (flat_map f xs) → All P (flat_map f (filter p xs))
-  All-left_in P xs all =
-      All-each P (flat_map f (filter p xs)) (λ y has. All-contains P (flat_map f xs) y all (Contains-left_in xs y has))
+  All-left_in P xs all = All-each P (flat_map f (filter p xs)) (λ y has. All-contains P (flat_map f xs) y all (Contains-left_in xs y has))
 
   pub AllPairs-left_in : (R : Y → Y → Type 0) (xs : List X) → AllPairs R (flat_map f xs) → AllPairs R (flat_map f (filter p xs))
   AllPairs-left_in R [] pairs = pairs

@@ -77,8 +77,7 @@ some_counted p (y ∷ ys) x (inl here) hit =
   where
     one_if : Bool → ℕ
     one_if b = cond b 1 0
-some_counted p (y ∷ ys) x (inr later) hit =
-    omega (arith, count_by-cons p y ys, some_counted p ys x later hit)
+some_counted p (y ∷ ys) x (inr later) hit = omega (arith, count_by-cons p y ys, some_counted p ys x later hit)
 
 in_parts : (range : Range) (region k : ℕ) → range_has region k range ≡ true → (range.region ≡ region) × (range.place ≤ k) × (k < range.place + range.size)
 in_parts range region k e =

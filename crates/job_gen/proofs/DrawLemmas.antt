@@ -34,8 +34,7 @@ draws_more {A} f n first before after xs x so_far last =
 pub length-draws : {A : Type 0} (f : ℕ → List ℕ → A × List ℕ) (n : ℕ) (g : List ℕ) → length (draws f n g).0 ≡ n
 unfolding draws
 length-draws f zero g = refl
-length-draws {A} f (suc n) g =
-    omega (arith, length-draws f n g, length-append {A = A})
+length-draws {A} f (suc n) g = omega (arith, length-draws f n g, length-append {A = A})
 
 -- what each draw gives, each item has
 pub draws_each : {A : Type 0} (P : A → Type 0) (f : ℕ → List ℕ → A × List ℕ) (n : ℕ) (g : List ℕ)

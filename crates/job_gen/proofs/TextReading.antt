@@ -56,8 +56,7 @@ read_whole : (d : Data) → ReadsBack d → depth d ≤ 127 → json_of (compact
 read_whole d back shallow =
     let low = same_depth d in
     let written : tokens (compact_text d) ≡ tree.json_tokens (outline d) =
-    ap tokens (sym (print-outline d)) ∙ tokens-print (tree.json_tokens (outline d)) (ArePrintable-json_tokens (outline d) back.numbers)
-    in
+    ap tokens (sym (print-outline d)) ∙ tokens-print (tree.json_tokens (outline d)) (ArePrintable-json_tokens (outline d) back.numbers) in
     json_of-utf8 (compact_text d) back.text
     ∙ (ap (λ ts. option_and_then of_json (option_and_then (λ p. json.if_last p.0 p.1) (json.value 127 ts))) (written ∙ sym (append-nil (tree.json_tokens (outline d))))
     ∙ (ap (λ o. option_and_then of_json (option_and_then (λ p. json.if_last p.0 p.1) o)) (value-json_tokens (outline d) 127 [] (omega (arith, low, shallow)))

@@ -163,8 +163,7 @@ pub empty_from : (u : Setup) (unsent inputs cores : List (List McCopy)) (hands :
     empty_mesh u ≡ record { setup = u; unsent = unsent; inputs = inputs; hands = hands; cores = cores; delivered = []; dumped = [] }
 empty_from u unsent inputs cores hands is_unsent is_inputs is_hands is_cores =
     let from : List (List McCopy) → List (List McCopy) → List (Option Hand) → List (List McCopy) → State =
-    λ v i h c. record { setup = u; unsent = v; inputs = i; hands = h; cores = c; delivered = []; dumped = [] }
-    in
+    λ v i h c. record { setup = u; unsent = v; inputs = i; hands = h; cores = c; delivered = []; dumped = [] } in
     sym (ap (λ v. from v inputs hands cores) is_unsent
     ∙ (ap (λ i. from (replicate (length u.spots) []) i hands cores) is_inputs
     ∙ (ap (λ h. from (replicate (length u.spots) []) (replicate (7 * (u.machine.width * u.machine.height)) []) h cores) is_hands

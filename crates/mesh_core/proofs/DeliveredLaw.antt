@@ -107,8 +107,7 @@ module _ (s : State) (nets : List NetPlan) (packets : List Packet) (job : MeetsJ
       IsWayOn s.setup.machine s.setup.spots net t xs from to → IsWayOn s.setup.machine s.setup.spots net u ys from' to → length xs ≡ length ys
   same_length net has t u xs ys from from' to w w' =
       let tree : IsRoutingTree s.setup.machine net.tree.root net.tree.edges net.targets =
-      All-contains (λ n. IsRoutingTree s.setup.machine n.tree.root n.tree.edges n.targets) nets net job.ledger.ledger.nets_stand.trees has
-      in
+      All-contains (λ n. IsRoutingTree s.setup.machine n.tree.root n.tree.edges n.targets) nets net job.ledger.ledger.nets_stand.trees has in
       let on_t = vertex_at_stands s.setup.spots t to w.ends in
       let on_u = vertex_at_stands s.setup.spots u to w'.ends in
       let both : Some t ≡ Some u = sym on_t ∙ on_u in
@@ -116,8 +115,7 @@ module _ (s : State) (nets : List NetPlan) (packets : List Packet) (job : MeetsJ
       let x = last_exit t xs w.is_branch in
       let y = last_exit u ys w'.is_branch in
       let place = same_place s.setup.machine net.tree.root net.tree.edges (map (λ z. z.chip) net.targets) tree t u xs ys w.is_branch w'.is_branch
-      x.0 y.0 x.1 y.1 x.2 y.2 (x.4 ∙ (ap (λ (z : Spot). z.chip) same ∙ sym y.4))
-      in
+      x.0 y.0 x.1 y.1 x.2 y.2 (x.4 ∙ (ap (λ (z : Spot). z.chip) same ∙ sym y.4)) in
       sym x.3 ∙ (ap suc place.0 ∙ y.3)
     where
       at_end : (v : Spot) (zs : List Exit) (i : ℕ) (z : Exit) → suc i ≡ length zs → ExitLeads s.setup.machine net.tree.edges v zs i z → z.chip ≡ v.chip
@@ -164,8 +162,7 @@ module _ (s : State) (nets : List NetPlan) (packets : List Packet) (job : MeetsJ
       its_key : (k : Mark) → Contains (marks_of s) k → k.copy.packet ≡ i → IsKeyOf net.block k.copy.key
       its_key k has number =
           let key : k.copy.key ≡ net.block.key + p.index =
-          (job.ledger.ledger.labelled k has).0 ∙ (ap (λ n. (label_of (asked_by nets packets n)).key) number ∙ ap (λ (l : Label). l.key) label)
-          in
+          (job.ledger.ledger.labelled k has).0 ∙ (ap (λ n. (label_of (asked_by nets packets n)).key) number ∙ ap (λ (l : Label). l.key) label) in
           subst (λ n. IsKeyOf net.block n) (sym key) net_key
 
       one : count_by (is_packet_on_trail i from to branch) (marks_of s) ≡ 1
@@ -184,14 +181,12 @@ module _ (s : State) (nets : List NetPlan) (packets : List Packet) (job : MeetsJ
               let has = has_mark d (among_contains d s.delivered a) in
               let on = job.ledger.ledger.on_a_trail (mark_of d) has in
               let same_net : on.0 ≡ net =
-              one_net nets job.ledger.ledger.nets_stand.disjoint on.0 net on.1 in_nets d.copy.key on.2 (its_key (mark_of d) has number)
-              in
+              one_net nets job.ledger.ledger.nets_stand.disjoint on.0 net on.1 in_nets d.copy.key on.2 (its_key (mark_of d) has number) in
               let end : d.vertex ≡ on.3.3 = eqb-true d.vertex on.3.3 ((and_parts (d.vertex == on.3.3) (d.copy.hop == length on.3.1) on.3.5).0) in
               let hop : d.copy.hop ≡ length on.3.1 = eqb-true d.copy.hop (length on.3.1) ((and_parts (d.vertex == on.3.3) (d.copy.hop == length on.3.1) on.3.5).1) in
               let way : IsWayOn s.setup.machine s.setup.spots net on.3.0 on.3.1 on.3.2 to =
               subst (λ (n : NetPlan). IsWayOn s.setup.machine s.setup.spots n on.3.0 on.3.1 on.3.2 to) same_net
-              (subst (λ v. IsWayOn s.setup.machine s.setup.spots on.0 on.3.0 on.3.1 on.3.2 v) (sym end ∙ vertex) on.3.4)
-              in
+              (subst (λ v. IsWayOn s.setup.machine s.setup.spots on.0 on.3.0 on.3.1 on.3.2 v) (sym end ∙ vertex) on.3.4) in
               let long = same_length net in_nets on.3.0 target on.3.1 branch on.3.2 from to way w in
               and_from (d.copy.packet == i) ((d.vertex == to) && (d.copy.hop == length branch))
               (eq-eqb d.copy.packet i number)

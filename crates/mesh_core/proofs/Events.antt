@@ -147,8 +147,7 @@ without_out_by f o p os true same has later = record {
   before_is = ap (λ q. f q ∷ map f os) (sym (out_eq_true o p same));
   after_is = refl;
 }
-without_out_by f o p os false other has later =
-    taken_out_after (f o) (f p ∷ []) (map f os) (map f (outs_without o os)) (later has)
+without_out_by f o p os false other has later = taken_out_after (f o) (f p ∷ []) (map f os) (map f (outs_without o os)) (later has)
 
 -- the mark of an output that is served leaves the hand
 without_out : (f : Out → Mark) (o : Out) (os : List Out) → list_any (out_eq o) os ≡ true → TakenOut (f o) (map f os) (map f (outs_without o os))

@@ -36,8 +36,7 @@ module _ (spots ts : List Spot) (different : AllPairs (λ a b. a ≢ b) spots) (
   at_least =
       let all : count_by (λ x. true) ts ≡ length ts = count_all (λ x. true) ts (λ x a. refl) in
       let few : count_by (λ x. true) ts ≤ length (filter is_target spots) =
-      count_covered (λ w x. spot_eq x w) (filter is_target spots) (λ x. true) ts kept (λ w a. one_spot ts apart w)
-      in
+      count_covered (λ w x. spot_eq x w) (filter is_target spots) (λ x. true) ts kept (λ w a. one_spot ts apart w) in
       let long : length (filter is_target spots) ≡ count_by is_target spots = length-filter is_target spots in
       omega (arith, all, few, long)
     where
@@ -96,8 +95,7 @@ module _ (s : State) (nets : List NetPlan) (packets : List Packet) (mesh : IsMes
       let few : count_by (λ x. true) s.delivered ≤ length all_asked =
       count_covered alike all_asked (λ x. true) s.delivered
       (λ d a e. (without_hop d, is_listed s nets packets mesh stand expected d a, is_of_from d.copy.packet d.vertex d refl refl))
-      (λ w a. let one = listed_once s nets packets mesh stand expected w a in omega (arith, one))
-      in
+      (λ w a. let one = listed_once s nets packets mesh stand expected w a in omega (arith, one)) in
       omega (arith, all, few)
 
   no_fewer : length all_asked ≤ length s.delivered

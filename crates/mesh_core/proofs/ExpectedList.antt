@@ -154,8 +154,7 @@ module _ (spots : List Spot) (nets : List NetPlan) (packets : List Packet) where
 
   -- the list is in order
   packet_of : (i : ℕ) (p : Packet) (net : Option NetPlan) (y : Delivery) → Among y (deliveries_of spots i p net) → y.copy.packet ≡ i
-  packet_of i p net y a =
-      ap (λ (d : Delivery). d.copy.packet) (of_net_parts i p net y a).2.3.is_delivery
+  packet_of i p net y a = ap (λ (d : Delivery). d.copy.packet) (of_net_parts i p net y a).2.3.is_delivery
 
   one_at : (i : ℕ) (net : NetPlan) (p : Packet) (v : ℕ) (spot : Spot) → Ordered ComesBefore (delivery_at i net p v spot)
   one_at i net p v spot = by_test (list_any (spot_eq spot) net.targets)
@@ -248,6 +247,5 @@ module _ (s : State) (nets : List NetPlan) (packets : List Packet) (mesh : IsMes
       once d a =
           let one : count_by (is_of d.copy.packet d.vertex) s.delivered ≡ 1 = listed_once (without_hop d) (is_listed d (made d a)) in
           let same : count_by (is_of d.copy.packet d.vertex) sorted ≡ count_by (is_of d.copy.packet d.vertex) s.delivered =
-          sum_by-IsPermutation (λ (e : Delivery). cond (is_of d.copy.packet d.vertex e) 1 0) s.delivered sorted perm
-          in
+          sum_by-IsPermutation (λ (e : Delivery). cond (is_of d.copy.packet d.vertex e) 1 0) s.delivered sorted perm in
           omega (arith, one, same)

@@ -54,8 +54,7 @@ few_different spots ts different within =
             by_test false e = cc
 
     below : (k d : ℕ) → k < length (map (place_in spots) ts) → get_or (map (place_in spots) ts) k d < length spots
-    below k d low =
-        subst (λ n. n < length spots) (sym (read k d low)) (there (get_or ts k nothing) (within k nothing (in_ts k low))).0
+    below k d low = subst (λ n. n < length spots) (sym (read k d low)) (there (get_or ts k nothing) (within k nothing (in_ts k low))).0
 
     apart : (i j d : ℕ) → i < j → j < length (map (place_in spots) ts) → get_or (map (place_in spots) ts) i d ≢ get_or (map (place_in spots) ts) j d
     apart i j d before low e =
@@ -113,23 +112,19 @@ module _ (s : State) (nets : List NetPlan) (packets : List Packet) (job : MeetsJ
       let is_number : k.copy.packet ≡ i = eqb-true k.copy.packet i number in
       let on = job.ledger.ledger.on_a_trail k in_marks in
       let label : k.copy.key ≡ a.label.key =
-      (job.ledger.ledger.labelled k in_marks).0 ∙ (ap (λ n. (label_of (asked_by nets packets n)).key) is_number ∙ ap (λ o. (label_of o).key) asked)
-      in
+      (job.ledger.ledger.labelled k in_marks).0 ∙ (ap (λ n. (label_of (asked_by nets packets n)).key) is_number ∙ ap (λ o. (label_of o).key) asked) in
       let its_key : IsKeyOf a.net.block k.copy.key = subst (λ n. IsKeyOf a.net.block n) (sym label) (job.ledger.of_its_net i a asked).1 in
       let one : on.0 ≡ a.net = one_net nets stand.disjoint on.0 a.net on.1 has k.copy.key on.2 its_key in
       let its_way : IsWayOn s.setup.machine s.setup.spots a.net on.3.0 on.3.1 on.3.2 on.3.3 =
-      subst (λ (n : NetPlan). IsWayOn s.setup.machine s.setup.spots n on.3.0 on.3.1 on.3.2 on.3.3) one on.3.4
-      in
+      subst (λ (n : NetPlan). IsWayOn s.setup.machine s.setup.spots n on.3.0 on.3.1 on.3.2 on.3.3) one on.3.4 in
       let chosen = among_ways a.net has a.net.targets (λ t b. among_contains t a.net.targets b) on.3.0 (contains_among on.3.0 a.net.targets its_way.is_target) in
       let w : Way a.net = chosen.0 in
       let its : IsWayOn s.setup.machine s.setup.spots a.net on.3.0 w.branch w.from w.to =
-      subst (λ (t : Spot). IsWayOn s.setup.machine s.setup.spots a.net t w.branch w.from w.to) chosen.2 w.way
-      in
+      subst (λ (t : Spot). IsWayOn s.setup.machine s.setup.spots a.net t w.branch w.from w.to) chosen.2 w.way in
       let same = one_way s.setup.machine s.setup.spots nets stand a.net has on.3.0 on.3.1 w.branch on.3.2 w.from on.3.3 w.to its_way its in
       let on_it : is_on_trail w.from w.to w.branch k ≡ true =
       subst (λ n. is_on_trail n w.to w.branch k ≡ true) same.1
-      (subst (λ n. is_on_trail on.3.2 n w.branch k ≡ true) same.2 (subst (λ (l : List Exit). is_on_trail on.3.2 on.3.3 l k ≡ true) same.0 on.3.5))
-      in
+      (subst (λ n. is_on_trail on.3.2 n w.branch k ≡ true) same.2 (subst (λ (l : List Exit). is_on_trail on.3.2 on.3.3 l k ≡ true) same.0 on.3.5)) in
       (w, chosen.1, and_from (k.copy.packet == i) (is_on_trail w.from w.to w.branch k) number on_it)
 
   -- on the trail of a way there is one mark of a packet
@@ -137,8 +132,7 @@ module _ (s : State) (nets : List NetPlan) (packets : List Packet) (job : MeetsJ
   once i a asked has w =
       let k = job.ledger.each_asked i a asked in
       let label : k.0.copy.key ≡ a.label.key =
-      (job.ledger.ledger.labelled k.0 k.1).0 ∙ (ap (λ n. (label_of (asked_by nets packets n)).key) k.2 ∙ ap (λ o. (label_of o).key) asked)
-      in
+      (job.ledger.ledger.labelled k.0 k.1).0 ∙ (ap (λ n. (label_of (asked_by nets packets n)).key) k.2 ∙ ap (λ o. (label_of o).key) asked) in
       let its_key : IsKeyOf a.net.block k.0.copy.key = subst (λ n. IsKeyOf a.net.block n) (sym label) (job.ledger.of_its_net i a asked).1 in
       ap (λ n. count_by (is_packet_on_trail n w.from w.to w.branch) (marks_of s)) (sym k.2)
       ∙ job.ledger.ledger.once_on_each k.0 k.1 a.net has its_key w.target w.branch w.from w.to w.way

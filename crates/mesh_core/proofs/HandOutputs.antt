@@ -37,8 +37,7 @@ without-found o os i e = (at_zero o os i (found_from o os 0 i (sym (position_fro
 none_step : (o x : Out) (os : List Out) (n : ℕ) → (position_from (out_eq o) (n + 1) os ≡ None → outs_without o os ≡ os) →
     (b : Bool) → out_eq o x ≡ b → cond b (Some n) (position_from (out_eq o) (n + 1) os) ≡ None → outs_without o (x ∷ os) ≡ x ∷ os
 none_step o x os n later true here e = cc
-none_step o x os n later false here e =
-    ap (λ b. if b then os else x ∷ outs_without o os) here ∙ ap (λ l. x ∷ l) (later e)
+none_step o x os n later false here e = ap (λ b. if b then os else x ∷ outs_without o os) here ∙ ap (λ l. x ∷ l) (later e)
 
 none_from : (o : Out) (os : List Out) (n : ℕ) → position_from (out_eq o) n os ≡ None → outs_without o os ≡ os
 none_from o [] n e = refl

@@ -180,8 +180,7 @@ keeps_taken s t c port (Some None) (Some (k ∷ rest)) h at_queue moves =
     let fits : FitsQueue s.setup.capacity (k ∷ rest) = All-at (FitsQueue s.setup.capacity) s.inputs q (k ∷ rest) h.inputs_within at_queue in
     let kept : IsMesh now = IsMesh-inputs s q rest h (rest_fits s.setup.capacity k rest fits)
     (λ e d dead inside same. nothing_waited s.inputs q (queue_at s.setup.machine e (ByLink d)) k rest at_queue (h.none_at_dead_ports e d dead inside) same)
-    (λ e dead inside same. nothing_waited s.inputs q (queue_at s.setup.machine e Local) k rest at_queue (h.none_on_dead_chips e dead inside) same)
-    in
+    (λ e dead inside same. nothing_waited s.inputs q (queue_at s.setup.machine e Local) k rest at_queue (h.none_on_dead_chips e dead inside) same) in
     subst IsMesh parts.1 (IsMesh-hands now c hand kept parts.0
     (in_hand-fits k port (outputs s.setup c port k) (not_last s.setup c port k (All-head (λ (j : McCopy). j.hop < 2 ^ 32) k rest fits.hops))))
 keeps_taken s t c port (Some None) (Some []) h at_queue moves = cc

@@ -139,8 +139,7 @@ module _ (s : State) (net : NetPlan) (stands : Stands s net) where
       let same_spot : Some spot ≡ Some net.source = sym is_spot ∙ (ap (slice_get s.setup.spots) is_from ∙ stands_there) in
       let spot_is : spot ≡ net.source = cc in
       let right_side : on_trail from' to' ys hop (unsent v) ≡ true =
-      and_from (v == from') (hop == 0) (eq-eqb v from' (is_from ∙ one_from)) (eq-eqb hop 0 is_zero)
-      in
+      and_from (v == from') (hop == 0) (eq-eqb v from' (is_from ∙ one_from)) (eq-eqb hop 0 is_zero) in
       let first = first_exit u ys w'.is_branch in
       let left_side : comes_in_there ys 0 spot.chip Local (slice_get ys 0) ≡ true =
       comes_from ys 0 spot.chip Local (record {
@@ -148,8 +147,7 @@ module _ (s : State) (net : NetPlan) (stands : Stands s net) where
         at = first.1;
         chip = first.2 ∙ (stands.root ∙ ap (λ (q : Spot). q.chip) (sym spot_is));
         port_is = refl;
-      })
-      in
+      }) in
       ap (λ n. comes_in_there ys n spot.chip Local (slice_get ys n)) is_zero ∙ (left_side ∙ sym right_side)
     where
       first_exit : (t : Spot) (zs : List Exit) → IsBranch s.setup.machine net.tree.root net.tree.edges t zs →
@@ -173,8 +171,7 @@ module _ (s : State) (net : NetPlan) (stands : Stands s net) where
           )
       by_end (inr (chip, out, last)) =
           let dead : is_live_link s.setup.machine t.chip d ≡ false =
-          end_is_no_live_link s.setup.machine t d (target_site s net stands t w.is_target) (sym out)
-          in
+          end_is_no_live_link s.setup.machine t d (target_site s net stands t w.is_target) (sym out) in
           let lives : is_live_link s.setup.machine t.chip d ≡ true = ap (λ (q : Chip). is_live_link s.setup.machine q d) chip ∙ live in
           cc
 
@@ -202,8 +199,7 @@ module _ (s : State) (net : NetPlan) (stands : Stands s net) where
           let leads = goes_on u ys from' to' w' c d live hop at in
           let y : Exit = leads.1.0 in
           let by : ComesBy s.setup.machine net.tree.edges ys Local hop y.chip =
-          comes_by s.setup.machine net.tree.edges u net.tree.root Local ys hop y w'.is_branch leads.1.2
-          in
+          comes_by s.setup.machine net.tree.edges u net.tree.root Local ys hop y w'.is_branch leads.1.2 in
           let same : Some (exit_of by.edge) ≡ Some (record { chip = c; out = Link d }) = sym by.before ∙ at in
           let same_d : by.edge.dir ≡ d = same_dir by.edge c d same in
           let same_e : Some y.chip ≡ Some e = sym leads.1.1 ∙ is_far in
@@ -218,12 +214,10 @@ module _ (s : State) (net : NetPlan) (stands : Stands s net) where
       back in_tree on' =
           let there = comes_parts ys (suc hop) e (ByLink (opposite_of d)) on' in
           let by : ComesBy s.setup.machine net.tree.edges ys Local hop there.exit.chip =
-          comes_by s.setup.machine net.tree.edges u net.tree.root Local ys hop there.exit w'.is_branch there.at
-          in
+          comes_by s.setup.machine net.tree.edges u net.tree.root Local ys hop there.exit w'.is_branch there.at in
           let one : by.edge ≡ edge =
           one_edge_into s.setup.machine net.tree.root net.tree.edges (map (λ x. x.chip) net.targets) stands.tree by.edge edge e
-          by.in_tree in_tree (by.leads ∙ ap Some there.chip) is_far
-          in
+          by.in_tree in_tree (by.leads ∙ ap Some there.chip) is_far in
           leaves_from ys hop c (Link d) (by.before ∙ ap (λ (f : Edge). Some (exit_of f)) one)
 
   -- Crossing to a vertex: the branch ends there.
@@ -257,9 +251,7 @@ module _ (s : State) (net : NetPlan) (stands : Stands s net) where
           let not_live = dead d out in
           cc
       ends (inr (chip, out, last)) =
-          let same : there.0 ≡ u =
-          same_site s.setup.machine there.0 u site (target_site s net stands u w'.is_target) (there.2 ∙ sym chip) (there.3 ∙ out)
-          in
+          let same : there.0 ≡ u = same_site s.setup.machine there.0 u site (target_site s net stands u w'.is_target) (there.2 ∙ sym chip) (there.3 ∙ out) in
           let same_v : v ≡ to' = AllPairs-apart s.setup.spots u stands.mesh.different v to' (there.1 ∙ ap Some same) goal in
           and_from (v == to') (hop + 1 == length ys) (eq-eqb v to' same_v) (eq-eqb (hop + 1) (length ys) (omega (arith, last)))
 
@@ -317,17 +309,12 @@ module _ (s : State) (net : NetPlan) (stands : Stands s net) where
       by_chip x at true same =
           let x_c : x.chip ≡ c = chip_eq_true x.chip c same in
           let valid : IsOutput x.out = exit_is_output s net u ys w'.is_branch k.hop x at in
-          let wanted : is_wanted net.tree.edges net.targets x.chip x.out ≡ true =
-          exit_wanted s net u w'.is_target ys w'.is_branch k.hop x at
-          in
+          let wanted : is_wanted net.tree.edges net.targets x.chip x.out ≡ true = exit_wanted s net u w'.is_target ys w'.is_branch k.hop x at in
           let given : has route x.out ≡ true =
           stands.right c port k.key x.out comes_in is_key valid
-          ∙ (ap (λ (d : Chip). is_wanted net.tree.edges net.targets d x.out) (sym x_c) ∙ wanted)
-          in
+          ∙ (ap (λ (d : Chip). is_wanted net.tree.edges net.targets d x.out) (sym x_c) ∙ wanted) in
           let one = one_place s net stands t u xs ys w.is_branch w'.is_branch k.hop k.hop there.exit x there.at at (there.chip ∙ sym x_c) in
-          let arrives : port_eq (arrival_at ys k.hop) port ≡ true =
-          ap (λ (p : Port). port_eq p port) (sym one.1 ∙ there.port_is) ∙ port_eq_same port
-          in
+          let arrives : port_eq (arrival_at ys k.hop) port ≡ true = ap (λ (p : Port). port_eq p port) (sym one.1 ∙ there.port_is) ∙ port_eq_same port in
           outs_once route x.out valid ∙ (ap (λ b. if b then 1 else 0) given ∙ ap (λ b. if b then 1 else 0) (sym arrives))
 
       by_exit : (x : Option Exit) → slice_get ys k.hop ≡ x →
@@ -397,15 +384,12 @@ module _ (s : State) (net : NetPlan) (stands : Stands s net) where
       let comes_in : ComesIn s.setup.machine net.tree.root net.tree.edges c port =
       subst (λ (d : Chip). ComesIn s.setup.machine net.tree.root net.tree.edges d port) there.chip
       (subst (λ (p : Port). ComesIn s.setup.machine net.tree.root net.tree.edges there.exit.chip p) there.port_is
-      (branch_comes_in s net t xs w.is_branch k.hop there.exit there.at))
-      in
+      (branch_comes_in s net t xs w.is_branch k.hop there.exit there.at)) in
       let wanted : is_wanted net.tree.edges net.targets c o ≡ true =
-      sym (stands.right c port k.key o comes_in is_key (has_is_output route o has_it)) ∙ has_it
-      in
+      sym (stands.right c port k.key o comes_in is_key (has_is_output route o has_it)) ∙ has_it in
       let other = wanted_on_branch s net stands (record { chip = c; out = o }) wanted in
       let one = one_place s net stands t other.target xs other.branch w.is_branch other.is_branch k.hop other.place there.exit
-      (record { chip = c; out = o }) there.at other.at there.chip
-      in
+      (record { chip = c; out = o }) there.at other.at there.chip in
       let end = vertex_there s.setup.spots other.target (All-contains (Contains s.setup.spots) net.targets other.target stands.targets other.is_target) in
       record {
         target = other.target;

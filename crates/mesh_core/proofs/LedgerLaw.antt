@@ -255,8 +255,7 @@ module _ (s t : State) (nets : List NetPlan) (labels : ℕ → Label)
             let number : v.leaves.copy.packet ≡ n = eqb-true v.leaves.copy.packet n same in
             let its_key : v.leaves.copy.key ≡ (labels n).key = r.key ∙ ap (λ i. (labels i).key) number in
             let one : r.net ≡ net =
-            one_net nets ledger.nets_stand.disjoint r.net net r.in_nets has v.leaves.copy.key r.is_key (subst (λ i. IsKeyOf net.block i) (sym its_key) key)
-            in
+            one_net nets ledger.nets_stand.disjoint r.net net r.in_nets has v.leaves.copy.key r.is_key (subst (λ i. IsKeyOf net.block i) (sym its_key) key) in
             move_counts s r.net (stands r.net r.in_nets) r.trail.target target r.trail.branch branch r.trail.from from r.trail.to to r.trail.way
             (subst (λ (m : NetPlan). IsWayOn s.setup.machine s.setup.spots m target branch from to) (sym one) w) v.leaves v.come v.is_move r.is_key r.trail.on
 
@@ -308,12 +307,10 @@ module _ (s t : State) (nets : List NetPlan) (labels : ℕ → Label)
             let moved = all_moves n net in_list label_key target branch from to w_s bag.moves (λ v a. a) in
             let old = right_before r.origin r.was_there in
             let origin_key : IsKeyOf net.block r.origin.copy.key =
-            subst (λ i. IsKeyOf net.block i) (sym (old.key ∙ ap (λ i. (labels i).key) r.same_packet)) label_key
-            in
+            subst (λ i. IsKeyOf net.block i) (sym (old.key ∙ ap (λ i. (labels i).key) r.same_packet)) label_key in
             let before : count_by p (marks_of s) ≡ 1 =
             ap (λ i. count_by (is_packet_on_trail i from to branch) (marks_of s)) (sym r.same_packet)
-            ∙ ledger.once_on_each r.origin r.was_there net in_list origin_key target branch from to w_s
-            in
+            ∙ ledger.once_on_each r.origin r.was_there net in_list origin_key target branch from to w_s in
             omega arith
 
     -- A packet that has a mark had one before.

@@ -99,8 +99,7 @@ mark_eq_true a b e =
     (eqb-true a.copy.packet b.copy.packet ((and_parts (a.copy.packet == b.copy.packet) _ copies).0))
     (eqb-true a.copy.key b.copy.key ((and_parts (a.copy.key == b.copy.key) _ later1).0))
     (payload_true a.copy.payload b.copy.payload ((and_parts (payload_eq a.copy.payload b.copy.payload) (a.copy.hop == b.copy.hop) later2).0))
-    (eqb-true a.copy.hop b.copy.hop ((and_parts (payload_eq a.copy.payload b.copy.payload) (a.copy.hop == b.copy.hop) later2).1))
-    in
+    (eqb-true a.copy.hop b.copy.hop ((and_parts (payload_eq a.copy.payload b.copy.payload) (a.copy.hop == b.copy.hop) later2).1)) in
     marks_alike a.copy b.copy a.station b.station same_copy (station_true a.station b.station stations)
 
 -- ---- a number that each move raises

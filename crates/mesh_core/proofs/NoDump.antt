@@ -51,8 +51,7 @@ module _ (s : State) (nets : List NetPlan) (labels : ℕ → Label) (numbers : L
         let all : count_by (λ (j : McCopy). true) (k ∷ q) ≡ length (k ∷ q) = count_all (λ (j : McCopy). true) (k ∷ q) (λ j a. refl) in
         let few : count_by (λ (j : McCopy). true) (k ∷ q) ≤ length numbers =
         count_covered (λ n (j : McCopy). j.packet == n) numbers (λ j. true) (k ∷ q)
-        (λ j a yes'. (j.packet, contains_among j.packet numbers (listed j a), eq-eqb j.packet j.packet refl)) (λ n a. each n)
-        in
+        (λ j a yes'. (j.packet, contains_among j.packet numbers (listed j a), eq-eqb j.packet j.packet refl)) (λ n a. each n) in
         omega (arith, all, few)
       where
         listed : (j : McCopy) → Among j (k ∷ free.0) → Contains numbers j.packet
@@ -68,8 +67,7 @@ module _ (s : State) (nets : List NetPlan) (labels : ℕ → Label) (numbers : L
             none is =
                 let number : k.packet ≡ i = eqb-true k.packet i is in
                 let fewer = count_le (λ (j : McCopy). j.packet == i) (λ j. false) free.0 (λ j among same.
-                absurd (All-contains (λ (d : McCopy). d.packet ≢ k.packet) free.0 j free.2 (among_contains j free.0 among) (eqb-true j.packet i same ∙ sym number)))
-                in
+                absurd (All-contains (λ (d : McCopy). d.packet ≢ k.packet) free.0 j free.2 (among_contains j free.0 among) (eqb-true j.packet i same ∙ sym number))) in
                 omega (arith, fewer, count_by-none free.0)
 
     room : has_room_behind s (behind s.setup c o) ≡ true

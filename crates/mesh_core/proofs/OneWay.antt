@@ -58,8 +58,7 @@ module _ (m : Description) (net : NetPlan) (tree : IsRoutingTree m net.tree.root
         let x : ComesBy m net.tree.edges xs Local i next.0.chip = comes_by m net.tree.edges t net.tree.root Local xs i next.0 is next.1 in
         let y : ComesBy m net.tree.edges ys Local i next.0.chip = comes_by m net.tree.edges t net.tree.root Local ys i next.0 also too in
         let one : x.edge ≡ y.edge =
-        one_edge_into m net.tree.root net.tree.edges (map (λ z. z.chip) net.targets) tree x.edge y.edge next.0.chip x.in_tree y.in_tree x.leads y.leads
-        in
+        one_edge_into m net.tree.root net.tree.edges (map (λ z. z.chip) net.targets) tree x.edge y.edge next.0.chip x.in_tree y.in_tree x.leads y.leads in
         x.before ∙ (ap (λ (e : Edge). Some (exit_of e)) one ∙ sym y.before)
 
     -- Two branches to one target are one.

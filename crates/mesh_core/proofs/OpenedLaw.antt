@@ -92,8 +92,7 @@ module _ (setup : Setup) (nets : List NetPlan) (packets : List Packet) where
       let i : ℕ = in_list.0 in
       let zero_more : 0 + i ≡ i = omega arith in
       let copy_is : copy_from spots v i in_list.1 (slice_get nets in_list.1.net) ≡ Some in_marked.0 =
-      ap (λ n. copy_from spots v n in_list.1 (slice_get nets in_list.1.net)) (sym zero_more) ∙ in_list.3
-      in
+      ap (λ n. copy_from spots v n in_list.1 (slice_get nets in_list.1.net)) (sym zero_more) ∙ in_list.3 in
       let sent = sent_parts spots nets in_list.1 i v in_marked.0 (slice_get nets in_list.1.net) refl copy_is in
       record {
         vertex = v;
@@ -113,12 +112,10 @@ module _ (setup : Setup) (nets : List NetPlan) (packets : List Packet) where
       let zero_more : 0 + i ≡ i = omega arith in
       let in_list : Among (first_copy i net p) (copies v) =
       chosen_among (λ (e : ℕ × Packet). copy_from spots v e.0 e.1 (slice_get nets e.1.net)) (first_copy i net p) 0 packets i p at
-      (ap (λ n. copy_from spots v n p (slice_get nets p.net)) zero_more ∙ sent_from spots nets p i v net is vertex)
-      in
+      (ap (λ n. copy_from spots v n p (slice_get nets p.net)) zero_more ∙ sent_from spots nets p i v net is vertex) in
       let there : Among (mark (first_copy i net p) (unsent v)) (unsent_marks opened) =
       made_among (λ w q. marks_at (unsent w) q) copies (mark (first_copy i net p) (unsent v)) 0 number v (omega arith) (omega arith)
-      (map_among (λ (c : McCopy). mark c (unsent v)) (first_copy i net p) (copies v) in_list)
-      in
+      (map_among (λ (c : McCopy). mark c (unsent v)) (first_copy i net p) (copies v) in_list) in
       subst (λ l. Contains l (mark (first_copy i net p) (unsent v))) (sym opened_marks) (among_contains (mark (first_copy i net p) (unsent v)) (unsent_marks opened) there)
 
   -- unsent copies have passed no router

@@ -98,9 +98,7 @@ module _ (s : State) (nets : List NetPlan) (labels : ℕ → Label) (ledger : Me
           ap (queue_of s) is_behind ∙ q.1,
           All-each (λ j. j.packet ≢ k.packet) q.0 (λ j in_q same.
               let m : Mark = mark j (in_queue y.chip port) in
-              let there : Contains (marks_of s) m =
-              among_contains m (marks_of s) (queued_mark s y.chip port inside j q.0 q.1 (contains_among j q.0 in_q))
-              in
+              let there : Contains (marks_of s) m = among_contains m (marks_of s) (queued_mark s y.chip port inside j q.0 q.1 (contains_among j q.0 in_q)) in
               not_twice x has t m there same
               (comes_on s t.net k.packet t.tracked t.target t.way.is_target t.branch t.from t.to t.way m there same (suc k.hop) y.chip y.out port next refl)
               (λ e'. let stations : in_hand c o ≡ in_queue y.chip port = ap (λ (z : Mark). z.station) e' in cc)),
@@ -111,14 +109,12 @@ module _ (s : State) (nets : List NetPlan) (labels : ℕ → Label) (ledger : Me
     behind_end chip out =
         let u : Setup = s.setup in
         let on_spot : Contains u.spots t.target =
-        All-contains (Contains u.spots) t.net.targets t.target (All-contains (λ n. All (Contains u.spots) n.targets) nets t.net ledger.nets_stand.targets t.in_nets) t.way.is_target
-        in
+        All-contains (Contains u.spots) t.net.targets t.target (All-contains (λ n. All (Contains u.spots) n.targets) nets t.net ledger.nets_stand.targets t.in_nets) t.way.is_target in
         let site : IsSite u.machine t.target = All-contains (IsSite u.machine) u.spots t.target mesh.sites on_spot in
         let vertex = vertex_behind_there u.spots c o t.target on_spot (leads_to c o t.target chip out) in
         let spot = vertex_behind_stands u.spots c o vertex.0 vertex.1 in
         let its_site : IsSite u.machine spot.0 =
-        subst (IsSite u.machine) (get_or_from_slice_get u.spots vertex.0 spot.0 spot.0 spot.1) (mesh.sites vertex.0 spot.0 (slice_get_within u.spots vertex.0 spot.0 spot.1))
-        in
+        subst (IsSite u.machine) (get_or_from_slice_get u.spots vertex.0 spot.0 spot.0 spot.1) (mesh.sites vertex.0 spot.0 (slice_get_within u.spots vertex.0 spot.0 spot.1)) in
         let same_spot : spot.0 ≡ t.target = same_site u.machine spot.0 t.target its_site site (spot.2 ∙ sym chip) (spot.3 ∙ out) in
         let goal : slice_get u.spots t.to ≡ Some t.target = vertex_at_stands u.spots t.target t.to t.way.ends in
         let is_to : vertex.0 ≡ t.to = AllPairs-apart u.spots t.target mesh.different vertex.0 t.to (spot.1 ∙ ap Some same_spot) goal in
@@ -139,8 +135,7 @@ module _ (s : State) (nets : List NetPlan) (labels : ℕ → Label) (ledger : Me
         to_vertex : (p : Out) → p ≡ out_of t.target.core → (v : ℕ) → vertex_behind s.setup.spots c p ≡ Some v → IsSite s.setup.machine t.target → behind s.setup c p ≡ core v
         to_vertex (Link d) is v vertex site =
             let dead : is_live_link s.setup.machine c d ≡ false =
-            ap (λ (z : Chip). is_live_link s.setup.machine z d) (sym chip) ∙ end_is_no_live_link s.setup.machine t.target d site (sym is)
-            in
+            ap (λ (z : Chip). is_live_link s.setup.machine z d) (sym chip) ∙ end_is_no_live_link s.setup.machine t.target d site (sym is) in
             ap (λ b. behind_link s.setup c d b (far_of s.setup.machine c d)) dead ∙ ap core_queue_of vertex
         to_vertex (Core p) is v vertex site = ap core_queue_of vertex
 
@@ -192,8 +187,7 @@ module _ (s : State) (nets : List NetPlan) (labels : ℕ → Label) (ledger : Me
         let fewer : count_by (λ j. j.packet == n) q ≤ count_by (λ j. p (mark j at)) q =
         count_le (λ (j : McCopy). j.packet == n) (λ j. p (mark j at)) q (λ j among passes.
         let same : j.packet ≡ a.packet = eqb-true j.packet n passes ∙ sym number in
-        and_from (j.packet == a.packet) (is_on_trail t.from t.to t.branch (mark j at)) (eq-eqb j.packet a.packet same) (same_trail a t j among same))
-        in
+        and_from (j.packet == a.packet) (is_on_trail t.from t.to t.branch (mark j at)) (eq-eqb j.packet a.packet same) (same_trail a t j among same)) in
         let mapped : count_by p (marks_at at q) ≡ count_by (λ j. p (mark j at)) q = count_by-map p (λ (j : McCopy). mark j at) q in
         omega (arith, fewer, mapped, part p, t.once)
   ]
@@ -225,14 +219,12 @@ module _ (s : State) (nets : List NetPlan) (labels : ℕ → Label) (ledger : Me
       let n_is : 0 + i ≡ i = omega arith in
       let part : count_by p (marks_at (in_queue c port) q) ≤ count_by p (input_marks s) =
       subst (λ l. count_by p (marks_at (in_queue (chip_of s.setup.machine (l / 7)) (port_of (l % 7))) q) ≤ count_by p (input_marks s)) n_is
-      (count_gathered_part (λ l copies. marks_at (in_queue (chip_of s.setup.machine (l / 7)) (port_of (l % 7))) copies) p 0 s.inputs i q at)
-      in
+      (count_gathered_part (λ l copies. marks_at (in_queue (chip_of s.setup.machine (l / 7)) (port_of (l % 7))) copies) p 0 s.inputs i q at) in
       omega (arith, part, in_input_marks p))
       (λ x t j among same.
       let there = comes_parts t.branch x.hop c port t.on in
       let place : slice_get t.branch x.hop ≡ Some (record { chip = c; out = there.exit.out }) =
-      there.at ∙ ap (λ (d : Chip). let z : Exit = record { chip = d; out = there.exit.out } in Some z) there.chip
-      in
+      there.at ∙ ap (λ (d : Chip). let z : Exit = record { chip = d; out = there.exit.out } in Some z) there.chip in
       comes_on s t.net x.packet t.tracked t.target t.way.is_target t.branch t.from t.to t.way (mark j (in_queue c port)) (waiting_mark (input i) q at j among) same
       x.hop c there.exit.out port place refl)
       n
@@ -241,8 +233,7 @@ module _ (s : State) (nets : List NetPlan) (labels : ℕ → Label) (ledger : Me
       (λ p.
       let n_is : 0 + v ≡ v = omega arith in
       let part : count_by p (marks_at (at_core v) q) ≤ count_by p (core_marks s) =
-      subst (λ l. count_by p (marks_at (at_core l) q) ≤ count_by p (core_marks s)) n_is (count_gathered_part (λ l copies. marks_at (at_core l) copies) p 0 s.cores v q at)
-      in
+      subst (λ l. count_by p (marks_at (at_core l) q) ≤ count_by p (core_marks s)) n_is (count_gathered_part (λ l copies. marks_at (at_core l) copies) p 0 s.cores v q at) in
       omega (arith, part, in_core_marks p))
       (λ x t j among same.
       let is_to : v ≡ t.to = eqb-true v t.to ((and_parts (v == t.to) (x.hop == length t.branch) t.on).0) in

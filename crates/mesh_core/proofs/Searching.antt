@@ -50,8 +50,7 @@ module _ (s : State) (packet : ℕ) where
       let both : Some stands.1 ≡ Some q = sym stands.2 ∙ (ap (slice_get s.inputs) place ∙ at) in
       let one : stands.1 ≡ q = cc in
       let found : list_any (λ (d : McCopy). d.packet == packet) stands.1 ≡ true =
-      among_any (λ (d : McCopy). d.packet == packet) k.copy stands.1 stands.5 (eq-eqb k.copy.packet packet is_packet)
-      in
+      among_any (λ (d : McCopy). d.packet == packet) k.copy stands.1 stands.5 (eq-eqb k.copy.packet packet is_packet) in
       let also : list_any (λ (d : McCopy). d.packet == packet) stands.1 ≡ false = ap (list_any (λ (d : McCopy). d.packet == packet)) one ∙ none in
       cc
 
@@ -106,9 +105,7 @@ module _ (s : State) (packet : ℕ) where
   output_lacks c o inside none nowhere k has is_packet (inl there) =
       let stands : StandsAt s k.copy (in_hand c o) = stands_there k has (in_hand c o) there in
       let h : Hand = stands.1 in
-      let place : stands.0 ≡ index_of s.setup.machine c =
-      sym (index_of-chip_of s.setup.machine stands.0) ∙ ap (index_of s.setup.machine) stands.3
-      in
+      let place : stands.0 ≡ index_of s.setup.machine c = sym (index_of-chip_of s.setup.machine stands.0) ∙ ap (index_of s.setup.machine) stands.3 in
       let at : slice_get s.hands (index_of s.setup.machine c) ≡ Some (Some h) = ap (slice_get s.hands) (sym place) ∙ stands.2 in
       let serves : list_any (out_eq o) h.outs ≡ true = among_any (out_eq o) o h.outs stands.5 (out_eq_same o) in
       let of_packet : (h.copy.packet == packet) ≡ true = eq-eqb h.copy.packet packet (ap (λ (d : McCopy). d.packet) stands.4 ∙ is_packet) in
@@ -168,8 +165,7 @@ module _ (s : State) (packet : ℕ) where
           let queues : Some stands.0 ≡ Some q = sym stands.1 ∙ (ap (slice_get s.cores) same ∙ at) in
           let one : stands.0 ≡ q = cc in
           let found : list_any (λ (d : McCopy). d.packet == packet) stands.0 ≡ true =
-          among_any (λ (d : McCopy). d.packet == packet) k.copy stands.0 stands.2 (eq-eqb k.copy.packet packet is_packet)
-          in
+          among_any (λ (d : McCopy). d.packet == packet) k.copy stands.0 stands.2 (eq-eqb k.copy.packet packet is_packet) in
           let also : list_any (λ (d : McCopy). d.packet == packet) stands.0 ≡ false = ap (list_any (λ (d : McCopy). d.packet == packet)) one ∙ none in
           cc
       by_station w is (inr here) =
@@ -208,6 +204,5 @@ pub edges_inside : (s : State) (net : NetPlan) (packet : ℕ) → IsTracked s ne
 edges_inside s net packet tracked =
     let m : Description = s.setup.machine in
     let tree : IsRoutingTree m net.tree.root net.tree.edges net.targets =
-    All-contains (λ n. IsRoutingTree m n.tree.root n.tree.edges n.targets) tracked.nets net tracked.ledger.nets_stand.trees tracked.in_nets
-    in
+    All-contains (λ n. IsRoutingTree m n.tree.root n.tree.edges n.targets) tracked.nets net tracked.ledger.nets_stand.trees tracked.in_nets in
     λ k d below. let e : Edge = get_or net.tree.edges k d in live_inside m e.chip (live_ends m e.chip e.dir (tree.edges_live k d below)).2

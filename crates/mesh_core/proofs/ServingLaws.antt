@@ -107,8 +107,7 @@ outputs_read : (s : State) (c : Chip) (port : Port) (k : McCopy) (n : ℕ) (tabl
     (if k.hop == last_hop then [] else outs_of (lookup table k.key port)) ≡ outputs s.setup c port k
 outputs_read s c port k n table at here =
     let is : table ≡ get_or s.setup.tables (index_of s.setup.machine c) [] =
-    sym (get_or_from_slice_get s.setup.tables n table [] here) ∙ ap (λ i. get_or s.setup.tables i []) at
-    in
+    sym (get_or_from_slice_get s.setup.tables n table [] here) ∙ ap (λ i. get_or s.setup.tables i []) at in
     ap (λ (t : List Entry). if k.hop == last_hop then [] else outs_of (lookup t k.key port)) is
 
 -- the same, by the table at a place of a list

@@ -116,8 +116,7 @@ queued_mark s c port inside k q at a =
     let place : Station = in_queue (chip_of s.setup.machine ((0 + i) / 7)) (port_of ((0 + i) % 7)) in
     let is : place ≡ in_queue c port = station_of_queue s.setup.machine c port inside in
     let here : Among (mark k (in_queue c port)) (marks_at place q) =
-    subst (λ (p : Station). Among (mark k (in_queue c port)) (marks_at p q)) (sym is) (map_among (λ (d : McCopy). mark d (in_queue c port)) k q a)
-    in
+    subst (λ (p : Station). Among (mark k (in_queue c port)) (marks_at p q)) (sym is) (map_among (λ (d : McCopy). mark d (in_queue c port)) k q a) in
     let y : Mark = mark k (in_queue c port) in
     among_right y (unsent_marks s) (input_marks s ++ (all_hand_marks s ++ (core_marks s ++ (delivered_marks s ++ dumped_marks s))))
     (among_left y (input_marks s) (all_hand_marks s ++ (core_marks s ++ (delivered_marks s ++ dumped_marks s)))
@@ -129,8 +128,7 @@ held_mark s c o inside h at a =
     let i : ℕ = index_of s.setup.machine c in
     let y : Mark = mark h.copy (in_hand c o) in
     let here : Among y (hand_marks (chip_of s.setup.machine i) (Some h)) =
-    subst (λ (d : Chip). Among y (hand_marks d (Some h))) (sym (chip_of-index_of s.setup.machine c inside)) (map_among (λ p. mark h.copy (in_hand c p)) o h.outs a)
-    in
+    subst (λ (d : Chip). Among y (hand_marks d (Some h))) (sym (chip_of-index_of s.setup.machine c inside)) (map_among (λ p. mark h.copy (in_hand c p)) o h.outs a) in
     among_right y (unsent_marks s) (input_marks s ++ (all_hand_marks s ++ (core_marks s ++ (delivered_marks s ++ dumped_marks s))))
     (among_right y (input_marks s) (all_hand_marks s ++ (core_marks s ++ (delivered_marks s ++ dumped_marks s)))
     (among_left y (all_hand_marks s) (core_marks s ++ (delivered_marks s ++ dumped_marks s))

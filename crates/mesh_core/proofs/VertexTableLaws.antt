@@ -99,8 +99,7 @@ TellsVertices-more m spots i y table below is_y different site tells =
     earlier : All (λ x. y ≢ x) (take i spots)
     earlier = λ k d k_below e.
         let k_small : k < i = omega (arith, taken) in
-        let same : get_or spots k y ≡ get_or spots i y =
-        get_or_default spots k y d (omega arith) ∙ (sym (get_or-take i spots k d k_small) ∙ (sym e ∙ is_y)) in
+        let same : get_or spots k y ≡ get_or spots i y = get_or_default spots k y d (omega arith) ∙ (sym (get_or-take i spots k d k_small) ∙ (sym e ∙ is_y)) in
         different k i y k_small below same
 
     at_y : (s : Spot) → IsInside m s.chip → s.core < 24 → spot_place m s ≡ spot_place m y → slice_get (set table (spot_place m y) (Some i)) (spot_place m s) ≡ Some (vertex_at (take (i + 1) spots) s)

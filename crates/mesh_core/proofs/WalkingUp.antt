@@ -100,8 +100,7 @@ module _ (s : State) (net : NetPlan) (packet : ℕ) (tracked : IsTracked s net p
       let same : t ≡ u = cc in
       let x = last_place s.setup.machine net tree t xs w.is_branch in
       let y = last_place s.setup.machine net tree u ys w'.is_branch in
-      let place = one_place_of t u xs ys w.is_branch w'.is_branch x.0 y.0 (last_exit t) (last_exit u) x.1 y.1 (ap (λ (z : Spot). z.chip) same)
-      in
+      let place = one_place_of t u xs ys w.is_branch w'.is_branch x.0 y.0 (last_exit t) (last_exit u) x.1 y.1 (ap (λ (z : Spot). z.chip) same) in
       sym x.2 ∙ (ap (λ n. n + 1) place.0 ∙ y.2)
 
   -- ---- a mark of the packet on the target's branch is on the target's trail
@@ -119,9 +118,7 @@ module _ (s : State) (net : NetPlan) (packet : ℕ) (tracked : IsTracked s net p
   its_key k has is_packet =
       let here = (tracked.ledger.labelled k has).0 in
       let there = (tracked.ledger.labelled tracked.mark tracked.is_mark).0 in
-      let same : tracked.mark.copy.key ≡ k.copy.key =
-      there ∙ (ap (λ n. (tracked.labels n).key) (tracked.is_packet ∙ sym is_packet) ∙ sym here)
-      in
+      let same : tracked.mark.copy.key ≡ k.copy.key = there ∙ (ap (λ n. (tracked.labels n).key) (tracked.is_packet ∙ sym is_packet) ∙ sym here) in
       subst (λ n. IsKeyOf net.block n) same tracked.is_key
 
   on_net : (k : Mark) → Contains (marks_of s) k → k.copy.packet ≡ packet → OnNet k
@@ -152,8 +149,7 @@ module _ (s : State) (net : NetPlan) (packet : ℕ) (tracked : IsTracked s net p
         leaves : slice_get u.branch k.copy.hop ≡ Some (record { chip = c; out = o }) → slice_get xs k.copy.hop ≡ Some (record { chip = c; out = o })
         leaves on =
             let one = one_place_of target u.goal xs u.branch way.is_branch u.way.is_branch i k.copy.hop
-            (record { chip = c; out = o }) (record { chip = c; out = o }) at on refl
-            in
+            (record { chip = c; out = o }) (record { chip = c; out = o }) at on refl in
             ap (slice_get xs) (sym one.0) ∙ at
 
         by_station : IsOfOutput c o k.station → is_on_trail from to xs k ≡ true
@@ -171,16 +167,14 @@ module _ (s : State) (net : NetPlan) (packet : ℕ) (tracked : IsTracked s net p
         let on = sym (ap (on_trail u.from u.to u.branch k.copy.hop) is) ∙ u.on in
         let there : ComesThere u.branch k.copy.hop c port = comes_parts u.branch k.copy.hop c port on in
         let one = one_place_of target u.goal xs u.branch way.is_branch u.way.is_branch i k.copy.hop
-        (record { chip = c; out = o }) there.exit at there.at (sym there.chip)
-        in
+        (record { chip = c; out = o }) there.exit at there.at (sym there.chip) in
         let here : ComesThere xs k.copy.hop c port =
         record {
           exit = record { chip = c; out = o };
           at = ap (slice_get xs) (sym one.0) ∙ at;
           chip = refl;
           port_is = ap (arrival_at xs) (sym one.0) ∙ (one.1 ∙ there.port_is);
-        }
-        in
+        } in
         on_by k (in_queue c port) is (comes_from xs k.copy.hop c port here)
 
     -- a mark at the target's vertex
@@ -233,8 +227,7 @@ module _ (s : State) (net : NetPlan) (packet : ℕ) (tracked : IsTracked s net p
         let k = counted (is_packet_on_trail packet from to xs) (marks_of s) (omega (arith, only_one)) in
         let has = among_contains k.0 (marks_of s) k.1 in
         let of_packet : k.0.copy.packet ≡ packet =
-        eqb-true k.0.copy.packet packet ((and_parts (k.0.copy.packet == packet) (is_on_trail from to xs k.0) k.2).0)
-        in
+        eqb-true k.0.copy.packet packet ((and_parts (k.0.copy.packet == packet) (is_on_trail from to xs k.0) k.2).0) in
         let on = (and_parts (k.0.copy.packet == packet) (is_on_trail from to xs k.0) k.2).1 in
         told_by k.0 has of_packet on Unsent (by_station k.0.copy k.0.station (before k.0 has of_packet on))
       where
@@ -313,8 +306,7 @@ module _ (s : State) (net : NetPlan) (packet : ℕ) (tracked : IsTracked s net p
       let on = walked w.0 w.1 w.2 w.3 in
       let place : on.place + 1 + steps ≡ length w.0 = on.is_place in
       let short : length w.0 ≤ s.setup.machine.width * s.setup.machine.height =
-      branch_short s.setup.machine net.tree.root net.tree.edges (map (λ x. x.chip) net.targets) tree (root_lives mesh) target w.0 w.3.is_branch
-      in
+      branch_short s.setup.machine net.tree.root net.tree.edges (map (λ x. x.chip) net.targets) tree (root_lives mesh) target w.0 w.3.is_branch in
       omega arith
 
   -- the edge into a place's chip tells the port there, and the exit before
@@ -334,8 +326,7 @@ module _ (s : State) (net : NetPlan) (packet : ℕ) (tracked : IsTracked s net p
   behind_place xs from to way (suc i) x at (Some e) into =
       let by : ComesBy s.setup.machine net.tree.edges xs Local i x.chip = comes_by s.setup.machine net.tree.edges target net.tree.root Local xs i x way.is_branch at in
       let one : by.edge ≡ e =
-      one_edge_into s.setup.machine net.tree.root net.tree.edges (map (λ y. y.chip) net.targets) tree by.edge e x.chip by.in_tree into.0 by.leads into.1
-      in
+      one_edge_into s.setup.machine net.tree.root net.tree.edges (map (λ y. y.chip) net.targets) tree by.edge e x.chip by.in_tree into.0 by.leads into.1 in
       record {
         arrives = by.arrives ∙ ap (λ (f : Edge). ByLink (opposite_of f.dir)) one;
         prior = by.before ∙ ap (λ (f : Edge). Some (exit_of f)) one;

@@ -75,8 +75,7 @@ pub short_branch : (s : State) (net : NetPlan) → Stands s net → (t : Spot) (
 short_branch s net stands t branch is =
     let m = s.setup.machine in
     let short : length branch ≤ m.width * m.height =
-    branch_short m net.tree.root net.tree.edges (map (λ x. x.chip) net.targets) stands.tree (root_lives s net stands) t branch is
-    in
+    branch_short m net.tree.root net.tree.edges (map (λ x. x.chip) net.targets) stands.tree (root_lives s net stands) t branch is in
     let w : m.width ≤ 64 = stands.mesh.size.width_to_64 in
     let h : m.height ≤ 64 = stands.mesh.size.height_to_64 in
     let area : m.width * m.height ≤ m.width * 64 = mul-le-mul_left m.width h in
@@ -91,8 +90,7 @@ pub one_place : (s : State) (net : NetPlan) → Stands s net → (t u : Spot) (x
     IsBranch s.setup.machine net.tree.root net.tree.edges t xs → IsBranch s.setup.machine net.tree.root net.tree.edges u ys →
     (i j : ℕ) (x y : Exit) → slice_get xs i ≡ Some x → slice_get ys j ≡ Some y → x.chip ≡ y.chip →
     (i ≡ j) × (arrival_at xs i ≡ arrival_at ys j)
-one_place s net stands =
-    same_place s.setup.machine net.tree.root net.tree.edges (map (λ x. x.chip) net.targets) stands.tree
+one_place s net stands = same_place s.setup.machine net.tree.root net.tree.edges (map (λ x. x.chip) net.targets) stands.tree
 
 -- the net's packets come in where its branches pass
 pub branch_comes_in : (s : State) (net : NetPlan) → (t : Spot) (xs : List Exit) → IsBranch s.setup.machine net.tree.root net.tree.edges t xs →

@@ -290,8 +290,7 @@ module _ (s t : State) (v : ℕ) (k : McCopy) (rest : List McCopy) (may : MaySen
           cores = cores;
           delivered = r.delivered;
           dumped = r.dumped;
-        }
-        in
+        } in
         let with_inputs : List (List McCopy) → State = λ inputs. record (alike r.delivered s) { inputs = inputs } in
         begun_r
         ∙ (ap (λ u. made u r.inputs r.hands r.cores) same
@@ -307,8 +306,7 @@ module _ (s t : State) (v : ℕ) (k : McCopy) (rest : List McCopy) (may : MaySen
         let setup : t.setup ≡ r.setup = setup_reached s t dropless ∙ sym same in
         let at : IsSameAtRest k.key x r t = same_at_rest k.key x r t may_r.kept.mesh (kept_reached s t may.kept dropless).mesh may_r.quiet quiet (sym setup) in
         let made : Setup → List (List McCopy) → List (Option Hand) → List (List McCopy) → State =
-        λ u inputs hands cores. record { setup = u; unsent = unsent; inputs = inputs; hands = hands; cores = cores; delivered = ds; dumped = r.dumped }
-        in
+        λ u inputs hands cores. record { setup = u; unsent = unsent; inputs = inputs; hands = hands; cores = cores; delivered = ds; dumped = r.dumped } in
         ap (λ u. made u (queues k.key x t.inputs) (map (held k.key x) t.hands) (queues k.key x t.cores)) setup
         ∙ (ap (λ l. made r.setup l (map (held k.key x) t.hands) (queues k.key x t.cores)) (sym at.inputs)
         ∙ (ap (λ l. made r.setup r.inputs l (queues k.key x t.cores)) (sym at.hands)

@@ -82,8 +82,7 @@ grows u nets packets i d n v copy s t k within before is_copy vertex step =
     let its_copy : copy ≡ first_copy (length so_far) k.net p =
     is_copy
     ∙ (ap (λ (x : NetPlan). record { packet = i; key = x.block.key + p.index; payload = p.payload; hop = 0 }) (get_or_from_slice_get nets p.net k.net n k.is_net)
-    ∙ ap (λ j. first_copy j k.net p) (sym many))
-    in
+    ∙ ap (λ j. first_copy j k.net p) (sym many)) in
     let with_it : State → ℕ → McCopy → State = λ x w c. record x { unsent = push_at x.unsent w c (slice_get x.unsent w) } in
     step
     ∙ (ap (λ x. with_it x v copy) before

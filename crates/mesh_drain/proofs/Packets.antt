@@ -127,8 +127,7 @@ few_in_mesh s mesh =
     (λ i d below.
     let below_i : i < length s.setup.spots = omega (arith, below, long) in
     let a = parts i below_i in
-    subst (λ n. n < 24 * (s.setup.machine.width * s.setup.machine.height)) (sym (is i d below)) (spot_place-below s.setup.machine (get_or s.setup.spots i nowhere) a.0 a.1))
-    in
+    subst (λ n. n < 24 * (s.setup.machine.width * s.setup.machine.height)) (sym (is i d below)) (spot_place-below s.setup.machine (get_or s.setup.spots i nowhere) a.0 a.1)) in
     let area : s.setup.machine.width * s.setup.machine.height ≤ s.setup.machine.width * 64 = mul-le-mul_left s.setup.machine.width mesh.size.height_to_64 in
     omega (arith, few, long, mesh.size.width_to_64, area)
 

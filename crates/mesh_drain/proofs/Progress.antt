@@ -115,8 +115,7 @@ come_lighter s x come small next move = by_bound (4 * last_hop + 4) (advance_bel
         let each : (y : Mark) → Among y come → advance_weight_of y ≤ heavy n =
         λ y a.
         let fewer : b - advance y ≤ n = omega (arith, move_advances s x come next move y a) in
-        subst (λ k. heavy (k - advance y) ≤ heavy n) is (heavy_grows (b - advance y) n fewer)
-        in
+        subst (λ k. heavy (k - advance y) ≤ heavy n) is (heavy_grows (b - advance y) n fewer) in
         let all = light advance_weight_of come (heavy n) each in
         let few = mul-le-mul_left (heavy n) (few_come s x come move) in
         omega (arith, mine, all, few, one_heavy n)

@@ -150,8 +150,7 @@ module _ (s : State) (w : List Waiting) (a : Waiting) (u : WaitsAlone s (w ++ a 
   take_none empty =
       let none : step_of s (Take a.chip a.port) ≡ None =
       ap (λ h. take_of s a.chip a.port h (slice_get s.inputs (queue_at s.setup.machine a.chip a.port))) hand_free
-      ∙ ap (take_of s a.chip a.port (Some None)) (there.1 ∙ ap Some empty)
-      in
+      ∙ ap (take_of s a.chip a.port (Some None)) (there.1 ∙ ap Some empty) in
       let same : after_event s (Take a.chip a.port) ≡ s = ap (λ (o : Option State). unwrap_or o s) none in
       let outs : outs_in (slice_get s.hands (index_of s.setup.machine a.chip)) ≡ [] = ap outs_in hand_free in
       subst (λ t. IsServing t w a.chip (outs_in (slice_get t.hands (index_of t.setup.machine a.chip)))) (sym same)
@@ -193,8 +192,7 @@ module _ (s : State) (w : List Waiting) (a : Waiting) (u : WaitsAlone s (w ++ a 
       let step : step_of s (Take a.chip a.port) ≡ Some t =
       ap (λ h. take_of s a.chip a.port h (slice_get s.inputs j)) hand_free
       ∙ (ap (take_of s a.chip a.port (Some None)) (there.1 ∙ ap Some full)
-      ∙ ap (λ b. if b then Some t else None) live_here)
-      in
+      ∙ ap (λ b. if b then Some t else None) live_here) in
       let is : after_event s (Take a.chip a.port) ≡ t = moved s t (Take a.chip a.port) step in
       let outs : outs_in (slice_get t.hands n) ≡ os = ap outs_in (slice_get-set_same s.hands n None (in_hand k a.port os) hand_free) ∙ outs_in-hand k os in
       let all : All (λ (x : McCopy). x.packet ≡ u.packet) (k ∷ rest) = subst (All (λ (x : McCopy). x.packet ≡ u.packet)) full (u.of_packet j) in
@@ -410,15 +408,13 @@ module _ (s : State) (w : List Waiting) (c : Chip) (o : Out) (os : List Out) (u 
       let step : step_of s (Send c o) ≡ Some t =
       send_to s w c o os u (core v) is has
       ∙ (ap (λ h. Some (from h)) (hands_then s w c o os u)
-      ∙ ap (λ q. Some (record s { cores = push_at s.cores v k q; hands = hands })) at)
-      in
+      ∙ ap (λ q. Some (record s { cores = push_at s.cores v k q; hands = hands })) at) in
       let same : after_event s (Send c o) ≡ t = moved s t (Send c o) step in
       let end : State = record s { hands = hands; delivered = s.delivered ++ record { vertex = v; copy = k } ∷ [] } in
       let back : set (set s.cores v (k ∷ [])) v [] ≡ s.cores = set_put_back s.cores v [] (k ∷ []) at in
       let take : step_of t (Collect v) ≡ Some end =
       ap (collect_of t v) (slice_get-set_same s.cores v [] (k ∷ []) at)
-      ∙ ap (λ l. Some (record end { cores = l })) back
-      in
+      ∙ ap (λ l. Some (record end { cores = l })) back in
       let last : after_event (after_event s (Send c o)) (Collect v) ≡ end = ap (λ x. after_event x (Collect v)) same ∙ moved t end (Collect v) take in
       subst (λ x. IsServing x w c os) (sym last) (record {
         kept = subst MeetsSomeLedger last (kept_after (after_event s (Send c o)) (Collect v) (kept_after s (Send c o) u.kept));

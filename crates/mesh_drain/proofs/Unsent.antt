@@ -41,16 +41,13 @@ opened_more spots nets ps p net v is vertex below =
     let new : ℕ → List McCopy = copies_from spots nets 0 (ps ++ p ∷ []) in
     let makes : ℕ → ℕ × Packet → Option McCopy = λ w e. copy_from spots w e.0 e.1 (slice_get nets e.1.net) in
     let grown : (w : ℕ) → new w ≡ old w ++ cons_option (copy_from spots w (length ps) p (slice_get nets p.net)) [] =
-    λ w. ap (filter_map (makes w)) (enumerate_push 0 ps p (length ps) (omega arith)) ∙ filter_map-append (makes w) (enumerate_from 0 ps) ((length ps, p) ∷ [])
-    in
+    λ w. ap (filter_map (makes w)) (enumerate_push 0 ps p (length ps) (omega arith)) ∙ filter_map-append (makes w) (enumerate_from 0 ps) ((length ps, p) ∷ []) in
     let here : 0 + v ≡ v = omega arith in
     let got : slice_get (map old (range_with_len 0 (length spots))) v ≡ Some (old v) = slice_get-map_range old 0 (length spots) v below ∙ ap (λ w. Some (old w)) here in
     let with_it : old v ++ k ∷ [] ≡ new (0 + v) =
-    ap (λ o. old v ++ cons_option o []) (sym (its_copy spots nets (length ps) p net v is vertex)) ∙ (sym (grown v) ∙ ap new (sym here))
-    in
+    ap (λ o. old v ++ cons_option o []) (sym (its_copy spots nets (length ps) p net v is vertex)) ∙ (sym (grown v) ∙ ap new (sym here)) in
     let unchanged : (w : ℕ) → w ≢ v → new w ≡ old w =
-    λ w other. grown w ∙ (ap (λ o. old w ++ cons_option o []) (no_copy spots nets (length ps) p net v w is vertex other) ∙ append-nil (old w))
-    in
+    λ w other. grown w ∙ (ap (λ o. old w ++ cons_option o []) (no_copy spots nets (length ps) p net v w is vertex other) ∙ append-nil (old w)) in
     ap (push_at (map old (range_with_len 0 (length spots))) v k) got
     ∙ set-map_range old new 0 (length spots) v (old v ++ k ∷ []) below with_it
     (λ w other. sym (unchanged w (λ same. other (omega (arith, same)))))

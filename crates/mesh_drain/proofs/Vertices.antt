@@ -64,8 +64,7 @@ pushed_collected u none (core v) k = by_queue (slice_get u.cores v) refl
         let end : State = record u { delivered = u.delivered ++ record { vertex = v; copy = k } ∷ [] } in
         let last : after_event t (Collect v) ≡ end =
         ap (λ x. unwrap_or (collect_of t v x) t) (slice_get-set_same u.cores v [] (k ∷ []) there)
-        ∙ ap (λ l. record end { cores = l }) (set_put_back u.cores v [] (k ∷ []) there)
-        in
+        ∙ ap (λ l. record end { cores = l }) (set_put_back u.cores v [] (k ∷ []) there) in
         let full : List (List McCopy) → State = λ l. record u { cores = l } in
         subst (λ x. AreCollected (after_event (full (set u.cores v (x ++ k ∷ []))) (Collect v))) (sym empty) (subst AreCollected (sym last) none)
     by_queue None at = subst AreCollected (sym (collect_still u v none)) none

@@ -14,8 +14,7 @@ job_tracked s nets packets job i p net at is =
     let k = job.ledger.each_asked i (asks net p) asked in
     let key : k.0.copy.key ≡ (asks net p).label.key =
     (job.ledger.ledger.labelled k.0 k.1).0
-    ∙ (ap (λ n. (label_of (asked_by nets packets n)).key) k.2 ∙ ap (λ (o : Option Asked). (label_of o).key) asked)
-    in
+    ∙ (ap (λ n. (label_of (asked_by nets packets n)).key) k.2 ∙ ap (λ (o : Option Asked). (label_of o).key) asked) in
     record {
       nets = nets;
       labels = λ n. label_of (asked_by nets packets n);

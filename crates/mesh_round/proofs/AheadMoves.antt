@@ -92,23 +92,19 @@ module _ (s t : State) (nets : List NetPlan) (labels : ℕ → Label) (mesh : Is
         by_packet : (same : Bool) → (v.leaves.copy.packet == n) ≡ same → sum_by left_there v.come + taken_there v ≤ left_there v.leaves
         by_packet false other =
             let none : sum_by left_there v.come ≡ 0 =
-            sum_none left_there v.come (λ y b. ap (λ c. cond (c && is_on w y) (left_of w y) 0) (ap (λ i. i == n) (same_packet y b) ∙ other))
-            in
+            sum_none left_there v.come (λ y b. ap (λ c. cond (c && is_on w y) (left_of w y) 0) (ap (λ i. i == n) (same_packet y b) ∙ other)) in
             let untaken : taken_there v ≡ 0 = ap (λ c. cond (c && is_on w v.leaves) (taken_of w v.leaves) 0) other in
             omega (arith, none, untaken)
         by_packet true same =
             let number : v.leaves.copy.packet ≡ n = eqb-true v.leaves.copy.packet n same in
             let its_key : v.leaves.copy.key ≡ (labels n).key = r.key ∙ ap (λ i. (labels i).key) number in
             let one : r.net ≡ net =
-            one_net nets ledger.nets_stand.disjoint r.net net r.in_nets has v.leaves.copy.key r.is_key (subst (λ i. IsKeyOf net.block i) (sym its_key) key)
-            in
+            one_net nets ledger.nets_stand.disjoint r.net net r.in_nets has v.leaves.copy.key r.is_key (subst (λ i. IsKeyOf net.block i) (sym its_key) key) in
             let came : count_by (is_on w) v.come ≡ (if is_on w v.leaves then 1 else 0) =
             move_counts s r.net (stands s t nets labels mesh right ledger r.net r.in_nets) r.trail.target target r.trail.branch w.branch r.trail.from w.from r.trail.to w.to r.trail.way
-            (subst (λ (m : NetPlan). IsWayOn s.setup.machine s.setup.spots m target w.branch w.from w.to) (sym one) way) v.leaves v.come v.is_move r.is_key r.trail.on
-            in
+            (subst (λ (m : NetPlan). IsWayOn s.setup.machine s.setup.spots m target w.branch w.from w.to) (sym one) way) v.leaves v.come v.is_move r.is_key r.trail.on in
             let mine : sum_by left_there v.come ≡ sum_by (λ y. cond (is_on w y) (left_of w y) 0) v.come =
-            sum_agree left_there (λ y. cond (is_on w y) (left_of w y) 0) v.come (λ y b. ap (λ c. cond (c && is_on w y) (left_of w y) 0) (ap (λ i. i == n) (same_packet y b) ∙ same))
-            in
+            sum_agree left_there (λ y. cond (is_on w y) (left_of w y) 0) v.come (λ y b. ap (λ c. cond (c && is_on w y) (left_of w y) 0) (ap (λ i. i == n) (same_packet y b) ∙ same)) in
             let taken : taken_there v ≡ cond (is_on w v.leaves) (taken_of w v.leaves) 0 = ap (λ c. cond (c && is_on w v.leaves) (taken_of w v.leaves) 0) same in
             let left : left_there v.leaves ≡ cond (is_on w v.leaves) (left_of w v.leaves) 0 = ap (λ c. cond (c && is_on w v.leaves) (left_of w v.leaves) 0) same in
             by_trail (is_on w v.leaves) refl came mine taken left
@@ -129,8 +125,7 @@ module _ (s t : State) (nets : List NetPlan) (labels : ℕ → Label) (mesh : Is
                 let single : count_by (is_on w) v.come ≡ 1 = came ∙ ap (λ c. if c then 1 else 0) on in
                 let less = sum_of_passing (is_on w) (left_of w) (taken_of w v.leaves) (left_of w v.leaves) v.come (move_takes w s v.leaves v.come short v.is_move on) in
                 let both : sum_by (λ y. cond (is_on w y) (left_of w y) 0) v.come + 1 * taken_of w v.leaves ≤ 1 * left_of w v.leaves =
-                subst (λ c. sum_by (λ y. cond (is_on w y) (left_of w y) 0) v.come + c * taken_of w v.leaves ≤ c * left_of w v.leaves) single less
-                in
+                subst (λ c. sum_by (λ y. cond (is_on w y) (left_of w y) 0) v.come + c * taken_of w v.leaves ≤ c * left_of w v.leaves) single less in
                 let took : cond (is_on w v.leaves) (taken_of w v.leaves) 0 ≡ taken_of w v.leaves = ap (λ c. cond c (taken_of w v.leaves) 0) on in
                 let had : cond (is_on w v.leaves) (left_of w v.leaves) 0 ≡ left_of w v.leaves = ap (λ c. cond c (left_of w v.leaves) 0) on in
                 omega (arith, both, mine, taken, left, took, had)

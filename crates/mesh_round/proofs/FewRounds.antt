@@ -244,16 +244,14 @@ module _ (m n : State) (f : Flow) (nets : List NetPlan) (packets : List Packet) 
           let trail = r.trail in
           let own : IsWayOn u.machine u.spots net trail.target trail.branch trail.from trail.to =
           subst (λ (s : Setup). IsWayOn s.machine s.spots net trail.target trail.branch trail.from trail.to) same
-          (subst (λ (x : NetPlan). IsWayOn m.setup.machine m.setup.spots x trail.target trail.branch trail.from trail.to) is trail.way)
-          in
+          (subst (λ (x : NetPlan). IsWayOn m.setup.machine m.setup.spots x trail.target trail.branch trail.from trail.to) is trail.way) in
           let w = way_there u.machine u.spots net (tree_of u nets packets stand net has) (source_of u nets packets stand net has) (targets_of u nets packets stand net has) trail.target
           own.is_target in
           let one = one_way u.machine u.spots nets net trail.target trail.branch w.0.branch trail.from w.0.from trail.to w.0.to stand has own w.2 in
           let on : on_trail w.0.from w.0.to w.0.branch v.leaves.copy.hop v.leaves.station ≡ true =
           subst (λ i. on_trail i w.0.to w.0.branch v.leaves.copy.hop v.leaves.station ≡ true) one.1
           (subst (λ i. on_trail trail.from i w.0.branch v.leaves.copy.hop v.leaves.station ≡ true) one.2
-          (subst (λ (xs : List Exit). on_trail trail.from trail.to xs v.leaves.copy.hop v.leaves.station ≡ true) one.0 trail.on))
-          in
+          (subst (λ (xs : List Exit). on_trail trail.from trail.to xs v.leaves.copy.hop v.leaves.station ≡ true) one.0 trail.on)) in
           by_station w.0 w.1 v.leaves.copy v.leaves.station steps on
 
     net_is : r.net ≡ asked.net
@@ -261,8 +259,7 @@ module _ (m n : State) (f : Flow) (nets : List NetPlan) (packets : List Packet) 
         let of = asked_of_net nets packets job.of_nets number was.0 was.1 in
         let key : v.leaves.copy.key ≡ was.0.label.key = r.key ∙ ap (λ (o : Option Asked). (label_of o).key) was.1 in
         let first : r.net ≡ was.0.net =
-        one_net nets ledger.nets_stand.disjoint r.net was.0.net r.in_nets of.0 v.leaves.copy.key r.is_key (subst (IsKeyOf was.0.net.block) (sym key) of.1)
-        in
+        one_net nets ledger.nets_stand.disjoint r.net was.0.net r.in_nets of.0 v.leaves.copy.key r.is_key (subst (IsKeyOf was.0.net.block) (sym key) of.1) in
         first ∙ ap (λ (b : Asked). b.net) asked.is_asked
 
     by_net : (o : Option NetPlan) (at : slice_get nets asked.packet.net ≡ o) → is_step v.leaves ≡ true → IsTaken (ways_at u nets packets stand asked.packet o at) v.leaves.copy v.leaves.station
@@ -279,12 +276,10 @@ module _ (m n : State) (f : Flow) (nets : List NetPlan) (packets : List Packet) 
         let x : PacketWay = of_packet number found.way in
         let zero_more : 0 + number ≡ number = omega arith in
         let in_ways : Among x ways =
-        subst (λ i. Among (of_packet i found.way) ways) zero_more (to_packet u nets packets stand 0 packets number asked.packet asked.is_packet found.way found.among)
-        in
+        subst (λ i. Among (of_packet i found.way) ways) zero_more (to_packet u nets packets stand 0 packets number asked.packet asked.is_packet found.way found.among) in
         let one = part_of_sum (λ (w : Moved m). taken_for number found.way w.leaves) v bag.moves a in
         let packet : is_packet_on_trail number found.way.from found.way.to found.way.branch v.leaves ≡ true =
-        and_from (number == number) (is_on_trail found.way.from found.way.to found.way.branch v.leaves) (eq-eqb number number refl) found.on
-        in
+        and_from (number == number) (is_on_trail found.way.from found.way.to found.way.branch v.leaves) (eq-eqb number number refl) found.on in
         let took : taken_for number found.way v.leaves ≡ taken_at found.way v.leaves.copy.hop v.leaves.station = ap (λ b. cond b (taken_at found.way v.leaves.copy.hop v.leaves.station) 0) packet in
         omega (arith, part_of_sum moves_take x ways in_ways, one, took, found.one)
 
@@ -311,8 +306,7 @@ module _ (patience turns : ℕ) (m : State) (nets : List NetPlan) (packets : Lis
   so_far n (more f k n' before after round) each =
       let was = rounds_stand patience turns m k nets packets mesh right job before in
       let one =
-      round_takes k n' f nets packets was.mesh after round.passes (subst (λ (s : Setup). AreRight s.machine s.tables nets) (sym was.setup) right) was.job one_way m.setup was.setup stand each.1
-      in
+      round_takes k n' f nets packets was.mesh after round.passes (subst (λ (s : Setup). AreRight s.machine s.tables nets) (sym was.setup) right) was.job one_way m.setup was.setup stand each.1 in
       omega (arith, so_far k before each.0, one)
 
   -- each way of a packet has one mark
@@ -328,12 +322,10 @@ module _ (patience turns : ℕ) (m : State) (nets : List NetPlan) (packets : Lis
       let of = asked_of_net nets packets job.of_nets x.packet (asks it.net p) asked in
       let k = job.ledger.each_asked x.packet (asks it.net p) asked in
       let key : k.0.copy.key ≡ (asks it.net p).label.key =
-      (job.ledger.ledger.labelled k.0 k.1).0 ∙ (ap (λ i. (label_of (asked_by nets packets i)).key) k.2 ∙ ap (λ (o : Option Asked). (label_of o).key) asked)
-      in
+      (job.ledger.ledger.labelled k.0 k.1).0 ∙ (ap (λ i. (label_of (asked_by nets packets i)).key) k.2 ∙ ap (λ (o : Option Asked). (label_of o).key) asked) in
       let once = job.ledger.ledger.once_on_each k.0 k.1 it.net of.0 (subst (IsKeyOf it.net.block) (sym key) of.1) it.target x.way.branch x.way.from x.way.to it.is_way in
       let mine : count_by (is_packet_on_trail x.packet x.way.from x.way.to x.way.branch) (marks_of m) ≡ 1 =
-      ap (λ i. count_by (is_packet_on_trail i x.way.from x.way.to x.way.branch) (marks_of m)) (sym k.2) ∙ once
-      in
+      ap (λ i. count_by (is_packet_on_trail i x.way.from x.way.to x.way.branch) (marks_of m)) (sym k.2) ∙ once in
       omega (arith, mine)
 
   -- Rounds in which copies move are at most as many as copies can move.

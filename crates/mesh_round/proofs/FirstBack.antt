@@ -27,8 +27,7 @@ module _ (s : State) (mesh : IsMesh s) (nets : List NetPlan) (labels : ℕ → L
   some_queue : (c : Chip) (o : Out) (e : Chip) (d : _) → o ≡ Link d → IsLiveLink m c d → far_of m c d ≡ Some e → behind s.setup c o ≡ nowhere → ⊥
   some_queue c o e d out live far gone =
       let is : behind s.setup c o ≡ input (queue_at m e (ByLink (opposite_of d))) =
-      ap (behind s.setup c) out ∙ (ap (λ b. behind_link s.setup c d b (far_of m c d)) live ∙ ap (behind_link s.setup c d true) far)
-      in
+      ap (behind s.setup c) out ∙ (ap (λ b. behind_link s.setup c d b (far_of m c d)) live ∙ ap (behind_link s.setup c d true) far) in
       cc
 
   -- where a copy was dumped there is a queue behind the output, or a vertex
@@ -47,8 +46,7 @@ module _ (s : State) (mesh : IsMesh s) (nets : List NetPlan) (labels : ℕ → L
           some_queue c o far.0 d out live far.1 gone
       by_end net in_nets target branch is_target (inr (chip, out, last)) =
           let on_spot : Contains s.setup.spots target =
-          All-contains (Contains s.setup.spots) net.targets target (All-contains (λ n. All (Contains s.setup.spots) n.targets) nets net ledger.nets_stand.targets in_nets) is_target
-          in
+          All-contains (Contains s.setup.spots) net.targets target (All-contains (λ n. All (Contains s.setup.spots) n.targets) nets net ledger.nets_stand.targets in_nets) is_target in
           let vertex = vertex_behind_there s.setup.spots c o target on_spot (leads_to c o target chip out) in
           let there = vertex.1 in
           cc

@@ -40,8 +40,7 @@ come_lighter {s} v = by_far (to_go v.leaves) refl (some_to_go v)
         let mine : work_weight_of v.leaves ≡ 25 * heavy n = ap heavy is in
         let each : (y : Mark) → Among y v.come → work_weight_of y ≤ heavy n =
         λ y a.
-        heavy_grows (to_go y) n (omega (arith, move_nears s v.leaves v.come v.small v.is_move y a, is))
-        in
+        heavy_grows (to_go y) n (omega (arith, move_nears s v.leaves v.come v.small v.is_move y a, is)) in
         let all = light work_weight_of v.come (heavy n) each in
         let few = mul-le-mul_left (heavy n) (few_come s v.leaves v.come v.is_move) in
         omega (arith, mine, all, few, one_heavy n)
@@ -95,8 +94,7 @@ even_weights s t bag w =
 -- A bag of moves takes at least one a move from what is to be done.
 bag_lighter : (s t : State) (bag : Bag s t) → work_in t + length bag.moves ≤ work_in s
 unfolding work_in
-bag_lighter s t bag =
-    omega (arith, even_weights s t bag work_weight_of, lighter bag.moves)
+bag_lighter s t bag = omega (arith, even_weights s t bag work_weight_of, lighter bag.moves)
 
 pub round_lighter : (m n : State) (f : Flow) → IsMesh m → IsMesh n → Passes m f n → work_in n ≤ work_in m
 round_lighter m n f mesh after passes =

@@ -235,8 +235,7 @@ module _ (m : Description) (spots : List Spot) (net : NetPlan) (tree : IsRouting
       let both = length-append (new_chips earlier w.branch (length w.branch) 0) (all_chips (w ∷ earlier) ts (λ u a. within u (inr a))) in
       let whole : length w.branch - 0 ≡ length w.branch = omega arith in
       let mine : counted_from w.counted w.branch 0 ≡ counted_in (is_new earlier w.branch) (length w.branch) 0 =
-      ap (λ f. counted_in f (length w.branch - 0) 0) it.2.0 ∙ ap (λ n. counted_in (is_new earlier w.branch) n 0) whole
-      in
+      ap (λ f. counted_in f (length w.branch - 0) 0) it.2.0 ∙ ap (λ n. counted_in (is_new earlier w.branch) n 0) whole in
       let here = many_new earlier w.branch (length w.branch) 0 in
       omega (arith, rest, all, both, mine, here)
 
@@ -249,12 +248,10 @@ module _ (m : Description) (spots : List Spot) (net : NetPlan) (tree : IsRouting
       let chip : chip_eq y.chip new.exit.chip ≡ true = subst (λ (d : Chip). chip_eq y.chip d ≡ true) (same ∙ sym new.chip) (chip_eq_same y.chip) in
       let arrives : arrival_at e.branch new.place ≡ arrival_at branch new.place = ap (arrival_at e.branch) (sym one.0) ∙ one.1 in
       let port : port_eq (arrival_at e.branch new.place) (arrival_at branch new.place) ≡ true =
-      subst (λ (q : Port). port_eq (arrival_at e.branch new.place) q ≡ true) arrives (port_eq_same (arrival_at e.branch new.place))
-      in
+      subst (λ (q : Port). port_eq (arrival_at e.branch new.place) q ≡ true) arrives (port_eq_same (arrival_at e.branch new.place)) in
       let comes : comes_in_there e.branch new.place new.exit.chip (arrival_at branch new.place) (slice_get e.branch new.place) ≡ true =
       ap (comes_in_there e.branch new.place new.exit.chip (arrival_at branch new.place)) here
-      ∙ and_from (chip_eq y.chip new.exit.chip) (port_eq (arrival_at e.branch new.place) (arrival_at branch new.place)) chip port
-      in
+      ∙ and_from (chip_eq y.chip new.exit.chip) (port_eq (arrival_at e.branch new.place) (arrival_at branch new.place)) chip port in
       answers_none (come_in earlier new.place new.exit.chip (arrival_at branch new.place))
       (among_any (λ (v : Counted). comes_in_there v.branch new.place new.exit.chip (arrival_at branch new.place) (slice_get v.branch new.place)) e earlier a comes) new.new
 
@@ -442,13 +439,11 @@ module _ (m : Description) (spots : List Spot) (net : NetPlan) (tree : IsRouting
       by_test true on later found =
           let there = comes_parts first.branch hop c port on in
           let same : come_in earlier hop there.exit.chip (arrival_at first.branch hop) ≡ come_in earlier hop c port =
-          ap (λ d. come_in earlier hop d (arrival_at first.branch hop)) there.chip ∙ ap (come_in earlier hop c) there.port_is
-          in
+          ap (λ d. come_in earlier hop d (arrival_at first.branch hop)) there.chip ∙ ap (come_in earlier hop c) there.port_is in
           let mine : first.counted hop ≡ 1 =
           ap (λ f. f hop) it.2.0
           ∙ (ap (new_place earlier first.branch hop) there.at
-          ∙ ap (λ b. cond b 0 1) (same ∙ none))
-          in
+          ∙ ap (λ b. cond b 0 1) (same ∙ none)) in
           (first, inl refl, on, mine)
       by_test false off later (inl here) = absurd (true≢false (sym comes ∙ (ap (comes_at hop c port) here ∙ off)))
       by_test false off later (inr found) = let rest = later off found in (rest.0, inr rest.1, rest.2, rest.3)

@@ -124,8 +124,7 @@ module _ (m n : State) (nets : List NetPlan) (labels : ℕ → Label) (mesh : Is
 
   all_moves : (vs : List (Moved m)) → count_left past vs + count_come here vs ≤ count_come past vs
   all_moves [] = omega arith
-  all_moves (v ∷ vs) =
-      omega (arith, one_move v, all_moves vs)
+  all_moves (v ∷ vs) = omega (arith, one_move v, all_moves vs)
 
   -- the packet has one mark on the trail afterwards
   once : count_by beside (marks_of n) ≡ 1

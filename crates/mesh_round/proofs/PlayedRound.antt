@@ -209,8 +209,7 @@ module _ (r : Round) where
         let same : flat_map (λ t. filter (leaves_by u c o t.0) (t.1 ∷ [])) (takings i r.items) ≡ copies_of (flat_map (service_at u c inside o) r.items) =
         sym (owed_at o is u c (takings i r.items))
         ∙ (ap (λ (e : Chip). at_out o (owed_on u e (takings i r.items))) (sym chip)
-        ∙ (sym (ap (at_out o) (r.played.turns_are.each_once i)) ∙ (served_at o (services i r.items) ∙ ap copies_of (filter-flat own (service_of i) r.items))))
-        in
+        ∙ (sym (ap (at_out o) (r.played.turns_are.each_once i)) ∙ (served_at o (services i r.items) ∙ ap copies_of (filter-flat own (service_of i) r.items)))) in
         subst (IsPermutation (taken_for u (flow_of r) c o)) same (taken_at_ports (leaves_by u c o) c inside)
 
     routed : IsOutput o → IsPermutation (map onward (taken_for u (flow_of r) c o)) ((flow_of r).entered (behind u c o) ++ map onward (dumped_at (flow_of r) c o))

@@ -203,8 +203,7 @@ module _ (m : State) (f : Flow) (n : State) (mesh : IsMesh m) (after : IsMesh n)
 
         at_chip : (c : Chip) → IsLiveChip u.machine c → came_in (at_port u c Local) ≡ sum_at (λ v (spot : Spot). share c v spot) 0 u.spots
         at_chip c live =
-            let station : station_of u (at_port u c Local) ≡ in_queue c Local =
-            station_is u c Local (live_inside u.machine c live) in
+            let station : station_of u (at_port u c Local) ≡ in_queue c Local = station_is u c Local (live_inside u.machine c live) in
             ap (λ st. count_by p (marks_at st (f.entered (at_port u c Local)))) station
             ∙ (sum_map (λ k. mark k (in_queue c Local)) (λ x. one_where (p x)) (f.entered (at_port u c Local))
             ∙ (sum_by-IsPermutation (into c) (sent_on u f c) (f.entered (at_port u c Local)) (passes.injected c live)

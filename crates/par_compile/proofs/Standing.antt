@@ -48,8 +48,7 @@ module _ (m : Description) (spots : List Spot) where
   differ : (n : Net) (b : Block) (p : NetPlan) → IsPlannedNet m spots n b p → AllPairs (λ a b. a ≢ b) p.targets
   differ n b p plan i j d before within = λ same.
       let below : IsBelow (spot_key (slice_index_or p.targets j d)) (spot_key (slice_index_or p.targets j d)) =
-      subst (λ (s : Spot). IsBelow (spot_key s) (spot_key (slice_index_or p.targets j d))) same (plan.targets.ascending i j d before within)
-      in
+      subst (λ (s : Spot). IsBelow (spot_key s) (spot_key (slice_index_or p.targets j d))) same (plan.targets.ascending i j d before within) in
       not_both (spot_key (slice_index_or p.targets j d)) (spot_key (slice_index_or p.targets j d)) below below
 
   module _ (ns : List Net) (bs : List Block) (ps : List NetPlan) (long : length bs ≡ length ns) (are : ArePlanned m spots ns bs ps) where

@@ -96,8 +96,7 @@ module _ (m : Description) (graph : Graph) where
       let placed = places.one_placement m graph.vertices p.spots q.spots p.memory q.memory a.placed b.placed in
       let blocks : blocks_of ns ≡ blocks_of os = keys.one_list graph.nets (blocks_of ns) (blocks_of os) a.blocks b.blocks in
       let its : ArePlanned m p.spots graph.nets (blocks_of ns) os =
-      subst (λ spots. ArePlanned m spots graph.nets (blocks_of ns) os) (sym placed.0) (subst (λ bs. ArePlanned m q.spots graph.nets bs os) (sym blocks) b.planned)
-      in
+      subst (λ spots. ArePlanned m spots graph.nets (blocks_of ns) os) (sym placed.0) (subst (λ bs. ArePlanned m q.spots graph.nets bs os) (sym blocks) b.planned) in
       (same_placement p q placed.0 placed.1, one_list_of_plans m p.spots a.sites graph.nets (blocks_of ns) a.blocks.all ns os a.planned its)
 
   module _ (target : ℕ) where
@@ -124,8 +123,7 @@ module _ (m : Description) (graph : Graph) where
     long_not_planned chip table plan has is =
         let there = slice_get_there plan.tables (index_of m chip) (subst (λ n. index_of m chip < n) (sym is.one_table_each) (index_below m chip has.inside)) in
         let same : there.0 ≡ table =
-        same_final plan.placement has.placement plan.nets has.nets plan.tables has.finals is.routing has.routing is.tables has.are chip there.0 table has.inside there.1 has.at
-        in
+        same_final plan.placement has.placement plan.nets has.nets plan.tables has.finals is.routing has.routing is.tables has.are chip there.0 table has.inside there.1 has.at in
         let short : length there.0.entries ≤ 1024 = All-at (λ (f : Final). length f.entries ≤ 1024) plan.tables (index_of m chip) there.0 is.short there.1 in
         let few : length table.entries ≤ 1024 = subst (λ (f : Final). length f.entries ≤ 1024) same short in
         let more = is_more has.finals (index_of m chip) table has.first has.at in
@@ -137,8 +135,7 @@ module _ (m : Description) (graph : Graph) where
         let first = position-Some is_long b.finals (index_of m d) u b.first in
         let there = slice_get_there b.finals (index_of m c) (omega (arith, less, first.0)) in
         let same : t ≡ there.0 =
-        same_final a.placement b.placement a.nets b.nets a.finals b.finals a.routing b.routing a.are b.are c t there.0 a.inside a.at there.1
-        in
+        same_final a.placement b.placement a.nets b.nets a.finals b.finals a.routing b.routing a.are b.are c t there.0 a.inside a.at there.1 in
         let it : get_or b.finals (index_of m c) u ≡ there.0 = get_or_from_slice_get b.finals (index_of m c) there.0 u there.1 in
         let long : is_long there.0 ≡ true = subst (λ (f : Final). is_long f ≡ true) same (long_at a.finals (index_of m c) t a.first a.at) in
         true≢false (sym long ∙ (ap is_long (sym it) ∙ first.2 (index_of m c) less))

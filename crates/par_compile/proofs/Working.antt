@@ -86,8 +86,7 @@ pub all_given : (target : ℕ) (works rest : List Work) (finals : List Final) �
 all_given target works rest finals so_far =
     let long : length finals ≡ length so_far.front = AllZip-long (GivesFinal target) so_far.front finals so_far.gives in
     let mine : take (length finals) works ≡ so_far.front =
-    ap (λ n. take n works) long ∙ (ap (take (length so_far.front)) (sym so_far.whole) ∙ take-append_seam so_far.front rest)
-    in
+    ap (λ n. take n works) long ∙ (ap (take (length so_far.front)) (sym so_far.whole) ∙ take-append_seam so_far.front rest) in
     subst (λ (ws : List Work). AllZip (GivesFinal target) ws finals) (sym mine) so_far.gives
 
 pub given_at_end : (target : ℕ) (works rest : List Work) (finals : List Final) → length rest ≡ 0 → AreGiven target works rest finals → length finals ≡ length works

@@ -122,8 +122,7 @@ placed_free h vertices spots memory placed none =
     let core : IsCoreFor (free_machine h) placed.order (take has.0 vertices) (take has.0 spots) of.0 s =
     subst (λ (o : Option Edge). MatchOption o (IsCoreFor (free_machine h) placed.order (take has.0 vertices) (take has.0 spots) of.0 s)
     (λ device. HasDeviceRoom (free_machine h) device × (s ≡ device_spot device)))
-    (All-at (λ (v : Vertex). v.device ≡ None) vertices has.0 of.0 none of.1) (placed.first.each has.0 of.0 s of.1 at)
-    in
+    (All-at (λ (v : Vertex). v.device ≡ None) vertices has.0 of.0 none of.1) (placed.first.each has.0 of.0 s of.1 at) in
     usable_free h s (and_parts _ _ core.free).0)
 
 -- so they are usable on the host's machine, and no loaded application's

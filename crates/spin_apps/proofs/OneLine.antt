@@ -49,8 +49,7 @@ module _ (h : Host) (job : AppJob) (valid : IsValidJob job) where
   one_net : (spots : List Spot) → All (IsSite grid) spots → (net : Net) (a b : AppNet) → IsNetFor grid spots net a → IsNetFor grid spots net b → a ≡ b
   one_net spots sites net a b x y =
       let same : net_with a any_block ≡ net_with b any_block =
-      plans.one_plan grid spots sites net any_block (net_with a any_block) (net_with b any_block) (x.planned any_block) (y.planned any_block)
-      in
+      plans.one_plan grid spots sites net any_block (net_with a any_block) (net_with b any_block) (x.planned any_block) (y.planned any_block) in
       same_net a b (ap (λ (p : NetPlan). p.source) same) (ap (λ (p : NetPlan). p.targets) same) (ap (λ (p : NetPlan). p.tree) same) (x.keys ∙ sym y.keys) (x.fixed ∙ sym y.fixed)
 
   one_list : (spots : List Spot) → All (IsSite grid) spots → (nets : List Net) (xs ys : List AppNet) → AllZip (IsNetFor grid spots) nets xs → AllZip (IsNetFor grid spots) nets ys → xs ≡ ys
@@ -259,13 +258,11 @@ module _ (counted : HaveAsManyDeliveries) (h g : Host) (apps : AreApps h) (also 
       x.deliveries
       ∙ (ap length x.unloaded.delivered
       ∙ (counted h g x.unloaded.app apps also alike none
-      ∙ (ap (λ (p : LoadedApp). length (filter (is_delivery_of p) g.mesh.delivered)) app ∙ (ap length (sym y.unloaded.delivered) ∙ sym y.deliveries))))
-      in
+      ∙ (ap (λ (p : LoadedApp). length (filter (is_delivery_of p) g.mesh.delivered)) app ∙ (ap length (sym y.unloaded.delivered) ∙ sym y.deliveries)))) in
       let dumped : r ≡ s =
       x.records
       ∙ (ap length (x.unloaded.dumped ∙ ap (filter (is_record_of x.unloaded.app)) alike.quiet.no_record)
-      ∙ (ap length (sym (y.unloaded.dumped ∙ ap (filter (is_record_of y.unloaded.app)) alike.other_quiet.no_record)) ∙ sym y.records))
-      in
+      ∙ (ap length (sym (y.unloaded.dumped ∙ ap (filter (is_record_of y.unloaded.app)) alike.other_quiet.no_record)) ∙ sym y.records)) in
       λ i. Got (delivered i) (dumped i)
   one_unload (Got d r) NotLoaded new other x y = absurd (true≢false (sym (there h apps n x.unloaded.app x.unloaded.is x.unloaded.number_is) ∙ (loaded_too ∙ y.0)))
   one_unload (Got d r) (Waiting p) new other x y = absurd (x.none_waits y.0.app (here_too y.0.app y.0.is) y.0.number_is p (waits_here y.0.app p y.0.waits))

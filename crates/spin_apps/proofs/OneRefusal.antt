@@ -44,8 +44,7 @@ module _ (m : Description) (taken : List Range) (claims : List Claim) where
       let s = slice_get_there ss n longer in
       let got = served.each n due.claim s.0 due.is s.1 in
       let before : take n ss ≡ due.ranges =
-      same_ranges ss due.ranges served due.before n (omega (arith, longer)) (omega arith) ∙ take_all n due.ranges (omega arith)
-      in
+      same_ranges ss due.ranges served due.before n (omega (arith, longer)) (omega arith) ∙ take_all n due.ranges (omega arith) in
       due.refused s.0.place (subst (λ l. IsOpenRange m (taken ++ l) due.claim s.0.place) before got.may)
 
   pub served_not_refused : (refusal : LoadRefusal) (rs : List Range) → AreServed m taken claims rs → IsRefusalDue m taken claims refusal → ⊥

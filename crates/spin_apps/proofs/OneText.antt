@@ -117,19 +117,15 @@ module _ (h g new other : Host) (n : ℕ) (job : AppJob) (valid : IsValidJob job
   same_unsent =
       same_places new.mesh.unsent other.mesh.unsent
       (apps.mesh.unsent_lists ∙ (ap length (same_spots new other apps also new_machine) ∙ sym also.mesh.unsent_lists)) (λ v x y at there.
-      let below : v < length h.mesh.unsent =
-      (let within = slice_get_within new.mesh.unsent v x at in
+      let below : v < length h.mesh.unsent = (let within = slice_get_within new.mesh.unsent v x at in
       let long = apps.mesh.unsent_lists ∙ (ap length spots_of_new ∙ sym lists) in
-      subst (λ k. v < k) long within)
-      in
+      subst (λ k. v < k) long within) in
       let q = slice_get_there h.mesh.unsent v below in
       let first : slice_get new.mesh.unsent v ≡ Some (q.0 ++ sent_by_vertex h.mesh.setup.spots one v) = a.loaded.unsent v q.0 q.1 in
       let second : slice_get other.mesh.unsent v ≡ Some (q.0 ++ sent_by_vertex g.mesh.setup.spots two v) =
-      b.loaded.unsent v q.0 (ap (λ (l : List (List McCopy)). slice_get l v) (sym alike.unsent) ∙ q.1)
-      in
+      b.loaded.unsent v q.0 (ap (λ (l : List (List McCopy)). slice_get l v) (sym alike.unsent) ∙ q.1) in
       let sent : sent_by_vertex h.mesh.setup.spots one v ≡ sent_by_vertex g.mesh.setup.spots two v =
-      ap (λ (l : List Spot). sent_by_vertex l one v) spots_before ∙ ap (λ (app : LoadedApp). sent_by_vertex g.mesh.setup.spots app v) same_app
-      in
+      ap (λ (l : List Spot). sent_by_vertex l one v) spots_before ∙ ap (λ (app : LoadedApp). sent_by_vertex g.mesh.setup.spots app v) same_app in
       same_Some x (q.0 ++ sent_by_vertex h.mesh.setup.spots one v) (sym at ∙ first)
       ∙ (ap (λ (l : List McCopy). q.0 ++ l) sent ∙ sym (same_Some y (q.0 ++ sent_by_vertex g.mesh.setup.spots two v) (sym there ∙ second))))
 

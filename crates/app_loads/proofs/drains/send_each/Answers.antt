@@ -33,8 +33,7 @@ pub loop-vertex-preserved : goal.loop-vertex-preserved
 loop-vertex-preserved c =
     let below =
     sender_there (with_earlier (all_grouped c.args.earlier.now) c.args.mesh.now) (with_earlier (all_grouped c.loop-vertex.earlier) c.loop-vertex.mesh) c.args.vertices.now c.loop-vertex.vertex-index _
-    (alone_with (all_grouped c.args.earlier.now) c.args.mesh.now c.args.vertices.now c.requires.alone) c.loop-vertex.invariant.reached c.loop-vertex-test.true
-    in
+    (alone_with (all_grouped c.args.earlier.now) c.args.mesh.now c.args.vertices.now c.requires.alone) c.loop-vertex.invariant.reached c.loop-vertex-test.true in
     record {
       reached = reached_then (with_earlier (all_grouped c.args.earlier.now) c.args.mesh.now) (with_earlier (all_grouped c.loop-vertex.earlier) c.loop-vertex.mesh)
           (with_earlier (all_grouped c.send_all.new.earlier) c.send_all.new.mesh) c.loop-vertex.invariant.reached c.send_all.ensures.reached;

@@ -22,8 +22,7 @@ pub loop-vertex-preserved : goal.loop-vertex-preserved
 loop-vertex-preserved c =
     let kept = kept_reached c.args.mesh.now c.loop-vertex.mesh c.requires.kept c.loop-vertex.invariant.reached in
     let below =
-    sender_there c.args.mesh.now c.loop-vertex.mesh c.args.vertices.now c.loop-vertex.vertex-index _ c.requires.alone c.loop-vertex.invariant.reached c.loop-vertex-test.true
-    in
+    sender_there c.args.mesh.now c.loop-vertex.mesh c.args.vertices.now c.loop-vertex.vertex-index _ c.requires.alone c.loop-vertex.invariant.reached c.loop-vertex-test.true in
     record {
       reached = reached_then c.args.mesh.now c.loop-vertex.mesh c.send_all.new.mesh c.loop-vertex.invariant.reached c.send_all.ensures.reached;
       quiet = c.in_ok-send_all.ensures.quiet;

@@ -22,8 +22,7 @@ pub loop-vertex-preserved : goal.loop-vertex-preserved
 loop-vertex-preserved c =
     let mesh = mesh_after c.args.mesh.now c.loop-vertex.mesh c.every_mesh_is_one.ensures (after_reached c.args.mesh.now c.loop-vertex.mesh c.loop-vertex.invariant.reached) in
     let below = there_still c.args.mesh.now c.loop-vertex.mesh c.loop-vertex.vertex c.loop-vertex.invariant.reached
-    (subst (λ l. c.loop-vertex.vertex < length l) c.spots-vertices.ensures c.loop-vertex-test.true)
-    in
+    (subst (λ l. c.loop-vertex.vertex < length l) c.spots-vertices.ensures c.loop-vertex-test.true) in
     record {
       reached = reached_then c.args.mesh.now c.loop-vertex.mesh c.empty_core.new.mesh c.loop-vertex.invariant.reached c.empty_core.ensures.reached;
       others = same_then c.args.mesh.now c.loop-vertex.mesh c.empty_core.new.mesh c.loop-vertex.invariant.others c.empty_core.ensures.others;

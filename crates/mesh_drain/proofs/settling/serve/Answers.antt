@@ -19,8 +19,7 @@ pub returns-in-Moved-clause-lighter : goal.returns-in-Moved-clause-lighter
 returns-in-Moved-clause-lighter c =
     let mesh = mesh_after c.args.mesh.now c.step.new.self c.every_mesh_is_one.ensures (after_one c.args.mesh.now c.step.new.self (Send c.args.chip c.args.out) c.in_ok-step.ensures.moves) in
     let sent = lighter c.args.mesh.now c.step.new.self (Send c.args.chip c.args.out) c.every_mesh_is_one.ensures
-    (moved_enabled c.args.mesh.now (Send c.args.chip c.args.out) (sym c.in_ok-step.ensures.answer ∙ c.in-Moved.is)) c.in_ok-step.ensures.moves
-    in
+    (moved_enabled c.args.mesh.now (Send c.args.chip c.args.out) (sym c.in_ok-step.ensures.answer ∙ c.in-Moved.is)) c.in_ok-step.ensures.moves in
     let rest = after_lighter c.step.new.self c.collect_behind.new.mesh mesh (after_reached c.step.new.self c.collect_behind.new.mesh c.collect_behind.ensures.reached) in
     always c.collect_behind.result (omega (arith, sent, rest))
 

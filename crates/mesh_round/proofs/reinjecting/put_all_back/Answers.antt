@@ -23,8 +23,7 @@ copies-smaller c =
 pub copies-preserved : goal.copies-preserved
 copies-preserved c =
     let lighter : work_in c.in_ok-next.next < work_in c.copies.mesh =
-    subst (λ (s : State). work_in s < work_in c.copies.mesh) (sym c.in_ok-next.ensures.moves) (put_back_lighter c.copies.mesh (sym c.in_ok-next.ensures.answer ∙ c.in-Moved.is))
-    in
+    subst (λ (s : State). work_in s < work_in c.copies.mesh) (sym c.in_ok-next.ensures.moves) (put_back_lighter c.copies.mesh (sym c.in_ok-next.ensures.answer ∙ c.in-Moved.is)) in
     record {
       passes = λ patience turns.
           subst (λ (s : State). HasPasses patience turns c.args.mesh s) (sym c.in_ok-next.ensures.moves) (put_back c.copies.mesh (c.copies.invariant.passes patience turns));

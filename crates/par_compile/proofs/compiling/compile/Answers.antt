@@ -10,8 +10,7 @@ final_tables-requires-after_bounds g c κs within = record {
   routed = let routing =
       routing_is c.args.request.now.machine.now c.args.request.now.graph.now c.in-Ok.placement c.in-Ok-keys.blocks c.in-Ok-net_plans.nets
       c.in-Ok.ensures.placed c.in-Ok.ensures.different c.in-Ok.ensures.sites
-      c.in-Ok.ensures.cores c.in-Ok-keys.ensures.blocks c.in-Ok-keys.ensures.apart c.in-Ok-keys.ensures.enough c.in-Ok-net_plans.ensures.planned c.in-Ok-net_plans.ensures.routing
-      in
+      c.in-Ok.ensures.cores c.in-Ok-keys.ensures.blocks c.in-Ok-keys.ensures.apart c.in-Ok-keys.ensures.enough c.in-Ok-net_plans.ensures.planned c.in-Ok-net_plans.ensures.routing in
       routed_of c.args.request.now.machine.now c.in-Ok.placement.spots c.in-Ok-net_plans.nets c.in-Ok.ensures.sites routing.stand;
   few = let long = c.in-Ok-net_plans.ensures.planned.one_plan_each in let few = c.requires.few_nets in omega (arith, long, few);
 }

@@ -20,12 +20,10 @@ moves c =
     let s : State = state_of c.self.inside in
     let v : ℕ = c.args.v in
     let front : Some c.in-Some.copy ≡ front_of (slice_get s.cores v) =
-    sym c.in-Some.is ∙ (c.front.ensures ∙ ap (λ (l : List (List McCopy)). front_of (slice_get l v)) c.deref.ensures.value)
-    in
+    sym c.in-Some.is ∙ (c.front.ensures ∙ ap (λ (l : List (List McCopy)). front_of (slice_get l v)) c.deref.ensures.value) in
     let is_cores : (after c).cores ≡ drop_front s.cores v (slice_get s.cores v) =
     with_items_is c.self.inside.cores c.drop_front.new.queues (omega arith)
-    ∙ (c.drop_front.ensures ∙ ap (λ (l : List (List McCopy)). drop_front l v (slice_get l v)) c.deref_mut.ensures.value)
-    in
+    ∙ (c.drop_front.ensures ∙ ap (λ (l : List (List McCopy)). drop_front l v (slice_get l v)) c.deref_mut.ensures.value) in
     step_of-collect s v c.in-Some.copy (after c).cores (after c).delivered front is_cores c.in_ok-push.ensures.ok
 
 pub invariant_of-self-2 : goal.invariant_of-self-2

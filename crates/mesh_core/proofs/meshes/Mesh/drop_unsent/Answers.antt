@@ -12,6 +12,5 @@ invariant_of-self c =
     let s : State = state_of c.self.inside in
     let is : (with_items c.self.inside.unsent c.drop_front.new.queues).items ≡ drop_front s.unsent c.args.vertex (slice_get s.unsent c.args.vertex) =
     with_items_is c.self.inside.unsent c.drop_front.new.queues (omega arith)
-    ∙ (c.drop_front.ensures ∙ ap (λ (l : List (List McCopy)). drop_front l c.args.vertex (slice_get l c.args.vertex)) c.deref_mut.ensures.value)
-    in
+    ∙ (c.drop_front.ensures ∙ ap (λ (l : List (List McCopy)). drop_front l c.args.vertex (slice_get l c.args.vertex)) c.deref_mut.ensures.value) in
     subst (λ l. IsMesh (record s { unsent = l })) (sym is) (IsMesh-dropped s c.args.vertex c.self.invariant)

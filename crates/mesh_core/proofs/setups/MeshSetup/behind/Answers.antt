@@ -25,7 +25,6 @@ pub returns-then-not-live-clause-queue : goal.returns-then-not-live-clause-queue
 returns-then-not-live-clause-queue c =
     let u : Setup = c.args.self.now in
     let dead : is_live_chip u.machine c.args.c ≡ false =
-    subst (λ (t : Setup). is_live_chip t.machine c.args.c ≡ false) c.self.view_is (sym c.live.ensures ∙ c.if-not-live.true)
-    in
+    subst (λ (t : Setup). is_live_chip t.machine c.args.c ≡ false) c.self.view_is (sym c.live.ensures ∙ c.if-not-live.true) in
     let sites : All (IsSite u.machine) u.spots = subst (λ (t : Setup). All (IsSite t.machine) t.spots) c.self.view_is c.self.invariant.sites in
     dead_behind u sites c.args.c c.args.out dead
