@@ -2,7 +2,8 @@
 use Rattle.std.proofs.Common.{◌≡◌, ℕ, zero, suc, ◌+◌, ◌*◌, ◌/◌, ◌%◌, ◌^◌, ◌<◌, ◌≤◌, List, [], ◌∷◌, ◌++◌, length, map, All, codes, decimal, Bool, true, false, cond, refl, arith, length-append}
 use Rattle.std.proofs.lemmas.{Bool.cond_both, Bool.and_parts, Bool.ltb-true, Fmt.length-decimal-le, List.length-map}
 use Rattle.std.proofs.lemmas.List.Elements.{All-nil, All-cons, All-head, All-tail, All-get_or, All-map}
-use Rattle.std.specs.{Prelude.nat_lt, Prelude.◌&&◌, Char.digit_char, List.list_all}
+use Rattle.std.specs.Prelude.{nat_lt, ◌&&◌}
+use Rattle.std.specs.{Char.digit_char, List.list_all}
 use Rattle.json.specs.Print.{escape_byte, escape, escape_letter, quoted}
 use Rattle.serde_json.specs.Data.{Data, Items, no_items, item, Members, no_members, member, unsigned, number, string, array, object}
 use Rattle.serde_json.specs.View.{items_of}

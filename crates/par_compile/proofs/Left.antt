@@ -4,7 +4,8 @@ use Rattle.std.proofs.lemmas.Bool.{cases_lt}
 use Rattle.std.proofs.lemmas.List.Elements.{All-cons, All-head, All-tail, All-nil, Contains-get_or}
 use Rattle.std.proofs.lemmas.List.{Filters.length-filter_both, Kept.AllPairs-cons, Kept.AllPairs-filter}
 use Rattle.std.proofs.lemmas.List.Sorted.{All-permutation, IsPermutation-append_right, IsPermutation-cons, IsPermutation-filter_both, IsPermutation-insert, IsPermutation-refl, IsPermutation-trans}
-use Rattle.std.specs.{Prelude.if◌then◌else◌, List.All, List.AllPairs, List.Sorted.IsPermutation}
+use Rattle.std.specs.Prelude.{if◌then◌else◌}
+use Rattle.std.specs.{List.All, List.AllPairs, List.Sorted.IsPermutation}
 use Rattle.spin_base.proofs.Members.{Contains-from_filter}
 use Rattle.spin_base.proofs.Pairs.{AllPairs-from_map, AllPairs-head, AllPairs-map, AllPairs-nil, AllPairs-tail}
 use Rattle.spin_base.specs.declared.blocks.Entry.{Entry}

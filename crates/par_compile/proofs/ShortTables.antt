@@ -3,7 +3,8 @@ use Rattle.std.proofs.Common.{◌≡◌, ℕ, zero, suc, ◌≤◌, Bool, true, 
 use Rattle.std.proofs.lemmas.{Bool.cases_Bool, Bool.eqb-true, Bool.eq-eqb, Bool.false≢true, List.length-map}
 use Rattle.std.proofs.lemmas.List.Elements.{All-nil, All-cons, All-head, All-tail}
 use Rattle.std.proofs.lemmas.{List.Sorted.length_permutation, Option.slice_get_within}
-use Rattle.std.specs.{Prelude.All, Prelude.slice_get, Prelude.if◌then◌else◌, List.cons_option, List.Sorted.IsPermutation}
+use Rattle.std.specs.Prelude.{All, slice_get, if◌then◌else◌}
+use Rattle.std.specs.{List.cons_option, List.Sorted.IsPermutation}
 use Rattle.spin_base.proofs.{Pairs.AllPairs-head, Pairs.AllPairs-tail, Pairs.AllPairs-permutation, RouteBits.same_route}
 use Rattle.spin_base.specs.declared.{chips.Dir.Dir, chips.Port.Port, chips.Port.TheVariants.Link, chips.Port.TheVariants.Local, routes.Route.Route}
 use Rattle.spin_base.specs.Lookup.{straight_on}
