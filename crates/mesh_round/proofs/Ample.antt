@@ -1,11 +1,12 @@
 -- Where queues have room for a copy of each packet of a job, no round dumps a copy.
 use Rattle.std.proofs.Common.{◌≡◌, ◌≢◌, ℕ, ◌+◌, ◌-◌, ◌*◌, ◌/◌, ◌%◌, ◌<◌, ◌≤◌, ◌==◌, ◌&&◌, nat_lt, zero, suc, Bool, true, false, List, []}
-use Rattle.std.proofs.Common.{◌∷◌, ◌++◌, map, filter, Some, length, refl, ap, sym, ◌∙◌, subst, arith, inl, inr, count_by, append-nil}
+use Rattle.std.proofs.Common.{◌∷◌, ◌++◌, map, filter, get_or, Some, length, refl, ap, sym, ◌∙◌, subst, arith, inl, inr, count_by, append-nil}
 use Rattle.std.proofs.Math.Nat.{mul-le-mul_left}
 use Rattle.std.proofs.lemmas.Bool.{cases_Bool, cases_lt, and_parts, and_from, eqb-true, eq-eqb, lt-ltb}
 use Rattle.std.proofs.lemmas.List.{get_or_past, length-append, Elements.All-contains, Elements.All-head, Sums.sum_by-cons}
 use Rattle.std.proofs.lemmas.Option.{slice_get_within, get_or_from_slice_get}
 use Rattle.std.specs.List.{All, Contains, slice_get, sum_by, range_with_len}
+use Rattle.spin_base.specs.Gathered.{gathered}
 use Rattle.spin_base.proofs.Counts.{count_by-append}
 use Rattle.spin_base.proofs.Members.{Among, among_contains, contains_among, map_among, among_left, among_right, among_either, Contains-filter}
 use Rattle.spin_base.proofs.Places.{slice_get_there}
@@ -64,6 +65,24 @@ few_numbers {X} number n xs below each =
 to_go_same : (x y : McCopy) (at : Station) → y.hop ≡ x.hop → to_go (mark y at) ≡ to_go (mark x at)
 unfolding to_go
 to_go_same x y at same = ap (λ h. moves_left (last_hop - h) at) same
+
+-- marks of the list at a place are among those of all lists
+one_of_lists : (p : Mark → Bool) (at : ℕ → Station) (lists : List (List McCopy)) (i : ℕ) →
+    count_by p (marks_at (at i) (get_or lists i [])) ≤ count_by p (gathered (λ l copies. marks_at (at l) copies) 0 lists)
+one_of_lists p at lists i = elim (cases_lt i (length lists)) [
+  | inl below ↦
+      let q = slice_get_there lists i below in
+      let list : get_or lists i [] ≡ q.0 = get_or_from_slice_get lists i q.0 [] q.1 in
+      let all = sum_gathered (λ x. one_if (p x)) (λ l copies. marks_at (at l) copies) 0 lists in
+      let part = part_of_sum_at (λ l copies. sum_by (λ x. one_if (p x)) (marks_at (at l) copies)) 0 lists i q.0 q.1 in
+      let place : 0 + i ≡ i = omega arith in
+      let here_it : sum_by (λ x. one_if (p x)) (marks_at (at (0 + i)) q.0) ≡ count_by p (marks_at (at i) (get_or lists i [])) =
+      ap (λ l. sum_by (λ x. one_if (p x)) (marks_at (at l) q.0)) place ∙ ap (λ copies. count_by p (marks_at (at i) copies)) (sym list) in
+      omega (arith, all, part, here_it)
+  | inr past ↦
+      let none : count_by p (marks_at (at i) (get_or lists i [])) ≡ 0 = ap (λ copies. count_by p (marks_at (at i) copies)) (get_or_past lists i [] past) in
+      omega (arith, none)
+]
 
 module _ (m : State) (f : Flow) (n : State) (nets : List NetPlan) (packets : List Packet) (mesh : IsMesh m) (after : IsMesh n) (passes : Passes m f n)
     (right : AreRight m.setup.machine m.setup.tables nets) (job : MeetsJobLedger m nets packets) (one_way : HasOneWay) where
@@ -124,36 +143,13 @@ module _ (m : State) (f : Flow) (n : State) (nets : List NetPlan) (packets : Lis
 
   -- marks of a queue are among all marks
   queue_counts : (p : Mark → Bool) (q : Queue) → count_by p (marks_at (station_of u q) (held_in m q)) ≤ count_by p (marks_of m)
-  queue_counts p (input i) = elim (cases_lt i (length m.inputs)) [
-    | inl below ↦
-        let q = slice_get_there m.inputs i below in
-        let list : held_in m (input i) ≡ q.0 = get_or_from_slice_get m.inputs i q.0 [] q.1 in
-        let at : ℕ → List McCopy → List Mark = λ l copies. marks_at (in_queue (chip_of u.machine (l / 7)) (port_of (l % 7))) copies in
-        let all = sum_gathered (λ x. one_if (p x)) at 0 m.inputs in
-        let part = part_of_sum_at (λ l copies. sum_by (λ x. one_if (p x)) (at l copies)) 0 m.inputs i q.0 q.1 in
-        let place : 0 + i ≡ i = omega arith in
-        let here_it : sum_by (λ x. one_if (p x)) (at (0 + i) q.0) ≡ count_by p (marks_at (station_of u (input i)) (held_in m (input i))) =
-        ap (λ l. sum_by (λ x. one_if (p x)) (at l q.0)) place ∙ ap (λ copies. count_by p (marks_at (station_of u (input i)) copies)) (sym list) in
-        omega (arith, all, part, here_it, in_parts m f n mesh after passes p m)
-    | inr past ↦
-        let none : count_by p (marks_at (station_of u (input i)) (held_in m (input i))) ≡ 0 = ap (λ copies. count_by p (marks_at (station_of u (input i)) copies)) (get_or_past m.inputs i [] past) in
-        omega (arith, none)
-  ]
-  queue_counts p (core v) = elim (cases_lt v (length m.cores)) [
-    | inl below ↦
-        let q = slice_get_there m.cores v below in
-        let list : held_in m (core v) ≡ q.0 = get_or_from_slice_get m.cores v q.0 [] q.1 in
-        let at : ℕ → List McCopy → List Mark = λ l copies. marks_at (at_core l) copies in
-        let all = sum_gathered (λ x. one_if (p x)) at 0 m.cores in
-        let part = part_of_sum_at (λ l copies. sum_by (λ x. one_if (p x)) (at l copies)) 0 m.cores v q.0 q.1 in
-        let place : 0 + v ≡ v = omega arith in
-        let here_it : sum_by (λ x. one_if (p x)) (at (0 + v) q.0) ≡ count_by p (marks_at (station_of u (core v)) (held_in m (core v))) =
-        ap (λ l. sum_by (λ x. one_if (p x)) (at l q.0)) place ∙ ap (λ copies. count_by p (marks_at (station_of u (core v)) copies)) (sym list) in
-        omega (arith, all, part, here_it, in_parts m f n mesh after passes p m)
-    | inr past ↦
-        let none : count_by p (marks_at (station_of u (core v)) (held_in m (core v))) ≡ 0 = ap (λ copies. count_by p (marks_at (station_of u (core v)) copies)) (get_or_past m.cores v [] past) in
-        omega (arith, none)
-  ]
+  queue_counts p (input i) =
+      let part : count_by p (marks_at (station_of u (input i)) (held_in m (input i))) ≤ count_by p (input_marks m) =
+      one_of_lists p (λ l. in_queue (chip_of u.machine (l / 7)) (port_of (l % 7))) m.inputs i in
+      omega (arith, part, in_parts m f n mesh after passes p m)
+  queue_counts p (core v) =
+      let part : count_by p (marks_at (station_of u (core v)) (held_in m (core v))) ≤ count_by p (core_marks m) = one_of_lists p at_core m.cores v in
+      omega (arith, part, in_parts m f n mesh after passes p m)
   queue_counts p nowhere = omega arith
 
   module _ (c : Chip) (o : Out) (live : IsLiveChip u.machine c) (is : IsOutput o) where
