@@ -111,10 +111,8 @@ module _ (m : Description) where
 
   long : length (open_regions m) ≡ 1 + (n + n)
   long =
-      let one = length-replicate n (all_free m.sdram) in
-      let two = length-replicate n (all_free 1024) in
       let whole : length (open_regions m) ≡ suc (length (memories ++ tables)) = refl in
-      omega (arith, one, two, length-append memories tables, whole)
+      omega (arith, length-replicate n (all_free m.sdram), length-replicate n (all_free 1024), length-append memories tables, whole)
 
   at_size : (region : ℕ) (f : Free) → slice_get (open_regions m) region ≡ Some f → f ≡ all_free (region_size m region)
   at_size zero f is = sym (same_Some _ _ is)

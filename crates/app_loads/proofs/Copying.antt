@@ -292,8 +292,7 @@ module _ {m : Description} {old cur : List (List Entry)} {rows : List Table} {ra
             let one = length-append (take range.place T) (b ++ drop (range.place + length b) T) in
             let two = length-append b (drop (range.place + length b) T) in
             let three = length-take-le range.place T (omega (arith, f, t)) in
-            let four = length-drop (range.place + length b) T in
-            omega (arith, f, t, ap length table_is, one, two, three, four, b_long)
+            omega (arith, f, t, ap length table_is, one, two, three, length-drop (range.place + length b) T, b_long)
 
         outside : (k : ℕ) → in_range range.place range.size k ≡ false → slice_get table k ≡ slice_get T k
         outside k out =

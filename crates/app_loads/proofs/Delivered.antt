@@ -27,8 +27,7 @@ few_delivered p s =
     let second = count_by-append p (input_marks s) (after_inputs s) in
     let third = count_by-append p (all_hand_marks s) (after_hands s) in
     let fourth = count_by-append p (core_marks s) (after_cores s) in
-    let fifth = count_by-append p (delivered_marks s) (dumped_marks s) in
-    omega (arith, mapped, first, second, third, fourth, fifth)
+    omega (arith, mapped, first, second, third, fourth, count_by-append p (delivered_marks s) (dumped_marks s))
 
 -- What the ledger says of a delivery: the way on which it came, and what was asked for.
 record HasArrived (s : State) (nets : List NetPlan) (asked : ℕ → Option Asked) (d : Delivery) : Type 0 where

@@ -170,9 +170,8 @@ module _ (ds : List Delivery) (s : State) (nets : List NetPlan) (labels : ℕ �
         let test : p k ≡ true = ap (λ b. b && on_trail from to branch k.copy.hop k.station) (eq-eqb k.copy.packet k.copy.packet refl) ∙ passes in
         let some = passes_once p (unsent_marks s) k (contains_among k (unsent_marks s) (in_own k has)) test in
         let all : count_by p (unsent_marks s ++ behind_unsent) ≡ 1 = l.once_on_each k (in_whole k has) net in_nets key target branch from to way in
-        let split = count_by-append p (unsent_marks s) behind_unsent in
         let here : count_by p (marks_of s) ≡ count_by p (unsent_marks s) = ap (count_by p) own in
-        omega (arith, some, all, split, here);
+        omega (arith, some, all, count_by-append p (unsent_marks s) behind_unsent, here);
   }
 
 -- where no copy waits, and none was delivered or dropped but earlier, a mesh meets a ledger without the earlier deliveries

@@ -29,15 +29,12 @@ one_of_keys j keys None = omega arith
 few_gathered : {X : Type 0} (f : ℕ → X → List Claim) → ((j : ℕ) (x : X) → length (f j x) ≤ 1) → (i : ℕ) (xs : List X) → length (gathered f i xs) ≤ length xs
 few_gathered f one i [] = omega arith
 few_gathered f one i (x ∷ xs) =
-    let whole = length-append (f i x) (gathered f (i + 1) xs) in
-    let rest = few_gathered f one (i + 1) xs in
-    omega (arith, whole, one i x, rest)
+    omega (arith, length-append (f i x) (gathered f (i + 1) xs), one i x, few_gathered f one (i + 1) xs)
 
 few_mapped : {X : Type 0} (f : X → List Claim) → ((x : X) → length (f x) ≤ 1) → (xs : List X) → length (flat_map f xs) ≤ length xs
 few_mapped f one [] = omega arith
 few_mapped f one (x ∷ xs) =
-    let whole = length-append (f x) (flat_map f xs) in
-    omega (arith, whole, one x, few_mapped f one xs)
+    omega (arith, length-append (f x) (flat_map f xs), one x, few_mapped f one xs)
 
 module _ (m : Description) (size : HasSize m) (plan : AppPlan) (valid : IsPlan m plan) where
   pub few_claims : length (claims_of m plan) ≤ 262144

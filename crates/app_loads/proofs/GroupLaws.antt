@@ -185,8 +185,7 @@ module _ (p : Delivery → Bool) (all own others : List Delivery) (count left : 
   few_more g rest n own_is n_is =
       let split = length-append own (filter p (g ++ rest)) in
       let parts = ap length (filter-append p g rest) in
-      let sum = length-append (filter p g) (filter p rest) in
-      omega (arith, counted, so_far, ap length own_is, split, parts, sum, both, n_is)
+      omega (arith, counted, so_far, ap length own_is, split, parts, length-append (filter p g) (filter p rest), both, n_is)
 
   -- and when it is put, the rest are still counted
   pub still_counted : (g rest put : List Delivery) (n : ℕ) → own ++ filter p (g ++ rest) ≡ filter p all → put ≡ own ++ filter p g → n ≡ length (filter p g) → (left - n) + length put ≡ count
@@ -259,8 +258,7 @@ module _ (gs : List Grouped) (count : ℕ) (g : Grouped) (long : count ≡ lengt
       more ≡ all + width → more ≡ length (all_grouped (slice_set gs (count - 1) new))
   counted_again new p all width more put total wide sum =
       let is = ap length (last_put true gs count g new (deliveries_at g.arrivals p) long some value put) ∙ length-append (all_grouped gs) (deliveries_at g.arrivals p) in
-      let one = length-map g.arrivals (delivery_of p) in
-      omega (arith, is, one, total, wide, sum)
+      omega (arith, is, length-map g.arrivals (delivery_of p), total, wide, sum)
 
   pub same_item : (h : Grouped) → h ≡ slice_index_or gs (count - 1) h → h ≡ g
   same_item h is = same_Some h g (sym (slice_get-get_or gs (count - 1) h (omega (arith, long, some)) ∙ ap Some (sym is)) ∙ last_there)
@@ -288,8 +286,7 @@ module _ (gs new : List Grouped) (g : Grouped) (p : Sent) (arrivals : List Arriv
       more ≡ all + width → more ≡ length (all_grouped new)
   put_counted all width more own total wide sum =
       let long = ap length (put_back own) ∙ length-append (all_grouped gs) (deliveries_at arrivals p) in
-      let one = length-map arrivals (delivery_of p) in
-      omega (arith, long, one, total, wide, sum)
+      omega (arith, long, length-map arrivals (delivery_of p), total, wide, sum)
 
   pub put_last_arrivals : g.arrivals ≡ arrivals → last_arrivals new ≡ arrivals
   put_last_arrivals own = ap last_arrivals is ∙ (last_pushed gs g ∙ own)

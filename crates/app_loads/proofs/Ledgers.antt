@@ -196,9 +196,8 @@ module _ (s : State) (nets : List NetPlan) (asked : ℕ → Option Asked) (i : �
             let differs : (i == k.copy.packet) ≡ false = ne_eqb i k.copy.packet (λ e. other_number k old (sym e)) in
             let fails : is_packet_on_trail k.copy.packet from to branch x ≡ false = ap (λ b. b && is_on_trail from to branch x) differs in
             let was = l.ledger.once_on_each k old net in_nets net_key d branch from to way in
-            let all = counted (is_packet_on_trail k.copy.packet from to branch) in
             let one : one_if (is_packet_on_trail k.copy.packet from to branch x) ≡ 0 = ap one_if fails in
-            omega (arith, all, was, one)
+            omega (arith, counted (is_packet_on_trail k.copy.packet from to branch), was, one)
       ]
         where
           none_before : (f u : ℕ) (b : List Exit) → count_by (is_packet_on_trail i f u b) (marks_of s) ≡ 0

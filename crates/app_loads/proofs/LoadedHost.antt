@@ -343,8 +343,7 @@ none_unsent h apps plan may net has v vertex = by_queue (slice_get h.mesh.unsent
         let has' : Contains (marks_of h.mesh) mark' = among_contains mark' (marks_of h.mesh) (among_left mark' (unsent_marks h.mesh) (behind h.mesh) in_unsent) in
         let on = apps.ledger.ledger.on_a_trail mark' has' in
         let from : ℕ = on.3.2 in
-        let parts = and_parts (v == from) (k.hop == 0) on.3.5 in
-        let same_vertex : v ≡ from = eqb-true v from parts.0 in
+        let same_vertex : v ≡ from = eqb-true v from (and_parts (v == from) (k.hop == 0) on.3.5).0 in
         let other_at : slice_get h.mesh.setup.spots v ≡ Some on.0.source = ap (slice_get h.mesh.setup.spots) same_vertex ∙ vertex_at_stands h.mesh.setup.spots on.0.source from on.3.4.begins in
         let same : on.0.source ≡ net.source = same_Some _ _ (sym other_at ∙ spot_at) in
         let f = among_flat nets_of on.0 h.apps (contains_among on.0 (all_nets h.apps) on.1) in

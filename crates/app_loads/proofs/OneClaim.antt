@@ -34,15 +34,12 @@ module _ (n : ℕ) where
   none_gathered : {X : Type 0} (f : ℕ → X → List Claim) → ((j : ℕ) (x : X) → count_by is_for (f j x) ≡ 0) → (i : ℕ) (xs : List X) → count_by is_for (gathered f i xs) ≡ 0
   none_gathered f none i [] = refl
   none_gathered f none i (x ∷ xs) =
-      let whole = count_by-append is_for (f i x) (gathered f (i + 1) xs) in
-      let rest = none_gathered f none (i + 1) xs in
-      omega (arith, whole, none i x, rest)
+      omega (arith, count_by-append is_for (f i x) (gathered f (i + 1) xs), none i x, none_gathered f none (i + 1) xs)
 
   none_mapped : {X : Type 0} (f : X → List Claim) → ((x : X) → count_by is_for (f x) ≡ 0) → (xs : List X) → count_by is_for (flat_map f xs) ≡ 0
   none_mapped f none [] = refl
   none_mapped f none (x ∷ xs) =
-      let whole = count_by-append is_for (f x) (flat_map f xs) in
-      omega (arith, whole, none x, none_mapped f none xs)
+      omega (arith, count_by-append is_for (f x) (flat_map f xs), none x, none_mapped f none xs)
 
   abbrev fixed : ℕ → List AppNet → List Claim
   fixed i nets = gathered (λ j (net : AppNet). fixed_claim j net.fixed) i nets
@@ -65,9 +62,8 @@ module _ (n : ℕ) where
       let other : (j == n) ≡ false = ne_eqb j n (λ e. omega (arith, e, past)) in
       let own = its_own j net.keys net.fixed ∙ ap (λ (b : Bool). if b then 1 else 0) other in
       let rest = none_above (j + 1) nets (omega (arith, past)) in
-      let first = count_by-append is_for (fixed_claim j net.fixed) (fixed (j + 1) nets) in
       let second = count_by-append is_for (key_claim j net.keys net.fixed) (keys (j + 1) nets) in
-      omega (arith, own, rest, first, second)
+      omega (arith, own, rest, count_by-append is_for (fixed_claim j net.fixed) (fixed (j + 1) nets), second)
 
   at_most_one : (j : ℕ) (nets : List AppNet) → count_by is_for (fixed j nets) + count_by is_for (keys j nets) ≤ 1
   at_most_one j [] = omega arith
@@ -97,13 +93,12 @@ module _ (n : ℕ) where
         let rows : List Claim = flat_map (row_claim m plan.nets) (range_with_len 0 (chip_count m)) in
         let first = count_by-append is_for memory (fixed 0 plan.nets ++ (keys 0 plan.nets ++ rows)) in
         let second = count_by-append is_for (fixed 0 plan.nets) (keys 0 plan.nets ++ rows) in
-        let third = count_by-append is_for (keys 0 plan.nets) rows in
         let none : count_by is_for memory ≡ 0 = none_gathered memory_claim (λ j need.
         none_unless (need.1 == 0) (record { region = Memory need.0.chip; size = need.1; align = 1; fixed = None; refusal = refusals.MemoryOut j }) refl) 0 (zip plan.spots plan.sdram) in
         let no_row : count_by is_for rows ≡ 0 = none_mapped (row_claim m plan.nets) (λ i.
         let long : ℕ = count_by (has_chip m (chip_of m i)) plan.nets in
         none_unless (long == 0) (record { region = Rows (chip_of m i); size = long; align = 1; fixed = None; refusal = refusals.RowsOut (chip_of m i) }) refl) (range_with_len 0 (chip_count m)) in
-        omega (arith, first, second, third, none, no_row, at_most_one 0 plan.nets)
+        omega (arith, first, second, count_by-append is_for (keys 0 plan.nets) rows, none, no_row, at_most_one 0 plan.nets)
 
   -- places at which a claim for the net stands are one
   one_place : (claims : List Claim) → count_by is_for claims ≤ 1 → (i j : ℕ) (a b : Claim) → slice_get claims i ≡ Some a → slice_get claims j ≡ Some b → is_for a ≡ true → is_for b ≡ true → i ≡ j
@@ -111,12 +106,10 @@ module _ (n : ℕ) where
   one_place (c ∷ claims) few zero zero a b at also x y = refl
   one_place (c ∷ claims) few zero (suc j) a b at also x y =
       let first = counts_one (is_for c) (ap is_for (same_Some c a at) ∙ x) in
-      let later = count_some is_for b claims y (among_at claims j b also) in
-      absurd (omega (arith, few, first, later, count_by-cons is_for c claims))
+      absurd (omega (arith, few, first, count_some is_for b claims y (among_at claims j b also), count_by-cons is_for c claims))
   one_place (c ∷ claims) few (suc i) zero a b at also x y =
       let first = counts_one (is_for c) (ap is_for (same_Some c b also) ∙ y) in
-      let later = count_some is_for a claims x (among_at claims i a at) in
-      absurd (omega (arith, few, first, later, count_by-cons is_for c claims))
+      absurd (omega (arith, few, first, count_some is_for a claims x (among_at claims i a at), count_by-cons is_for c claims))
   one_place (c ∷ claims) few (suc i) (suc j) a b at also x y =
       ap suc (one_place claims (omega (arith, few, count_by-cons is_for c claims)) i j a b at also x y)
 

@@ -195,10 +195,9 @@ module _ (m : Description) (tables : List (List Entry)) (apps : List LoadedApp) 
         let in_rows = Contains-permutation (map row_of r.plain.originals) r.rows row r.plain.one_row_each (Contains-map row_of r.plain.originals mine.0 mine.1) in
         let at_part : slice_get (take range.size (drop range.place table)) in_rows.0 ≡ Some (entry_of row) =
         ap (λ l. slice_get l in_rows.0) r.entries ∙ slice_get-mapped entry_of r.rows in_rows.0 row (member_at r.rows row in_rows) in
-        let at_table = of_part table range.place range.size in_rows.0 (entry_of row) at_part in
         let block_is : row.block ≡ x.block = mine.2.keys ∙ ap (λ (n : NetPlan). n.block) own.in_app.2 in (
           entry_of row,
-          Contains-at table (range.place + in_rows.0) (entry_of row) at_table,
+          Contains-at table (range.place + in_rows.0) (entry_of row) (of_part table range.place range.size in_rows.0 (entry_of row) at_part),
           eq-eqb (bit_and key row.block.mask) row.block.key (ap (λ (b : Block). bit_and key b.mask) block_is ∙ (keyed.matches ∙ sym (ap (λ (b : Block). b.key) block_is))),
         )
 
@@ -215,8 +214,7 @@ module _ (m : Description) (tables : List (List Entry)) (apps : List LoadedApp) 
       let on = comes_in_tree m x.tree.root x.tree.edges c port comes in
       let tree = subst (λ (n : NetPlan). IsRoutingTree m n.tree.root n.tree.edges n.targets) f.is f.valid.tree in
       let root = subst (λ (n : NetPlan). IsInside m n.tree.root) f.is (subst (IsInside m) (sym f.valid.root) (spot_inside m own.app (loaded_at own.app own.in_apps) f.net.source f.valid.source)) in
-      let inside = chips_inside m x.tree.root x.tree.edges x.targets tree root c on in
-      routed_there x in_x c inside on key keyed o valid port
+      routed_there x in_x c (chips_inside m x.tree.root x.tree.edges x.targets tree root c on) on key keyed o valid port
 
   pub right_rows : AreRight m tables (all_nets apps)
   right_rows = All-each (RoutesByTree m tables) (all_nets apps) routes

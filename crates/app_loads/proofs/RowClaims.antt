@@ -227,9 +227,8 @@ module _ (m : Description) (i : ℕ) (below : i < m.width * m.height) where
       by_end : (o : Option Chip) → end_of m e ≡ o → count_by is_i (chip_places m o) ≡ one_if (option_map_or (chip_eq c) o false)
       by_end None is = refl
       by_end (Some d) is =
-          let one = count_by-cons is_i (index_of m d) [] in
           let same : one_if (index_of m d == i) ≡ one_if (chip_eq c d) = ap one_if (one_case m i c d refl below (far_inside m e.chip d e.dir inside is)) in
-          omega (arith, one, same, zero_rest)
+          omega (arith, count_by-cons is_i (index_of m d) [], same, zero_rest)
         where
           zero_rest : count_by is_i [] ≡ 0
           zero_rest = refl
@@ -241,8 +240,7 @@ module _ (m : Description) (i : ℕ) (below : i < m.width * m.height) where
   edges_count (e ∷ es) inside differ =
       let one = one_edge e (All-head (λ (e : Edge). IsInside m e.chip) e es inside) in
       let rest = edges_count es (All-tail (λ (e : Edge). IsInside m e.chip) e es inside) (AllPairs-tail (λ e f. end_of m e ≢ end_of m f) e es differ) in
-      let both = count_by-append is_i (end_places m e) (flat_map (end_places m) es) in
-      by_hit (hits e) refl one rest both
+      by_hit (hits e) refl one rest (count_by-append is_i (end_places m e) (flat_map (end_places m) es))
     where
       none_after : hits e ≡ true → list_any hits es ≡ false
       none_after hit = none_of es (AllPairs-head (λ e f. end_of m e ≢ end_of m f) e es differ)
@@ -317,10 +315,8 @@ module _ (m : Description) (i : ℕ) (below : i < m.width * m.height) where
   nets_count [] all = refl
   nets_count (net ∷ nets) all =
       let one = net_count net (All-head (HasTree m) net nets all) in
-      let rest = nets_count nets (All-tail (HasTree m) net nets all) in
       let both = count_by-append is_i (tree_places m net) (flat_map (tree_places m) nets) in
-      let cons = count_by-cons (has_chip m c) net nets in
-      omega (arith, one, rest, both, cons)
+      omega (arith, one, nets_count nets (All-tail (HasTree m) net nets all), both, count_by-cons (has_chip m c) net nets)
 
 as_sum : {X : Type 0} (p : X → Bool) (xs : List X) → sum_by (λ x. one_if (p x)) xs ≡ count_by p xs
 as_sum p [] = refl

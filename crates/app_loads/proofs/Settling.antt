@@ -88,14 +88,12 @@ originals_count m c (n ∷ ns) [] os long are = absurd (omega (arith, long))
 originals_count m c (n ∷ ns) (b ∷ bs) os long (inl on) =
     let rest = originals_count m c ns bs on.3 (omega (arith, long)) on.5 in
     let all : length os ≡ suc (length on.3) = ap length on.4 in
-    let cons = count_by-cons (has_chip m c) n ns in
     let here : one_if (has_chip m c n) ≡ 1 = ap one_if (has_chip-true m c n on.0) in
-    omega (arith, rest, all, cons, here)
+    omega (arith, rest, all, count_by-cons (has_chip m c) n ns, here)
 originals_count m c (n ∷ ns) (b ∷ bs) os long (inr off) =
     let rest = originals_count m c ns bs os (omega (arith, long)) off.1 in
-    let cons = count_by-cons (has_chip m c) n ns in
     let here : one_if (has_chip m c n) ≡ 0 = ap one_if (not_there (cases_Bool (has_chip m c n))) in
-    omega (arith, rest, cons, here)
+    omega (arith, rest, count_by-cons (has_chip m c) n ns, here)
   where
     not_there : (has_chip m c n ≡ true) ⊎ (has_chip m c n ≡ false) → has_chip m c n ≡ false
     not_there (inl yes') = absurd (off.0 (has_chip-tree m c n yes'))

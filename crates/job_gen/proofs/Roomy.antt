@@ -213,9 +213,8 @@ unfolding AreFull
 full_away c [] ss apart full = tt
 full_away c (d ∷ cs) ss apart full =
     let both = and_parts (not (chip_eq c d)) _ apart in
-    let same = away_other c d ss (not-true (chip_eq c d) both.0) in
     let here : 17 ≤ on d ss = full.0 in
-    (omega (arith, same, here), full_away c cs ss both.1 full.1)
+    (omega (arith, away_other c d ss (not-true (chip_eq c d) both.0), here), full_away c cs ss both.1 full.1)
 
 -- where different chips have seventeen spots each, there are as many spots
 many_spots : (cs : List Chip) (ss : List Spot) → differ cs ≡ true → AreFull cs ss → 17 * length cs ≤ length ss
@@ -223,9 +222,8 @@ unfolding AreFull
 many_spots [] ss apart full = omega arith
 many_spots (c ∷ cs) ss apart full =
     let both = and_parts (list_all (λ d. not (chip_eq c d)) cs) (differ cs) apart in
-    let rest = many_spots cs (away c ss) both.1 (full_away c cs ss both.0 full.1) in
     let here : 17 ≤ on c ss = full.0 in
-    omega (arith, rest, here, away_length c ss)
+    omega (arith, many_spots cs (away c ss) both.1 (full_away c cs ss both.0 full.1), here, away_length c ss)
 
 -- ---- the order of the board's chips
 

@@ -63,20 +63,18 @@ length_of_net : (i : ℕ) (net : NetPlan) (p : Packet) (v : ℕ) (spots : List S
     length (gathered (delivery_at i net p) v spots) ≡ count_by (λ (spot : Spot). list_any (spot_eq spot) net.targets) spots
 length_of_net i net p v [] = refl
 length_of_net i net p v (x ∷ spots) =
-    let rest = length_of_net i net p (v + 1) spots in
     let whole = length-append (delivery_at i net p v x) (gathered (delivery_at i net p) (v + 1) spots) in
     let counts = count_by-cons (λ (spot : Spot). list_any (spot_eq spot) net.targets) x spots in
-    omega (arith, length_at i net p v x, rest, whole, counts)
+    omega (arith, length_at i net p v x, length_of_net i net p (v + 1) spots, whole, counts)
 
 module _ (spots : List Spot) (nets : List NetPlan) (each : (i : ℕ) (p : Packet) (o : Option NetPlan) → slice_get nets p.net ≡ o → length (deliveries_of spots i p o) ≡ targets_of_net o) where
   length_of_packets : (i : ℕ) (ps : List Packet) → length (gathered (λ j (p : Packet). deliveries_of spots j p (slice_get nets p.net)) i ps) ≡ expected_count nets ps
   length_of_packets i [] = refl
   length_of_packets i (p ∷ ps) =
       let first = each i p (slice_get nets p.net) refl in
-      let rest = length_of_packets (i + 1) ps in
       let whole = length-append (deliveries_of spots i p (slice_get nets p.net)) (gathered (λ j (q : Packet). deliveries_of spots j q (slice_get nets q.net)) (i + 1) ps) in
       let sums = sum_by-cons (λ (q : Packet). targets_of_net (slice_get nets q.net)) p ps in
-      omega (arith, first, rest, whole, sums)
+      omega (arith, first, length_of_packets (i + 1) ps, whole, sums)
 
 -- ---- the deliveries of a mesh
 

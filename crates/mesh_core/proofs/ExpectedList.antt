@@ -58,9 +58,7 @@ strictly (x ∷ xs) pairs once = (
       subst (ComesBefore (without_hop x)) (sym found.2) (before found.0 found.1
       (All-contains (IsDeliveryNotAfter x) xs found.0 (AllPairs-head IsDeliveryNotAfter x xs pairs) (among_contains found.0 xs found.1))),
   strictly xs (AllPairs-tail IsDeliveryNotAfter x xs pairs) (λ y a.
-      let all = once y (inr a) in
-      let split = count_by-cons (is_of y.copy.packet y.vertex) x xs in
-      omega (arith, all, split)),
+      omega (arith, once y (inr a), count_by-cons (is_of y.copy.packet y.vertex) x xs)),
 )
   where
     twice : (z : Delivery) → Among z xs → x.copy.packet ≡ z.copy.packet → x.vertex ≡ z.vertex → ⊥
@@ -176,9 +174,7 @@ module _ (spots : List Spot) (nets : List NetPlan) (packets : List Packet) where
   in_order =
       ordered_gathered ComesBefore of_packet 0 packets (λ i p. packet_in_order i p (slice_get nets p.net))
       (λ j k z w a b less in_a in_b.
-      let x = packet_of j z (slice_get nets z.net) a in_a in
-      let y = packet_of k w (slice_get nets w.net) b in_b in
-      inl (omega (arith, x, y)))
+      inl (omega (arith, packet_of j z (slice_get nets z.net) a in_a, packet_of k w (slice_get nets w.net) b in_b)))
 
 -- ---- the deliveries of a mesh
 

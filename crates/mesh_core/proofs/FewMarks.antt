@@ -62,9 +62,8 @@ few_different spots ts different within =
         let a : Spot = get_or ts i nothing in
         let b : Spot = get_or ts j nothing in
         let in_a = within i nothing (in_ts i low_i) in
-        let in_b = within j nothing (in_ts j low) in
         let places : place_in spots a ≡ place_in spots b = sym (read i d low_i) ∙ (e ∙ read j d low) in
-        let at_b = there b in_b in
+        let at_b = there b (within j nothing (in_ts j low)) in
         different i j nothing before (in_ts j low)
         ((there a in_a).1 ∙ (ap (λ n. slice_index_or spots n a) places ∙ (get_or_default spots (place_in spots b) a b at_b.0 ∙ sym at_b.1)))
 
@@ -177,11 +176,9 @@ module _ (s : State) (nets : List NetPlan) (packets : List Packet) (job : MeetsJ
         let a = length-append (unsent_marks s) (input_marks s ++ (all_hand_marks s ++ (core_marks s ++ later))) in
         let b = length-append (input_marks s) (all_hand_marks s ++ (core_marks s ++ later)) in
         let c = length-append (all_hand_marks s) (core_marks s ++ later) in
-        let d = length-append (core_marks s) later in
-        let e = length-append (delivered_marks s) (dumped_marks s) in
         let f : length (delivered_marks s) ≡ length s.delivered = length-map s.delivered (λ (x : Delivery). mark x.copy (delivered x.vertex)) in
         let g : length (dumped_marks s) ≡ length s.dumped = length-map s.dumped (λ (x : DumpRec). mark x.copy (dumped x.chip x.out)) in
-        omega (arith, a, b, c, d, e, f, g)
+        omega (arith, a, b, c, length-append (core_marks s) later, length-append (delivered_marks s) (dumped_marks s), f, g)
 
   -- the targets of a net are different spots of vertices, so at most as many
   few_targets : All (λ net. length net.targets ≤ length s.setup.spots) nets

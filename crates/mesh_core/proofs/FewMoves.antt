@@ -16,9 +16,7 @@ all_few = refl
 
 few_outs : (r : Route) → length (outs_of r) ≤ 24
 few_outs r =
-    let counted = length-filter (has r) all_outs in
-    let within = count_by-le-length (has r) all_outs in
-    omega (arith, counted, within, all_few)
+    omega (arith, length-filter (has r) all_outs, count_by-le-length (has r) all_outs, all_few)
 
 few_outputs : (s : State) (c : Chip) (port : Port) (k : McCopy) → length (outputs s.setup c port k) ≤ 24
 few_outputs s c port k = by_last (k.hop == last_hop) (outs_of (lookup (table_at s.setup.machine s.setup.tables c) k.key port))

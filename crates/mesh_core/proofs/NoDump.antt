@@ -101,10 +101,9 @@ module _ (s : State) (nets : List NetPlan) (labels : ℕ → Label) (numbers : L
 pub idle_answer : (did : Did) (s : State) (e is_e : Event) → e ≡ is_e → IsMesh s → did ≡ answer s is_e →
     (nets : List NetPlan) (packets : List Packet) (c : Chip) (o : Out) → MeetsJobLedger s nets packets → length packets ≤ s.setup.capacity → e ≡ Dump c o → did ≡ Idle
 idle_answer did s e is_e same mesh told nets packets c o job roomy is =
-    let packets_long = length-range_with_len 0 (length packets) in
     told ∙ (ap (answer s) (sym same ∙ is)
     ∙ no_dump s nets (λ i. label_of (asked_by nets packets i)) (range_with_len 0 (length packets)) mesh job.ledger.ledger (of_job s nets packets job)
-    (omega (arith, packets_long, roomy)) c o)
+    (omega (arith, length-range_with_len 0 (length packets), roomy)) c o)
 
 pub idle_result : {E : Type 0} (r : Result Did E) (s : State) (e is_e : Event) → e ≡ is_e → IsMesh s → IfOk r (λ did. did ≡ answer s is_e) →
     (nets : List NetPlan) (packets : List Packet) (c : Chip) (o : Out) → MeetsJobLedger s nets packets → length packets ≤ s.setup.capacity → e ≡ Dump c o →

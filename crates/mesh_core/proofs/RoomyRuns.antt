@@ -43,7 +43,6 @@ pub run_delivers_all : (nets : List NetPlan) (packets : List Packet) (setup : Se
 run_delivers_all nets packets setup mesh right stand of_nets roomy es rest =
     let opened : State = opened_mesh setup nets packets in
     let job : MeetsJobLedger opened nets packets = opened_meets_ledger setup nets packets stand of_nets in
-    let packets_long = length-range_with_len 0 (length packets) in
     delivered_as_expected (after_events opened es) nets packets (events_keep_job opened nets packets mesh right job es) rest
     (records_after nets (λ i. label_of (asked_by nets packets i)) (range_with_len 0 (length packets)) opened mesh right job.ledger.ledger
-    (of_job opened nets packets job) (omega (arith, packets_long, roomy)) es)
+    (of_job opened nets packets job) (omega (arith, length-range_with_len 0 (length packets), roomy)) es)

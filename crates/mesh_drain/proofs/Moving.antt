@@ -60,8 +60,7 @@ after_lighter s t mesh after = subst (λ x. weight_in x ≤ weight_in s) (sym af
     by_events : (u : State) → IsMesh u → (es : List Event) → weight_in (after_events u es) ≤ weight_in u
     by_events u own [] = omega arith
     by_events u own (e ∷ es) =
-        let rest = by_events (after_event u e) (IsMesh-after_events u (e ∷ []) own) es in
-        omega (arith, event_lighter u e own, rest)
+        omega (arith, event_lighter u e own, by_events (after_event u e) (IsMesh-after_events u (e ∷ []) own) es)
 
 -- where something waited at the start, whatever comes
 pub moved_on : (s t u : State) → IsMoved s t → (NothingWaits s → ⊥) → IsAfter t u → IsMoved s u

@@ -116,9 +116,7 @@ come_lighter s x come small next move = by_bound (4 * last_hop + 4) (advance_bel
         λ y a.
         let fewer : b - advance y ≤ n = omega (arith, move_advances s x come next move y a) in
         subst (λ k. heavy (k - advance y) ≤ heavy n) is (heavy_grows (b - advance y) n fewer) in
-        let all = light advance_weight_of come (heavy n) each in
-        let few = mul-le-mul_left (heavy n) (few_come s x come move) in
-        omega (arith, mine, all, few, one_heavy n)
+        omega (arith, mine, light advance_weight_of come (heavy n) each, mul-le-mul_left (heavy n) (few_come s x come move), one_heavy n)
 
 -- ---- events
 
@@ -131,9 +129,7 @@ moved_lighter s t e mesh is =
     let stands = mark_stands s x.leaves (among_taken_out x.leaves (marks_of s) x.rest x.out) in
     let small = small_under_way s mesh x.leaves.copy x.leaves.station moves.1 stands in
     let lighter = come_lighter s x.leaves x.come small (has_next s mesh x.leaves.copy x.leaves.station moves.1 stands) x.move in
-    let before = sum_taken_out x.leaves (marks_of s) x.rest x.out in
-    let after = sum_put_in x.come x.rest (marks_of t) x.put in
-    omega (arith, lighter, before, after)
+    omega (arith, lighter, sum_taken_out x.leaves (marks_of s) x.rest x.out, sum_put_in x.come x.rest (marks_of t) x.put)
   where
     sum_taken_out : (y : Mark) (from rest : List Mark) → TakenOut y from rest → sum_by advance_weight_of from ≡ sum_by advance_weight_of rest + advance_weight_of y
     sum_taken_out y from rest out =

@@ -54,8 +54,7 @@ pub times_more : (m : Description) (i : ℕ) (w : List Waiting) (a : Waiting) �
     times m i (w ++ a ∷ []) ≡ times m i w + (if queue_at m a.chip a.port == i then 1 else 0)
 times_more m i w a =
     let p : Waiting → Bool = λ x. queue_at m x.chip x.port == i in
-    let whole = count_by-append p w (a ∷ []) in
-    omega (arith, whole, count_by-cons p a [])
+    omega (arith, count_by-append p w (a ∷ []), count_by-cons p a [])
 
 -- ---- the ledger goes with it
 
@@ -131,10 +130,9 @@ module _ (s : State) (w : List Waiting) (a : Waiting) (u : WaitsAlone s (w ++ a 
   listed_here : length queue ≤ times s.setup.machine i w + 1
   unfolding i queue
   listed_here =
-      let most = u.listed (queue_at s.setup.machine a.chip a.port) in
       let more = times_more s.setup.machine (queue_at s.setup.machine a.chip a.port) w a
       ∙ ap (λ b. times s.setup.machine (queue_at s.setup.machine a.chip a.port) w + (if b then 1 else 0)) (nat_eq_same (queue_at s.setup.machine a.chip a.port)) in
-      omega (arith, most, more)
+      omega (arith, u.listed (queue_at s.setup.machine a.chip a.port), more)
 
   -- what the hand holds that was just made
   outs_in-hand : (k : McCopy) (os : List Out) → outs_in (Some (in_hand k a.port os)) ≡ os
@@ -357,9 +355,8 @@ module _ (s : State) (w : List Waiting) (c : Chip) (o : Out) (os : List Out) (u 
 
   pub send_link_lighter : weight_in (after_event s (Send c o)) < weight_in s
   send_link_lighter =
-      let less = moved_lighter s linked (Send c o) u.kept.mesh is_linked in
       let same : weight_in (after_event s (Send c o)) ≡ weight_in linked = ap weight_in (moved s linked (Send c o) is_linked) in
-      omega (arith, less, same)
+      omega (arith, moved_lighter s linked (Send c o) u.kept.mesh is_linked, same)
 
   pub send_link : IsServing (after_event s (Send c o)) (w ++ next ∷ []) c os
   unfolding linked

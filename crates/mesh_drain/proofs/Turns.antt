@@ -73,9 +73,8 @@ taken_serving s t w a os items is u held list =
 
 pub taken_less : (s t : State) (w v : List Waiting) (a : Waiting) → t ≡ after_event s (Take a.chip a.port) → WaitsAlone s (v ++ a ∷ []) → work t w ≤ work s w
 taken_less s t w v a is u =
-    let lighter = event_lighter s (Take a.chip a.port) u.kept.mesh in
     let there : weight_in t ≡ weight_in (after_event s (Take a.chip a.port)) = ap weight_in is in
-    omega (arith, lighter, there)
+    omega (arith, event_lighter s (Take a.chip a.port) u.kept.mesh, there)
 
 pub outs_left : (os : List Out) (i : ℕ) (d : Out) → i < length os → drop i os ≡ get_or os i d ∷ drop (i + 1) os
 outs_left os i d below =

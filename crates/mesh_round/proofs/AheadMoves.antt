@@ -55,9 +55,7 @@ module _ (s t : State) (nets : List NetPlan) (labels : ℕ → Label) (mesh : Is
   leaves_below (suc n) v far a =
       let some = counts (mark_eq v.leaves) v.leaves (all_left bag.moves) (among_left_of bag.moves v a) (mark_eq_same v.leaves) in
       let even = bag.balance (mark_eq v.leaves) in
-      let left = left_counts (mark_eq v.leaves) bag.moves in
-      let come = come_counts (mark_eq v.leaves) bag.moves in
-      elim (there_or_came v.leaves (omega (arith, some, even, left, come))) [
+      elim (there_or_came v.leaves (omega (arith, some, even, left_counts (mark_eq v.leaves) bag.moves, come_counts (mark_eq v.leaves) bag.moves))) [
         | inl was ↦ right_before s t nets labels mesh right ledger v.leaves (among_contains v.leaves (marks_of s) was)
         | inr came ↦
             let of = among_come_of bag.moves v.leaves came in
@@ -136,8 +134,7 @@ module _ (s t : State) (nets : List NetPlan) (labels : ℕ → Label) (mesh : Is
         let rest = all_take vs (λ u a. within u (inr a)) in
         let first = one_takes v (within v (inl refl)) in
         let both = sum_by-append left_there v.come (all_come vs) in
-        let all = sum_by-cons left_there v.leaves (all_left vs) in
-        omega (arith, rest, first, both, all, sum_by-cons taken_there v vs)
+        omega (arith, rest, first, both, sum_by-cons left_there v.leaves (all_left vs), sum_by-cons taken_there v vs)
 
     -- what is left of the way for the mesh's marks
     pub way_takes : sum_by (left_for n w) (marks_of t) + sum_by (λ (v : Moved s). taken_for n w v.leaves) bag.moves ≤ sum_by (left_for n w) (marks_of s)

@@ -179,9 +179,8 @@ module _ (m : State) (f : Flow) (n : State) (nets : List NetPlan) (packets : Lis
       stands_here : (j : McCopy) → IsRight (mark j at) → j.packet ≡ x.packet → is_here (mark j at) ≡ true
       stands_here j s same =
           let hop = same_hop (behind u c o) x j r s same in
-          let key = (same_net (mark x at) (mark j at) r s same).1 in
           let on : on_trail r.trail.from r.trail.to r.trail.branch j.hop at ≡ true = ap (λ h. on_trail r.trail.from r.trail.to r.trail.branch h at) hop ∙ r.trail.on in
-          and_from (j.key == x.key) _ (eq-eqb j.key x.key key)
+          and_from (j.key == x.key) _ (eq-eqb j.key x.key ((same_net (mark x at) (mark j at) r s same).1))
           (and_from _ (to_go (mark j at) == to_go (mark x at)) (and_from (j.packet == x.packet) (is_on_trail r.trail.from r.trail.to r.trail.branch (mark j at)) (eq-eqb j.packet x.packet same) on)
           (eq-eqb (to_go (mark j at)) (to_go (mark x at)) (to_go_same x j at hop)))
 
@@ -201,9 +200,8 @@ module _ (m : State) (f : Flow) (n : State) (nets : List NetPlan) (packets : Lis
           let both = count_by-append (λ (j : McCopy). j.packet == x.packet) (held_in m (behind u c o)) (f.entered (behind u c o)) in
           let held = fewer (held_in m (behind u c o)) (λ j a. right_in j (among_left j (held_in m (behind u c o)) (f.entered (behind u c o)) a)) in
           let entered = fewer (f.entered (behind u c o)) (λ j a. right_in j (among_right j (held_in m (behind u c o)) (f.entered (behind u c o)) a)) in
-          let was = queue_counts is_here (behind u c o) in
           let once = passed_once m n nets labels mesh right ledger (round_keeps m n f nets mesh after passes right labels ledger) bag (mark x at) r in
-          omega (arith, both, held, entered, was, crossing_comes m f n mesh after passes is_here c o live is, once)
+          omega (arith, both, held, entered, queue_counts is_here (behind u c o), crossing_comes m f n mesh after passes is_here c o live is, once)
 
     -- ---- a dump record of the output
 
@@ -284,11 +282,10 @@ module _ (m : State) (f : Flow) (n : State) (nets : List NetPlan) (packets : Lis
           elim (cases_Bool (k.packet == i)) [
             | inl same ↦
                 let number : k.packet ≡ i = eqb-true k.packet i same in
-                let none = copies_once (onward k) ghost in
                 let some = counts (is_before (onward k) ghost) (mark k (dumped c o)) (marks_of n) still_there before_it in
                 let its : count_by (λ (j : McCopy). j.packet == k.packet) all_in ≡ count_by (λ (j : McCopy). j.packet == i) all_in = ap (λ l. count_by (λ (j : McCopy). j.packet == l) all_in) number in
                 let one : one_if (k.packet == i) ≡ 1 = ap one_if same in
-                omega (arith, first, none, some, its, one)
+                omega (arith, first, copies_once (onward k) ghost, some, its, one)
             | inr other ↦
                 let zero_it : one_if (k.packet == i) ≡ 0 = ap one_if other in
                 omega (arith, first, zero_it, of_queue)
@@ -299,10 +296,9 @@ module _ (m : State) (f : Flow) (n : State) (nets : List NetPlan) (packets : Lis
             | inl some ↦
                 let found = counted (λ (j : McCopy). j.packet == i) all_in (omega (arith, some)) in
                 let number : found.0.packet ≡ i = eqb-true found.0.packet i found.2 in
-                let once = copies_once found.0 (right_in found.0 found.1) in
                 let its : count_by (λ (j : McCopy). j.packet == found.0.packet) all_in ≡ count_by (λ (j : McCopy). j.packet == i) all_in =
                 ap (λ l. count_by (λ (j : McCopy). j.packet == l) all_in) number in
-                omega (arith, once, its)
+                omega (arith, copies_once found.0 (right_in found.0 found.1), its)
             | inr none ↦ omega (arith, none)
           ]
 
@@ -319,9 +315,8 @@ module _ (m : State) (f : Flow) (n : State) (nets : List NetPlan) (packets : Lis
       -- so the queue was never full, where it has room for them all
       never_full : length packets ≤ u.capacity → (e : ℕ × ℕ) → WasFullAt m f (behind u c o) e → ⊥
       never_full roomy e full =
-          let both = length-append (held_in m (behind u c o)) (f.entered (behind u c o)) in
           let room = room_of (behind u c o) (somewhere m f n nets labels mesh passes right ledger c o k hand) in
-          omega (arith, few_in, both, room, full.0, full.2, roomy)
+          omega (arith, few_in, length-append (held_in m (behind u c o)) (f.entered (behind u c o)), room, full.0, full.2, roomy)
         where
           room_of : (b : Queue) → b ≢ nowhere → capacity_of u b ≡ u.capacity
           room_of (input i) there = refl

@@ -149,13 +149,11 @@ module _ (u : Setup) (nets : List NetPlan) (packets : List Packet) (stand : AreN
         let here : List PacketWay = map (of_packet i) (ways_of p) in
         let g : PacketWay → ℕ = λ x. sum_by (left_for x.packet x.way) marks in
         let h : PacketWay → ℕ = λ x. x.way.sending + counted_from x.way.counted x.way.branch 0 + 1 in
-        let both = sum_by-append g here (ways_from (suc i) ps) in
         let less = sum_within g h here (λ x a. one_left x (few x (among_left x here (ways_from (suc i) ps) a))) in
-        let plain = sum_map (of_packet i) h (ways_of p) in
         let most = most_of p (slice_get nets p.net) refl in
         let rest = most_from_packets (suc i) ps (λ x a. few x (among_right x here (ways_from (suc i) ps) a)) in
         let all = sum_by-cons (λ (q : Packet). moves_of_packet (slice_get nets q.net)) p ps in
-        omega (arith, both, less, plain, most, rest, all)
+        omega (arith, sum_by-append g here (ways_from (suc i) ps), less, sum_map (of_packet i) h (ways_of p), most, rest, all)
 
 -- ---- one round
 

@@ -61,8 +61,7 @@ module _ (s : State) (mesh : IsMesh s) (nets : List NetPlan) (labels : ℕ → L
 
     room_behind : (c : Chip) (o : Out) → (behind s.setup c o ≡ nowhere → vertex_behind s.setup.spots c o ≡ None → ⊥) → Leads s.setup c o → has_room_behind s (behind s.setup c o) ≡ true
     room_behind c o on (by_link d e out live far is) =
-        let inside = far_inside m c e d (live_inside m c (live_ends m c d live).2) far in
-        let below = queue_at-below m e (ByLink (opposite_of d)) inside in
+        let below = queue_at-below m e (ByLink (opposite_of d)) (far_inside m c e d (live_inside m c (live_ends m c d live).2) far) in
         ap (has_room_behind s) is ∙ empty_room s.inputs rest.waits.inputs_empty (queue_at m e (ByLink (opposite_of d))) (omega (arith, below, mesh.input_lists))
     room_behind c o on (to_vertex v dead vertex is) =
         let spot = vertex_behind_stands s.setup.spots c o v vertex in

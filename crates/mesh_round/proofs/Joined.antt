@@ -123,7 +123,5 @@ pub sum_lengths : {X Y : Type 0} (f : X → List Y) (a : ℕ) (xs : List X) → 
 sum_lengths f a [] = refl
 sum_lengths f a (x ∷ xs) =
     let sum = sum_by-cons (λ y. length (f y)) x xs in
-    let rest = sum_lengths f (a + 1) xs in
     let both = length-append (filter (λ y. true) (f x)) (gathered (λ i y. filter (λ z. true) (f y)) (a + 1) xs) in
-    let first = ap length (all_pass (f x)) in
-    omega (arith, sum, rest, both, first)
+    omega (arith, sum, sum_lengths f (a + 1) xs, both, ap length (all_pass (f x)))

@@ -41,9 +41,7 @@ come_lighter {s} v = by_far (to_go v.leaves) refl (some_to_go v)
         let each : (y : Mark) → Among y v.come → work_weight_of y ≤ heavy n =
         λ y a.
         heavy_grows (to_go y) n (omega (arith, move_nears s v.leaves v.come v.small v.is_move y a, is)) in
-        let all = light work_weight_of v.come (heavy n) each in
-        let few = mul-le-mul_left (heavy n) (few_come s v.leaves v.come v.is_move) in
-        omega (arith, mine, all, few, one_heavy n)
+        omega (arith, mine, light work_weight_of v.come (heavy n) each, mul-le-mul_left (heavy n) (few_come s v.leaves v.come v.is_move), one_heavy n)
 
 -- ---- all moves of a bag
 
@@ -85,11 +83,8 @@ even_weights s t bag w =
     let put = all_come bag.moves in
     let even = same_sums (marks_of t ++ out) (marks_of s ++ put) (λ p.
     let after = count_by-append p (marks_of t) out in
-    let before = count_by-append p (marks_of s) put in
-    omega (arith, bag.balance p, left_counts p bag.moves, come_counts p bag.moves, after, before)) w in
-    let after = sum_by-append w (marks_of t) out in
-    let before = sum_by-append w (marks_of s) put in
-    omega (arith, even, after, before)
+    omega (arith, bag.balance p, left_counts p bag.moves, come_counts p bag.moves, after, count_by-append p (marks_of s) put)) w in
+    omega (arith, even, sum_by-append w (marks_of t) out, sum_by-append w (marks_of s) put)
 
 -- A bag of moves takes at least one a move from what is to be done.
 bag_lighter : (s t : State) (bag : Bag s t) → work_in t + length bag.moves ≤ work_in s
@@ -98,10 +93,8 @@ bag_lighter s t bag = omega (arith, even_weights s t bag work_weight_of, lighter
 
 pub round_lighter : (m n : State) (f : Flow) → IsMesh m → IsMesh n → Passes m f n → work_in n ≤ work_in m
 round_lighter m n f mesh after passes =
-    let less = bag_lighter m n (bag_of_round m f n mesh after passes) in
-    omega (arith, less)
+    omega (arith, bag_lighter m n (bag_of_round m f n mesh after passes))
 
 pub moved_lighter : (m n : State) (f : Flow) → IsMesh m → IsMesh n → Passes m f n → HasMoved m f → work_in n < work_in m
 moved_lighter m n f mesh after passes moved =
-    let less = bag_lighter m n (bag_of_round m f n mesh after passes) in
-    omega (arith, less, some_moves m f n mesh after passes moved)
+    omega (arith, bag_lighter m n (bag_of_round m f n mesh after passes), some_moves m f n mesh after passes moved)

@@ -63,9 +63,7 @@ many_new : (earlier : List Counted) (branch : List Exit) (n j : ℕ) → length 
 many_new earlier branch zero j = refl
 many_new earlier branch (suc n) j =
     let both = length-append (new_chip earlier branch j (slice_get branch j)) (new_chips earlier branch n (suc j)) in
-    let rest = many_new earlier branch n (suc j) in
-    let here = one (slice_get branch j) in
-    omega (arith, both, rest, here)
+    omega (arith, both, many_new earlier branch n (suc j), one (slice_get branch j))
   where
     by_test : (x : Exit) (b : Bool) → length (cond b [] (x.chip ∷ [])) ≡ cond b 0 1
     by_test x true = refl
@@ -236,8 +234,7 @@ module _ (m : Description) (spots : List Spot) (net : NetPlan) (tree : IsRouting
       let whole : length w.branch - 0 ≡ length w.branch = omega arith in
       let mine : counted_from w.counted w.branch 0 ≡ counted_in (is_new earlier w.branch) (length w.branch) 0 =
       ap (λ f. counted_in f (length w.branch - 0) 0) it.2.0 ∙ ap (λ n. counted_in (is_new earlier w.branch) n 0) whole in
-      let here = many_new earlier w.branch (length w.branch) 0 in
-      omega (arith, rest, all, both, mine, here)
+      omega (arith, rest, all, both, mine, many_new earlier w.branch (length w.branch) 0)
 
   -- no chip that counts is on a way before
   none_before : (earlier : List Counted) (t : Spot) (branch : List Exit) → IsBranch m root edges t branch → (c : Chip) (from : ℕ) → IsNewAt earlier branch c from →

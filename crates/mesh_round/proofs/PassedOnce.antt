@@ -110,8 +110,7 @@ module _ (m n : State) (nets : List NetPlan) (labels : ℕ → Label) (mesh : Is
         let is_past = past_from y (record { key = comes.key ∙ p.key; packet = comes.packet ∙ p.packet; is_on = found.2; near = omega (arith, nearer, near) }) in
         let none : count_by here v.come ≡ 0 = sum_none (λ z. one_if (here z)) v.come (λ z a. elim (cases_Bool (here z)) [
           | inl there ↦
-              let same = (here_parts z there).1 in
-              absurd (omega (arith, move_nears m v.leaves v.come v.small v.is_move z a, same, near))
+              absurd (omega (arith, move_nears m v.leaves v.come v.small v.is_move z a, (here_parts z there).1, near))
           | inr other ↦ ap one_if other
         ]) in
         let first : one_if (past v.leaves) ≡ 1 = ap one_if is in
@@ -146,7 +145,6 @@ module _ (m n : State) (nets : List NetPlan) (labels : ℕ → Label) (mesh : Is
       (λ is. let p = past_parts z is in and_from (z.copy.packet == x.copy.packet) (on z) (eq-eqb z.copy.packet x.copy.packet p.packet) p.is_on)
       (λ is. (and_parts (beside z) (nat_lt (to_go x) (to_go z)) is).0)
       (λ is is'.
-      let near = (past_parts z is).near in
       let far = ltb-true (to_go x) (to_go z) ((and_parts (beside z) (nat_lt (to_go x) (to_go z)) is').1) in
-      absurd (omega (arith, near, far)))) in
+      absurd (omega (arith, (past_parts z is).near, far)))) in
       omega (arith, was, all_moves bag.moves, bag.balance past, both, within, once)

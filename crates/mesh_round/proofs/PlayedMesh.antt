@@ -89,8 +89,7 @@ module _ (r : Round) where
   took_one : (j : ℕ) (p : Port) (k : McCopy) → Contains r.items (took j p k) → HasMoved r.m (flow_of r)
   took_one j p k has =
       let c : Chip = chip_of u.machine j in
-      let live = done_of r (took j p k) has in
-      let inside = inside_of u j c live refl in
+      let inside = inside_of u j c (done_of r (took j p k) has) refl in
       let q = queue_at u.machine c p in
       let among = among_into (left_by q) (took j p k) k r.items has (first_here (port_place j p) q k (place_is u j p)) in
       inl (at_port u c p, is_input r c p inside, λ none. not_empty k (left q r.items) among (sym (left_port r c p inside) ∙ none))

@@ -119,10 +119,9 @@ module _ (r : Round) where
   -- what a queue holds afterwards fits into it
   pub fits_after : (q : ℕ) → q < port_count u + length u.spots → FitsQueue u.capacity (held_at r.n q)
   fits_after q below =
-      let all = All-right IsSmall (left q r.items) (held_at r.n q) (small_at q below) in
       record {
         within = (r.played.queues q below).within;
-        hops = λ i d within. let hop = all i d within in omega (arith, hop);
+        hops = λ i d within. let hop = (All-right IsSmall (left q r.items) (held_at r.n q) (small_at q below)) i d within in omega (arith, hop);
       }
 
   pub hops_left : (q : Queue) → All (λ (k : McCopy). k.hop ≤ last_hop) ((flow_of r).left q)

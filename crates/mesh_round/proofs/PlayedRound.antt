@@ -86,8 +86,7 @@ module _ (r : Round) where
       (taken_at_ports every c (live_inside u.machine c live)) in
       let all = ap length (flat_map_single (λ (t : Port × McCopy). t.1) ts) in
       let long = length-map ts (λ (t : Port × McCopy). t.1) in
-      let few = r.played.turns_are.takes (index_of u.machine c) in
-      omega (arith, sum, same, all, long, few)
+      omega (arith, sum, same, all, long, r.played.turns_are.takes (index_of u.machine c))
 
   -- ---- vertices
 
@@ -110,14 +109,12 @@ module _ (r : Round) where
   few_got : (c : Chip) → IsLiveChip u.machine c → length (got_on u (flow_of r) c) ≤ r.turns
   few_got c live =
       let same = length_permutation (got_on u (flow_of r) c) (gettings (index_of u.machine c) r.items) (got_spread c (live_inside u.machine c live)) in
-      let few = r.played.turns_are.gets (index_of u.machine c) in
-      omega (arith, same, few)
+      omega (arith, same, r.played.turns_are.gets (index_of u.machine c))
 
   few_sent : (c : Chip) → IsLiveChip u.machine c → length (sent_on u (flow_of r) c) ≤ r.turns
   few_sent c live =
       let same = length_permutation (sent_on u (flow_of r) c) (sendings (index_of u.machine c) r.items) (sent_spread c (live_inside u.machine c live)) in
-      let few = r.played.turns_are.sends (index_of u.machine c) in
-      omega (arith, same, few)
+      omega (arith, same, r.played.turns_are.sends (index_of u.machine c))
 
   injected : (c : Chip) → IsLiveChip u.machine c → IsPermutation (sent_on u (flow_of r) c) ((flow_of r).entered (at_port u c Local))
   injected c live =

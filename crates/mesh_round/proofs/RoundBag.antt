@@ -36,8 +36,7 @@ sum_at-range g a [] = refl
 sum_at-range g a (x ∷ xs) =
     let long : length (x ∷ xs) ≡ suc (length xs) = omega arith in
     let rest = sum_at-range g (a + 1) xs in
-    let first = sum_by-cons g a (range_with_len (a + 1) (length xs)) in
-    ap (λ k. g a + k) rest ∙ (sym first ∙ sym (ap (λ n. sum_by g (range_with_len a n)) long))
+    ap (λ k. g a + k) rest ∙ (sym (sum_by-cons g a (range_with_len (a + 1) (length xs))) ∙ sym (ap (λ n. sum_by g (range_with_len a n)) long))
 
 sum_at-agree : {X : Type 0} (h k : ℕ → X → ℕ) (a : ℕ) (xs : List X) → ((i : ℕ) (x : X) → slice_get xs i ≡ Some x → h (a + i) x ≡ k (a + i) x) → sum_at h a xs ≡ sum_at k a xs
 sum_at-agree h k a [] same = refl
@@ -372,8 +371,7 @@ module _ (m : State) (f : Flow) (n : State) (mesh : IsMesh m) (after : IsMesh n)
         let b = count_by-append p (input_marks s) (all_hand_marks s ++ (core_marks s ++ (delivered_marks s ++ dumped_marks s))) in
         let c = count_by-append p (all_hand_marks s) (core_marks s ++ (delivered_marks s ++ dumped_marks s)) in
         let d = count_by-append p (core_marks s) (delivered_marks s ++ dumped_marks s) in
-        let e = count_by-append p (delivered_marks s) (dumped_marks s) in
-        omega (arith, a, b, c, d, e)
+        omega (arith, a, b, c, d, count_by-append p (delivered_marks s) (dumped_marks s))
 
   -- The moves of a round.
   pub bag_of_round : Bag m n
@@ -418,9 +416,8 @@ module _ (m : State) (f : Flow) (n : State) (mesh : IsMesh m) (after : IsMesh n)
       let a = count_left-append is_step sent_part.moves (taken_part.moves ++ (crossed_part.moves ++ (dumped_part.moves ++ delivered_part.moves))) in
       let b = count_left-append is_step taken_part.moves (crossed_part.moves ++ (dumped_part.moves ++ delivered_part.moves)) in
       let c = count_left-append is_step crossed_part.moves (dumped_part.moves ++ delivered_part.moves) in
-      let d = count_left-append is_step dumped_part.moves delivered_part.moves in
       let whole : count_left is_step bag_of_round.moves ≡ count_left is_step (sent_part.moves ++ (taken_part.moves ++ (crossed_part.moves ++ (dumped_part.moves ++ delivered_part.moves)))) = refl in
-      omega (arith, a, b, c, d, whole)
+      omega (arith, a, b, c, count_left-append is_step dumped_part.moves delivered_part.moves, whole)
 
   by_part : (moves sum part : ℕ) → moves ≡ sum → part ≤ sum → 1 ≤ part → 1 ≤ moves
   by_part moves sum part left within some = omega (arith, left, within, some)

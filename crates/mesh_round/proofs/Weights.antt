@@ -92,12 +92,10 @@ module _ (m : State) (f : Flow) (n : State) (passes : Passes m f n) (c : Chip) (
       let h : McCopy → ℕ = λ k. w (back k) in
       let entered = f.entered (behind m.setup c o) in
       let all = sum_by-IsPermutation h (map onward (taken_for m.setup f c o)) (entered ++ map onward (dumped_at f c o)) (passes.routed c o live is) in
-      let before = sum_map onward h (taken_for m.setup f c o) in
       let took = sum_agree (λ k. h (onward k)) w (taken_for m.setup f c o) (λ k a. ap w (back_onward k (taken_low k a))) in
       let parts = sum_by-append h entered (map onward (dumped_at f c o)) in
-      let drop = sum_map onward h (dumped_at f c o) in
       let dropped = sum_agree (λ k. h (onward k)) w (dumped_at f c o) (λ k a. ap w (back_onward k (dumped_low k a))) in
-      omega (arith, all, before, took, parts, sum_map back w entered, drop, dropped)
+      omega (arith, all, sum_map onward h (taken_for m.setup f c o), took, parts, sum_map back w entered, sum_map onward h (dumped_at f c o), dropped)
 
   -- what entered the queue behind the output has a hop number of at least 1
   pub entered_is : (k : McCopy) → Among k (f.entered (behind m.setup c o)) → (onward (back k) ≡ k) × (k.hop ≤ last_hop)

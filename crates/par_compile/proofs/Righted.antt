@@ -77,8 +77,7 @@ module _ (m : Description) (nets : List NetPlan) (target : ℕ) (lists : List (L
   pub finals_within : length finals ≤ m.width * m.height
   finals_within =
       let long : length finals ≡ length (take (length finals) lists) = AllZip-long (IsFinalFor target) (take (length finals) lists) finals each in
-      let within = taken_within (length finals) lists in
-      omega (arith, long, within, are.long)
+      omega (arith, long, taken_within (length finals) lists, are.long)
 
   -- what holds of the final table of a chip's original blocks holds of each final table
   each_final : (P : Final → Type 0) → ((c : Chip) (f : Final) (marks : List Mark) → AreOriginals m c nets (map original_of marks) → IsFinalFor target marks f → P f) → All P finals

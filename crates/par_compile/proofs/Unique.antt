@@ -126,8 +126,7 @@ module _ (m : Description) (graph : Graph) where
         same_final plan.placement has.placement plan.nets has.nets plan.tables has.finals is.routing has.routing is.tables has.are chip there.0 table has.inside there.1 has.at in
         let short : length there.0.entries ≤ 1024 = All-at (λ (f : Final). length f.entries ≤ 1024) plan.tables (index_of m chip) there.0 is.short there.1 in
         let few : length table.entries ≤ 1024 = subst (λ (f : Final). length f.entries ≤ 1024) same short in
-        let more = is_more has.finals (index_of m chip) table has.first has.at in
-        omega (arith, few, more)
+        omega (arith, few, is_more has.finals (index_of m chip) table has.first has.at)
 
     -- no chip before the first that is long is long
     not_before : (c d : Chip) (t u : Final) → HasLongTable m graph target c t → HasLongTable m graph target d u → index_of m c < index_of m d → ⊥

@@ -154,8 +154,7 @@ pub packets_more : (step : Step) (before : Option Host) (old new : List ℕ) (af
     packet_count_of after ≤ packet_count_of before + 65536
 packets_more (Load number job) before old new after valid told =
     let is = told.answers in
-    let more = load_packets is.host number job is.answer is.new valid is.is in
-    omega (arith, ap packet_count_of is.left, more, at_load before job is.host is.on)
+    omega (arith, ap packet_count_of is.left, load_packets is.host number job is.answer is.new valid is.is, at_load before job is.host is.on)
 packets_more (Unload number) None old new after valid told = let left = ap packet_count_of told.answers.1 in omega (arith, left)
 packets_more (Unload number) (Some h) old new after valid told =
     let is = told.answers in

@@ -49,8 +49,7 @@ module _ (m : Description) (taken : List Range) (claims : List Claim) where
 
   pub served_not_refused : (refusal : LoadRefusal) (rs : List Range) → AreServed m taken claims rs → IsRefusalDue m taken claims refusal → ⊥
   served_not_refused refusal rs served due =
-      let within = slice_get_within claims (length due.ranges) due.claim due.is in
-      refused_not_served refusal due rs served.first (omega (arith, within, served.all))
+      refused_not_served refusal due rs served.first (omega (arith, slice_get_within claims (length due.ranges) due.claim due.is, served.all))
 
   pub one_refusal : (e f : LoadRefusal) → IsRefusalDue m taken claims e → IsRefusalDue m taken claims f → e ≡ f
   one_refusal e f a b = elim (cases_order (length a.ranges) (length b.ranges)) [

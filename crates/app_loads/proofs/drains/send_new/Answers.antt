@@ -32,8 +32,7 @@ returns-in_default-clause-known c = still (goal.at.returns-in_default-clause-kno
 
 pub returns-clause-last : goal.returns-clause-last
 returns-clause-last c =
-    let known = still (goal.at.returns-clause-last c).After-ends_with in
-    comes (goal.at.returns-clause-last c).After-block_of c.in-Some.block c.in-Some.ensures known
+    comes (goal.at.returns-clause-last c).After-block_of c.in-Some.block c.in-Some.ensures (still (goal.at.returns-clause-last c).After-ends_with)
 
 pub returns-clause-known : goal.returns-clause-known
 returns-clause-known c =
