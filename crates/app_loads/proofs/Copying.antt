@@ -1,7 +1,7 @@
 -- Rows put into ranges of entries.
 use Rattle.std.proofs.Common.{◌≡◌, ◌≢◌, ℕ, zero, suc, ◌+◌, ◌<◌, ◌≤◌, true, false, ◌||◌, ◌&&◌, ◌==◌, List, [], ◌∷◌, ◌++◌, take, drop, get_or, length, map, set, refl, sym}
 use Rattle.std.proofs.Common.{ap, ◌∙◌, subst, inl, inr, ◌⊎◌, arith, Some, append_assoc}
-use Rattle.std.proofs.{lemmas.List.Sorted.IsPermutation-refl, Math.Seq.drop-cons}
+use Rattle.std.proofs.{Math.Seq.drop-cons}
 use Rattle.std.proofs.lemmas.Bool.{cases_Bool, cases_eq, cases_lt, eq-eqb, and_from, or_parts}
 use Rattle.std.proofs.Math.ListN.{get_or-map}
 use Rattle.std.proofs.lemmas.List.{length-set, length-append, length-take-le, length-map, length-drop, map-append, set_at, get_or-take, take_all}
@@ -148,15 +148,6 @@ module _ (m : Description) (cur : List (List Entry)) (long : length cur ≡ chip
   was_here c same = ap (λ k. get_or cur k []) same ∙ get_or_from_slice_get cur j (get_or cur j d) [] (slice_get-get_or cur j d (omega (arith, below, long)))
 
 -- ---- lists of original blocks in order
-
--- a list without two items is in order
-pub few_in_order : (marks : List Mark) → length marks < 2 → IsTableOf marks (table_of_sorted marks)
-few_in_order marks few = record {
-  sorted = marks;
-  same = IsPermutation-refl marks;
-  rows_are = refl;
-  in_order = λ i j d less below. absurd (let long = length-map marks row_of_mark in omega (arith, few, less, below, long));
-}
 
 -- one list more
 pub one_more_in_order : (lists sorted more : List (List Mark)) (marks x : List Mark) (rest : List (List Mark)) → drop (length sorted) lists ≡ marks ∷ rest →

@@ -12,23 +12,10 @@ use Rattle.spin_base.proofs.{Pairs.All-flat_map, Places.take_more_at}
 use Rattle.spin_base.specs.declared.copies.{Delivery.Delivery, McCopy.McCopy}
 use Rattle.app_loads.specs.declared.{arrivals.Arrival.Arrival, group.Group.TheInside.Inside, group.Sent.Sent, loaded.LoadedApp.LoadedApp}
 use Rattle.app_loads.specs.Grouping.{Grouped, HasPut, all_grouped, is_mixed_group, is_others_group, is_own_group}
-use Rattle.app_loads.specs.Groups.{EndsWith, IsBetween, IsGroup, arrival_of, deliveries_at, deliveries_in, delivery_of, grouped_of, last_arrivals, sent_of}
+use Rattle.app_loads.specs.Groups.{EndsWith, IsBetween, IsGroup, deliveries_at, deliveries_in, delivery_of, grouped_of, last_arrivals, sent_of}
 use Rattle.app_loads.specs.Leaving.{is_delivery_of, is_packet_of}
 
 -- ---- one group
-
-pub first_of : (sent : List Sent) (arrivals : List Arrival) (d : Delivery) → sent ≡ sent_of d.copy ∷ [] → arrivals ≡ arrival_of d ∷ [] → deliveries_in sent arrivals ≡ d ∷ []
-first_of sent arrivals d sent_is arrivals_are = ap (λ l. deliveries_in l arrivals) sent_is ∙ ap (λ l. deliveries_in (sent_of d.copy ∷ []) l) arrivals_are
-
--- a packet more that came to the same vertices
-pub joined : (sent : List Sent) (q : Sent) (arrivals other : List Arrival) → other ≡ arrivals → deliveries_in (sent ++ q ∷ []) arrivals ≡ deliveries_in sent arrivals ++ deliveries_in (q ∷ []) other
-joined sent q arrivals other same =
-    flat_map-append (deliveries_at arrivals) sent (q ∷ []) ∙ ap (λ x. deliveries_in sent arrivals ++ deliveries_in (q ∷ []) x) (sym same)
-
-pub joined_of : (sent all own : List Sent) (q : Sent) (arrivals other : List Arrival) → all ≡ sent ++ q ∷ [] → own ≡ q ∷ [] → other ≡ arrivals →
-    deliveries_in all arrivals ≡ deliveries_in sent arrivals ++ deliveries_in own other
-joined_of sent all own q arrivals other all_is own_is same =
-    ap (λ l. deliveries_in l arrivals) all_is ∙ (joined sent q arrivals other same ∙ ap (λ l. deliveries_in sent arrivals ++ deliveries_in l other) (sym own_is))
 
 -- the last packet
 pub at_last : (sent : List Sent) (q p : Sent) → slice_get sent (length sent - 1) ≡ Some q → q ≡ p → (before : List Sent) × (sent ≡ before ++ p ∷ [])

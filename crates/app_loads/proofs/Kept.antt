@@ -1,13 +1,13 @@
 -- A mesh whose earlier deliveries are held apart, seen as one mesh.
 use Rattle.std.proofs.Common.{◌≡◌, ◌≢◌, Bool, ℕ, ◌+◌, ◌^◌, ◌<◌, List, [], ◌++◌, ◌∷◌, cond, drop, length, refl, sym, ap, ◌∙◌, subst, inl, inr, arith, Option, Result, Ok, Err, OnOk, Some, map}
 use Rattle.std.proofs.{Common.nat_cmp, lemmas.Bool.cases_Bool, lemmas.Bool.eq-eqb, lemmas.Option.none-some, lemmas.Option.same_Some}
-use Rattle.std.proofs.lemmas.List.{append-nil, drop_at, map-append, Sums.count_by-le-length, Sums.length-filter, Elements.All-nil}
+use Rattle.std.proofs.lemmas.List.{append-nil, drop_at, map-append, Sums.count_by-le-length, Sums.length-filter}
 use Rattle.std.specs.{BTreeMap.BTreeMap, BTreeMap.Updates, BTreeMap.get, BTreeMap.is_at, Map.lookup, Ordering.is_eq}
 use Rattle.std.specs.List.{Contains, filter, slice_get, slice_index_or, slice_set}
 use Rattle.spin_base.proofs.Members.{Among, among_contains, among_either, among_left, among_map, among_right, contains_among}
 use Rattle.spin_base.specs.declared.{blocks.Block.Block, copies.Delivery.Delivery, copies.McCopy.McCopy}
 use Rattle.machine_desc.specs.RightTables.{IsKeyOf}
-use Rattle.mesh_core.specs.{Expected.NothingWaits, HasRun.DropsNone}
+use Rattle.mesh_core.specs.{Expected.NothingWaits}
 use Rattle.mesh_core.specs.Ledger.{all_hand_marks, core_marks, delivered_marks, dumped_marks, input_marks, marks_of, unsent_marks}
 use Rattle.mesh_core.specs.{Queues.drop_front, State.Setup, State.State, State.IsMesh, Trail.Mark, Trail.IsUnderWayAt, Trail.delivered}
 use Rattle.mesh_drain.specs.Draining.{AreRoutedAlike, BringsAlways, HasBrought, IsMoved, IsReachedDropless, MaySend, SendAlone, of_packet}
@@ -38,16 +38,8 @@ same_mesh xs ys s t is all = ap (λ (u : State). record u { delivered = ys ++ t.
 quiet_still : (s t : State) → t ≡ record s { delivered = t.delivered } → NothingWaits s → NothingWaits t
 quiet_still s t is quiet = subst NothingWaits (sym is) (record { inputs_empty = quiet.inputs_empty; hands_empty = quiet.hands_empty; cores_empty = quiet.cores_empty })
 
--- it is the whole one, where none are held apart
-pub whole_is : (xs ys : List Delivery) (s t : State) → t ≡ record s { delivered = t.delivered } → ys ++ t.delivered ≡ xs ++ s.delivered → ys ≡ [] → t ≡ with_earlier xs s
-whole_is xs ys s t is all none = ap (λ l. with_earlier l t) (sym none) ∙ same_mesh xs ys s t is all
-
 pub moved_as : (a s t b : State) → s ≡ a → b ≡ t → IsMoved s t → IsMoved a b
 moved_as a s t b from to moved = subst (λ x. IsMoved x b) from (subst (IsMoved s) (sym to) moved)
-
--- a mesh after nothing
-pub moved_none : (s t : State) → t ≡ s → IsMoved s t
-moved_none s t is = record { events = []; is = is; dropless = λ quiet. All-nil DropsNone; no_record = λ quiet. ap (λ (u : State). u.dumped) is }
 
 module _ (ds : List Delivery) where
   abbrev we : State → State

@@ -13,11 +13,11 @@ use Rattle.spin_base.specs.Hops.{last_hop}
 use Rattle.spin_base.proofs.Equality.{chip_eq_true, chip_eq_same, spot_eq_true, spot_eq_same, out_eq_true, out_eq_same}
 use Rattle.spin_base.proofs.Spots.{dir_at-dir_number, out_of-core, out_of-device, spot_of_core, spot_of_link}
 use Rattle.spin_base.proofs.Places.{set-slice_get}
-use Rattle.machine_desc.specs.{Description.Description, Live.index_of, Live.IsInside, Live.IsSite, NetsOn.vertex_at, Outputs.leads_to_spot}
+use Rattle.machine_desc.specs.{Description.Description, Live.index_of, Live.IsSite, NetsOn.vertex_at, Outputs.leads_to_spot}
 use Rattle.machine_desc.proofs.{Same.same_spot, Sites.site_parts}
 use Rattle.mesh_core.specs.State.{State, Hand, vertex_behind}
-use Rattle.mesh_core.specs.{Step.in_hand, Step.outputs, Step.outs_without, Serving.hands_after, VertexTable.TellsVertices, VertexTable.spot_place}
-use Rattle.mesh_core.proofs.VertexTableLaws.{spot_place-below, vertex_at-from}
+use Rattle.mesh_core.specs.{Step.in_hand, Step.outputs, Step.outs_without, Serving.hands_after}
+use Rattle.mesh_core.proofs.VertexTableLaws.{vertex_at-from}
 
 -- a hand served an output
 pub hands_after-some : (hands : List (Option Hand)) (i : ℕ) (o : Out) (d x r : Option Hand) (h : Hand) → i < length hands → get_or hands i d ≡ Some h →
@@ -92,15 +92,6 @@ vertex_behind-beyond spots c p beyond =
 -- a vertex on a spot is one of those that there are
 pub vertex_at-below : (spots : List Spot) (s : Spot) (v : ℕ) → vertex_at spots s ≡ Some v → v < length spots
 vertex_at-below spots s v e = (position-Some (spot_eq s) spots v s e).0
-
--- what the table has at the place of a spot
-pub vertex_read : (m : Description) (spots : List Spot) (table : List (Option ℕ)) (s : Spot) (p : ℕ) (r : Option ℕ) → TellsVertices m spots table → IsInside m s.chip → s.core < 24 →
-    p ≡ spot_place m s → r ≡ get_or table p r → r ≡ vertex_at spots s
-vertex_read m spots table s p r tells inside small at read =
-    let below : p < length table = omega (arith, tells.long, spot_place-below m s inside small) in
-    let here : slice_get table p ≡ Some r = slice_get-get_or table p r below ∙ ap Some (sym read) in
-    let same : Some (vertex_at spots s) ≡ Some r = sym (tells.told s inside small) ∙ (ap (slice_get table) (sym at) ∙ here) in
-    cc
 
 -- the outputs that a router gives, by the table that was looked up
 outputs_read : (s : State) (c : Chip) (port : Port) (k : McCopy) (n : ℕ) (table : List Entry) → n ≡ index_of s.setup.machine c → slice_get s.setup.tables n ≡ Some table →

@@ -1,8 +1,8 @@
 -- The table of vertices, as it is made.
-use Rattle.std.proofs.Common.{◌≡◌, ◌≢◌, ℕ, ◌+◌, ◌*◌, ◌<◌, ◌≤◌, refl, sym, ap, ◌∙◌, subst, arith, Bool, true, false, List, [], ◌∷◌, ◌++◌, length, take, get_or, set}
+use Rattle.std.proofs.Common.{◌≡◌, ◌≢◌, ℕ, ◌+◌, ◌*◌, ◌<◌, refl, sym, ap, ◌∙◌, subst, arith, Bool, true, false, List, [], ◌∷◌, ◌++◌, length, take, get_or, set}
 use Rattle.std.proofs.Common.{replicate, cond, Option, Some, None, inl, inr}
 use Rattle.std.proofs.lemmas.Iterator.Adapters.{position_from-zero}
-use Rattle.std.proofs.lemmas.List.{take_more, length-set, length-replicate, get_or-replicate, length-take-le, get_or-take, get_or_default, take_all}
+use Rattle.std.proofs.lemmas.List.{take_more, length-set, length-replicate, get_or-replicate, length-take-le, get_or-take, get_or_default}
 use Rattle.std.proofs.lemmas.{Option.slice_get-get_or, Bool.cases_eq, List.Elements.All-head, List.Elements.All-tail}
 use Rattle.std.specs.{Prelude.AllPairs, List.position_from, List.slice_get, List.All}
 use Rattle.spin_base.specs.declared.chips.Spot.{Spot}
@@ -108,10 +108,3 @@ TellsVertices-more m spots i y table below is_y different site tells =
         ap (λ p. slice_get (set table (spot_place m y) (Some i)) p) here
         ∙ (slice_get-set_same table (spot_place m y) (vertex_at (take i spots) y) (Some i) (tells.told y at.0 at.1)
         ∙ ap Some (sym (ap (λ l. vertex_at l s) more ∙ (vertex_at-push_new (take i spots) y s same earlier ∙ ap Some taken))))
-
--- all vertices are told once all are written
-pub TellsVertices-all : (m : Description) (spots : List Spot) (n : ℕ) (table : List (Option ℕ)) → length spots ≤ n → TellsVertices m (take n spots) table → TellsVertices m spots table
-TellsVertices-all m spots n table all tells = record {
-  long = tells.long;
-  told = λ s inside small. tells.told s inside small ∙ ap (λ l. Some (vertex_at l s)) (take_all n spots all);
-}
