@@ -19,10 +19,10 @@ use Rattle.machine_desc.specs.NetsOn.{AreNetsOn, IsWayOn}
 use Rattle.machine_desc.specs.RightTables.{IsKeyOf, AreRight}
 use Rattle.mesh_core.specs.State.{Setup, State, IsMesh, Queue, input, core, nowhere, behind}
 use Rattle.mesh_core.specs.Trail.{Station, in_queue, in_hand, at_core, dumped, Mark, on_trail, is_on_trail}
-use Rattle.mesh_core.specs.Ledger.{marks_of, marks_at, port_of, unsent_marks, input_marks, all_hand_marks, core_marks, delivered_marks, dumped_marks, label_of, Label, MeetsLedger}
+use Rattle.mesh_core.specs.Ledger.{marks_of, marks_at, port_of, input_marks, core_marks, label_of, Label, MeetsLedger}
 use Rattle.mesh_core.specs.Opened.{asked_by, MeetsJobLedger}
 use Rattle.mesh_core.proofs.{AskedPackets.asked_parts, Law.move_counts, Law.comes_parts, LedgerLaw.Bag, LedgerLaw.one_net, LedgerLaw.stands}
-use Rattle.mesh_core.proofs.{Moves.mark, Ways.Stands, Ways.one_place, Ways.vertex_at_stands, Counting.counted}
+use Rattle.mesh_core.proofs.{Moves.mark, Standing.dumped_mark, Ways.Stands, Ways.one_place, Ways.vertex_at_stands, Counting.counted}
 use Rattle.mesh_round.specs.RoundFlow.{Flow, Passes, IsRound, WasFullAt, HasRounds, none as no_rounds, more, held_in, capacity_of, dumped_at}
 use Rattle.mesh_round.specs.Work.{moves_left, to_go}
 use Rattle.mesh_round.proofs.Arrivals.{Right, held_right, arrived_right, crossing_right, on_behind, somewhere}
@@ -261,13 +261,7 @@ module _ (m : State) (f : Flow) (n : State) (nets : List NetPlan) (packets : Lis
       still_there : Among (mark k (dumped c o)) (marks_of n)
       still_there =
           let r : DumpRec = record { chip = c; out = o; copy = k } in
-          let m' : Mark = mark k (dumped c o) in
-          let listed : Among r n.dumped = subst (λ rs. Among r rs) (sym passes.dumped) (among_right r m.dumped f.dumped in_flow) in
-          among_right m' (unsent_marks n) (input_marks n ++ (all_hand_marks n ++ (core_marks n ++ (delivered_marks n ++ dumped_marks n))))
-          (among_right m' (input_marks n) (all_hand_marks n ++ (core_marks n ++ (delivered_marks n ++ dumped_marks n)))
-          (among_right m' (all_hand_marks n) (core_marks n ++ (delivered_marks n ++ dumped_marks n))
-          (among_right m' (core_marks n) (delivered_marks n ++ dumped_marks n)
-          (among_right m' (delivered_marks n) (dumped_marks n) (map_among (λ (e : DumpRec). mark e.copy (dumped e.chip e.out)) r n.dumped listed)))))
+          dumped_mark n r (subst (λ rs. Among r rs) (sym passes.dumped) (among_right r m.dumped f.dumped in_flow))
 
       number_below : (j : McCopy) → IsRight (mark j at) → j.packet < length packets
       number_below j r =
