@@ -24,6 +24,11 @@ use Rattle.app_loads.specs.Counting.{HasTree, IsRunEnd, chip_places, end_places,
 abbrev one_if : Bool → ℕ
 one_if b = if b then 1 else 0
 
+-- of two tests at most one of which holds
+either_counts : (p q : Bool) → (p ≡ true → q ≡ false) → one_if p + one_if q ≡ one_if (p || q)
+either_counts true q never = let none : one_if q ≡ 0 = ap one_if (never refl) in omega (arith, none)
+either_counts false q never = omega arith
+
 -- ---- counts in parts of a list
 
 -- where a test passes exactly from a place up to another, it passes so often
@@ -233,6 +238,21 @@ module _ (m : Description) (i : ℕ) (below : i < m.width * m.height) where
           zero_rest : count_by is_i [] ≡ 0
           zero_rest = refl
 
+  -- an edge that counts leads to the chip
+  hit_end : (e : Edge) → hits e ≡ true → end_of m e ≡ Some c
+  hit_end e = by_end (end_of m e)
+    where
+      by_end : (o : Option Chip) → option_map_or (chip_eq c) o false ≡ true → o ≡ Some c
+      by_end None hit = cc
+      by_end (Some d) hit = ap Some (sym (chip_eq_true c d hit))
+
+  none_hit : (P : Edge → Type 0) (es : List Edge) → All P es → ((e : Edge) → P e → end_of m e ≡ Some c → ⊥) → list_any hits es ≡ false
+  none_hit P [] all never = refl
+  none_hit P (e ∷ es) all never = elim (cases_Bool (hits e)) [
+    | inl hit ↦ absurd (never e (All-head P e es all) (hit_end e hit))
+    | inr miss ↦ ap (λ b. b || list_any hits es) miss ∙ none_hit P es (All-tail P e es all) never
+  ]
+
   -- of edges that lead to different chips at most one counts
   edges_count : (es : List Edge) → All (λ (e : Edge). IsInside m e.chip) es → AllPairs (λ e f. end_of m e ≢ end_of m f) es →
       count_by is_i (flat_map (end_places m) es) ≡ one_if (list_any hits es)
@@ -240,76 +260,23 @@ module _ (m : Description) (i : ℕ) (below : i < m.width * m.height) where
   edges_count (e ∷ es) inside differ =
       let one = one_edge e (All-head (λ (e : Edge). IsInside m e.chip) e es inside) in
       let rest = edges_count es (All-tail (λ (e : Edge). IsInside m e.chip) e es inside) (AllPairs-tail (λ e f. end_of m e ≢ end_of m f) e es differ) in
-      by_hit (hits e) refl one rest (count_by-append is_i (end_places m e) (flat_map (end_places m) es))
-    where
-      none_after : hits e ≡ true → list_any hits es ≡ false
-      none_after hit = none_of es (AllPairs-head (λ e f. end_of m e ≢ end_of m f) e es differ)
-        where
-          to_end : (f : Edge) → hits f ≡ true → end_of m f ≡ Some c
-          to_end f h = by_end (end_of m f) refl h
-            where
-              by_end : (o : Option Chip) → end_of m f ≡ o → option_map_or (chip_eq c) o false ≡ true → o ≡ Some c
-              by_end None is e' = cc
-              by_end (Some d) is e' = ap Some (sym (chip_eq_true c d e'))
-
-          none_of : (fs : List Edge) → All (λ f. end_of m e ≢ end_of m f) fs → list_any hits fs ≡ false
-          none_of [] all = refl
-          none_of (f ∷ fs) all = elim (cases_Bool (hits f)) [
-            | inl also ↦ absurd (All-head (λ f. end_of m e ≢ end_of m f) f fs all (to_end e hit ∙ sym (to_end f also)))
-            | inr not_f ↦ ap (λ b. b || list_any hits fs) not_f ∙ none_of fs (All-tail (λ f. end_of m e ≢ end_of m f) f fs all)
-          ]
-
-      by_hit : (b : Bool) → hits e ≡ b → count_by is_i (end_places m e) ≡ one_if (hits e) → count_by is_i (flat_map (end_places m) es) ≡ one_if (list_any hits es) →
-          count_by is_i (end_places m e ++ flat_map (end_places m) es) ≡ count_by is_i (end_places m e) + count_by is_i (flat_map (end_places m) es) →
-          count_by is_i (end_places m e ++ flat_map (end_places m) es) ≡ one_if (hits e || list_any hits es)
-      by_hit true hit one rest both =
-          let here : one_if (hits e) ≡ 1 = ap one_if hit in
-          let none : one_if (list_any hits es) ≡ 0 = ap one_if (none_after hit) in
-          let all : one_if (hits e || list_any hits es) ≡ 1 = ap (λ b. one_if (b || list_any hits es)) hit in
-          omega (arith, one, rest, both, here, none, all)
-      by_hit false miss one rest both =
-          let here : one_if (hits e) ≡ 0 = ap one_if miss in
-          let all : one_if (hits e || list_any hits es) ≡ one_if (list_any hits es) = ap (λ b. one_if (b || list_any hits es)) miss in
-          omega (arith, one, rest, both, here, all)
+      let either = either_counts (hits e) (list_any hits es) (λ hit.
+      none_hit (λ f. end_of m e ≢ end_of m f) es (AllPairs-head (λ e f. end_of m e ≢ end_of m f) e es differ) (λ f differs at. differs (hit_end e hit ∙ sym at))) in
+      let all : count_by is_i (end_places m e ++ flat_map (end_places m) es) ≡ one_if (hits e || list_any hits es) =
+      omega (arith, one, rest, count_by-append is_i (end_places m e) (flat_map (end_places m) es), either) in
+      all
 
   -- a net's tree has the chip at most once
   net_count : (net : AppNet) → HasTree m net → count_by is_i (tree_places m net) ≡ one_if (has_chip m c net)
   net_count net has =
       let rest = edges_count net.tree.edges (edges_in m net has) has.tree.one_into_each in
-      let all = count_by-cons is_i (index_of m net.tree.root) (flat_map (end_places m) net.tree.edges) in
+      let all : count_by is_i (tree_places m net) ≡ one_if (index_of m net.tree.root == i) + count_by is_i (flat_map (end_places m) net.tree.edges) =
+      count_by-cons is_i (index_of m net.tree.root) (flat_map (end_places m) net.tree.edges) in
       let root : one_if (index_of m net.tree.root == i) ≡ one_if (chip_eq c net.tree.root) = ap one_if (one_case m i c net.tree.root refl below has.root) in
-      by_root (chip_eq c net.tree.root) refl rest all root
-    where
-      es : List Edge
-      es = net.tree.edges
-
-      none_into : chip_eq c net.tree.root ≡ true → list_any hits net.tree.edges ≡ false
-      none_into at = none_of net.tree.edges has.tree.none_into_root
-        where
-          none_of : (fs : List Edge) → All (λ f. end_of m f ≢ Some net.tree.root) fs → list_any hits fs ≡ false
-          none_of [] all = refl
-          none_of (f ∷ fs) all = elim (cases_Bool (hits f)) [
-            | inl also ↦ absurd (All-head (λ f. end_of m f ≢ Some net.tree.root) f fs all (by_end (end_of m f) also))
-            | inr not_f ↦ ap (λ b. b || list_any hits fs) not_f ∙ none_of fs (All-tail (λ f. end_of m f ≢ Some net.tree.root) f fs all)
-          ]
-            where
-              by_end : (o : Option Chip) → option_map_or (chip_eq c) o false ≡ true → o ≡ Some net.tree.root
-              by_end None e' = cc
-              by_end (Some d) e' = ap Some (sym (chip_eq_true c d e') ∙ chip_eq_true c net.tree.root at)
-
-      by_root : (b : Bool) → chip_eq c net.tree.root ≡ b → count_by is_i (flat_map (end_places m) net.tree.edges) ≡ one_if (list_any hits net.tree.edges) →
-          count_by is_i (tree_places m net) ≡ one_if (index_of m net.tree.root == i) + count_by is_i (flat_map (end_places m) net.tree.edges) →
-          one_if (index_of m net.tree.root == i) ≡ one_if (chip_eq c net.tree.root) →
-          count_by is_i (tree_places m net) ≡ one_if (chip_eq c net.tree.root || list_any hits net.tree.edges)
-      by_root true at rest all root =
-          let here : one_if (chip_eq c net.tree.root) ≡ 1 = ap one_if at in
-          let none : one_if (list_any hits net.tree.edges) ≡ 0 = ap one_if (none_into at) in
-          let both : one_if (chip_eq c net.tree.root || list_any hits net.tree.edges) ≡ 1 = ap (λ b. one_if (b || list_any hits net.tree.edges)) at in
-          omega (arith, rest, all, root, here, none, both)
-      by_root false off rest all root =
-          let here : one_if (chip_eq c net.tree.root) ≡ 0 = ap one_if off in
-          let both : one_if (chip_eq c net.tree.root || list_any hits net.tree.edges) ≡ one_if (list_any hits net.tree.edges) = ap (λ b. one_if (b || list_any hits net.tree.edges)) off in
-          omega (arith, rest, all, root, here, both)
+      let either = either_counts (chip_eq c net.tree.root) (list_any hits net.tree.edges) (λ at.
+      none_hit (λ f. end_of m f ≢ Some net.tree.root) net.tree.edges has.tree.none_into_root (λ f differs ends. differs (ends ∙ ap Some (chip_eq_true c net.tree.root at)))) in
+      let counted : count_by is_i (tree_places m net) ≡ one_if (chip_eq c net.tree.root || list_any hits net.tree.edges) = omega (arith, rest, all, root, either) in
+      counted
 
   nets_count : (nets : List AppNet) → All (HasTree m) nets → count_by is_i (flat_map (tree_places m) nets) ≡ count_by (has_chip m c) nets
   nets_count [] all = refl
