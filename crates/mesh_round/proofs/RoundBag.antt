@@ -57,6 +57,26 @@ module _ (m : State) (f : Flow) (n : State) (mesh : IsMesh m) (after : IsMesh n)
   abbrev u : Setup
   u = m.setup
 
+  abbrev places : List ℕ
+  places = range_with_len 0 (7 * (u.machine.width * u.machine.height))
+
+  -- the marks in a hand of a copy of a port's queue, and how many of all that are taken pass a test
+  abbrev taken_marks : ℕ → McCopy → List Mark
+  taken_marks i k = map (λ o. mark k (in_hand (chip_of u.machine (i / 7)) o)) (outputs u (chip_of u.machine (i / 7)) (port_of (i % 7)) k)
+
+  abbrev taken_come : (Mark → Bool) → ℕ → ℕ
+  taken_come p i = sum_by (λ k. count_by p (taken_marks i k)) (f.left (input i))
+
+  -- the copies that cross an output, as they were before, and how many of their marks pass a test before and afterwards
+  abbrev crossing : Chip → Out → List McCopy
+  crossing c o = map back (f.entered (behind u c o))
+
+  abbrev crossed_left : (Mark → Bool) → Chip → Out → ℕ
+  crossed_left p c o = count_by p (marks_at (in_hand c o) (crossing c o))
+
+  abbrev crossed_come : (Mark → Bool) → Chip → Out → ℕ
+  crossed_come p c o = sum_by (λ k. count_by p (mark (onward k) (station_of u (behind u c o)) ∷ [])) (crossing c o)
+
   -- ---- the moves
 
   sent_small : (v : ℕ) → v < length u.spots → (k : McCopy) → Among k (f.sent v) → k.hop ≤ last_hop
@@ -79,27 +99,20 @@ module _ (m : State) (f : Flow) (n : State) (mesh : IsMesh m) (after : IsMesh n)
   left_small : (q : Queue) (k : McCopy) → Among k (f.left q) → k.hop ≤ last_hop
   left_small q k a = All-contains (λ (j : McCopy). j.hop ≤ last_hop) (f.left q) k (passes.hops q) (among_contains k (f.left q) a)
 
-  taken_part : Part m (λ p. sum_by (λ i. count_by p (marks_at (station_of u (input i)) (f.left (input i)))) (range_with_len 0 (7 * (u.machine.width * u.machine.height))))
-      (λ p. sum_by (λ i. sum_by (λ k. count_by p (map (λ o. mark k (in_hand (chip_of u.machine (i / 7)) o)) (outputs u (chip_of u.machine (i / 7)) (port_of (i % 7)) k))) (f.left (input i)))
-      (range_with_len 0 (7 * (u.machine.width * u.machine.height))))
+  taken_part : Part m (λ p. sum_by (λ i. count_by p (marks_at (station_of u (input i)) (f.left (input i)))) places) (λ p. sum_by (λ i. taken_come p i) places)
   taken_part =
-      part_each (λ i p. count_by p (marks_at (station_of u (input i)) (f.left (input i))))
-      (λ i p. sum_by (λ k. count_by p (map (λ o. mark k (in_hand (chip_of u.machine (i / 7)) o)) (outputs u (chip_of u.machine (i / 7)) (port_of (i % 7)) k))) (f.left (input i)))
-      (range_with_len 0 (7 * (u.machine.width * u.machine.height)))
-      (λ i a. part_of (station_of u (input i)) (λ k. map (λ o. mark k (in_hand (chip_of u.machine (i / 7)) o)) (outputs u (chip_of u.machine (i / 7)) (port_of (i % 7)) k)) (f.left (input i))
-      (λ k b. (refl, left_small (input i) k b)))
+      part_each (λ i p. count_by p (marks_at (station_of u (input i)) (f.left (input i)))) (λ i p. taken_come p i) places
+      (λ i a. part_of (station_of u (input i)) (λ k. taken_marks i k) (f.left (input i)) (λ k b. (refl, left_small (input i) k b)))
 
-  crossed_part : Part m (λ p. sum_by (λ c. sum_by (λ o. count_by p (marks_at (in_hand c o) (map back (f.entered (behind u c o))))) all_outs) (live_chips u.machine))
-      (λ p. sum_by (λ c. sum_by (λ o. sum_by (λ k. count_by p (mark (onward k) (station_of u (behind u c o)) ∷ [])) (map back (f.entered (behind u c o)))) all_outs) (live_chips u.machine))
+  crossed_part : Part m (λ p. sum_by (λ c. sum_by (λ o. crossed_left p c o) all_outs) (live_chips u.machine))
+      (λ p. sum_by (λ c. sum_by (λ o. crossed_come p c o) all_outs) (live_chips u.machine))
   crossed_part =
-      part_each (λ c p. sum_by (λ o. count_by p (marks_at (in_hand c o) (map back (f.entered (behind u c o))))) all_outs)
-      (λ c p. sum_by (λ o. sum_by (λ k. count_by p (mark (onward k) (station_of u (behind u c o)) ∷ [])) (map back (f.entered (behind u c o)))) all_outs) (live_chips u.machine)
-      (λ c a. part_each (λ o p. count_by p (marks_at (in_hand c o) (map back (f.entered (behind u c o)))))
-      (λ o p. sum_by (λ k. count_by p (mark (onward k) (station_of u (behind u c o)) ∷ [])) (map back (f.entered (behind u c o)))) all_outs
-      (λ o b. part_of (in_hand c o) (λ k. mark (onward k) (station_of u (behind u c o)) ∷ []) (map back (f.entered (behind u c o)))
+      part_each (λ c p. sum_by (λ o. crossed_left p c o) all_outs) (λ c p. sum_by (λ o. crossed_come p c o) all_outs) (live_chips u.machine)
+      (λ c a. part_each (λ o p. crossed_left p c o) (λ o p. crossed_come p c o) all_outs
+      (λ o b. part_of (in_hand c o) (λ k. mark (onward k) (station_of u (behind u c o)) ∷ []) (crossing c o)
       (λ k d. crosses c o (live_of_live_chips u.machine c a) (has_bit o b) k d)))
     where
-      crosses : (c : Chip) (o : Out) → IsLiveChip u.machine c → IsOutput o → (k : McCopy) → Among k (map back (f.entered (behind u c o))) →
+      crosses : (c : Chip) (o : Out) → IsLiveChip u.machine c → IsOutput o → (k : McCopy) → Among k (crossing c o) →
           IsMoveOf m k (in_hand c o) (mark (onward k) (station_of u (behind u c o)) ∷ []) × (k.hop ≤ last_hop)
       crosses c o live is k a =
           let of = among_map back k (f.entered (behind u c o)) a in
@@ -150,9 +163,6 @@ module _ (m : State) (f : Flow) (n : State) (mesh : IsMesh m) (after : IsMesh n)
   module _ (p : Mark → Bool) where
     abbrev came_in : Queue → ℕ
     came_in q = came p m f n mesh passes q
-
-    abbrev places : List ℕ
-    places = range_with_len 0 (7 * (u.machine.width * u.machine.height))
 
     abbrev vertices : List ℕ
     vertices = range_with_len 0 (length u.spots)
@@ -223,16 +233,13 @@ module _ (m : State) (f : Flow) (n : State) (mesh : IsMesh m) (after : IsMesh n)
             ]
 
     -- what came across outputs is what entered the queues behind them
-    crossed_is : sum_by (λ c. sum_by (λ o. sum_by (λ k. count_by p (mark (onward k) (station_of u (behind u c o)) ∷ [])) (map back (f.entered (behind u c o)))) all_outs) (live_chips u.machine)
+    crossed_is : sum_by (λ c. sum_by (λ o. crossed_come p c o) all_outs) (live_chips u.machine)
         ≡ sum_by (λ c. sum_by (λ o. came_in (behind u c o)) all_outs) (live_chips u.machine)
     crossed_is =
-        sum_agree (λ c. sum_by (λ o. sum_by (λ k. count_by p (mark (onward k) (station_of u (behind u c o)) ∷ [])) (map back (f.entered (behind u c o)))) all_outs)
-        (λ c. sum_by (λ o. came_in (behind u c o)) all_outs) (live_chips u.machine)
-        (λ c a. sum_agree (λ o. sum_by (λ k. count_by p (mark (onward k) (station_of u (behind u c o)) ∷ [])) (map back (f.entered (behind u c o)))) (λ o. came_in (behind u c o)) all_outs
-        (λ o b. at_output c o (live_of_live_chips u.machine c a) (has_bit o b)))
+        sum_agree (λ c. sum_by (λ o. crossed_come p c o) all_outs) (λ c. sum_by (λ o. came_in (behind u c o)) all_outs) (live_chips u.machine)
+        (λ c a. sum_agree (λ o. crossed_come p c o) (λ o. came_in (behind u c o)) all_outs (λ o b. at_output c o (live_of_live_chips u.machine c a) (has_bit o b)))
       where
-        at_output : (c : Chip) (o : Out) → IsLiveChip u.machine c → IsOutput o →
-            sum_by (λ k. count_by p (mark (onward k) (station_of u (behind u c o)) ∷ [])) (map back (f.entered (behind u c o))) ≡ came_in (behind u c o)
+        at_output : (c : Chip) (o : Out) → IsLiveChip u.machine c → IsOutput o → crossed_come p c o ≡ came_in (behind u c o)
         at_output c o live is =
             let st = station_of u (behind u c o) in
             let entered = f.entered (behind u c o) in
@@ -243,22 +250,19 @@ module _ (m : State) (f : Flow) (n : State) (mesh : IsMesh m) (after : IsMesh n)
 
     -- ---- hands
 
-    hands_even : sum_by (λ c. sum_by (λ o. count_by p (marks_at (in_hand c o) (map back (f.entered (behind u c o))))) all_outs) (live_chips u.machine)
-        + sum_by (λ (r : DumpRec). count_by p (mark r.copy (in_hand r.chip r.out) ∷ [])) f.dumped
-        ≡ sum_by (λ i. sum_by (λ k. count_by p (map (λ o. mark k (in_hand (chip_of u.machine (i / 7)) o)) (outputs u (chip_of u.machine (i / 7)) (port_of (i % 7)) k))) (f.left (input i))) places
+    hands_even : sum_by (λ c. sum_by (λ o. crossed_left p c o) all_outs) (live_chips u.machine)
+        + sum_by (λ (r : DumpRec). count_by p (mark r.copy (in_hand r.chip r.out) ∷ [])) f.dumped ≡ sum_by (λ i. taken_come p i) places
     hands_even =
         ap₂ (λ (a b : ℕ). a + b)
-        (sum_agree (λ c. sum_by (λ o. count_by p (marks_at (in_hand c o) (map back (f.entered (behind u c o))))) all_outs)
-        (λ c. sum_by (λ o. sum_by (weight p m f n mesh passes c o) (map back (f.entered (behind u c o)))) all_outs) (live_chips u.machine)
-        (λ c a. sum_agree (λ o. count_by p (marks_at (in_hand c o) (map back (f.entered (behind u c o))))) (λ o. sum_by (weight p m f n mesh passes c o) (map back (f.entered (behind u c o)))) all_outs
-        (λ o b. sum_map (λ k. mark k (in_hand c o)) (λ x. one_where (p x)) (map back (f.entered (behind u c o))))))
+        (sum_agree (λ c. sum_by (λ o. crossed_left p c o) all_outs) (λ c. sum_by (λ o. sum_by (weight p m f n mesh passes c o) (crossing c o)) all_outs) (live_chips u.machine)
+        (λ c a. sum_agree (λ o. crossed_left p c o) (λ o. sum_by (weight p m f n mesh passes c o) (crossing c o)) all_outs
+        (λ o b. sum_map (λ k. mark k (in_hand c o)) (λ x. one_where (p x)) (crossing c o))))
         (sum_agree (λ (r : DumpRec). count_by p (mark r.copy (in_hand r.chip r.out) ∷ [])) (λ (r : DumpRec). weight p m f n mesh passes r.chip r.out r.copy) f.dumped
         (λ r a. single (mark r.copy (in_hand r.chip r.out))))
         ∙ (sym (hands_balance p m f n mesh passes)
-        ∙ sum_agree (taken_from p m f n mesh passes)
-        (λ i. sum_by (λ k. count_by p (map (λ o. mark k (in_hand (chip_of u.machine (i / 7)) o)) (outputs u (chip_of u.machine (i / 7)) (port_of (i % 7)) k))) (f.left (input i))) places
+        ∙ sum_agree (taken_from p m f n mesh passes) (λ i. taken_come p i) places
         (λ i a. sum_agree (λ k. sum_by (λ o. weight p m f n mesh passes (chip_of u.machine (i / 7)) o k) (outputs u (chip_of u.machine (i / 7)) (port_of (i % 7)) k))
-        (λ k. count_by p (map (λ o. mark k (in_hand (chip_of u.machine (i / 7)) o)) (outputs u (chip_of u.machine (i / 7)) (port_of (i % 7)) k))) (f.left (input i))
+        (λ k. count_by p (taken_marks i k)) (f.left (input i))
         (λ k b. sym (sum_map (λ o. mark k (in_hand (chip_of u.machine (i / 7)) o)) (λ x. one_where (p x)) (outputs u (chip_of u.machine (i / 7)) (port_of (i % 7)) k)))))
 
     -- ---- deliveries
@@ -427,13 +431,12 @@ module _ (m : State) (f : Flow) (n : State) (mesh : IsMesh m) (after : IsMesh n)
   some_steps (inl (input i, is, left)) =
       let below : i < 7 * (u.machine.width * u.machine.height) = omega (arith, is, mesh.input_lists) in
       let one = once_in_range i 0 (7 * (u.machine.width * u.machine.height)) (omega arith) (omega (arith, below)) in
-      let found = counted (λ j. i == j) (range_with_len 0 (7 * (u.machine.width * u.machine.height))) (omega (arith, one)) in
-      let there : Among i (range_with_len 0 (7 * (u.machine.width * u.machine.height))) =
-      subst (λ j. Among j (range_with_len 0 (7 * (u.machine.width * u.machine.height)))) (sym (eqb-true i found.0 found.2)) found.1 in
+      let found = counted (λ j. i == j) places (omega (arith, one)) in
+      let there : Among i places = subst (λ j. Among j places) (sym (eqb-true i found.0 found.2)) found.1 in
       let some = some_items (f.left (input i)) left in
       let all = all_copies (station_of u (input i)) (f.left (input i)) refl in
       let part = by_part (count_left is_step taken_part.moves) _ (count_by is_step (marks_at (station_of u (input i)) (f.left (input i)))) (taken_part.leaving is_step)
-      (part_of_sum (λ j. count_by is_step (marks_at (station_of u (input j)) (f.left (input j)))) i (range_with_len 0 (7 * (u.machine.width * u.machine.height))) there) (omega (arith, all, some)) in
+      (part_of_sum (λ j. count_by is_step (marks_at (station_of u (input j)) (f.left (input j)))) i places there) (omega (arith, all, some)) in
       omega (arith, steps, part)
   some_steps (inl (core v, is, left)) =
       let below : v < length u.spots = omega (arith, is, mesh.core_lists) in
