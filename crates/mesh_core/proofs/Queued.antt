@@ -22,7 +22,7 @@ use Rattle.mesh_core.specs.Ledger.{marks_of, marks_at, port_of, unsent_marks, in
 use Rattle.mesh_core.specs.{Waiting.queue_of, Whereabouts.IsTracked}
 use Rattle.mesh_core.proofs.Changes.{queue_at-below}
 use Rattle.mesh_core.proofs.Counting.{count_two, count_le, counted, count_gathered_part}
-use Rattle.mesh_core.proofs.{Law.leaves_parts, Law.comes_parts, Moves.mark, Standing.queued_mark, Standing.core_mark, WalkingUp.comes_on, WalkingUp.ends_on}
+use Rattle.mesh_core.proofs.{Law.leaves_parts, Law.comes_parts, Moves.behind_inputs, Moves.behind_unsent, Moves.mark, Standing.queued_mark, Standing.core_mark, WalkingUp.comes_on, WalkingUp.ends_on}
 use Rattle.mesh_core.proofs.Ways.{vertex_at_stands, vertex_behind_there, vertex_behind_stands, leads_to}
 
 -- the queue behind an output, which has no copy of this packet
@@ -156,7 +156,7 @@ module _ (s : State) (nets : List NetPlan) (labels : ℕ → Label) (ledger : Me
   -- what is counted in one part is counted in all marks
   in_input_marks : (p : Mark → Bool) → count_by p (input_marks s) ≤ count_by p (marks_of s)
   in_input_marks p =
-      let later : List Mark = all_hand_marks s ++ (core_marks s ++ (delivered_marks s ++ dumped_marks s)) in
+      let later : List Mark = behind_inputs s in
       omega (arith, count_by-append p (unsent_marks s) (input_marks s ++ later), count_by-append p (input_marks s) later)
 
   in_core_marks : (p : Mark → Bool) → count_by p (core_marks s) ≤ count_by p (marks_of s)
@@ -202,8 +202,7 @@ module _ (s : State) (nets : List NetPlan) (labels : ℕ → Label) (ledger : Me
   waiting_mark (input i) q at j among =
       let m : Mark = mark j (in_queue (chip_of s.setup.machine (i / 7)) (port_of (i % 7))) in
       among_contains m (marks_of s)
-      (among_right m (unsent_marks s) (input_marks s ++ (all_hand_marks s ++ (core_marks s ++ (delivered_marks s ++ dumped_marks s))))
-      (among_left m (input_marks s) (all_hand_marks s ++ (core_marks s ++ (delivered_marks s ++ dumped_marks s)))
+      (among_right m (unsent_marks s) (behind_unsent s) (among_left m (input_marks s) (behind_inputs s)
       (gathered_among (λ l copies. marks_at (in_queue (chip_of s.setup.machine (l / 7)) (port_of (l % 7))) copies) m s.inputs i q at
       (map_among (λ (d : McCopy). mark d (in_queue (chip_of s.setup.machine (i / 7)) (port_of (i % 7)))) j q among))))
   waiting_mark (core v) q at j among = let m : Mark = mark j (at_core v) in among_contains m (marks_of s) (core_mark s v j q at among)
