@@ -1,24 +1,16 @@
 -- What machines with the same applications have in common, and that unloads and runs keep it.
 use Rattle.std.proofs.Common.{◌≡◌, ℕ, List, [], ◌∷◌, ◌++◌, length, refl, sym, ap, ◌∙◌, subst, arith, not, true, Option, None}
-use Rattle.std.specs.List.{All, Contains, filter, flat_map}
 use Rattle.std.proofs.lemmas.List.Elements.{All-head, All-tail}
+use Rattle.std.specs.List.{All, Contains, filter, flat_map}
 use Rattle.spin_base.proofs.Members.{Among}
-use Rattle.spin_base.specs.declared.copies.McCopy.{McCopy}
-use Rattle.spin_base.specs.declared.copies.DumpRec.{DumpRec}
+use Rattle.spin_base.specs.declared.copies.{McCopy.McCopy, DumpRec.DumpRec}
 use Rattle.mesh_core.specs.State.{Hand, Setup, State, IsMesh}
-use Rattle.mesh_core.specs.Trail.{Mark, IsUnderWayAt}
-use Rattle.mesh_core.specs.Ledger.{marks_of, MeetsLedgerFor}
-use Rattle.mesh_core.specs.Expected.{IsAtRest, NothingWaits}
+use Rattle.mesh_core.specs.{Trail.Mark, Trail.IsUnderWayAt, Ledger.marks_of, Ledger.MeetsLedgerFor, Expected.IsAtRest, Expected.NothingWaits}
 use Rattle.mesh_core.proofs.Fixed.{setup_after}
-use Rattle.app_loads.specs.declared.answers.Ended.{Ended}
-use Rattle.app_loads.specs.declared.loaded.LoadedApp.{LoadedApp}
-use Rattle.app_loads.specs.Alike.{AreAlike, IsQuiet}
-use Rattle.app_loads.specs.Applications.{AreApps}
-use Rattle.app_loads.specs.Host.{Host, all_nets, asked_of}
+use Rattle.app_loads.specs.declared.{answers.Ended.Ended, loaded.LoadedApp.LoadedApp}
+use Rattle.app_loads.specs.{Alike.AreAlike, Alike.IsQuiet, Applications.AreApps, Host.Host, Host.all_nets, Host.asked_of}
 use Rattle.app_loads.specs.Leaving.{held_packets, is_delivery_of, is_packet_of, is_record_of, mesh_without, NoneUnderWay, others_than, packet_numbers_of, WaitsIn}
-use Rattle.app_loads.specs.Opening.{usable_spots}
-use Rattle.app_loads.specs.Running.{HasMovedMesh}
-use Rattle.app_loads.specs.Unloading.{HasUnloaded}
+use Rattle.app_loads.specs.{Opening.usable_spots, Running.HasMovedMesh, Unloading.HasUnloaded}
 use Rattle.app_loads.proofs.Delivered.{HasOneWay, no_more}
 use Rattle.app_loads.proofs.LeavingLeast.{listed_waits, under_way, waits_listed}
 
@@ -77,11 +69,11 @@ module _ (one_way : HasOneWay) (h g : Host) (app : LoadedApp) (apps : AreApps h)
   same_count =
       let spots = same_spots h g apps also alike.machine in
       let ledger : MeetsLedgerFor g.mesh (all_nets h.apps) (asked_of h.apps) =
-      subst (λ (l : List LoadedApp). MeetsLedgerFor g.mesh (all_nets l) (asked_of l)) (sym alike.apps) also.ledger
-      in
+      subst (λ (l : List LoadedApp). MeetsLedgerFor g.mesh (all_nets l) (asked_of l)) (sym alike.apps) also.ledger in
       let there = none_too h g alike apps.mesh app none in
       let few = no_more one_way h.mesh g.mesh (all_nets h.apps) (asked_of h.apps) alike.machine spots apps.ledger ledger (is_packet_of app) (no_mark g.mesh app there) alike.other_quiet.no_record in
-      let many = no_more one_way g.mesh h.mesh (all_nets h.apps) (asked_of h.apps) (sym alike.machine) (sym spots) ledger apps.ledger (is_packet_of app) (no_mark h.mesh app none) alike.quiet.no_record in
+      let many = no_more one_way g.mesh h.mesh (all_nets h.apps) (asked_of h.apps) (sym alike.machine) (sym spots) ledger apps.ledger
+      (is_packet_of app) (no_mark h.mesh app none) alike.quiet.no_record in
       omega (arith, few, many)
 
 -- ---- unloads

@@ -1,34 +1,23 @@
 -- The nets of a loaded application: their blocks are ranges of their own, and their trees stand on its spots.
 use Rattle.std.proofs.Common.{◌≡◌, ◌≢◌, ℕ, zero, suc, ◌+◌, ◌^◌, ◌<◌, ◌≤◌, ◌==◌, ◌↔◌, true, List, [], ◌∷◌, get_or, refl, sym, ap, ◌∙◌, subst, inl, inr, arith, Some}
-use Rattle.std.specs.List.{slice_get, All, AllPairs, AllZip, Contains}
 use Rattle.std.proofs.lemmas.Bool.{cases_eq, cases_lt, and_from, eq-eqb}
 use Rattle.std.proofs.lemmas.List.Elements.{All-contains, All-weaker}
 use Rattle.std.proofs.lemmas.Option.{slice_get-get_or, slice_get_within, get_or_from_slice_get, same_Some}
+use Rattle.std.specs.List.{slice_get, All, AllPairs, AllZip, Contains}
 use Rattle.key_alloc.proofs.Ranges.{in_from}
-use Rattle.spin_base.proofs.Members.{Contains-at}
-use Rattle.spin_base.proofs.Places.{All-at, All-each, AllZip-at_first}
-use Rattle.spin_base.specs.declared.blocks.Block.{Block}
-use Rattle.spin_base.specs.declared.chips.Spot.{Spot}
-use Rattle.machine_desc.specs.Description.{Description}
-use Rattle.machine_desc.specs.Live.{IsInside, IsUsable}
-use Rattle.machine_desc.specs.RoutingTree.{IsRoutingTree}
-use Rattle.machine_desc.proofs.Far.{live_inside}
-use Rattle.machine_desc.proofs.Sites.{usable_parts}
+use Rattle.spin_base.proofs.{Members.Contains-at, Places.All-at, Places.All-each, Places.AllZip-at_first}
+use Rattle.spin_base.specs.declared.{blocks.Block.Block, chips.Spot.Spot}
+use Rattle.machine_desc.specs.{Description.Description, Live.IsInside, Live.IsUsable, RoutingTree.IsRoutingTree}
 use Rattle.machine_desc.specs.declared.nets.NetPlan.{NetPlan}
-use Rattle.machine_desc.specs.NetsOn.{HaveDisjointBlocks}
-use Rattle.machine_desc.specs.RightTables.{IsKeyOf}
+use Rattle.machine_desc.specs.{NetsOn.HaveDisjointBlocks, RightTables.IsKeyOf}
+use Rattle.machine_desc.proofs.{Far.live_inside, Sites.usable_parts}
 use Rattle.range_store.specs.Regions.{in_range}
 use Rattle.tern_word.specs.Ternary.{Matches}
 use Rattle.net_tables.specs.PlainTable.{AreRoutedApart}
 use Rattle.app_loads.specs.declared.answers.LoadRefusal.TheVariants.{KeysOut}
-use Rattle.app_loads.specs.declared.loaded.Claim.{Claim}
-use Rattle.app_loads.specs.declared.loaded.LoadedApp.{LoadedApp}
-use Rattle.app_loads.specs.declared.loaded.Range.{Range}
-use Rattle.app_loads.specs.declared.plans.AppNet.{AppNet}
+use Rattle.app_loads.specs.declared.{loaded.Claim.Claim, loaded.LoadedApp.LoadedApp, loaded.Range.Range, plans.AppNet.AppNet}
 use Rattle.app_loads.specs.Applications.{IsLoadedOn, IsRangeFor}
-use Rattle.app_loads.specs.Claims.{claims_of, IsBlockOf}
-use Rattle.app_loads.specs.Host.{net_with, nets_with, nets_of}
-use Rattle.app_loads.specs.Plans.{IsAppNet, IsSpotBefore}
+use Rattle.app_loads.specs.{Claims.claims_of, Claims.IsBlockOf, Host.net_with, Host.nets_with, Host.nets_of, Plans.IsAppNet, Plans.IsSpotBefore}
 use Rattle.app_loads.specs.Regions.{place_of, ShareNoPlace, range_has}
 use Rattle.app_loads.proofs.Blocks.{block_keys}
 use Rattle.app_loads.proofs.ClaimCases.{facts, same_net, IsKeyClaim}
@@ -71,7 +60,8 @@ within_keys : (key keys size index : ℕ) → keys ≤ size → index < keys →
 within_keys key keys size index many below = omega (arith, many, below)
 
 -- the range of a block is one for its claim
-range_of : (m : Description) (claims : List Claim) (ranges : List Range) → AllZip (IsRangeFor m) claims ranges → (j : ℕ) (block : Block) (b : IsBlockOf claims ranges j block) → IsRangeFor m b.claim b.range
+range_of : (m : Description) (claims : List Claim) (ranges : List Range) → AllZip (IsRangeFor m) claims ranges →
+    (j : ℕ) (block : Block) (b : IsBlockOf claims ranges j block) → IsRangeFor m b.claim b.range
 range_of m claims ranges pairs j block b =
     let ranged = AllZip-at_first (IsRangeFor m) claims ranges pairs b.at b.claim b.is in
     subst (IsRangeFor m b.claim) (same_Some ranged.0 b.range (sym ranged.1 ∙ b.got)) ranged.2
@@ -105,9 +95,11 @@ module _ (m : Description) (app : LoadedApp) (loaded : IsLoadedOn m app) where
   pub facts_at : (j : ℕ) (x : NetPlan) → slice_get (nets_of app) j ≡ Some x → NetFacts m app x j
   facts_at j x e = by_parts (nets_with_parts app.plan.nets app.blocks j x e)
     where
-      by_claim : (net : AppNet) (block : Block) → slice_get app.plan.nets j ≡ Some net → slice_get app.blocks j ≡ Some block → net_with net block ≡ x → IsBlockOf (claims_of m app.plan) app.ranges j block → NetFacts m app x j
+      by_claim : (net : AppNet) (block : Block) → slice_get app.plan.nets j ≡ Some net → slice_get app.blocks j ≡ Some block →
+          net_with net block ≡ x → IsBlockOf (claims_of m app.plan) app.ranges j block → NetFacts m app x j
       by_claim net block at_net at_block is b =
-          made_of j x net block at_net at_block is b ((facts m app.plan loaded.plan b.claim (Contains-at (claims_of m app.plan) b.at b.claim b.is)).keyed j b.its) (range_of m (claims_of m app.plan) app.ranges loaded.ranges j block b)
+          made_of j x net block at_net at_block is b ((facts m app.plan loaded.plan b.claim (Contains-at (claims_of m app.plan) b.at b.claim b.is)).keyed j b.its)
+          (range_of m (claims_of m app.plan) app.ranges loaded.ranges j block b)
 
       by_parts : ((net : AppNet) × (block : Block) × (slice_get app.plan.nets j ≡ Some net) × (slice_get app.blocks j ≡ Some block) × (net_with net block ≡ x)) → NetFacts m app x j
       by_parts (net, block, at_net, at_block, is) = by_claim net block at_net at_block is (loaded.blocks.each j block at_block)
@@ -121,10 +113,12 @@ module _ (m : Description) (app : LoadedApp) (loaded : IsLoadedOn m app) where
       let block_is : f.block ≡ x.block = ap (λ (n : NetPlan). n.block) f.is in
       let mine : Matches f.block key = subst (λ (b : Block). Matches b key) (sym block_is) k.matches in
       let at = (f.keys key k.fits).0 mine in
-      and_from (f.range.region == 0) (in_range f.range.place f.range.size key) (eq-eqb f.range.region 0 f.region) (in_from f.range.place f.range.size key (subst (λ p. p ≤ key) f.place at.0) (subst (λ p. key < p + f.range.size) f.place at.1))
+      and_from (f.range.region == 0) (in_range f.range.place f.range.size key) (eq-eqb f.range.region 0 f.region)
+      (in_from f.range.place f.range.size key (subst (λ p. p ≤ key) f.place at.0) (subst (λ p. key < p + f.range.size) f.place at.1))
 
   -- a key of a net for each of its indices
-  pub key_of_index : (x : NetPlan) (j : ℕ) (f : NetFacts m app x j) (index : ℕ) → index < f.net.keys → f.range.place + f.range.size ≤ 2 ^ 32 → (f.block.key + index < 2 ^ 32) × IsKeyOf f.block (f.block.key + index)
+  pub key_of_index : (x : NetPlan) (j : ℕ) (f : NetFacts m app x j) (index : ℕ) → index < f.net.keys → f.range.place + f.range.size ≤ 2 ^ 32 →
+      (f.block.key + index < 2 ^ 32) × IsKeyOf f.block (f.block.key + index)
   key_of_index x j f index below room =
       let small = index_fits f.block.key f.range.place f.range.size f.net.keys index (2 ^ 32) f.place f.enough below room in
       (small, record { fits = small; matches = (f.keys (f.block.key + index) small).1 (omega arith, within_keys f.block.key f.net.keys f.range.size index f.enough below) })
@@ -154,8 +148,10 @@ module _ (m : Description) (app : LoadedApp) (loaded : IsLoadedOn m app) where
             let number : i ≡ j = same_net i j (sym f.its ∙ (ap (λ (c : Claim). c.refusal) one ∙ g.its)) in
             absurd (omega (arith, number, less))
         | inr other ↦ elim (cases_lt f.at g.at) [
-          | inl before ↦ subst (λ (r : Range). ShareNoPlace r g.range) f_is (subst (λ (r : Range). ShareNoPlace (get_or app.ranges f.at f.range) r) g_is (apart f.at g.at f.range before in_g)) 0 key a b
-          | inr after ↦ subst (λ (r : Range). ShareNoPlace g.range r) f_is (subst (λ (r : Range). ShareNoPlace r (get_or app.ranges f.at f.range)) g_is (apart g.at f.at f.range (omega (arith, after, other)) in_f)) 0 key b a
+          | inl before ↦ subst (λ (r : Range). ShareNoPlace r g.range) f_is
+              (subst (λ (r : Range). ShareNoPlace (get_or app.ranges f.at f.range) r) g_is (apart f.at g.at f.range before in_g)) 0 key a b
+          | inr after ↦ subst (λ (r : Range). ShareNoPlace g.range r) f_is
+              (subst (λ (r : Range). ShareNoPlace r (get_or app.ranges f.at f.range)) g_is (apart g.at f.at f.range (omega (arith, after, other)) in_f)) 0 key b a
         ]
       ]
 
@@ -167,7 +163,8 @@ module _ (m : Description) (app : LoadedApp) (loaded : IsLoadedOn m app) where
   roots_of = All-each (λ (x : NetPlan). x.tree.root ≡ x.source.chip) (nets_of app) (λ x has. let f = facts_of x has in subst (λ (y : NetPlan). y.tree.root ≡ y.source.chip) f.is f.valid.root)
 
   pub sources_in : (spots : List Spot) → ((s : Spot) → Contains app.plan.spots s → Contains spots s) → All (λ (x : NetPlan). Contains spots x.source) (nets_of app)
-  sources_in spots more = All-each (λ (x : NetPlan). Contains spots x.source) (nets_of app) (λ x has. let f = facts_of x has in subst (λ (y : NetPlan). Contains spots y.source) f.is (more f.net.source f.valid.source))
+  sources_in spots more = All-each (λ (x : NetPlan). Contains spots x.source) (nets_of app)
+      (λ x has. let f = facts_of x has in subst (λ (y : NetPlan). Contains spots y.source) f.is (more f.net.source f.valid.source))
 
   pub targets_in : (P : Spot → Type 0) → ((s : Spot) → Contains app.plan.spots s → P s) → All (λ (x : NetPlan). All P x.targets) (nets_of app)
   targets_in P more = All-each (λ (x : NetPlan). All P x.targets) (nets_of app) (λ x has.
@@ -175,7 +172,8 @@ module _ (m : Description) (app : LoadedApp) (loaded : IsLoadedOn m app) where
 
   pub different_of : All (λ (x : NetPlan). AllPairs (λ a b. a ≢ b) x.targets) (nets_of app)
   different_of = All-each (λ (x : NetPlan). AllPairs (λ a b. a ≢ b) x.targets) (nets_of app) (λ x has.
-      let f = facts_of x has in subst (λ (y : NetPlan). AllPairs (λ a b. a ≢ b) y.targets) f.is (λ i j d less below same. never (get_or f.net.targets i d) (get_or f.net.targets j d) (f.valid.in_order i j d less below) same))
+      let f = facts_of x has in subst (λ (y : NetPlan). AllPairs (λ a b. a ≢ b) y.targets) f.is
+      (λ i j d less below same. never (get_or f.net.targets i d) (get_or f.net.targets j d) (f.valid.in_order i j d less below) same))
     where
       never : (a b : Spot) → IsSpotBefore a b → a ≡ b → ⊥
       never a b (inl x) same = let e : a.chip.x ≡ b.chip.x = ap (λ (s : Spot). s.chip.x) same in absurd (omega (arith, x, e))

@@ -1,26 +1,17 @@
 -- What holds of a host without an application.
 use Rattle.std.proofs.Common.{◌≡◌, ℕ, ◌+◌, ◌-◌, ◌*◌, ◌/◌, ◌%◌, ◌<◌, ◌≤◌, zero, suc, ◌∙◌, List, [], ◌∷◌, ◌++◌, Option, Some, None, Bool, true, false, ◌&&◌, if◌then◌else◌, ◌==◌}
-use Rattle.std.proofs.Common.{refl, sym, ap, subst, arith, inl, inr, length, replicate, not, get_or}
-use Rattle.std.proofs.Common.{leb, ltb}
-use Rattle.std.proofs.lemmas.Bool.{cases_lt, leb-false, leb-true}
-use Rattle.std.proofs.lemmas.Bool.Decides.{nat_tests}
-use Rattle.std.specs.List.{slice_get, Contains}
+use Rattle.std.proofs.Common.{refl, sym, ap, subst, arith, inl, inr, length, replicate, not, get_or, leb, ltb}
+use Rattle.std.proofs.lemmas.Bool.{cases_lt, leb-false, leb-true, Decides.nat_tests}
 use Rattle.std.proofs.lemmas.List.{get_or-replicate, length-replicate, length-append, get_or_append_left, get_or-append_right}
 use Rattle.std.proofs.lemmas.List.Elements.{All-nil, All-replicate}
 use Rattle.std.proofs.lemmas.Option.{slice_get-get_or, slice_get_within, get_or_from_slice_get, same_Some}
-use Rattle.spin_base.proofs.Members.{Contains-none}
-use Rattle.spin_base.proofs.Gathering.{gathered_nothing}
-use Rattle.spin_base.specs.declared.blocks.Entry.{Entry}
-use Rattle.spin_base.specs.declared.chips.Chip.{Chip}
-use Rattle.spin_base.specs.declared.chips.Spot.{Spot}
-use Rattle.spin_base.specs.declared.copies.McCopy.{McCopy}
-use Rattle.machine_desc.specs.Description.{Description}
-use Rattle.machine_desc.specs.Live.{index_of, chip_of, IsInside}
+use Rattle.std.specs.List.{slice_get, Contains}
+use Rattle.spin_base.proofs.{Members.Contains-none, Gathering.gathered_nothing}
+use Rattle.spin_base.specs.declared.{blocks.Entry.Entry, chips.Chip.Chip, chips.Spot.Spot, copies.McCopy.McCopy}
+use Rattle.machine_desc.specs.{Description.Description, Live.index_of, Live.chip_of, Live.IsInside, NetsOn.AreNetsOn, RightTables.table_at}
 use Rattle.machine_desc.proofs.Far.{index_below}
 use Rattle.range_store.specs.Regions.{AreRuns, hole_of, is_free}
 use Rattle.tcam_find.specs.Memory.{empty_memory, unused}
-use Rattle.machine_desc.specs.NetsOn.{AreNetsOn}
-use Rattle.machine_desc.specs.RightTables.{table_at}
 use Rattle.mesh_core.specs.State.{Setup, State, Hand, IsMesh}
 use Rattle.mesh_core.specs.Trail.{Mark, unsent, in_queue, at_core}
 use Rattle.mesh_core.specs.Ledger.{marks_of, marks_at, hand_marks, port_of, unsent_marks, input_marks, all_hand_marks, core_marks, MeetsLedgerFor}
@@ -28,10 +19,9 @@ use Rattle.mesh_core.specs.Opened.{empty_mesh}
 use Rattle.app_loads.specs.declared.loaded.LoadedApp.{LoadedApp}
 use Rattle.app_loads.specs.Host.{Free, Host, asked_of}
 use Rattle.app_loads.specs.Regions.{all_free, open_regions, chip_count, region_size, IsFreeBeside}
-use Rattle.app_loads.specs.Applications.{AreApps}
-use Rattle.mesh_drain.specs.Draining.{SendAlone}
-use Rattle.app_loads.specs.Opening.{bare_mesh, bare_host}
+use Rattle.app_loads.specs.{Applications.AreApps, Opening.bare_mesh, Opening.bare_host}
 use Rattle.app_loads.proofs.Resting.{rest_alone}
+use Rattle.mesh_drain.specs.Draining.{SendAlone}
 
 -- ---- copies
 
@@ -121,11 +111,8 @@ module _ (m : Description) where
 
   long : length (open_regions m) ≡ 1 + (n + n)
   long =
-      let one = length-replicate n (all_free m.sdram) in
-      let two = length-replicate n (all_free 1024) in
-      let both = length-append memories tables in
       let whole : length (open_regions m) ≡ suc (length (memories ++ tables)) = refl in
-      omega (arith, one, two, both, whole)
+      omega (arith, length-replicate n (all_free m.sdram), length-replicate n (all_free 1024), length-append memories tables, whole)
 
   at_size : (region : ℕ) (f : Free) → slice_get (open_regions m) region ≡ Some f → f ≡ all_free (region_size m region)
   at_size zero f is = sym (same_Some _ _ is)
@@ -150,14 +137,12 @@ module _ (m : Description) where
       by_kind true le =
           subst (λ b. f ≡ all_free (if b then m.sdram else 1024)) (sym le) (
           let below = leb-true (suc i) n le in
-          let e = one in
-          got ∙ (get_or_append_left memories tables d i (omega (arith, e, below)) ∙ get_or-replicate n i (all_free m.sdram) d (omega (arith, below))))
+          got ∙ (get_or_append_left memories tables d i (omega (arith, one, below)) ∙ get_or-replicate n i (all_free m.sdram) d (omega (arith, below))))
       by_kind false le =
           subst (λ b. f ≡ all_free (if b then m.sdram else 1024)) (sym le) (
           let above = leb-false (suc i) n le in
           let all = long in
-          let w = within in
-          got ∙ (get_or-append_right memories tables n i d one (omega (arith, above)) ∙ get_or-replicate n (i - n) (all_free 1024) d (omega (arith, w, all, above))))
+          got ∙ (get_or-append_right memories tables n i d one (omega (arith, above)) ∙ get_or-replicate n (i - n) (all_free 1024) d (omega (arith, within, all, above))))
 
   -- nothing is taken of any region
   none_taken : (region : ℕ) (f : Free) → slice_get (open_regions m) region ≡ Some f → IsFreeBeside m [] region f

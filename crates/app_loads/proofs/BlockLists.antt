@@ -1,16 +1,12 @@
 -- The blocks of nets, made of the ranges that their claims got.
 use Rattle.std.proofs.Common.{◌≡◌, ℕ, ◌+◌, ◌^◌, ◌<◌, ◌≤◌, List, length, get_or, sym, ap, ◌∙◌, subst, inl, inr, arith, Some}
+use Rattle.std.proofs.lemmas.{Bool.cases_lt, Option.slice_get-get_or, Option.slice_get_within, Option.same_Some}
 use Rattle.std.specs.List.{slice_get, slice_set}
-use Rattle.std.proofs.lemmas.Bool.{cases_lt}
-use Rattle.std.proofs.lemmas.Option.{slice_get-get_or, slice_get_within, same_Some}
 use Rattle.spin_base.specs.declared.blocks.Block.{Block}
-use Rattle.app_loads.specs.declared.answers.LoadRefusal.TheVariants.{KeysOut}
-use Rattle.app_loads.specs.declared.loaded.Claim.{Claim}
-use Rattle.app_loads.specs.declared.loaded.Range.{Range}
+use Rattle.app_loads.specs.declared.{answers.LoadRefusal.TheVariants.KeysOut, loaded.Claim.Claim, loaded.Range.Range}
 use Rattle.app_loads.specs.Claims.{IsBlockOf}
 use Rattle.app_loads.specs.Joining.{AreKeyed, IsKeyRange, HaveBlocks}
-use Rattle.app_loads.proofs.Serving.{set_cases}
-use Rattle.app_loads.proofs.ClaimCases.{same_net}
+use Rattle.app_loads.proofs.{Serving.set_cases, ClaimCases.same_net}
 
 -- the nets of the claims up to a place have their blocks
 abbrev pub HaveBlocksBelow : List Claim → List Range → List Block → ℕ → Type 0
@@ -72,5 +68,4 @@ pub all_blocks : {claims : List Claim} {ranges : List Range} {nets at : ℕ} (bl
     HaveBlocksBelow claims ranges blocks at → HaveBlocks claims ranges blocks
 all_blocks {claims} blocks keyed end long so_far net block has =
     let found = keyed.all net (let w = slice_get_within blocks net block has in omega (arith, w, long)) in
-    let inside = slice_get_within claims found.0 found.1 found.2 in
-    so_far found.0 net found.1 block (omega (arith, inside, end)) found.2 found.3 has
+    so_far found.0 net found.1 block (omega (arith, slice_get_within claims found.0 found.1 found.2, end)) found.2 found.3 has

@@ -1,25 +1,20 @@
 -- What the claims of a plan are, and that each net and chip has its own.
 use Rattle.std.proofs.Common.{◌≡◌, ◌≢◌, ℕ, zero, suc, ◌+◌, ◌%◌, ◌^◌, ◌<◌, ◌≤◌, ◌==◌, Bool, true, false, List, [], ◌∷◌, ◌++◌, ◌∙◌, Option, None, Some, if◌then◌else◌}
 use Rattle.std.proofs.Common.{leb, cond, length, map, refl, sym, ap, subst, inl, inr, arith, IfSome, count_by}
-use Rattle.std.specs.Prelude.{find, unwrap_or, zip}
-use Rattle.std.specs.List.{slice_get, Contains, flat_map, range_with_len}
 use Rattle.std.proofs.lemmas.Bool.{cases_eq, le-leb, leb-true, both_ways, eq-eqb, ne_eqb}
 use Rattle.std.proofs.lemmas.Nat.{pow_pos}
+use Rattle.std.specs.Prelude.{find, unwrap_or, zip}
+use Rattle.std.specs.List.{slice_get, Contains, flat_map, range_with_len}
 use Rattle.spin_base.specs.Gathered.{gathered}
+use Rattle.spin_base.specs.declared.blocks.Block.{Block}
 use Rattle.spin_base.proofs.Gathering.{among_gathered, gathered_among}
 use Rattle.spin_base.proofs.Members.{Among, among_contains, contains_among, among_left, among_right, among_either}
 use Rattle.spin_base.proofs.Places.{All-at, slice_get_there, zip-first_at}
-use Rattle.spin_base.specs.declared.blocks.Block.{Block}
-use Rattle.machine_desc.specs.Description.{Description}
-use Rattle.machine_desc.specs.Live.{index_of, chip_of, IsUsable}
-use Rattle.machine_desc.proofs.Far.{index_below, live_inside}
-use Rattle.machine_desc.proofs.Live.{chip_of-inside, index_of-chip_of}
-use Rattle.machine_desc.proofs.Sites.{usable_parts}
+use Rattle.machine_desc.specs.{Description.Description, Live.index_of, Live.chip_of, Live.IsUsable}
+use Rattle.machine_desc.proofs.{Far.index_below, Far.live_inside, Live.chip_of-inside, Live.index_of-chip_of, Sites.usable_parts}
 use Rattle.key_alloc.specs.KeyBlocks.{size_of}
 use Rattle.app_loads.specs.declared.answers.LoadRefusal.TheVariants.{Loaded, MemoryOut, KeysOut, RowsOut}
-use Rattle.app_loads.specs.declared.loaded.Claim.{Claim}
-use Rattle.app_loads.specs.declared.plans.AppNet.{AppNet}
-use Rattle.app_loads.specs.declared.plans.AppPlan.{AppPlan}
+use Rattle.app_loads.specs.declared.{loaded.Claim.Claim, plans.AppNet.AppNet, plans.AppPlan.AppPlan}
 use Rattle.app_loads.specs.Plans.{IsPlan, IsAppNet}
 use Rattle.app_loads.specs.declared.places.Region.TheVariants.{Keys, Memory, Rows}
 use Rattle.app_loads.specs.Regions.{chip_count, place_of}
@@ -47,8 +42,13 @@ find_in_row p f (suc n) a last = by_first (p (f a)) refl (find_in_row p f n (a +
         (0, omega arith, ap (λ b. cond b (Some (f a)) (find p (map f (range_with_len (a + 1) (suc n))))) e ∙ ap (λ i. Some (f i)) (sym z), ap (λ i. p (f i)) z ∙ e)
     by_first false e rest =
         let place : a + 1 + rest.0 ≡ a + suc rest.0 = omega arith in
-        let low = rest.1 in
-        (suc rest.0, omega (arith, low), ap (λ b. cond b (Some (f a)) (find p (map f (range_with_len (a + 1) (suc n))))) e ∙ (rest.2 ∙ ap (λ i. Some (f i)) place), ap (λ i. p (f i)) (sym place) ∙ rest.3)
+        let low = rest.1 in (
+          suc rest.0,
+          omega (arith, low),
+          ap (λ b. cond b (Some (f a)) (find p (map f (range_with_len (a + 1) (suc n))))) e
+              ∙ (rest.2 ∙ ap (λ i. Some (f i)) place),
+          ap (λ i. p (f i)) (sym place) ∙ rest.3,
+        )
 
 pub size_facts : (keys : ℕ) → keys ≤ 4294967296 → (e : ℕ) × (e ≤ 32) × (size_for keys ≡ 2 ^ e) × (keys ≤ 2 ^ e)
 size_facts keys few =
@@ -138,6 +138,7 @@ module _ (m : Description) (plan : AppPlan) (valid : IsPlan m plan) where
   pub record Facts (claim : Claim) : Type 0 where
     pub fair : IsFair m (1 + (n + n)) claim
     pub keyed : (j : ℕ) → claim.refusal ≡ KeysOut j → IsKeyClaim claim j
+    pub row : (i : ℕ) → place_of m claim.region ≡ 1 + (n + i) → claim.size ≡ count_by (has_chip m (chip_of m i)) plan.nets
     pub due : claim.refusal ≢ Loaded
 
   net_at : (j : ℕ) (net : AppNet) → slice_get plan.nets j ≡ Some net → IsAppNet m plan.spots net
@@ -153,6 +154,7 @@ module _ (m : Description) (plan : AppPlan) (valid : IsPlan m plan) where
       subst Facts (sym is.0) (record {
         fair = record { region = inside; there = omega (arith, below); some = is.1; step = omega arith; fixed = tt };
         keyed = λ j e. absurd (never found.0 j e);
+        row = λ j at. absurd (let r : 1 + index_of m found.1.0.chip ≡ 1 + (n + j) = at in omega (arith, r, below));
         due = λ e. cc;
       })
     where
@@ -187,6 +189,7 @@ module _ (m : Description) (plan : AppPlan) (valid : IsPlan m plan) where
               enough = omega (arith, many, size);
               aligned = λ p at p_is. subst (λ q. q % size_of block ≡ 0) (sym p_is) (subst (λ s. block.key % s ≡ 0) (sym size) aligned);
             };
+            row = λ i at. absurd (let r : 0 ≡ 1 + (n + i) = at in omega (arith, r));
             due = λ e'. cc;
           })
 
@@ -215,6 +218,7 @@ module _ (m : Description) (plan : AppPlan) (valid : IsPlan m plan) where
               enough = omega (arith, many, size);
               aligned = λ p at p_is. at;
             };
+            row = λ i at. absurd (let r : 0 ≡ 1 + (n + i) = at in omega (arith, r));
             due = λ e'. cc;
           })
 
@@ -223,11 +227,16 @@ module _ (m : Description) (plan : AppPlan) (valid : IsPlan m plan) where
       let found = among_flat (row_claim m plan.nets) claim (range_with_len 0 n) a in
       let i : ℕ = found.0 in
       let below = (among_range i 0 n found.1).1 in
-      let is = unless_zero (count_by (has_chip m (chip_of m i)) plan.nets) (record { region = Rows (chip_of m i); size = count_by (has_chip m (chip_of m i)) plan.nets; align = 1; fixed = None; refusal = RowsOut (chip_of m i) }) claim found.2 in
+      let is = unless_zero (count_by (has_chip m (chip_of m i)) plan.nets)
+      (record { region = Rows (chip_of m i); size = count_by (has_chip m (chip_of m i)) plan.nets; align = 1; fixed = None; refusal = RowsOut (chip_of m i) }) claim found.2 in
       let index = index_of-chip_of m i in
       subst Facts (sym is.0) (record {
         fair = record { region = chip_of-inside m i (omega (arith, below)); there = omega (arith, below, index); some = is.1; step = omega arith; fixed = tt };
         keyed = λ j e. absurd (never (chip_of m i) j e);
+        row = λ j at.
+            let r : 1 + (n + index_of m (chip_of m i)) ≡ 1 + (n + j) = at in
+            let same : i ≡ j = omega (arith, r, index) in
+            ap (λ k. count_by (has_chip m (chip_of m k)) plan.nets) same;
         due = λ e. cc;
       })
     where
@@ -281,44 +290,4 @@ module _ (m : Description) (plan : AppPlan) (valid : IsPlan m plan) where
 
   -- a claim of entries has as many as nets have the chip
   pub row_size : (claim : Claim) → Contains (claims_of m plan) claim → (i : ℕ) → i < n → place_of m claim.region ≡ 1 + (n + i) → claim.size ≡ count_by (has_chip m (chip_of m i)) plan.nets
-  row_size claim has i below region = elim (among_either claim memory (fixed ++ (keys ++ rows)) (contains_among claim (claims_of m plan) has)) [
-    | inl a ↦ (
-        let found = among_gathered memory_claim claim (zip plan.spots plan.sdram) a in
-        let is = unless_zero found.1.1 (record { region = Memory found.1.0.chip; size = found.1.1; align = 1; fixed = None; refusal = MemoryOut found.0 }) claim found.3 in
-        let usable = All-at (IsUsable m) plan.spots found.0 found.1.0 valid.usable (zip-first_at plan.spots plan.sdram found.0 found.1 found.2) in
-        let low = index_below m found.1.0.chip (live_inside m found.1.0.chip (usable_parts m found.1.0 usable).0) in
-        let r : place_of m claim.region ≡ 1 + index_of m found.1.0.chip = ap (λ (x : Claim). place_of m x.region) is.0 in
-        absurd (omega (arith, r, region, low))
-        )
-    | inr b ↦ elim (among_either claim fixed (keys ++ rows) b) [
-      | inl a ↦ (let k = fixed_region claim a in absurd (omega (arith, k, region)))
-      | inr c ↦ elim (among_either claim keys rows c) [
-        | inl a ↦ (let k = keys_region_of claim a in absurd (omega (arith, k, region)))
-        | inr a ↦ (
-            let found = among_flat (row_claim m plan.nets) claim (range_with_len 0 n) a in
-            let is = unless_zero (count_by (has_chip m (chip_of m found.0)) plan.nets)
-            (record { region = Rows (chip_of m found.0); size = count_by (has_chip m (chip_of m found.0)) plan.nets; align = 1; fixed = None; refusal = RowsOut (chip_of m found.0) }) claim found.2 in
-            let r : place_of m claim.region ≡ 1 + (n + index_of m (chip_of m found.0)) = ap (λ (x : Claim). place_of m x.region) is.0 in
-            let index = index_of-chip_of m found.0 in
-            let same : found.0 ≡ i = omega (arith, r, region, index) in
-            ap (λ (x : Claim). x.size) is.0 ∙ ap (λ k. count_by (has_chip m (chip_of m k)) plan.nets) same
-            )
-      ]
-    ]
-  ]
-    where
-      fixed_region : (claim : Claim) → Among claim fixed → place_of m claim.region ≡ 0
-      fixed_region claim a = let found = among_gathered (λ j (net : AppNet). fixed_claim j net.fixed) claim plan.nets a in by_fixed found.0 found.1.fixed found.3
-        where
-          by_fixed : (j : ℕ) (o : Option Block) → Among claim (fixed_claim j o) → place_of m claim.region ≡ 0
-          by_fixed j None a' = absurd a'
-          by_fixed j (Some block) (inr none) = absurd none
-          by_fixed j (Some block) (inl here) = ap (λ (x : Claim). place_of m x.region) here
-
-      keys_region_of : (claim : Claim) → Among claim keys → place_of m claim.region ≡ 0
-      keys_region_of claim a = let found = among_gathered (λ j (net : AppNet). key_claim j net.keys net.fixed) claim plan.nets a in by_fixed found.0 found.1.keys found.1.fixed found.3
-        where
-          by_fixed : (j k : ℕ) (o : Option Block) → Among claim (key_claim j k o) → place_of m claim.region ≡ 0
-          by_fixed j k (Some block) a' = absurd a'
-          by_fixed j k None (inr none) = absurd none
-          by_fixed j k None (inl here) = ap (λ (x : Claim). place_of m x.region) here
+  row_size claim has i below = (facts claim has).row i

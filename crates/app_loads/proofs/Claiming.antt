@@ -1,19 +1,13 @@
 -- The claims of a plan, item by item, and the least power of two for a number of keys.
-use Rattle.std.proofs.Common.{◌≡◌, ℕ, zero, suc, ◌+◌, ◌/◌, ◌^◌, ◌<◌, ◌≤◌, max, leb, cond, Bool, true, false, inl, inr, refl, sym, ap, ◌∙◌, arith, List, [], ◌∷◌, ◌++◌, map, take, get_or, length, Some, append_assoc}
-use Rattle.std.specs.Prelude.{find, unwrap_or, zip}
-use Rattle.std.specs.Int.{IsPowerOfTwo}
-use Rattle.std.specs.List.{flat_map, range_with_len, slice_get}
-use Rattle.std.proofs.lemmas.Bool.{cases_lt, le-leb, lt-leb}
-use Rattle.std.proofs.Math.Pow.{pow_mono}
-use Rattle.std.proofs.lemmas.Grind.{pow_more}
-use Rattle.std.proofs.lemmas.List.{take_all}
+use Rattle.std.proofs.Common.{◌≡◌, ℕ, zero, suc, ◌+◌, ◌/◌, ◌^◌, ◌<◌, ◌≤◌, max, leb, cond, Bool, true, false, inl, inr, refl, sym, ap, ◌∙◌, arith, List, [], ◌∷◌, ◌++◌}
+use Rattle.std.proofs.Common.{map, take, get_or, length, Some, append_assoc}
+use Rattle.std.proofs.{lemmas.Bool.cases_lt, lemmas.Bool.le-leb, lemmas.Bool.lt-leb, Math.Pow.pow_mono, lemmas.Grind.pow_more, lemmas.List.take_all}
+use Rattle.std.specs.{Prelude.find, Prelude.unwrap_or, Prelude.zip, Int.IsPowerOfTwo, List.flat_map, List.range_with_len, List.slice_get}
 use Rattle.spin_base.specs.Gathered.{gathered}
-use Rattle.spin_base.proofs.Gathering.{gathered_more}
 use Rattle.spin_base.specs.declared.chips.Spot.{Spot}
+use Rattle.spin_base.proofs.Gathering.{gathered_more}
 use Rattle.machine_desc.specs.Description.{Description}
-use Rattle.app_loads.specs.declared.loaded.Claim.{Claim}
-use Rattle.app_loads.specs.declared.plans.AppNet.{AppNet}
-use Rattle.app_loads.specs.declared.plans.AppPlan.{AppPlan}
+use Rattle.app_loads.specs.declared.{loaded.Claim.Claim, plans.AppNet.AppNet, plans.AppPlan.AppPlan}
 use Rattle.app_loads.specs.Regions.{chip_count}
 use Rattle.app_loads.specs.Claims.{size_for, memory_claim, fixed_claim, key_claim, row_claim, claims_of}
 
@@ -96,8 +90,7 @@ size_is keys size some few power enough half_below = by_power power.0 power.1
         lower j less =
             let z : 0 + j ≡ j = omega arith in
             let up : 2 ^ (j + 1) ≤ 2 ^ k = pow_mono (omega (arith, less)) in
-            let twice = pow_more 2 j in
-            let w : 2 ^ j < keys = omega (arith, up, twice, is, half_below, some) in
+            let w : 2 ^ j < keys = omega (arith, up, pow_more 2 j, is, half_below, some) in
             ap (λ i. leb keys (2 ^ i)) z ∙ lt-leb keys (2 ^ j) w
 
 -- ---- all claims
@@ -107,7 +100,8 @@ pub claims_joined : (m : Description) (plan : AppPlan) (spots : List Spot) (sdra
     x3 ≡ x2 ++ gathered (λ j (net : AppNet). key_claim j net.keys net.fixed) 0 keys → rows ≡ plan.nets → x4 ≡ x3 ++ flat_map (row_claim m rows) (range_with_len 0 (chip_count m)) →
     x4 ≡ claims_of m plan
 claims_joined m plan spots sdram fixed keys rows x0 x1 x2 x3 x4 e0 is_spots is_sdram e1 is_fixed e2 is_keys e3 is_rows e4 =
-    joined (gathered memory_claim 0 (zip plan.spots plan.sdram)) (gathered (λ j (net : AppNet). fixed_claim j net.fixed) 0 plan.nets) (gathered (λ j (net : AppNet). key_claim j net.keys net.fixed) 0 plan.nets)
+    joined (gathered memory_claim 0 (zip plan.spots plan.sdram)) (gathered (λ j (net : AppNet). fixed_claim j net.fixed) 0 plan.nets)
+    (gathered (λ j (net : AppNet). key_claim j net.keys net.fixed) 0 plan.nets)
     (flat_map (row_claim m plan.nets) (range_with_len 0 (chip_count m))) x0 x1 x2 x3 x4 e0
     (e1 ∙ (ap (λ l. x0 ++ gathered memory_claim 0 (zip l sdram)) is_spots ∙ ap (λ l. x0 ++ gathered memory_claim 0 (zip plan.spots l)) is_sdram))
     (e2 ∙ ap (λ l. x1 ++ gathered (λ j (net : AppNet). fixed_claim j net.fixed) 0 l) is_fixed)

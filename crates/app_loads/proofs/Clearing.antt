@@ -1,23 +1,17 @@
 -- Entries made unused.
 use Rattle.std.proofs.Common.{◌≡◌, ◌≢◌, ℕ, ◌+◌, ◌<◌, ◌≤◌, Bool, true, false, ◌||◌, ◌&&◌, ◌==◌, List, take, get_or, length, refl, sym, ap, ◌∙◌, inl, inr, arith, subst, Some}
-use Rattle.std.specs.List.{slice_get, slice_set}
 use Rattle.std.proofs.lemmas.Bool.{cases_Bool, cases_eq, eq-eqb, ne_eqb}
-use Rattle.std.proofs.lemmas.List.{length-set}
-use Rattle.std.proofs.lemmas.Option.{slice_get-get_or}
-use Rattle.spin_base.specs.declared.blocks.Entry.{Entry}
-use Rattle.spin_base.specs.declared.chips.Chip.{Chip}
-use Rattle.machine_desc.specs.Description.{Description}
-use Rattle.machine_desc.specs.Live.{index_of, IsInside}
+use Rattle.std.proofs.{lemmas.List.length-set, lemmas.Option.slice_get-get_or, Math.Bool.or-false}
+use Rattle.std.specs.List.{slice_get, slice_set}
+use Rattle.spin_base.specs.declared.{blocks.Entry.Entry, chips.Chip.Chip}
+use Rattle.machine_desc.specs.{Description.Description, Live.index_of, Live.IsInside, RightTables.table_at}
 use Rattle.machine_desc.proofs.Far.{index_below}
-use Rattle.machine_desc.specs.RightTables.{table_at}
 use Rattle.range_store.specs.Regions.{in_range}
-use Rattle.app_loads.specs.declared.loaded.Range.{Range}
-use Rattle.app_loads.specs.declared.places.Region.TheVariants.{Rows}
+use Rattle.app_loads.specs.declared.{loaded.Range.Range, places.Region.TheVariants.Rows}
 use Rattle.app_loads.specs.Regions.{IsRangeWithin, chip_count, range_has, is_taken, place_of, region_size}
 use Rattle.app_loads.specs.Writing.{AreUnused, AreUnusedFrom, CanClear}
 use Rattle.app_loads.proofs.Copying.{IsOfChip, changed_here, same_elsewhere, was_here, none_more, taken_more}
 use Rattle.app_loads.proofs.Settling.{rows_size}
-use Rattle.std.proofs.Math.Bool.{or-false}
 
 module _ {m : Description} {old cur : List (List Entry)} {ranges : List Range} {i : ℕ} (d : Range) (can : CanClear m old ranges) (below : i < length ranges)
     (so_far : AreUnused m (take i ranges) old cur) where
@@ -34,7 +28,8 @@ module _ {m : Description} {old cur : List (List Entry)} {ranges : List Range} {
   within = can.within i d below
 
   before : (region k : ℕ) → is_taken (take (i + 1) ranges) region k ≡ true → range_has region k range ≡ false → is_taken (take i ranges) region k ≡ true
-  before region k hit not_mine = sym (or-false (is_taken (take i ranges) region k)) ∙ (ap (λ b. is_taken (take i ranges) region k || (b || false)) (sym not_mine) ∙ (sym (taken_more ranges i range region k at) ∙ hit))
+  before region k hit not_mine = sym (or-false (is_taken (take i ranges) region k))
+      ∙ (ap (λ b. is_taken (take i ranges) region k || (b || false)) (sym not_mine) ∙ (sym (taken_more ranges i range region k at) ∙ hit))
 
   of_other : (region k : ℕ) → range.region ≢ region → range_has region k range ≡ false
   of_other region k other = ap (λ b. b && in_range range.place range.size k) (ne_eqb range.region region other)
@@ -44,7 +39,8 @@ module _ {m : Description} {old cur : List (List Entry)} {ranges : List Range} {
   unused_skip none = record {
     all = so_far.all;
     long = so_far.long;
-    cleared = λ c k inside small hit. so_far.cleared c k inside small (before (place_of m (Rows c)) k hit (of_other (place_of m (Rows c)) k (λ e. let r : range.region ≡ 1 + (n + index_of m c) = e in absurd (omega (arith, r, none)))));
+    cleared = λ c k inside small hit. so_far.cleared c k inside small
+        (before (place_of m (Rows c)) k hit (of_other (place_of m (Rows c)) k (λ e. let r : range.region ≡ 1 + (n + index_of m c) = e in absurd (omega (arith, r, none)))));
     others = λ c k inside free. so_far.others c k inside (none_more ranges i range (place_of m (Rows c)) k at free).0;
   }
 
@@ -85,7 +81,8 @@ module _ {m : Description} {old cur : List (List Entry)} {ranges : List Range} {
           ]
           | inr other ↦
               ap (λ l. slice_get l k) (elsewhere c inside other)
-              ∙ so_far.cleared c k inside small (before (place_of m (Rows c)) k hit (of_other (place_of m (Rows c)) k (λ e. other (let r : range.region ≡ 1 + (n + index_of m c) = e in let s = region_at in omega (arith, r, s)))))
+              ∙ so_far.cleared c k inside small (before (place_of m (Rows c)) k hit
+              (of_other (place_of m (Rows c)) k (λ e. other (let r : range.region ≡ 1 + (n + index_of m c) = e in let s = region_at in omega (arith, r, s)))))
         ];
         others = λ c k inside free.
             let p = none_more ranges i range (place_of m (Rows c)) k at free in

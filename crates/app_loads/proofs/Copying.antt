@@ -1,34 +1,29 @@
 -- Rows put into ranges of entries.
-use Rattle.std.proofs.Common.{◌≡◌, ◌≢◌, ℕ, zero, suc, ◌+◌, ◌<◌, ◌≤◌, true, false, ◌||◌, ◌&&◌, ◌==◌, List, [], ◌∷◌, ◌++◌, take, drop, get_or, length, map, set, refl, sym, ap, ◌∙◌, subst, inl, inr, ◌⊎◌, arith, Some, append_assoc}
-use Rattle.std.specs.List.{AllZip, slice_get, slice_set, Contains}
-use Rattle.std.proofs.lemmas.List.Sorted.{IsPermutation-refl}
+use Rattle.std.proofs.Common.{◌≡◌, ◌≢◌, ℕ, zero, suc, ◌+◌, ◌<◌, ◌≤◌, true, false, ◌||◌, ◌&&◌, ◌==◌, List, [], ◌∷◌, ◌++◌, take, drop, get_or, length, map, set, refl, sym}
+use Rattle.std.proofs.Common.{ap, ◌∙◌, subst, inl, inr, ◌⊎◌, arith, Some, append_assoc}
 use Rattle.std.proofs.Math.Seq.{drop-cons}
 use Rattle.std.proofs.lemmas.Bool.{cases_Bool, cases_eq, cases_lt, eq-eqb, and_from, or_parts}
 use Rattle.std.proofs.Math.ListN.{get_or-map}
 use Rattle.std.proofs.lemmas.List.{length-set, length-append, length-take-le, length-map, length-drop, map-append, set_at, get_or-take, take_all}
 use Rattle.std.proofs.lemmas.List.Folds.{list_any-append}
 use Rattle.std.proofs.lemmas.Option.{slice_get_within, slice_get-get_or, get_or_from_slice_get, same_Some}
+use Rattle.std.specs.List.{AllZip, slice_get, slice_set, Contains}
 use Rattle.key_alloc.proofs.Ranges.{in_from}
 use Rattle.spin_base.proofs.Members.{Contains-at, among_contains, contains_among, among_either}
 use Rattle.spin_base.proofs.Places.{AllZip-more, slice_get-set_same, slice_get-set_other, take_more_at, map_more_at}
-use Rattle.spin_base.specs.declared.blocks.Entry.{Entry}
-use Rattle.spin_base.specs.declared.chips.Chip.{Chip}
-use Rattle.machine_desc.specs.Description.{Description}
-use Rattle.machine_desc.specs.Live.{index_of, IsInside}
+use Rattle.spin_base.specs.declared.{blocks.Entry.Entry, chips.Chip.Chip}
+use Rattle.machine_desc.specs.{Description.Description, Live.index_of, Live.IsInside, RightTables.table_at}
 use Rattle.machine_desc.proofs.Far.{index_below}
-use Rattle.machine_desc.specs.RightTables.{table_at}
 use Rattle.range_store.specs.Regions.{in_range}
-use Rattle.tern_word.specs.declared.tables.Row.{Row}
-use Rattle.tern_word.specs.declared.tables.Table.{Table}
+use Rattle.range_store.proofs.HolePlaces.{clash}
+use Rattle.tern_word.specs.declared.tables.{Row.Row, Table.Table}
 use Rattle.tern_word.specs.Entries.{entry_of}
 use Rattle.net_tables.specs.declared.marks.Mark.{Mark}
 use Rattle.net_tables.specs.Marks.{IsTableOf, row_of_mark, table_of_sorted}
-use Rattle.app_loads.specs.declared.loaded.Range.{Range}
-use Rattle.app_loads.specs.declared.places.Region.{Region}
+use Rattle.app_loads.specs.declared.{loaded.Range.Range, places.Region.Region}
 use Rattle.app_loads.specs.declared.places.Region.TheVariants.{Keys, Memory, Rows}
 use Rattle.app_loads.specs.Regions.{ShareNoPlace, IsRegion, chip_count, range_has, is_taken, place_of}
 use Rattle.app_loads.specs.Writing.{AreCopied, CanCopy, tables_in}
-use Rattle.range_store.proofs.HolePlaces.{clash}
 
 -- ---- a list with a part written
 
@@ -117,7 +112,8 @@ not_in p s k out = elim (cases_lt k p) [
 pub mine_at : (range : Range) (region k : ℕ) → range.region ≡ region → range.place ≤ k → k < range.place + range.size → range_has region k range ≡ true
 mine_at range region k is low high = and_from (range.region == region) (in_range range.place range.size k) (eq-eqb range.region region is) (in_from range.place range.size k low high)
 
-pub taken_more : (ranges : List Range) (i : ℕ) (range : Range) (region k : ℕ) → slice_get ranges i ≡ Some range → is_taken (take (i + 1) ranges) region k ≡ (is_taken (take i ranges) region k || (range_has region k range || false))
+pub taken_more : (ranges : List Range) (i : ℕ) (range : Range) (region k : ℕ) → slice_get ranges i ≡ Some range →
+    is_taken (take (i + 1) ranges) region k ≡ (is_taken (take i ranges) region k || (range_has region k range || false))
 taken_more ranges i range region k at = ap (λ l. is_taken l region k) (take_more_at ranges i range at) ∙ list_any-append (range_has region k) (take i ranges) (range ∷ [])
 
 -- a place that none of so many ranges and one more has
@@ -153,17 +149,9 @@ module _ (m : Description) (cur : List (List Entry)) (long : length cur ≡ chip
 
 -- ---- lists of original blocks in order
 
--- a list without two items is in order
-pub few_in_order : (marks : List Mark) → length marks < 2 → IsTableOf marks (table_of_sorted marks)
-few_in_order marks few = record {
-  sorted = marks;
-  same = IsPermutation-refl marks;
-  rows_are = refl;
-  in_order = λ i j d less below. absurd (let long = length-map marks row_of_mark in omega (arith, few, less, below, long));
-}
-
 -- one list more
-pub one_more_in_order : (lists sorted more : List (List Mark)) (marks x : List Mark) (rest : List (List Mark)) → drop (length sorted) lists ≡ marks ∷ rest → AllZip IsTableOf (take (length sorted) lists) (tables_in sorted) → more ≡ sorted ++ x ∷ [] →
+pub one_more_in_order : (lists sorted more : List (List Mark)) (marks x : List Mark) (rest : List (List Mark)) → drop (length sorted) lists ≡ marks ∷ rest →
+    AllZip IsTableOf (take (length sorted) lists) (tables_in sorted) → more ≡ sorted ++ x ∷ [] →
     IsTableOf marks (table_of_sorted x) → AllZip IsTableOf (take (length more) lists) (tables_in more) × (rest ≡ drop (length more) lists)
 one_more_in_order lists sorted more marks x rest left so_far is here =
     let k : ℕ = length sorted in
@@ -178,11 +166,11 @@ one_more_in_order lists sorted more marks x rest left so_far is here =
     )
 
 -- where no list is left, all are in order
-pub all_in_order : (lists sorted left : List (List Mark)) → left ≡ drop (length sorted) lists → length left ≡ 0 → AllZip IsTableOf (take (length sorted) lists) (tables_in sorted) → AllZip IsTableOf lists (tables_in sorted)
+pub all_in_order : (lists sorted left : List (List Mark)) → left ≡ drop (length sorted) lists → length left ≡ 0 →
+    AllZip IsTableOf (take (length sorted) lists) (tables_in sorted) → AllZip IsTableOf lists (tables_in sorted)
 all_in_order lists sorted left is none so_far =
     let d = length-drop (length sorted) lists in
-    let l = ap length is in
-    subst (λ (xs : List (List Mark)). AllZip IsTableOf xs (tables_in sorted)) (take_all (length sorted) lists (omega (arith, d, l, none))) so_far
+    subst (λ (xs : List (List Mark)). AllZip IsTableOf xs (tables_in sorted)) (take_all (length sorted) lists (omega (arith, d, ap length is, none))) so_far
 
 -- the rows of a list of original blocks
 pub rows_listed : (marks : List Mark) (lists : List (List Mark)) (j : ℕ) (d : List Mark) → marks ≡ get_or lists j d → (get_or (tables_in lists) j (table_of_sorted d)).rows ≡ map row_of_mark marks
@@ -292,12 +280,10 @@ module _ {m : Description} {old cur : List (List Entry)} {rows : List Table} {ra
         table_long =
             let f = fit.0 in
             let t = T_long in
-            let l = ap length table_is in
             let one = length-append (take range.place T) (b ++ drop (range.place + length b) T) in
             let two = length-append b (drop (range.place + length b) T) in
             let three = length-take-le range.place T (omega (arith, f, t)) in
-            let four = length-drop (range.place + length b) T in
-            omega (arith, f, t, l, one, two, three, four, b_long)
+            omega (arith, f, t, ap length table_is, one, two, three, length-drop (range.place + length b) T, b_long)
 
         outside : (k : ℕ) → in_range range.place range.size k ≡ false → slice_get table k ≡ slice_get T k
         outside k out =
@@ -327,9 +313,8 @@ module _ {m : Description} {old cur : List (List Entry)} {rows : List Table} {ra
         earlier_apart other has =
             let less : has.0 < i = (let w = has.1 in let l = length-take-le i ranges (omega (arith, below)) in omega (arith, w, l)) in
             let same : get_or ranges has.0 other ≡ other = sym (get_or-take i ranges has.0 other less) ∙ has.2 in
-            let pair = can.apart has.0 i other less below in
             let here : get_or ranges i other ≡ range = get_or_from_slice_get ranges i range other at in
-            subst (λ (r : Range). ShareNoPlace r range) same (subst (λ (r : Range). ShareNoPlace (get_or ranges has.0 other) r) here pair)
+            subst (λ (r : Range). ShareNoPlace r range) same (subst (λ (r : Range). ShareNoPlace (get_or ranges has.0 other) r) here (can.apart has.0 i other less below))
 
         pub copied_more : AreCopied m rows (take (i + 1) ranges) old (slice_set cur j table)
         copied_more = record {
@@ -349,7 +334,8 @@ module _ {m : Description} {old cur : List (List Entry)} {rows : List Table} {ra
                   let one : t ≡ R = same_Some _ _ (sym is_t ∙ (ap (slice_get rows) (same ∙ sym of.index_is) ∙ R_at)) in
                   ap (λ (r : Range). take r.size (drop r.place (table_at m (slice_set cur j table) c))) mine
                   ∙ (ap (λ l. take range.size (drop range.place l)) (here_at c same ∙ table_is)
-                  ∙ (part_of (take range.place T) b (drop (range.place + length b) T) range.place range.size (length-take-le range.place T (let f = fit.0 in let w = T_long in omega (arith, f, w))) (fit.1 ∙ sym b_long)
+                  ∙ (part_of (take range.place T) b (drop (range.place + length b) T) range.place range.size
+                  (length-take-le range.place T (let f = fit.0 in let w = T_long in omega (arith, f, w))) (fit.1 ∙ sym b_long)
                   ∙ ap (λ (x : Table). map entry_of x.rows) (sym one)))
             ]
             | inr differ ↦ elim (member_more ranges i range other at has) [
@@ -372,7 +358,8 @@ module _ {m : Description} {old cur : List (List Entry)} {rows : List Table} {ra
             out_of : (region k : ℕ) → range.region ≡ region → range_has region k range ≡ false → in_range range.place range.size k ≡ false
             out_of region k r f = sym (ap (λ q. q && in_range range.place range.size k) (eq-eqb range.region region r)) ∙ f
 
-            apart_here : (c : Chip) (other : Range) → Contains (take i ranges) other → index_of m c ≡ j → other.region ≡ place_of m (Rows c) → (k : ℕ) → other.place ≤ k → k < other.place + other.size → in_range range.place range.size k ≡ false
+            apart_here : (c : Chip) (other : Range) → Contains (take i ranges) other → index_of m c ≡ j → other.region ≡ place_of m (Rows c) → (k : ℕ) →
+                other.place ≤ k → k < other.place + other.size → in_range range.place range.size k ≡ false
             apart_here c other before same region k low high = elim (cases_Bool (in_range range.place range.size k)) [
               | inr out ↦ out
               | inl within ↦
@@ -380,5 +367,6 @@ module _ {m : Description} {old cur : List (List Entry)} {rows : List Table} {ra
                   (and_from (range.region == place_of m (Rows c)) (in_range range.place range.size k) (eq-eqb range.region (place_of m (Rows c)) (region_of c same)) within))
             ]
 
-pub all_copied : (m : Description) (rows : List Table) (ranges : List Range) (old cur : List (List Entry)) (i : ℕ) → length ranges ≤ i → AreCopied m rows (take i ranges) old cur → AreCopied m rows ranges old cur
+pub all_copied : (m : Description) (rows : List Table) (ranges : List Range) (old cur : List (List Entry)) (i : ℕ) → length ranges ≤ i →
+    AreCopied m rows (take i ranges) old cur → AreCopied m rows ranges old cur
 all_copied m rows ranges old cur i end so_far = subst (λ l. AreCopied m rows l old cur) (take_all i ranges end) so_far

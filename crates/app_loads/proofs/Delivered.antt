@@ -1,29 +1,19 @@
 -- Of packets of which no copy is under way, two meshes that meet the ledger of the same packets have as many deliveries.
 use Rattle.std.proofs.Common.{◌≡◌, ℕ, ◌≤◌, ◌==◌, ◌&&◌, Bool, true, List, [], length, sym, ap, ◌∙◌, subst, arith, Option, Some, count_by}
+use Rattle.std.proofs.lemmas.{Bool.and_from, Bool.and_parts, Bool.eqb-true, Bool.eq-eqb, List.Sums.length-filter, Option.same_Some}
 use Rattle.std.specs.List.{filter, Contains}
-use Rattle.std.proofs.lemmas.Bool.{and_from, and_parts, eqb-true, eq-eqb}
-use Rattle.std.proofs.lemmas.List.Sums.{length-filter}
-use Rattle.std.proofs.lemmas.Option.{same_Some}
 use Rattle.spin_base.proofs.Counts.{count_by-append, count_by-map}
 use Rattle.spin_base.proofs.Members.{Among, among_contains, among_filter, contains_among, Contains-filter}
-use Rattle.spin_base.specs.declared.chips.Spot.{Spot}
-use Rattle.spin_base.specs.declared.copies.McCopy.{McCopy}
-use Rattle.spin_base.specs.declared.copies.Delivery.{Delivery}
-use Rattle.spin_base.specs.declared.copies.DumpRec.{DumpRec}
-use Rattle.machine_desc.specs.Description.{Description}
-use Rattle.machine_desc.specs.Branch.{Exit}
+use Rattle.spin_base.specs.declared.{chips.Spot.Spot, copies.McCopy.McCopy, copies.Delivery.Delivery, copies.DumpRec.DumpRec}
+use Rattle.machine_desc.specs.{Description.Description, Branch.Exit}
 use Rattle.machine_desc.specs.declared.nets.NetPlan.{NetPlan}
-use Rattle.machine_desc.specs.RightTables.{IsKeyOf}
-use Rattle.machine_desc.specs.NetsOn.{AreNetsOn, IsWayOn}
+use Rattle.machine_desc.specs.{RightTables.IsKeyOf, NetsOn.AreNetsOn, NetsOn.IsWayOn}
 use Rattle.mesh_core.specs.State.{State}
 use Rattle.mesh_core.specs.Trail.{Station, unsent, in_queue, in_hand, at_core, delivered, dumped, Mark, on_trail, is_packet_on_trail, IsUnderWayAt}
 use Rattle.mesh_core.specs.Ledger.{marks_of, unsent_marks, input_marks, all_hand_marks, core_marks, delivered_marks, dumped_marks, Asked, label_of, MeetsLedgerFor}
 use Rattle.mesh_core.proofs.Counting.{count_covered, count_le, counted}
 use Rattle.mesh_core.proofs.ExpectedList.{is_of, is_of_from, is_of_parts}
-use Rattle.mesh_core.proofs.LedgerLaw.{one_net}
-use Rattle.mesh_core.proofs.Moves.{mark}
-use Rattle.mesh_core.proofs.Standing.{StandsAt, delivered_mark, mark_stands}
-use Rattle.mesh_core.proofs.Ways.{vertex_at_stands}
+use Rattle.mesh_core.proofs.{LedgerLaw.one_net, Moves.mark, Standing.StandsAt, Standing.delivered_mark, Standing.mark_stands, Ways.vertex_at_stands}
 use Rattle.app_loads.proofs.LeavingLists.{after_cores, after_hands, after_inputs, after_unsent}
 
 abbrev mark_of : Delivery → Mark
@@ -37,8 +27,7 @@ few_delivered p s =
     let second = count_by-append p (input_marks s) (after_inputs s) in
     let third = count_by-append p (all_hand_marks s) (after_hands s) in
     let fourth = count_by-append p (core_marks s) (after_cores s) in
-    let fifth = count_by-append p (delivered_marks s) (dumped_marks s) in
-    omega (arith, mapped, first, second, third, fourth, fifth)
+    omega (arith, mapped, first, second, third, fourth, count_by-append p (delivered_marks s) (dumped_marks s))
 
 -- What the ledger says of a delivery: the way on which it came, and what was asked for.
 record HasArrived (s : State) (nets : List NetPlan) (asked : ℕ → Option Asked) (d : Delivery) : Type 0 where
@@ -83,8 +72,7 @@ module _ (s : State) (nets : List NetPlan) (asked : ℕ → Option Asked) (meets
   one_on_way i a is net in_nets key target branch from to way =
       let k = meets.each_asked i a is in
       let its : k.0.copy.key ≡ a.label.key =
-      (meets.ledger.labelled k.0 k.1).0 ∙ (ap (λ n. (label_of (asked n)).key) k.2 ∙ ap (λ (o : Option Asked). (label_of o).key) is)
-      in
+      (meets.ledger.labelled k.0 k.1).0 ∙ (ap (λ n. (label_of (asked n)).key) k.2 ∙ ap (λ (o : Option Asked). (label_of o).key) is) in
       ap (λ n. count_by (is_packet_on_trail n from to branch) (marks_of s)) (sym k.2)
       ∙ meets.ledger.once_on_each k.0 k.1 net in_nets (subst (λ n. IsKeyOf net.block n) (sym its) key) target branch from to way
 
@@ -121,8 +109,7 @@ module _ (one_way : HasOneWay) (s t : State) (nets : List NetPlan) (asked : ℕ 
       let v = has_arrived s nets asked meets d a in
       let one =
       one_on_way t nets asked also d.copy.packet v.for v.was_asked v.net v.in_nets (subst (λ n. IsKeyOf v.net.block n) v.key v.is_key) v.target v.branch v.from d.vertex
-      (there v.net v.target v.branch v.from d.vertex v.way)
-      in
+      (there v.net v.target v.branch v.from d.vertex v.way) in
       let k = counted (is_packet_on_trail d.copy.packet v.from d.vertex v.branch) (marks_of t) (omega (arith, one)) in
       let parts = and_parts (k.0.copy.packet == d.copy.packet) (on_trail v.from d.vertex v.branch k.0.copy.hop k.0.station) k.2 in
       let number : k.0.copy.packet ≡ d.copy.packet = eqb-true k.0.copy.packet d.copy.packet parts.0 in
@@ -158,24 +145,18 @@ module _ (one_way : HasOneWay) (s t : State) (nets : List NetPlan) (asked : ℕ 
       let key : IsKeyOf u.net.block v.for.label.key = subst (λ (x : Asked). IsKeyOf u.net.block x.label.key) what (subst (λ n. IsKeyOf u.net.block n) u.key u.is_key) in
       let net : u.net ≡ v.net = one_net nets meets.ledger.nets_stand.disjoint u.net v.net u.in_nets v.in_nets v.for.label.key key its in
       let at_w : IsWayOn s.setup.machine s.setup.spots u.net u.target u.branch u.from w.vertex =
-      subst (λ n. IsWayOn s.setup.machine s.setup.spots u.net u.target u.branch u.from n) same.1 u.way
-      in
+      subst (λ n. IsWayOn s.setup.machine s.setup.spots u.net u.target u.branch u.from n) same.1 u.way in
       let target : u.target ≡ v.target =
-      same_Some u.target v.target (sym (vertex_at_stands s.setup.spots u.target w.vertex at_w.ends) ∙ vertex_at_stands s.setup.spots v.target w.vertex way.ends)
-      in
+      same_Some u.target v.target (sym (vertex_at_stands s.setup.spots u.target w.vertex at_w.ends) ∙ vertex_at_stands s.setup.spots v.target w.vertex way.ends) in
       let along : IsWayOn s.setup.machine s.setup.spots v.net v.target u.branch u.from w.vertex =
       subst (λ (x : Spot). IsWayOn s.setup.machine s.setup.spots v.net x u.branch u.from w.vertex) target
-      (subst (λ (n : NetPlan). IsWayOn s.setup.machine s.setup.spots n u.target u.branch u.from w.vertex) net at_w)
-      in
+      (subst (λ (n : NetPlan). IsWayOn s.setup.machine s.setup.spots n u.target u.branch u.from w.vertex) net at_w) in
       let branch : u.branch ≡ v.branch =
-      (one_way s.setup.machine s.setup.spots nets v.net v.target u.branch v.branch u.from v.from w.vertex w.vertex meets.ledger.nets_stand v.in_nets along way).0
-      in
+      (one_way s.setup.machine s.setup.spots nets v.net v.target u.branch v.branch u.from v.from w.vertex w.vertex meets.ledger.nets_stand v.in_nets along way).0 in
       and_from (d.copy.packet == w.copy.packet) ((d.vertex == w.vertex) && (d.copy.hop == length v.branch)) (eq-eqb d.copy.packet w.copy.packet same.0)
       (and_from (d.vertex == w.vertex) (d.copy.hop == length v.branch) (eq-eqb d.vertex w.vertex same.1)
-      (eq-eqb d.copy.hop (length v.branch) (u.hops ∙ ap length branch))))
-      in
-      let all = few_delivered trail s in
-      omega (arith, one, fewer, all)
+      (eq-eqb d.copy.hop (length v.branch) (u.hops ∙ ap length branch)))) in
+      omega (arith, one, fewer, few_delivered trail s)
 
   -- so there are no more of them than on the other mesh
   pub no_more : length (filter is_own s.delivered) ≤ length (filter is_own t.delivered)

@@ -1,28 +1,18 @@
 -- Deliveries that came earlier change nothing of what events do, and where no copy waits, all that is unsent keeps its ledger without
 -- them.
 use Rattle.std.proofs.Common.{◌≡◌, ℕ, ◌/◌, ◌%◌, ◌≤◌, ◌&&◌, Bool, true, false, List, [], ◌∷◌, ◌++◌, count_by, refl, sym, ap, ◌∙◌, subst, arith, inl, inr, Option, None, Some, if◌then◌else◌, not}
+use Rattle.std.proofs.lemmas.{Bool.eq-eqb, List.append_assoc, List.append-nil, List.Elements.Contains-append_left, Option.same_Some}
 use Rattle.std.specs.Prelude.{unwrap_or, slice_set}
 use Rattle.std.specs.List.{slice_get, Contains}
-use Rattle.std.proofs.lemmas.Bool.{eq-eqb}
-use Rattle.std.proofs.lemmas.List.{append_assoc, append-nil}
-use Rattle.std.proofs.lemmas.List.Elements.{Contains-append_left}
-use Rattle.std.proofs.lemmas.Option.{same_Some}
 use Rattle.spin_base.proofs.Counts.{count_by-append, count_by-cons}
 use Rattle.spin_base.proofs.Gathering.{among_gathered, gathered_of_none}
 use Rattle.spin_base.proofs.Members.{Among, among_map, contains_among}
-use Rattle.spin_base.specs.declared.chips.Chip.{Chip}
-use Rattle.spin_base.specs.declared.chips.Spot.{Spot}
-use Rattle.spin_base.specs.declared.chips.Port.{Port}
-use Rattle.spin_base.specs.declared.chips.Port.TheVariants.{Local}
-use Rattle.spin_base.specs.declared.copies.Delivery.{Delivery}
-use Rattle.spin_base.specs.declared.copies.Event.{Event}
+use Rattle.spin_base.specs.declared.chips.{Chip.Chip, Spot.Spot, Port.Port, Port.TheVariants.Local}
+use Rattle.spin_base.specs.declared.copies.{Delivery.Delivery, Event.Event}
 use Rattle.spin_base.specs.declared.copies.Event.TheVariants.{Inject, Take, Send, Dump, Collect}
-use Rattle.spin_base.specs.declared.copies.McCopy.{McCopy}
-use Rattle.spin_base.specs.declared.routes.Out.{Out}
+use Rattle.spin_base.specs.declared.{copies.McCopy.McCopy, routes.Out.Out}
 use Rattle.spin_base.specs.Hops.{onward}
-use Rattle.machine_desc.specs.Branch.{Exit}
-use Rattle.machine_desc.specs.Live.{chip_of, index_of}
-use Rattle.machine_desc.specs.NetsOn.{vertex_at}
+use Rattle.machine_desc.specs.{Branch.Exit, Live.chip_of, Live.index_of, NetsOn.vertex_at}
 use Rattle.machine_desc.specs.declared.nets.NetPlan.{NetPlan}
 use Rattle.mesh_core.specs.Expected.{NothingWaits}
 use Rattle.mesh_core.specs.Ledger.{Label, MeetsLedger, all_hand_marks, core_marks, delivered_marks, dumped_marks, hand_marks, input_marks, marks_at, marks_of, port_of, unsent_marks}
@@ -59,7 +49,8 @@ module _ (ds : List Delivery) where
 
   injected : (s : State) (v : ℕ) (spot : Option Spot) (q : Option (List McCopy)) → inject_of (we s) v spot q ≡ later (inject_of s v spot q)
   injected s v (Some spot) (Some (k ∷ rest)) =
-      chosen (has_room_behind s (input (queue_at s.setup.machine spot.chip Local))) _ (push_behind (record s { unsent = slice_set s.unsent v rest }) (input (queue_at s.setup.machine spot.chip Local)) k) refl
+      chosen (has_room_behind s (input (queue_at s.setup.machine spot.chip Local))) _
+      (push_behind (record s { unsent = slice_set s.unsent v rest }) (input (queue_at s.setup.machine spot.chip Local)) k) refl
   injected s v (Some spot) (Some []) = refl
   injected s v (Some spot) None = refl
   injected s v None q = refl
@@ -122,9 +113,8 @@ module _ (ds : List Delivery) where
 pub passes_once : {X : Type 0} (p : X → Bool) (xs : List X) (x : X) → Among x xs → p x ≡ true → 1 ≤ count_by p xs
 passes_once p [] x a passes = absurd a
 passes_once p (y ∷ ys) x (inl is) passes =
-    let one = count_by-cons p y ys in
     let here : (if p y then 1 else 0) ≡ 1 = ap (λ b. one_if b) (ap p (sym is) ∙ passes) in
-    omega (arith, one, here)
+    omega (arith, count_by-cons p y ys, here)
   where
     one_if : Bool → ℕ
     one_if b = if b then 1 else 0
@@ -180,9 +170,8 @@ module _ (ds : List Delivery) (s : State) (nets : List NetPlan) (labels : ℕ �
         let test : p k ≡ true = ap (λ b. b && on_trail from to branch k.copy.hop k.station) (eq-eqb k.copy.packet k.copy.packet refl) ∙ passes in
         let some = passes_once p (unsent_marks s) k (contains_among k (unsent_marks s) (in_own k has)) test in
         let all : count_by p (unsent_marks s ++ behind_unsent) ≡ 1 = l.once_on_each k (in_whole k has) net in_nets key target branch from to way in
-        let split = count_by-append p (unsent_marks s) behind_unsent in
         let here : count_by p (marks_of s) ≡ count_by p (unsent_marks s) = ap (count_by p) own in
-        omega (arith, some, all, split, here);
+        omega (arith, some, all, count_by-append p (unsent_marks s) behind_unsent, here);
   }
 
 -- where no copy waits, and none was delivered or dropped but earlier, a mesh meets a ledger without the earlier deliveries

@@ -1,20 +1,12 @@
 -- A plan asks the regions for few ranges: at most 262,144.
 use Rattle.std.proofs.Common.{◌≡◌, ℕ, ◌+◌, ◌*◌, ◌≤◌, ◌==◌, Bool, true, false, List, [], ◌∷◌, ◌++◌, length, arith, Option, Some, None, if◌then◌else◌, count_by}
-use Rattle.std.specs.Prelude.{zip}
-use Rattle.std.specs.List.{flat_map, range_with_len}
-use Rattle.std.proofs.lemmas.List.{length-append}
-use Rattle.std.proofs.lemmas.List.FromFn.{length-range_with_len}
-use Rattle.std.proofs.lemmas.Nat.{mul-le}
-use Rattle.std.proofs.lemmas.Slice.Zip.{AllZip-long, length-zip}
+use Rattle.std.proofs.lemmas.{List.length-append, List.FromFn.length-range_with_len, Nat.mul-le, Slice.Zip.AllZip-long, Slice.Zip.length-zip}
+use Rattle.std.specs.{Prelude.zip, List.flat_map, List.range_with_len}
 use Rattle.spin_base.specs.Gathered.{gathered}
 use Rattle.spin_base.specs.declared.blocks.Block.{Block}
-use Rattle.machine_desc.specs.Description.{Description, HasSize}
-use Rattle.machine_desc.specs.Live.{chip_of}
+use Rattle.machine_desc.specs.{Description.Description, Description.HasSize, Live.chip_of}
 use Rattle.app_loads.specs.declared.answers.LoadRefusal.TheVariants.{MemoryOut, RowsOut}
-use Rattle.app_loads.specs.declared.loaded.Claim.{Claim}
-use Rattle.app_loads.specs.declared.loaded.LoadedApp.{LoadedApp}
-use Rattle.app_loads.specs.declared.plans.AppNet.{AppNet}
-use Rattle.app_loads.specs.declared.plans.AppPlan.{AppPlan}
+use Rattle.app_loads.specs.declared.{loaded.Claim.Claim, loaded.LoadedApp.LoadedApp, plans.AppNet.AppNet, plans.AppPlan.AppPlan}
 use Rattle.app_loads.specs.Applications.{IsLoadedOn, IsRangeFor}
 use Rattle.app_loads.specs.Claims.{claims_of, fixed_claim, has_chip, key_claim, memory_claim, row_claim}
 use Rattle.app_loads.specs.Plans.{IsPlan}
@@ -37,18 +29,12 @@ one_of_keys j keys None = omega arith
 few_gathered : {X : Type 0} (f : ℕ → X → List Claim) → ((j : ℕ) (x : X) → length (f j x) ≤ 1) → (i : ℕ) (xs : List X) → length (gathered f i xs) ≤ length xs
 few_gathered f one i [] = omega arith
 few_gathered f one i (x ∷ xs) =
-    let whole = length-append (f i x) (gathered f (i + 1) xs) in
-    let here = one i x in
-    let rest = few_gathered f one (i + 1) xs in
-    omega (arith, whole, here, rest)
+    omega (arith, length-append (f i x) (gathered f (i + 1) xs), one i x, few_gathered f one (i + 1) xs)
 
 few_mapped : {X : Type 0} (f : X → List Claim) → ((x : X) → length (f x) ≤ 1) → (xs : List X) → length (flat_map f xs) ≤ length xs
 few_mapped f one [] = omega arith
 few_mapped f one (x ∷ xs) =
-    let whole = length-append (f x) (flat_map f xs) in
-    let here = one x in
-    let rest = few_mapped f one xs in
-    omega (arith, whole, here, rest)
+    omega (arith, length-append (f x) (flat_map f xs), one x, few_mapped f one xs)
 
 module _ (m : Description) (size : HasSize m) (plan : AppPlan) (valid : IsPlan m plan) where
   pub few_claims : length (claims_of m plan) ≤ 262144
@@ -61,23 +47,19 @@ module _ (m : Description) (size : HasSize m) (plan : AppPlan) (valid : IsPlan m
       let second = length-append fixed (keys ++ rows) in
       let third = length-append keys rows in
       let of_memory : length memory ≤ length (zip plan.spots plan.sdram) = few_gathered memory_claim (λ j need.
-      one_unless (need.1 == 0) (record { region = Memory need.0.chip; size = need.1; align = 1; fixed = None; refusal = MemoryOut j })) 0 (zip plan.spots plan.sdram)
-      in
+      one_unless (need.1 == 0) (record { region = Memory need.0.chip; size = need.1; align = 1; fixed = None; refusal = MemoryOut j })) 0 (zip plan.spots plan.sdram) in
       let of_fixed : length fixed ≤ length plan.nets = few_gathered (λ j (net : AppNet). fixed_claim j net.fixed) (λ j net. one_fixed j net.fixed) 0 plan.nets in
       let of_keys : length keys ≤ length plan.nets = few_gathered (λ j (net : AppNet). key_claim j net.keys net.fixed) (λ j net. one_of_keys j net.keys net.fixed) 0 plan.nets in
       let of_rows : length rows ≤ length (range_with_len 0 (chip_count m)) = few_mapped (row_claim m plan.nets) (λ i.
       let long : ℕ = count_by (has_chip m (chip_of m i)) plan.nets in
-      one_unless (long == 0) (record { region = Rows (chip_of m i); size = long; align = 1; fixed = None; refusal = RowsOut (chip_of m i) })) (range_with_len 0 (chip_count m))
-      in
-      let pairs = length-zip plan.spots plan.sdram in
+      one_unless (long == 0) (record { region = Rows (chip_of m i); size = long; align = 1; fixed = None; refusal = RowsOut (chip_of m i) })) (range_with_len 0 (chip_count m)) in
       let spots = few_spots m plan.spots valid.different valid.usable in
       let chips : chip_count m ≤ 64 * 64 = mul-le m.width m.height 64 64 size.width_to_64 size.height_to_64 in
       let indices : length (range_with_len 0 (chip_count m)) ≡ chip_count m = length-range_with_len 0 (chip_count m) in
-      omega (arith, first, second, third, of_memory, of_fixed, of_keys, of_rows, pairs, spots, chips, indices, valid.few_nets)
+      omega (arith, first, second, third, of_memory, of_fixed, of_keys, of_rows, length-zip plan.spots plan.sdram, spots, chips, indices, valid.few_nets)
 
 -- an application has as few
 pub few_ranges : (m : Description) → HasSize m → (app : LoadedApp) → IsLoadedOn m app → length app.ranges ≤ 262144
 few_ranges m size app is =
     let same = AllZip-long (IsRangeFor m) (claims_of m app.plan) app.ranges is.ranges in
-    let few = few_claims m size app.plan is.plan in
-    omega (arith, same, few)
+    omega (arith, same, few_claims m size app.plan is.plan)

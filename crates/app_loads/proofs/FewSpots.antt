@@ -1,12 +1,10 @@
 -- A plan has few spots: at most 24 a chip.
 use Rattle.std.proofs.Common.{◌≡◌, ◌≢◌, ℕ, ◌*◌, ◌<◌, ◌≤◌, List, map, get_or, length, sym, ◌∙◌, subst, arith}
-use Rattle.std.specs.List.{All, AllPairs}
 use Rattle.std.proofs.lemmas.List.{length-map, get_or-map}
+use Rattle.std.specs.List.{All, AllPairs}
 use Rattle.spin_base.specs.declared.chips.Spot.{Spot}
-use Rattle.machine_desc.specs.Description.{Description}
-use Rattle.machine_desc.specs.Live.{IsInside, IsUsable}
-use Rattle.machine_desc.proofs.Branches.{length_le_from_apart}
-use Rattle.machine_desc.proofs.Sites.{usable_site}
+use Rattle.machine_desc.specs.{Description.Description, Live.IsInside, Live.IsUsable}
+use Rattle.machine_desc.proofs.{Branches.length_le_from_apart, Sites.usable_site}
 use Rattle.mesh_core.specs.VertexTable.{spot_place}
 use Rattle.mesh_core.proofs.VertexTableLaws.{same_spot_place, site_inside, spot_place-below}
 

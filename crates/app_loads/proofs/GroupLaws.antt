@@ -1,45 +1,27 @@
 -- Deliveries held in groups.
-use Rattle.std.proofs.Common.{◌≡◌, ◌≢◌, ℕ, zero, suc, ◌+◌, ◌-◌, ◌<◌, ◌≤◌, Bool, true, false, not, ◌&&◌, ◌||◌, List, [], ◌∷◌, ◌++◌, drop, take, length, refl, sym, ap, ◌∙◌, subst, arith, cond, inl, inr, leb, ltb, Some, Result, Ok, Err, IfOk, OnErr}
-use Rattle.std.specs.List.{All, filter, list_any, slice_get, slice_index_or, slice_set}
+use Rattle.std.proofs.Common.{◌≡◌, ◌≢◌, ℕ, zero, suc, ◌+◌, ◌-◌, ◌<◌, ◌≤◌, Bool, true, false, not, ◌&&◌, ◌||◌, List, [], ◌∷◌, ◌++◌, drop, take, length, refl, sym, ap}
+use Rattle.std.proofs.Common.{◌∙◌, subst, arith, cond, inl, inr, leb, ltb, Some, Result, Ok, Err, IfOk, OnErr}
 use Rattle.std.proofs.lemmas.Bool.{and_from, and_parts, cases_Bool, cases_lt, false≢true, le-leb, leb-true, lt-ltb, ltb-true, not-false, not-true, or_parts}
 use Rattle.std.proofs.lemmas.Grind.{flat_map-append}
 use Rattle.std.proofs.lemmas.List.{append_assoc, append-nil, drop_at, length-append, length-map, length-set, set-get_or, take_all}
 use Rattle.std.proofs.lemmas.List.Elements.{All-head, All-map, All-tail, All-weaker, filter-append}
 use Rattle.std.proofs.lemmas.List.Filters.{length-filter_both}
 use Rattle.std.proofs.lemmas.Option.{same_Some, slice_get-get_or, slice_get_within}
-use Rattle.spin_base.proofs.Pairs.{All-flat_map}
-use Rattle.spin_base.proofs.Places.{take_more_at}
-use Rattle.spin_base.specs.declared.copies.Delivery.{Delivery}
-use Rattle.app_loads.specs.declared.arrivals.Arrival.{Arrival}
-use Rattle.app_loads.specs.declared.group.Group.TheInside.{Inside}
-use Rattle.app_loads.specs.declared.group.Sent.{Sent}
-use Rattle.app_loads.specs.declared.loaded.LoadedApp.{LoadedApp}
+use Rattle.std.specs.List.{All, filter, list_any, slice_get, slice_index_or, slice_set}
+use Rattle.spin_base.proofs.{Pairs.All-flat_map, Places.take_more_at}
+use Rattle.spin_base.specs.declared.copies.{Delivery.Delivery, McCopy.McCopy}
+use Rattle.app_loads.specs.declared.{arrivals.Arrival.Arrival, group.Group.TheInside.Inside, group.Sent.Sent, loaded.LoadedApp.LoadedApp}
 use Rattle.app_loads.specs.Grouping.{Grouped, HasPut, all_grouped, is_mixed_group, is_others_group, is_own_group}
-use Rattle.spin_base.specs.declared.copies.McCopy.{McCopy}
-use Rattle.app_loads.specs.Groups.{EndsWith, IsBetween, IsGroup, arrival_of, deliveries_at, deliveries_in, delivery_of, grouped_of, last_arrivals, sent_of}
+use Rattle.app_loads.specs.Groups.{EndsWith, IsBetween, IsGroup, deliveries_at, deliveries_in, delivery_of, grouped_of, last_arrivals, sent_of}
 use Rattle.app_loads.specs.Leaving.{is_delivery_of, is_packet_of}
 
 -- ---- one group
-
-pub first_of : (sent : List Sent) (arrivals : List Arrival) (d : Delivery) → sent ≡ sent_of d.copy ∷ [] → arrivals ≡ arrival_of d ∷ [] → deliveries_in sent arrivals ≡ d ∷ []
-first_of sent arrivals d sent_is arrivals_are = ap (λ l. deliveries_in l arrivals) sent_is ∙ ap (λ l. deliveries_in (sent_of d.copy ∷ []) l) arrivals_are
-
--- a packet more that came to the same vertices
-pub joined : (sent : List Sent) (q : Sent) (arrivals other : List Arrival) → other ≡ arrivals → deliveries_in (sent ++ q ∷ []) arrivals ≡ deliveries_in sent arrivals ++ deliveries_in (q ∷ []) other
-joined sent q arrivals other same =
-    flat_map-append (deliveries_at arrivals) sent (q ∷ []) ∙ ap (λ x. deliveries_in sent arrivals ++ deliveries_in (q ∷ []) x) (sym same)
-
-pub joined_of : (sent all own : List Sent) (q : Sent) (arrivals other : List Arrival) → all ≡ sent ++ q ∷ [] → own ≡ q ∷ [] → other ≡ arrivals →
-    deliveries_in all arrivals ≡ deliveries_in sent arrivals ++ deliveries_in own other
-joined_of sent all own q arrivals other all_is own_is same =
-    ap (λ l. deliveries_in l arrivals) all_is ∙ (joined sent q arrivals other same ∙ ap (λ l. deliveries_in sent arrivals ++ deliveries_in l other) (sym own_is))
 
 -- the last packet
 pub at_last : (sent : List Sent) (q p : Sent) → slice_get sent (length sent - 1) ≡ Some q → q ≡ p → (before : List Sent) × (sent ≡ before ++ p ∷ [])
 at_last sent q p at is =
     let n : ℕ = length sent - 1 in
-    let below = slice_get_within sent n q at in
-    (take n sent, sym (take_all (n + 1) sent (omega (arith, below))) ∙ (take_more_at sent n q at ∙ ap (λ x. take n sent ++ x ∷ []) is))
+    (take n sent, sym (take_all (n + 1) sent (omega (arith, slice_get_within sent n q at))) ∙ (take_more_at sent n q at ∙ ap (λ x. take n sent ++ x ∷ []) is))
 
 -- the last packet's deliveries come last
 pub last_packet : (sent before : List Sent) (p : Sent) (arrivals : List Arrival) → sent ≡ before ++ p ∷ [] → deliveries_in sent arrivals ≡ deliveries_in before arrivals ++ deliveries_at arrivals p
@@ -100,7 +82,8 @@ not_own app g unmixed own = not-false (is_others_group app g) (sym (ap (λ b. no
 -- ---- groups
 
 -- what was put with what stays, by a test, where what stays is told otherwise
-pub rest_is : (p : Delivery → Bool) (own all : List Delivery) {lent rest : List Grouped} → lent ≡ rest → own ++ filter p (all_grouped lent) ≡ filter p all → own ++ filter p (all_grouped rest) ≡ filter p all
+pub rest_is : (p : Delivery → Bool) (own all : List Delivery) {lent rest : List Grouped} → lent ≡ rest →
+    own ++ filter p (all_grouped lent) ≡ filter p all → own ++ filter p (all_grouped rest) ≡ filter p all
 rest_is p own all is = subst (λ (gs : List Grouped). own ++ filter p (all_grouped gs) ≡ filter p all) is
 
 -- deliveries that were put into the last group, or not, were so into all
@@ -187,18 +170,15 @@ module _ (p : Delivery → Bool) (all own others : List Delivery) (count left : 
   -- of a group that is left, no more pass than are left
   pub few_more : (g rest : List Delivery) (n : ℕ) → own ++ filter p (g ++ rest) ≡ filter p all → n ≡ length (filter p g) → n ≤ left
   few_more g rest n own_is n_is =
-      let whole = ap length own_is in
       let split = length-append own (filter p (g ++ rest)) in
       let parts = ap length (filter-append p g rest) in
-      let sum = length-append (filter p g) (filter p rest) in
-      omega (arith, counted, so_far, whole, split, parts, sum, both, n_is)
+      omega (arith, counted, so_far, ap length own_is, split, parts, length-append (filter p g) (filter p rest), both, n_is)
 
   -- and when it is put, the rest are still counted
   pub still_counted : (g rest put : List Delivery) (n : ℕ) → own ++ filter p (g ++ rest) ≡ filter p all → put ≡ own ++ filter p g → n ≡ length (filter p g) → (left - n) + length put ≡ count
   still_counted g rest put n own_is put_is n_is =
-      let few = few_more g rest n own_is n_is in
       let sum = ap length put_is ∙ length-append own (filter p g) in
-      omega (arith, so_far, few, sum, n_is)
+      omega (arith, so_far, few_more g rest n own_is n_is, sum, n_is)
 
   -- at the end those that are left are the others
   pub left_others : own ++ [] ≡ filter p all → others ++ [] ≡ filter q all → left ≡ length others
@@ -253,8 +233,7 @@ module _ (gs : List Grouped) (count : ℕ) (g : Grouped) (long : count ≡ lengt
       let is : all_grouped gs ≡ (split.0 ++ ends.before) ++ own = split.1 ∙ (ap (λ l. split.0 ++ l) ends.is ∙ sym (append_assoc split.0 ends.before own)) in
       let sum = ap length is ∙ length-append (split.0 ++ ends.before) own in
       let one = length-map g.arrivals (delivery_of p) in
-      let many = ends.long in
-      let place : length (split.0 ++ ends.before) ≡ first = omega (arith, total, within, less, sum, one, many) in
+      let place : length (split.0 ++ ends.before) ≡ first = omega (arith, total, within, less, sum, one, ends.long) in
       ap (drop first) is ∙ (drop_at (split.0 ++ ends.before) own first place ∙ ap (λ l. deliveries_at l p) (sym split.2))
 
   -- a packet more in the last group
@@ -266,8 +245,7 @@ module _ (gs : List Grouped) (count : ℕ) (g : Grouped) (long : count ≡ lengt
       more ≡ all + width → more ≡ length (all_grouped (slice_set gs (count - 1) new))
   counted_again new p all width more put total wide sum =
       let is = ap length (last_put true gs count g new (deliveries_at g.arrivals p) long some value put) ∙ length-append (all_grouped gs) (deliveries_at g.arrivals p) in
-      let one = length-map g.arrivals (delivery_of p) in
-      omega (arith, is, one, total, wide, sum)
+      omega (arith, is, length-map g.arrivals (delivery_of p), total, wide, sum)
 
   pub same_item : (h : Grouped) → h ≡ slice_index_or gs (count - 1) h → h ≡ g
   same_item h is = same_Some h g (sym (slice_get-get_or gs (count - 1) h (omega (arith, long, some)) ∙ ap Some (sym is)) ∙ last_there)
@@ -295,8 +273,7 @@ module _ (gs new : List Grouped) (g : Grouped) (p : Sent) (arrivals : List Arriv
       more ≡ all + width → more ≡ length (all_grouped new)
   put_counted all width more own total wide sum =
       let long = ap length (put_back own) ∙ length-append (all_grouped gs) (deliveries_at arrivals p) in
-      let one = length-map arrivals (delivery_of p) in
-      omega (arith, long, one, total, wide, sum)
+      omega (arith, long, length-map arrivals (delivery_of p), total, wide, sum)
 
   pub put_last_arrivals : g.arrivals ≡ arrivals → last_arrivals new ≡ arrivals
   put_last_arrivals own = ap last_arrivals is ∙ (last_pushed gs g ∙ own)

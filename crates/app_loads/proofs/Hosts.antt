@@ -1,19 +1,13 @@
 -- The fields of a host are those of one after events of its mesh.
 use Rattle.std.proofs.Common.{◌≡◌, ℕ, List, refl, sym, ap, subst, Option, Some, Result, Ok, Err, OnOk, OnErr}
 use Rattle.std.specs.Prelude.{IfSome}
-use Rattle.spin_base.specs.declared.copies.Event.{Event}
-use Rattle.spin_base.specs.declared.wants.Memory.{Memory}
+use Rattle.spin_base.specs.declared.{copies.Event.Event, wants.Memory.Memory}
 use Rattle.mesh_core.specs.declared.places.Did.{Did}
-use Rattle.mesh_core.specs.State.{State}
-use Rattle.mesh_core.specs.Step.{after_event}
+use Rattle.mesh_core.specs.{State.State, Step.after_event}
 use Rattle.app_loads.specs.declared.apps.Apps.TheInside.{Inside}
-use Rattle.app_loads.specs.Host.{Host}
-use Rattle.app_loads.specs.Applications.{AreApps}
-use Rattle.app_loads.specs.Inner.{mesh_in, host_of, IsHost}
-use Rattle.app_loads.specs.Running.{AreAlikeInBlocks, HasMovedMesh}
+use Rattle.app_loads.specs.{Host.Host, Applications.AreApps, Inner.mesh_in, Inner.host_of, Inner.IsHost, Running.AreAlikeInBlocks, Running.HasMovedMesh}
+use Rattle.app_loads.proofs.{Keeping.apps_after, Keeping.apps_kept, OneBlock.alike_in_blocks}
 use Rattle.mesh_drain.specs.Draining.{MeetsSomeLedger, IsAfter, IsMoved, SendAlone}
-use Rattle.app_loads.proofs.Keeping.{apps_after, apps_kept}
-use Rattle.app_loads.proofs.OneBlock.{alike_in_blocks}
 use Rattle.mesh_drain.proofs.Moving.{after_none, after_one}
 
 mesh_is : (i : Inside) (m : State) → i.mesh ≡ Some m → (host_of i).mesh ≡ m
@@ -35,7 +29,8 @@ after_in i m t e after = subst (λ x. IsAfter x t) (sym (mesh_is i m e)) after
 pub apps_after_in : (i : Inside) (m t : State) → IsHost i → i.mesh ≡ Some m → IsAfter m t → AreApps (host_of (record i { mesh = Some t }))
 apps_after_in i m t host e after = apps_after (host_of i) t host.apps (after_in i m t e after)
 
-pub host_after : (i : Inside) (m t : State) (senders : Option (List ℕ)) → IsHost i → i.mesh ≡ Some m → IsAfter m t → IfSome senders (λ vertices. SendAlone vertices t) → IsHost (record i { mesh = Some t; senders = senders })
+pub host_after : (i : Inside) (m t : State) (senders : Option (List ℕ)) → IsHost i → i.mesh ≡ Some m → IsAfter m t →
+    IfSome senders (λ vertices. SendAlone vertices t) → IsHost (record i { mesh = Some t; senders = senders })
 host_after i m t senders host e after alone = record {
   there = refl;
   apps = apps_after_in i m t host e after;

@@ -1,22 +1,19 @@
 -- An application whose claims were served can be settled.
 use Rattle.std.proofs.Common.{◌≡◌, ℕ, suc, ◌+◌, ◌^◌, ◌<◌, List, [], ◌∷◌, length, refl, sym, ◌∙◌, subst, arith, Some}
-use Rattle.std.specs.List.{slice_get, All, AllZip}
 use Rattle.std.proofs.lemmas.List.{length-map}
+use Rattle.std.specs.List.{slice_get, All, AllZip}
 use Rattle.spin_base.proofs.Pairs.{AllPairs-right}
 use Rattle.machine_desc.specs.Description.{Description}
 use Rattle.range_store.specs.Views.{Region}
 use Rattle.mesh_core.specs.State.{State}
-use Rattle.app_loads.specs.declared.loaded.LoadedApp.{LoadedApp}
-use Rattle.app_loads.specs.declared.loaded.Range.{Range}
-use Rattle.app_loads.specs.declared.plans.AppPlan.{AppPlan}
+use Rattle.app_loads.specs.declared.{loaded.LoadedApp.LoadedApp, loaded.Range.Range, plans.AppPlan.AppPlan}
 use Rattle.app_loads.specs.Applications.{IsLoadedOn, IsRangeFor}
 use Rattle.app_loads.specs.Claims.{AreBlocks, AreServed, claims_of}
 use Rattle.app_loads.specs.Joining.{CanJoin, CanSettle, IsServedApp, NoneUnsent}
-use Rattle.app_loads.specs.Plans.{IsPlan}
-use Rattle.app_loads.specs.Regions.{ShareNoPlace, IsRangeWithin}
-use Rattle.app_loads.specs.Taking.{AreTaken, free_places_in}
+use Rattle.app_loads.specs.{Plans.IsPlan, Regions.ShareNoPlace, Regions.IsRangeWithin, Taking.AreTaken, Taking.free_places_in}
 
-zipped : {X Y : Type 0} (R : X → Y → Type 0) (xs : List X) (ys : List Y) → length ys ≡ length xs → ((i : ℕ) (x : X) (y : Y) → slice_get xs i ≡ Some x → slice_get ys i ≡ Some y → R x y) → AllZip R xs ys
+zipped : {X Y : Type 0} (R : X → Y → Type 0) (xs : List X) (ys : List Y) → length ys ≡ length xs →
+    ((i : ℕ) (x : X) (y : Y) → slice_get xs i ≡ Some x → slice_get ys i ≡ Some y → R x y) → AllZip R xs ys
 zipped R [] [] long each = tt
 zipped R [] (y ∷ ys) long each = absurd (omega (arith, long))
 zipped R (x ∷ xs) [] long each = absurd (omega (arith, long))
@@ -33,17 +30,18 @@ loaded_from m taken new plan app valid is served have blocks = record {
 }
 
 -- an application is served on the machine that this one is
-pub served_on : {m n : Description} {old new : List Region} {number first : ℕ} {plan : AppPlan} {app : LoadedApp} → m ≡ n → IsServedApp m old number first plan app new → IsServedApp n old number first plan app new
+pub served_on : {m n : Description} {old new : List Region} {number first : ℕ} {plan : AppPlan} {app : LoadedApp} → m ≡ n →
+    IsServedApp m old number first plan app new → IsServedApp n old number first plan app new
 served_on {old = old} {new = new} {number = number} {first = first} {plan = plan} {app = app} = subst (λ (d : Description). IsServedApp d old number first plan app new)
 
-pub can_settle : {s : State} {old new : List Region} {number first : ℕ} {plan : AppPlan} {app : LoadedApp} → CanJoin s old first plan → IsServedApp s.setup.machine old number first plan app new → CanSettle s app
+pub can_settle : {s : State} {old new : List Region} {number first : ℕ} {plan : AppPlan} {app : LoadedApp} → CanJoin s old first plan →
+    IsServedApp s.setup.machine old number first plan app new → CanSettle s app
 can_settle {s} {new = new} {first = first} {plan = plan} {app = app} can served =
-    let m = s.setup.machine in
     let own = can.of_machine in
     let taken = served.taken own.taken own.apart own.free in
     let numbers = can.numbers in
     record {
-      loaded = loaded_from m own.taken new plan app can.valid served.plan_is (served.served own.taken own.apart own.free) taken served.blocks;
+      loaded = loaded_from s.setup.machine own.taken new plan app can.valid served.plan_is (served.served own.taken own.apart own.free) taken served.blocks;
       apart = AllPairs-right ShareNoPlace own.taken app.ranges taken.apart;
       numbers = subst (λ n. n + length app.plan.packets < 2 ^ 32) (sym served.first_is) (subst (λ (p : AppPlan). first + length p.packets < 2 ^ 32) (sym served.plan_is) numbers);
       vertices = can.vertices;

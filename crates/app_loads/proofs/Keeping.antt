@@ -8,9 +8,7 @@ use Rattle.machine_desc.specs.RightTables.{AreRight}
 use Rattle.mesh_drain.specs.Draining.{MeetsSomeLedger, IsAfter}
 use Rattle.mesh_drain.proofs.Moving.{after_setup}
 use Rattle.app_loads.specs.Host.{Host, all_nets, all_ranges, asked_of}
-use Rattle.app_loads.specs.Regions.{AreFreeBeside}
-use Rattle.app_loads.specs.Applications.{AreApps, IsLoadedOn, HaveRows}
-use Rattle.app_loads.specs.Opening.{usable_spots}
+use Rattle.app_loads.specs.{Regions.AreFreeBeside, Applications.AreApps, Applications.IsLoadedOn, Applications.HaveRows, Opening.usable_spots}
 
 -- another mesh of the same setup
 other_mesh : (h : Host) (mesh : State) → mesh.setup ≡ h.mesh.setup → IsMesh mesh → MeetsLedgerFor mesh (all_nets h.apps) (asked_of h.apps) → AreApps h →

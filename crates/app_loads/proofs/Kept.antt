@@ -1,41 +1,24 @@
 -- A mesh whose earlier deliveries are held apart, seen as one mesh.
-use Rattle.std.proofs.Common.{◌≡◌, ◌≢◌, Bool, ℕ, ◌+◌, ◌^◌, ◌<◌, List, [], ◌++◌, ◌∷◌, cond, drop, length, refl, sym, ap, ◌∙◌, subst, inl, inr, arith, true, Option, Result, Ok, Err, OnOk, Some, map}
-use Rattle.std.proofs.Common.{nat_cmp}
-use Rattle.std.specs.BTreeMap.{BTreeMap, Updates, get, is_at}
-use Rattle.std.specs.Map.{lookup}
-use Rattle.std.specs.Ordering.{is_eq}
-use Rattle.std.proofs.lemmas.Bool.{cases_Bool, eq-eqb}
-use Rattle.std.proofs.lemmas.Option.{none-some, same_Some}
+use Rattle.std.proofs.Common.{◌≡◌, ◌≢◌, Bool, ℕ, ◌+◌, ◌^◌, ◌<◌, List, [], ◌++◌, ◌∷◌, cond, drop, length, refl, sym, ap, ◌∙◌, subst, inl, inr, arith, Option, Result, Ok, Err, OnOk, Some, map}
+use Rattle.std.proofs.{Common.nat_cmp, lemmas.Bool.cases_Bool, lemmas.Bool.eq-eqb, lemmas.Option.none-some, lemmas.Option.same_Some}
+use Rattle.std.proofs.lemmas.List.{append-nil, drop_at, map-append, Sums.count_by-le-length, Sums.length-filter}
+use Rattle.std.specs.{BTreeMap.BTreeMap, BTreeMap.Updates, BTreeMap.get, BTreeMap.is_at, Map.lookup, Ordering.is_eq}
 use Rattle.std.specs.List.{Contains, filter, slice_get, slice_index_or, slice_set}
-use Rattle.std.proofs.lemmas.List.{append-nil, drop_at, map-append}
-use Rattle.std.proofs.lemmas.List.Sums.{count_by-le-length, length-filter}
-use Rattle.std.proofs.lemmas.List.Elements.{All-nil}
 use Rattle.spin_base.proofs.Members.{Among, among_contains, among_either, among_left, among_map, among_right, contains_among}
-use Rattle.spin_base.specs.declared.blocks.Block.{Block}
-use Rattle.spin_base.specs.declared.copies.Delivery.{Delivery}
-use Rattle.spin_base.specs.declared.copies.McCopy.{McCopy}
+use Rattle.spin_base.specs.declared.{blocks.Block.Block, copies.Delivery.Delivery, copies.McCopy.McCopy}
 use Rattle.machine_desc.specs.RightTables.{IsKeyOf}
 use Rattle.mesh_core.specs.Expected.{NothingWaits}
-use Rattle.mesh_core.specs.HasRun.{DropsNone}
 use Rattle.mesh_core.specs.Ledger.{all_hand_marks, core_marks, delivered_marks, dumped_marks, input_marks, marks_of, unsent_marks}
-use Rattle.mesh_core.specs.Queues.{drop_front}
-use Rattle.mesh_core.specs.State.{Setup, State, IsMesh}
-use Rattle.mesh_core.specs.Trail.{Mark, IsUnderWayAt, delivered}
+use Rattle.mesh_core.specs.{Queues.drop_front, State.Setup, State.State, State.IsMesh, Trail.Mark, Trail.IsUnderWayAt, Trail.delivered}
 use Rattle.mesh_drain.specs.Draining.{AreRoutedAlike, BringsAlways, HasBrought, IsMoved, IsReachedDropless, MaySend, SendAlone, of_packet}
 use Rattle.mesh_drain.proofs.Frame.{dumped_reached, kept_reached, setup_reached}
-use Rattle.app_loads.specs.declared.answers.UnloadErr.{UnloadErr}
-use Rattle.app_loads.specs.declared.answers.UnloadErr.TheVariants.{NotLoaded, Waiting, Memory}
-use Rattle.app_loads.specs.declared.known.KnownBlock.{KnownBlock}
-use Rattle.app_loads.specs.declared.loaded.LoadedApp.{LoadedApp}
-use Rattle.app_loads.specs.Earlier.{with_earlier}
-use Rattle.app_loads.specs.Joining.{CanSettle}
-use Rattle.app_loads.specs.Leaving.{NoneUnderWay, WaitsIn}
-use Rattle.app_loads.specs.Removing.{IsWhyHere}
+use Rattle.app_loads.specs.declared.answers.UnloadErr.{UnloadErr, TheVariants.NotLoaded, TheVariants.Waiting, TheVariants.Memory}
+use Rattle.app_loads.specs.declared.{known.KnownBlock.KnownBlock, loaded.LoadedApp.LoadedApp}
+use Rattle.app_loads.specs.{Earlier.with_earlier, Joining.CanSettle, Leaving.NoneUnderWay, Leaving.WaitsIn, Removing.IsWhyHere}
 use Rattle.app_loads.specs.declared.arrivals.Arrival.{Arrival}
 use Rattle.app_loads.specs.Groups.{deliveries_at, sent_of}
 use Rattle.app_loads.specs.Running.{AreAlikeInBlocks, AreKnown, Comes, HasBroughtMore, IsClean}
-use Rattle.app_loads.proofs.Earlier.{kept_without, reached_with}
-use Rattle.app_loads.proofs.LeftMesh.{mesh_with}
+use Rattle.app_loads.proofs.{Earlier.kept_without, Earlier.reached_with, LeftMesh.mesh_with}
 
 -- what follows where a call was answered
 pub ok_then : {X E : Type 0} {P Q : Type 0} (r : Result X E) → (P → Q) → OnOk r P → OnOk r Q
@@ -55,16 +38,8 @@ same_mesh xs ys s t is all = ap (λ (u : State). record u { delivered = ys ++ t.
 quiet_still : (s t : State) → t ≡ record s { delivered = t.delivered } → NothingWaits s → NothingWaits t
 quiet_still s t is quiet = subst NothingWaits (sym is) (record { inputs_empty = quiet.inputs_empty; hands_empty = quiet.hands_empty; cores_empty = quiet.cores_empty })
 
--- it is the whole one, where none are held apart
-pub whole_is : (xs ys : List Delivery) (s t : State) → t ≡ record s { delivered = t.delivered } → ys ++ t.delivered ≡ xs ++ s.delivered → ys ≡ [] → t ≡ with_earlier xs s
-whole_is xs ys s t is all none = ap (λ l. with_earlier l t) (sym none) ∙ same_mesh xs ys s t is all
-
 pub moved_as : (a s t b : State) → s ≡ a → b ≡ t → IsMoved s t → IsMoved a b
 moved_as a s t b from to moved = subst (λ x. IsMoved x b) from (subst (IsMoved s) (sym to) moved)
-
--- a mesh after nothing
-pub moved_none : (s t : State) → t ≡ s → IsMoved s t
-moved_none s t is = record { events = []; is = is; dropless = λ quiet. All-nil DropsNone; no_record = λ quiet. ap (λ (u : State). u.dumped) is }
 
 module _ (ds : List Delivery) where
   abbrev we : State → State
@@ -199,18 +174,17 @@ pub dropped : (s u : State) (v : ℕ) (k : McCopy) (rest : List McCopy) → slic
 dropped s u v k rest first is = is ∙ ap (λ q. record s { unsent = drop_front s.unsent v q }) first
 
 module _ (xs ys : List Delivery) (s u : State) (v : ℕ) (k : McCopy) (rest : List McCopy) (arrivals : List Arrival) (clean : IsClean xs s) (first : slice_get s.unsent v ≡ Some (k ∷ rest))
-    (block : Block) (key : IsKeyOf block k.key) (comes : Comes s.setup v arrivals block) (put : ys ≡ xs ++ deliveries_at arrivals (sent_of k)) (is : u ≡ record s { unsent = slice_set s.unsent v rest }) where
+    (block : Block) (key : IsKeyOf block k.key) (comes : Comes s.setup v arrivals block) (put : ys ≡ xs ++ deliveries_at arrivals (sent_of k))
+    (is : u ≡ record s { unsent = slice_set s.unsent v rest }) where
   abbrev own : List Delivery
   own = deliveries_at arrivals (sent_of k)
 
   pub again_reached : IsReachedDropless (with_earlier xs s) (with_earlier ys u)
   again_reached =
       let may : MaySend (with_earlier xs s) =
-      record { kept = clean.kept; quiet = record { inputs_empty = clean.quiet.inputs_empty; hands_empty = clean.quiet.hands_empty; cores_empty = clean.quiet.cores_empty } }
-      in
+      record { kept = clean.kept; quiet = record { inputs_empty = clean.quiet.inputs_empty; hands_empty = clean.quiet.hands_empty; cores_empty = clean.quiet.cores_empty } } in
       let all : (xs ++ s.delivered) ++ own ≡ ys ++ s.delivered =
-      ap (λ l. (xs ++ l) ++ own) clean.none_delivered ∙ (ap (λ l. l ++ own) (append-nil xs) ∙ (sym put ∙ (sym (append-nil ys) ∙ ap (λ l. ys ++ l) (sym clean.none_delivered))))
-      in
+      ap (λ l. (xs ++ l) ++ own) clean.none_delivered ∙ (ap (λ l. l ++ own) (append-nil xs) ∙ (sym put ∙ (sym (append-nil ys) ∙ ap (λ l. ys ++ l) (sym clean.none_delivered)))) in
       subst (IsReachedDropless (with_earlier xs s))
       (ap (λ l. record s { unsent = slice_set s.unsent v rest; delivered = l }) all ∙ ap (with_earlier ys) (sym is))
       (comes (with_earlier xs s) k rest may refl first key)
@@ -257,6 +231,4 @@ pub few_own : (p : Delivery → Bool) (xs ys own late : List Delivery) → own �
 few_own p xs ys own late own_is late_is fits =
     let a = ap length own_is ∙ length-filter p xs in
     let b = ap length late_is ∙ length-filter p ys in
-    let c = count_by-le-length p xs in
-    let d = count_by-le-length p ys in
-    omega (arith, a, b, c, d, fits)
+    omega (arith, a, b, count_by-le-length p xs, count_by-le-length p ys, fits)

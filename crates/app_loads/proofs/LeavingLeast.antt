@@ -1,30 +1,24 @@
 -- The least packet of an application that is under way, from the lists of the mesh.
-use Rattle.std.proofs.Common.{◌≡◌, ℕ, ◌+◌, ◌/◌, ◌%◌, ◌<◌, ◌≤◌, min, Bool, true, false, if◌then◌else◌, List, [], ◌∷◌, ◌++◌, take, length, get_or, refl, sym, ap, ◌∙◌, subst, inl, inr, ◌⊎◌, arith, Option, None, Some, append-nil}
+use Rattle.std.proofs.Common.{◌≡◌, ℕ, ◌+◌, ◌/◌, ◌%◌, ◌<◌, ◌≤◌, min, Bool, true, false, if◌then◌else◌, List, [], ◌∷◌, ◌++◌, take, length, get_or, refl, sym, ap, ◌∙◌}
+use Rattle.std.proofs.Common.{subst, inl, inr, ◌⊎◌, arith, Option, None, Some, append-nil}
+use Rattle.std.proofs.lemmas.{Bool.cases_lt, List.get_or_default, List.take_more, List.take_all}
+use Rattle.std.proofs.lemmas.{List.Concat.flat_map-append, Option.get_or_from_slice_get, Option.slice_get-get_or, List.Elements.All-contains}
 use Rattle.std.specs.List.{slice_get, flat_map, All, Contains}
 use Rattle.std.specs.Prelude.{IfSome, IfNone}
-use Rattle.std.proofs.lemmas.Bool.{cases_lt}
-use Rattle.std.proofs.lemmas.List.{get_or_default, take_more, take_all}
-use Rattle.std.proofs.lemmas.List.Concat.{flat_map-append}
-use Rattle.std.proofs.lemmas.Option.{get_or_from_slice_get, slice_get-get_or}
-use Rattle.std.proofs.lemmas.List.Elements.{All-contains}
 use Rattle.spin_base.specs.Gathered.{gathered}
+use Rattle.spin_base.specs.declared.{chips.Chip.Chip, copies.McCopy.McCopy, routes.Out.Out}
 use Rattle.spin_base.proofs.Members.{Among, among_contains, contains_among, among_left, among_right, among_either, among_map, map_among, among_at}
-use Rattle.spin_base.proofs.Gathering.{gathered_among}
-use Rattle.spin_base.proofs.Places.{map_more_at, All-at}
+use Rattle.spin_base.proofs.{Gathering.gathered_among, Places.map_more_at, Places.All-at}
 use Rattle.machine_desc.specs.Live.{chip_of}
-use Rattle.spin_base.specs.declared.chips.Chip.{Chip}
-use Rattle.spin_base.specs.declared.copies.McCopy.{McCopy}
-use Rattle.spin_base.specs.declared.routes.Out.{Out}
 use Rattle.mesh_core.specs.State.{State, Hand, FitsHand, IsMesh}
 use Rattle.mesh_core.specs.Trail.{Station, unsent, in_queue, in_hand, at_core, delivered, dumped, Mark, IsUnderWayAt}
 use Rattle.mesh_core.specs.Ledger.{marks_of, marks_at, hand_marks, port_of, unsent_marks, input_marks, all_hand_marks, core_marks}
-use Rattle.mesh_core.proofs.Moves.{mark}
-use Rattle.mesh_core.proofs.Standing.{mark_stands, StandsAt}
+use Rattle.mesh_core.proofs.{Moves.mark, Standing.mark_stands, Standing.StandsAt}
 use Rattle.mesh_drain.specs.Draining.{SendAlone}
 use Rattle.app_loads.proofs.ClaimCases.{among_flat, flat_among}
+use Rattle.app_loads.proofs.LeavingLists.{after_cores, after_hands, after_inputs, after_unsent}
 use Rattle.app_loads.specs.declared.loaded.LoadedApp.{LoadedApp}
 use Rattle.app_loads.specs.Leaving.{is_packet_of, WaitsIn, NoneUnderWay, IsLeastUnderWay, own_packet, lesser_of, least_own_packet, packet_numbers_of, held_packets, unsent_numbers}
-use Rattle.app_loads.proofs.LeavingLists.{after_cores, after_hands, after_inputs, after_unsent}
 
 -- ---- the least of some numbers
 
@@ -108,8 +102,10 @@ module _ (app : LoadedApp) (so_far least next : Option ℕ) where
   all_lists f xs i all was = was ∙ ap (λ l. lesser_of so_far (least_own_packet app (flat_map f l))) (take_all i xs all)
 
 -- one more vertex of those that may have packets unsent
-pub sender_more : (app : LoadedApp) (queues : List (List McCopy)) (vertices : List ℕ) (i d : ℕ) (least next : Option ℕ) (q lent : List McCopy) → i < length vertices → All (λ v. v < length queues) vertices →
-    lent ≡ q → q ≡ get_or queues (get_or vertices i d) q → least ≡ least_own_packet app (flat_map (unsent_numbers queues) (take i vertices)) → next ≡ lesser_of least (least_own_packet app (packet_numbers_of lent)) →
+pub sender_more : (app : LoadedApp) (queues : List (List McCopy)) (vertices : List ℕ) (i d : ℕ) (least next : Option ℕ) (q lent : List McCopy) →
+    i < length vertices → All (λ v. v < length queues) vertices →
+    lent ≡ q → q ≡ get_or queues (get_or vertices i d) q → least ≡ least_own_packet app (flat_map (unsent_numbers queues) (take i vertices)) →
+    next ≡ lesser_of least (least_own_packet app (packet_numbers_of lent)) →
     next ≡ least_own_packet app (flat_map (unsent_numbers queues) (take (i + 1) vertices))
 sender_more app queues vertices i d least next q lent below there lent_is is was found =
     list_more app None least next (unsent_numbers queues) vertices i (get_or vertices i d) below (get_or_default vertices i d (get_or vertices i d) below) was
@@ -210,11 +206,17 @@ module _ (s : State) where
           let m = hand_marked mesh n b in
           (m.0, among_right m.0 (unsent_marks s) (after_unsent s) (among_right m.0 (input_marks s) (after_inputs s) (among_left m.0 (all_hand_marks s) (after_hands s) m.1)), m.2, m.3)
 
-      by_cores : Among n ((flat_map packet_numbers_of s.unsent ++ flat_map packet_numbers_of s.inputs) ++ flat_map held_packets s.hands) ⊎ Among n (flat_map packet_numbers_of s.cores) → IsMarked n (marks_of s)
+      by_cores : Among n ((flat_map packet_numbers_of s.unsent ++ flat_map packet_numbers_of s.inputs) ++ flat_map held_packets s.hands) ⊎ Among n (flat_map packet_numbers_of s.cores) →
+          IsMarked n (marks_of s)
       by_cores (inl b) = by_hands (among_either n (flat_map packet_numbers_of s.unsent ++ flat_map packet_numbers_of s.inputs) (flat_map held_packets s.hands) b)
       by_cores (inr b) =
-          let m = queue_marked at_core (λ i. tt) s.cores n b in
-          (m.0, among_right m.0 (unsent_marks s) (after_unsent s) (among_right m.0 (input_marks s) (after_inputs s) (among_right m.0 (all_hand_marks s) (after_hands s) (among_left m.0 (core_marks s) (after_cores s) m.1))), m.2, m.3)
+          let m = queue_marked at_core (λ i. tt) s.cores n b in (
+            m.0,
+            among_right m.0 (unsent_marks s) (after_unsent s)
+                (among_right m.0 (input_marks s) (after_inputs s) (among_right m.0 (all_hand_marks s) (after_hands s) (among_left m.0 (core_marks s) (after_cores s) m.1))),
+            m.2,
+            m.3,
+          )
 
   -- the application's packets of which a copy waits are those of its own among all that are under way
   pub waits_listed : (app : LoadedApp) (n : ℕ) → WaitsIn s app n → Among n (under_way s)
@@ -227,13 +229,16 @@ module _ (s : State) where
   -- what a scan of all lists finds
   pub scanned : (app : LoadedApp) (at_start at_ports at_cores : List (List McCopy)) (of_routers : List (Option Hand)) (a b c d : Option ℕ) →
       at_start ≡ s.unsent → at_ports ≡ s.inputs → of_routers ≡ s.hands → at_cores ≡ s.cores → a ≡ lesser_of None (least_own_packet app (flat_map packet_numbers_of at_start)) →
-      b ≡ lesser_of a (least_own_packet app (flat_map packet_numbers_of at_ports)) → c ≡ lesser_of b (least_own_packet app (flat_map held_packets of_routers)) → d ≡ lesser_of c (least_own_packet app (flat_map packet_numbers_of at_cores)) →
+      b ≡ lesser_of a (least_own_packet app (flat_map packet_numbers_of at_ports)) → c ≡ lesser_of b (least_own_packet app (flat_map held_packets of_routers)) →
+      d ≡ lesser_of c (least_own_packet app (flat_map packet_numbers_of at_cores)) →
       d ≡ least_own_packet app (under_way s)
   scanned app at_start at_ports at_cores of_routers a b c d is_unsent is_inputs is_hands is_cores is_a is_b is_c is_d =
-      let two = least_more app None a b (flat_map packet_numbers_of at_start) (flat_map packet_numbers_of at_ports) (flat_map packet_numbers_of at_start ++ flat_map packet_numbers_of at_ports) is_a is_b refl in
+      let two = least_more app None a b (flat_map packet_numbers_of at_start) (flat_map packet_numbers_of at_ports)
+      (flat_map packet_numbers_of at_start ++ flat_map packet_numbers_of at_ports) is_a is_b refl in
       let three = least_more app None b c (flat_map packet_numbers_of at_start ++ flat_map packet_numbers_of at_ports) (flat_map held_packets of_routers)
       ((flat_map packet_numbers_of at_start ++ flat_map packet_numbers_of at_ports) ++ flat_map held_packets of_routers) two is_c refl in
-      least_more app None c d ((flat_map packet_numbers_of at_start ++ flat_map packet_numbers_of at_ports) ++ flat_map held_packets of_routers) (flat_map packet_numbers_of at_cores) (under_way s) three is_d
+      least_more app None c d ((flat_map packet_numbers_of at_start ++ flat_map packet_numbers_of at_ports) ++ flat_map held_packets of_routers)
+      (flat_map packet_numbers_of at_cores) (under_way s) three is_d
       (sym (ap (λ l. ((flat_map packet_numbers_of l ++ flat_map packet_numbers_of at_ports) ++ flat_map held_packets of_routers) ++ flat_map packet_numbers_of at_cores) is_unsent
       ∙ (ap (λ l. ((flat_map packet_numbers_of s.unsent ++ flat_map packet_numbers_of l) ++ flat_map held_packets of_routers) ++ flat_map packet_numbers_of at_cores) is_inputs
       ∙ (ap (λ l. ((flat_map packet_numbers_of s.unsent ++ flat_map packet_numbers_of s.inputs) ++ flat_map held_packets l) ++ flat_map packet_numbers_of at_cores) is_hands
@@ -241,20 +246,21 @@ module _ (s : State) where
 
   -- what these vertices have unsent is all that is under way, where they alone have packets unsent
   in_sender : (vertices : List ℕ) → SendAlone vertices s → (n : ℕ) → Among n (under_way s) → Among n (flat_map (unsent_numbers s.unsent) vertices)
-  in_sender vertices alone n a = elim (among_either n ((flat_map packet_numbers_of s.unsent ++ flat_map packet_numbers_of s.inputs) ++ flat_map held_packets s.hands) (flat_map packet_numbers_of s.cores) a) [
-    | inr b ↦ absurd (no_copies s.cores n alone.quiet.cores_empty b)
-    | inl b ↦ elim (among_either n (flat_map packet_numbers_of s.unsent ++ flat_map packet_numbers_of s.inputs) (flat_map held_packets s.hands) b) [
-      | inr d ↦ absurd (no_hands s.hands n alone.quiet.hands_empty d)
-      | inl d ↦ elim (among_either n (flat_map packet_numbers_of s.unsent) (flat_map packet_numbers_of s.inputs) d) [
-        | inr e ↦ absurd (no_copies s.inputs n alone.quiet.inputs_empty e)
-        | inl e ↦
-            let queue = among_flat packet_numbers_of n s.unsent e in
-            let at = place_of queue.0 s.unsent queue.1 in
-            let own = sender_of at.0 queue.0 at.1 queue.2 in
-            flat_among (unsent_numbers s.unsent) n vertices at.0 (contains_among at.0 vertices own) (subst (λ (q : List McCopy). Among n (packet_numbers_of q)) (sym (get_or_from_slice_get s.unsent at.0 queue.0 [] at.1)) queue.2)
+  in_sender vertices alone n a = elim (among_either n ((flat_map packet_numbers_of s.unsent ++ flat_map packet_numbers_of s.inputs) ++ flat_map held_packets s.hands)
+      (flat_map packet_numbers_of s.cores) a) [
+        | inr b ↦ absurd (no_copies s.cores n alone.quiet.cores_empty b)
+        | inl b ↦ elim (among_either n (flat_map packet_numbers_of s.unsent ++ flat_map packet_numbers_of s.inputs) (flat_map held_packets s.hands) b) [
+          | inr d ↦ absurd (no_hands s.hands n alone.quiet.hands_empty d)
+          | inl d ↦ elim (among_either n (flat_map packet_numbers_of s.unsent) (flat_map packet_numbers_of s.inputs) d) [
+            | inr e ↦ absurd (no_copies s.inputs n alone.quiet.inputs_empty e)
+            | inl e ↦
+                let queue = among_flat packet_numbers_of n s.unsent e in
+                let at = place_of queue.0 s.unsent queue.1 in
+                flat_among (unsent_numbers s.unsent) n vertices at.0 (contains_among at.0 vertices (sender_of at.0 queue.0 at.1 queue.2))
+                (subst (λ (q : List McCopy). Among n (packet_numbers_of q)) (sym (get_or_from_slice_get s.unsent at.0 queue.0 [] at.1)) queue.2)
+          ]
+        ]
       ]
-    ]
-  ]
     where
       no_copies : (queues : List (List McCopy)) (m : ℕ) → All (λ (q : List McCopy). q ≡ []) queues → Among m (flat_map packet_numbers_of queues) → ⊥
       no_copies queues m empty b =
@@ -276,8 +282,7 @@ module _ (s : State) where
   of_sender mesh vertices alone n a =
       let v = among_flat (unsent_numbers s.unsent) n vertices a in
       let there = All-contains (λ w. w < length s.setup.spots) vertices v.0 alone.there (among_contains v.0 vertices v.1) in
-      let long = mesh.unsent_lists in
-      let at = slice_get-get_or s.unsent v.0 [] (omega (arith, there, long)) in
+      let at = slice_get-get_or s.unsent v.0 [] (omega (arith, there, mesh.unsent_lists)) in
       in_unsent n (flat_among packet_numbers_of n s.unsent (get_or s.unsent v.0 []) (among_at s.unsent v.0 (get_or s.unsent v.0 []) at) v.2)
 
   -- so the least found is the least that waits, and where none is found, none waits

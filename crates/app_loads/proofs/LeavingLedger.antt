@@ -1,32 +1,21 @@
 -- The ledger of a mesh without the deliveries and dump records of an application of which no packet is under way.
 use Rattle.std.proofs.Common.{◌≡◌, ◌≢◌, ℕ, ◌+◌, ◌-◌, ◌/◌, ◌%◌, ◌<◌, ◌≤◌, ◌==◌, Bool, true, false, List, [], ◌∷◌, ◌++◌, ◌∙◌, ◌⊎◌, Option, None, Some, if◌then◌else◌}
 use Rattle.std.proofs.Common.{leb, ltb, not, cond, length, refl, sym, ap, subst, inl, inr, arith, IsTrue, count_by}
-use Rattle.std.specs.List.{filter, All, AllPairs, Contains}
-use Rattle.std.proofs.lemmas.Bool.{cases_Bool, cases_lt, and_from, leb-true, lt-ltb, ltb-true, and_parts, eqb-true, eq-eqb, not-true}
-use Rattle.std.proofs.lemmas.Bool.Decides.{nat_tests}
+use Rattle.std.proofs.lemmas.Bool.{cases_Bool, cases_lt, and_from, leb-true, lt-ltb, ltb-true, and_parts, eqb-true, eq-eqb, not-true, Decides.nat_tests}
 use Rattle.std.proofs.lemmas.List.Elements.{filter-append, Contains-append_left, Contains-append_right}
 use Rattle.std.proofs.lemmas.Option.{slice_get_past}
+use Rattle.std.specs.List.{filter, All, AllPairs, Contains}
 use Rattle.spin_base.proofs.Members.{Among, among_contains, among_left, among_right, among_map, Contains-first, Contains-later, Contains-from_filter, Contains-filter}
 use Rattle.spin_base.proofs.Gathering.{among_gathered}
-use Rattle.spin_base.specs.declared.blocks.Entry.{Entry}
-use Rattle.spin_base.specs.declared.chips.Spot.{Spot}
-use Rattle.spin_base.specs.declared.copies.McCopy.{McCopy}
-use Rattle.spin_base.specs.declared.copies.Delivery.{Delivery}
-use Rattle.spin_base.specs.declared.copies.DumpRec.{DumpRec}
-use Rattle.machine_desc.specs.Description.{Description}
-use Rattle.machine_desc.specs.Live.{chip_of}
-use Rattle.machine_desc.specs.Branch.{Exit}
-use Rattle.machine_desc.specs.RoutingTree.{IsRoutingTree}
+use Rattle.spin_base.specs.declared.{blocks.Entry.Entry, chips.Spot.Spot, copies.McCopy.McCopy, copies.Delivery.Delivery, copies.DumpRec.DumpRec}
+use Rattle.machine_desc.specs.{Description.Description, Live.chip_of, Branch.Exit, RoutingTree.IsRoutingTree}
 use Rattle.machine_desc.specs.declared.nets.NetPlan.{NetPlan}
-use Rattle.machine_desc.specs.RightTables.{IsKeyOf}
-use Rattle.machine_desc.specs.NetsOn.{AreNetsOn, IsWayOn}
+use Rattle.machine_desc.specs.{RightTables.IsKeyOf, NetsOn.AreNetsOn, NetsOn.IsWayOn}
 use Rattle.mesh_core.specs.State.{State, Hand}
 use Rattle.mesh_core.specs.Trail.{Station, unsent, in_queue, in_hand, at_core, delivered, dumped, Mark, is_on_trail, is_packet_on_trail, IsUnderWayAt}
 use Rattle.mesh_core.specs.Ledger.{marks_of, marks_at, hand_marks, port_of, unsent_marks, input_marks, all_hand_marks, core_marks, delivered_marks, dumped_marks, Asked, label_of, MeetsLedgerFor}
 use Rattle.mesh_core.specs.Opened.{asked_at, asked_by}
-use Rattle.mesh_core.proofs.AskedPackets.{asked_parts, net_in_list}
-use Rattle.mesh_core.proofs.LedgerLaw.{one_net}
-use Rattle.mesh_core.proofs.Moves.{mark}
+use Rattle.mesh_core.proofs.{AskedPackets.asked_parts, AskedPackets.net_in_list, LedgerLaw.one_net, Moves.mark}
 use Rattle.app_loads.specs.declared.loaded.LoadedApp.{LoadedApp}
 use Rattle.app_loads.specs.Host.{Host, all_nets, asked_of, asked_of_app, either, nets_of}
 use Rattle.app_loads.specs.Applications.{AreApps, HaveOtherNumbers}
@@ -95,8 +84,10 @@ module _ (app : LoadedApp) (tables : List (List Entry)) (s : State) (none : None
   marks_without = sym (
       part_stays (unsent_marks s) (after_unsent s) (unsent_under_way s) (λ k a. among_left k (unsent_marks s) (after_unsent s) a)
       ∙ (ap (λ l. unsent_marks s ++ l) (part_stays (input_marks s) (after_inputs s) (inputs_under_way s) (λ k a. within_unsent k (among_left k (input_marks s) (after_inputs s) a)))
-      ∙ (ap (λ l. unsent_marks s ++ (input_marks s ++ l)) (part_stays (all_hand_marks s) (after_hands s) (hands_under_way s) (λ k a. within_inputs k (among_left k (all_hand_marks s) (after_hands s) a)))
-      ∙ (ap (λ l. unsent_marks s ++ (input_marks s ++ (all_hand_marks s ++ l))) (part_stays (core_marks s) (after_cores s) (cores_under_way s) (λ k a. within_hands k (among_left k (core_marks s) (after_cores s) a)))
+      ∙ (ap (λ l. unsent_marks s ++ (input_marks s ++ l))
+      (part_stays (all_hand_marks s) (after_hands s) (hands_under_way s) (λ k a. within_inputs k (among_left k (all_hand_marks s) (after_hands s) a)))
+      ∙ (ap (λ l. unsent_marks s ++ (input_marks s ++ (all_hand_marks s ++ l)))
+      (part_stays (core_marks s) (after_cores s) (cores_under_way s) (λ k a. within_hands k (among_left k (core_marks s) (after_cores s) a)))
       ∙ ap (λ l. unsent_marks s ++ (input_marks s ++ (all_hand_marks s ++ (core_marks s ++ l)))) ended_left))))
     where
       within_unsent : (k : Mark) → Among k (after_unsent s) → Among k (marks_of s)
@@ -175,7 +166,8 @@ module _ (app : LoadedApp) (tables : List (List Entry)) (s : State) (none : None
       once' k has net in_nets key d branch from to way =
           let old = was k has in
           ap (count_by (is_packet_on_trail k.copy.packet from to branch)) (marks_without app tables s none)
-          ∙ (count_of_filter (is_packet_on_trail k.copy.packet from to branch) (is_of_other app) (marks_of s) (λ m passes. other m (and_parts (m.copy.packet == k.copy.packet) (is_on_trail from to branch m) passes).0 old.1)
+          ∙ (count_of_filter (is_packet_on_trail k.copy.packet from to branch) (is_of_other app) (marks_of s)
+          (λ m passes. other m (and_parts (m.copy.packet == k.copy.packet) (is_on_trail from to branch m) passes).0 old.1)
           ∙ l.ledger.once_on_each k old.0 net (within net in_nets) key d branch from to way)
         where
           other : (m : Mark) → (m.copy.packet == k.copy.packet) ≡ true → is_packet_of app k.copy.packet ≡ false → is_of_other app m ≡ true

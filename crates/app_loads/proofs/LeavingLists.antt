@@ -1,12 +1,9 @@
 -- What stays of a list of applications, and of what each of them has, where some leave.
 use Rattle.std.proofs.Common.{◌≡◌, ℕ, ◌+◌, Bool, true, false, cond, List, [], ◌∷◌, map, refl, sym, ap, ◌∙◌, subst, arith, inl, inr, ◌⊎◌, count_by, ◌++◌}
+use Rattle.std.proofs.lemmas.{Bool.cases_order, List.get_or_default}
 use Rattle.std.specs.List.{AllPairs, Contains, filter, slice_index_or}
-use Rattle.std.proofs.lemmas.Bool.{cases_order}
-use Rattle.std.proofs.lemmas.List.{get_or_default}
-use Rattle.spin_base.proofs.Counts.{count_by-cons}
-use Rattle.spin_base.proofs.Members.{Among}
-use Rattle.mesh_core.specs.State.{State}
-use Rattle.mesh_core.specs.Trail.{Mark}
+use Rattle.spin_base.proofs.{Counts.count_by-cons, Members.Among}
+use Rattle.mesh_core.specs.{State.State, Trail.Mark}
 use Rattle.mesh_core.specs.Ledger.{all_hand_marks, core_marks, delivered_marks, dumped_marks, input_marks}
 
 -- ---- lists

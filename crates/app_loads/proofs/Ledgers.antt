@@ -1,24 +1,20 @@
 -- The ledger of asked packets, where nets or a packet come.
-use Rattle.std.proofs.Common.{◌≡◌, ◌≢◌, ℕ, ◌+◌, ◌==◌, ◌&&◌, Bool, true, false, refl, sym, ap, ◌∙◌, subst, arith, inl, inr, ◌⊎◌, List, [], ◌∷◌, ◌++◌, Option, Some, None, if◌then◌else◌, count_by, IsTrue}
-use Rattle.std.specs.List.{slice_get, slice_set, Contains}
+use Rattle.std.proofs.Common.{◌≡◌, ◌≢◌, ℕ, ◌+◌, ◌==◌, ◌&&◌, Bool, true, false, refl, sym, ap, ◌∙◌, subst, arith, inl, inr, ◌⊎◌, List, [], ◌∷◌, ◌++◌, Option, Some, None}
+use Rattle.std.proofs.Common.{if◌then◌else◌, count_by, IsTrue}
 use Rattle.std.proofs.lemmas.Bool.{cases_eq, eq-eqb, and_from, ne_eqb, and_left}
-use Rattle.std.proofs.lemmas.List.Elements.{Contains-append_left}
-use Rattle.std.proofs.lemmas.Option.{same_Some, none-some}
+use Rattle.std.proofs.lemmas.{List.Elements.Contains-append_left, Option.same_Some, Option.none-some}
+use Rattle.std.specs.List.{slice_get, slice_set, Contains}
 use Rattle.spin_base.proofs.Counts.{count_by-cons}
 use Rattle.spin_base.proofs.Exchange.{PutIn, put_in_before, put_in_gathered, count_put_in}
 use Rattle.spin_base.proofs.Members.{Among, among_contains, contains_among, among_left, among_right, among_either, Contains-first, Contains-later}
-use Rattle.spin_base.specs.declared.chips.Spot.{Spot}
-use Rattle.spin_base.specs.declared.copies.McCopy.{McCopy}
+use Rattle.spin_base.specs.declared.{chips.Spot.Spot, copies.McCopy.McCopy}
 use Rattle.machine_desc.specs.Branch.{Exit}
 use Rattle.machine_desc.specs.declared.nets.NetPlan.{NetPlan}
-use Rattle.machine_desc.specs.RightTables.{IsKeyOf}
-use Rattle.machine_desc.specs.NetsOn.{vertex_at, AreNetsOn, IsWayOn}
+use Rattle.machine_desc.specs.{RightTables.IsKeyOf, NetsOn.vertex_at, NetsOn.AreNetsOn, NetsOn.IsWayOn}
 use Rattle.mesh_core.specs.State.{State}
 use Rattle.mesh_core.specs.Trail.{Station, unsent, Mark, is_on_trail, is_packet_on_trail}
 use Rattle.mesh_core.specs.Ledger.{marks_of, marks_at, unsent_marks, input_marks, all_hand_marks, core_marks, delivered_marks, dumped_marks, Asked, label_of, MeetsLedgerFor}
-use Rattle.mesh_core.proofs.LedgerLaw.{one_net}
-use Rattle.mesh_core.proofs.Moves.{mark}
-use Rattle.mesh_core.proofs.Ways.{some_way}
+use Rattle.mesh_core.proofs.{LedgerLaw.one_net, Moves.mark, Ways.some_way}
 
 -- what stands behind the unsent copies
 abbrev behind_unsent : State → List Mark
@@ -62,9 +58,8 @@ none_passes : {X : Type 0} (p : X → Bool) (xs : List X) → ((y : X) → Conta
 none_passes p [] fails = refl
 none_passes p (y ∷ ys) fails =
     let rest = none_passes p ys (λ z has. fails z (Contains-later y ys z has)) in
-    let one = count_by-cons p y ys in
     let here : one_if (p y) ≡ 0 = ap one_if (fails y (Contains-first y ys)) in
-    omega (arith, rest, one, here)
+    omega (arith, rest, count_by-cons p y ys, here)
 
 -- ---- one packet more
 
@@ -201,9 +196,8 @@ module _ (s : State) (nets : List NetPlan) (asked : ℕ → Option Asked) (i : �
             let differs : (i == k.copy.packet) ≡ false = ne_eqb i k.copy.packet (λ e. other_number k old (sym e)) in
             let fails : is_packet_on_trail k.copy.packet from to branch x ≡ false = ap (λ b. b && is_on_trail from to branch x) differs in
             let was = l.ledger.once_on_each k old net in_nets net_key d branch from to way in
-            let all = counted (is_packet_on_trail k.copy.packet from to branch) in
             let one : one_if (is_packet_on_trail k.copy.packet from to branch x) ≡ 0 = ap one_if fails in
-            omega (arith, all, was, one)
+            omega (arith, counted (is_packet_on_trail k.copy.packet from to branch), was, one)
       ]
         where
           none_before : (f u : ℕ) (b : List Exit) → count_by (is_packet_on_trail i f u b) (marks_of s) ≡ 0

@@ -1,41 +1,25 @@
 -- A host that an application left.
 use Rattle.std.proofs.Common.{◌≡◌, ◌≢◌, ℕ, ◌+◌, ◌≤◌, ◌==◌, ltb, not, ◌&&◌, true, false, List, ◌++◌, length, refl, sym, ap, ◌∙◌, subst, inl, inr}
-use Rattle.std.specs.List.{All, AllPairs, Contains}
 use Rattle.std.proofs.lemmas.Bool.{cases_Bool, false≢true}
-use Rattle.std.proofs.lemmas.List.{length-map}
-use Rattle.std.proofs.lemmas.List.Elements.{All-contains, All-filter}
-use Rattle.std.proofs.lemmas.List.Kept.{AllPairs-filter}
+use Rattle.std.proofs.lemmas.List.{length-map, Elements.All-contains, Elements.All-filter, Kept.AllPairs-filter}
+use Rattle.std.specs.List.{All, AllPairs, Contains}
 use Rattle.spin_base.proofs.Members.{among_contains, among_either, among_left, among_right, contains_among}
-use Rattle.spin_base.proofs.Pairs.{AllPairs-append}
-use Rattle.spin_base.proofs.Places.{All-each}
-use Rattle.spin_base.specs.declared.blocks.Entry.{Entry}
-use Rattle.spin_base.specs.declared.chips.Chip.{Chip}
-use Rattle.spin_base.specs.declared.chips.Spot.{Spot}
-use Rattle.machine_desc.specs.Description.{Description}
-use Rattle.machine_desc.specs.Live.{IsInside}
-use Rattle.machine_desc.specs.NetsOn.{HaveDisjointBlocks}
-use Rattle.machine_desc.specs.RightTables.{IsKeyOf, table_at}
+use Rattle.spin_base.proofs.{Pairs.AllPairs-append, Places.All-each}
+use Rattle.spin_base.specs.declared.{blocks.Entry.Entry, chips.Chip.Chip, chips.Spot.Spot}
+use Rattle.machine_desc.specs.{Description.Description, Live.IsInside, NetsOn.HaveDisjointBlocks, RightTables.IsKeyOf, RightTables.table_at}
 use Rattle.machine_desc.specs.declared.nets.NetPlan.{NetPlan}
 use Rattle.range_store.specs.Views.{Region}
-use Rattle.mesh_core.specs.Ledger.{MeetsLedgerFor}
-use Rattle.mesh_core.specs.State.{State}
-use Rattle.app_loads.specs.declared.answers.Ended.{Ended}
-use Rattle.app_loads.specs.declared.loaded.LoadedApp.{LoadedApp}
-use Rattle.app_loads.specs.declared.loaded.Range.{Range}
+use Rattle.mesh_core.specs.{Ledger.MeetsLedgerFor, State.State}
+use Rattle.app_loads.specs.declared.{answers.Ended.Ended, loaded.LoadedApp.LoadedApp, loaded.Range.Range}
 use Rattle.app_loads.specs.Applications.{AreApps, HasRows, HaveOtherNumbers, HaveRows, IsLoadedOn}
 use Rattle.app_loads.specs.Host.{Host, all_nets, all_ranges, asked_of, nets_of}
 use Rattle.app_loads.specs.Leaving.{NoneUnderWay, mesh_without, others_than}
 use Rattle.app_loads.specs.declared.places.Region.TheVariants.{Rows}
 use Rattle.app_loads.specs.Regions.{ShareNoPlace, AreFreeBeside, IsRangeWithin, range_has, is_taken, place_of}
-use Rattle.app_loads.specs.Removing.{HasLeft}
-use Rattle.app_loads.specs.Taking.{AreTaken, free_places_in, frees}
-use Rattle.app_loads.specs.Unloading.{HasUnloaded, NoneWaits}
-use Rattle.app_loads.proofs.Copying.{mine_at, same_part}
-use Rattle.app_loads.proofs.LeftMesh.{mesh_with}
-use Rattle.app_loads.proofs.LeavingLedger.{the_ledger_without}
+use Rattle.app_loads.specs.{Removing.HasLeft, Taking.AreTaken, Taking.free_places_in, Taking.frees, Unloading.HasUnloaded, Unloading.NoneWaits}
+use Rattle.app_loads.proofs.{Copying.mine_at, Copying.same_part, LeftMesh.mesh_with, LeavingLedger.the_ledger_without}
 use Rattle.app_loads.proofs.Others.{AllPairs-left_in, item_of, only_one, other_in, others_item, own_item, own_pairs, same_tests, with_mine}
-use Rattle.app_loads.proofs.RightRows.{right_rows}
-use Rattle.app_loads.proofs.Serving.{by_taken, taken_by}
+use Rattle.app_loads.proofs.{RightRows.right_rows, Serving.by_taken, Serving.taken_by}
 
 flip_apart : (a b : Range) → ShareNoPlace a b → ShareNoPlace b a
 flip_apart a b apart region k in_b in_a = apart region k in_a in_b
@@ -68,7 +52,8 @@ module _ (h : Host) (apps : AreApps h) (number : ℕ) (app : LoadedApp) (in_apps
       ]) found.2)
       (λ hit.
       let found = by_taken (all_ranges h.apps) region k hit in
-      taken_by (all_ranges others ++ app.ranges) region k found.0 (among_contains found.0 (all_ranges others ++ app.ranges) (elim (item_of h.apps apps.numbers number app in_apps its ranges_in found.0 found.1) [
+      taken_by (all_ranges others ++ app.ranges) region k found.0
+      (among_contains found.0 (all_ranges others ++ app.ranges) (elim (item_of h.apps apps.numbers number app in_apps its ranges_in found.0 found.1) [
         | inl own ↦ among_right found.0 (all_ranges others) app.ranges (contains_among found.0 app.ranges own)
         | inr other ↦ among_left found.0 (all_ranges others) app.ranges (contains_among found.0 (all_ranges others) other)
       ])) found.2)
@@ -130,7 +115,8 @@ module _ (h : Host) (apps : AreApps h) (number : ℕ) (app : LoadedApp) (in_apps
       rows = All-each (λ (a : LoadedApp). All (RowsOf a t) a.ranges) others (λ a in_others.
           All-each (RowsOf a t) a.ranges (λ r in_a c inside region.
           let from = other_in h.apps apps.numbers number app in_apps its a in_others in
-          let was = All-contains (RowsOf a h.mesh.setup.tables) a.ranges r (All-contains (λ (b : LoadedApp). All (RowsOf b h.mesh.setup.tables) b.ranges) h.apps a apps.rows.rows from.0) in_a c inside region in
+          let was = All-contains (RowsOf a h.mesh.setup.tables) a.ranges r
+          (All-contains (λ (b : LoadedApp). All (RowsOf b h.mesh.setup.tables) b.ranges) h.apps a apps.rows.rows from.0) in_a c inside region in
           record {
             rows = was.rows;
             plain = was.plain;
@@ -144,9 +130,11 @@ module _ (h : Host) (apps : AreApps h) (number : ℕ) (app : LoadedApp) (in_apps
     }
       where
         of_other : (a : LoadedApp) → Contains others a → (r : Range) → Contains a.ranges r → Contains (all_ranges others) r
-        of_other a has r in_a = own_item others (AllPairs-filter (λ (x y : LoadedApp). x.number ≢ y.number) (λ (x : LoadedApp). not (x.number == number)) h.apps apps.numbers) a.number a has refl ranges_in r in_a
+        of_other a has r in_a = own_item others (AllPairs-filter (λ (x y : LoadedApp). x.number ≢ y.number) (λ (x : LoadedApp). not (x.number == number)) h.apps apps.numbers)
+            a.number a has refl ranges_in r in_a
 
-        nobodys : (c : Chip) (k : ℕ) → is_taken (all_ranges others) (place_of m (Rows c)) k ≡ false → is_taken app.ranges (place_of m (Rows c)) k ≡ false → is_taken (all_ranges h.apps) (place_of m (Rows c)) k ≡ false
+        nobodys : (c : Chip) (k : ℕ) → is_taken (all_ranges others) (place_of m (Rows c)) k ≡ false → is_taken app.ranges (place_of m (Rows c)) k ≡ false →
+            is_taken (all_ranges h.apps) (place_of m (Rows c)) k ≡ false
         nobodys c k free not_mine = elim (cases_Bool (is_taken (all_ranges h.apps) (place_of m (Rows c)) k)) [
           | inr no_one ↦ no_one
           | inl some ↦

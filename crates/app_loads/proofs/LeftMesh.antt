@@ -1,19 +1,14 @@
 -- A mesh and regions that an application leaves.
 use Rattle.std.proofs.Common.{◌≡◌, ◌++◌, List, length, sym, ap, ◌∙◌, subst, refl}
-use Rattle.std.specs.List.{All}
 use Rattle.std.proofs.lemmas.List.{length-map}
-use Rattle.spin_base.specs.declared.blocks.Entry.{Entry}
-use Rattle.spin_base.specs.declared.copies.Delivery.{Delivery}
-use Rattle.spin_base.specs.declared.copies.DumpRec.{DumpRec}
+use Rattle.std.specs.List.{All}
+use Rattle.spin_base.specs.declared.{blocks.Entry.Entry, copies.Delivery.Delivery, copies.DumpRec.DumpRec}
 use Rattle.machine_desc.specs.Description.{Description}
 use Rattle.range_store.specs.Views.{Region}
 use Rattle.mesh_core.specs.State.{Setup, State, IsMesh}
-use Rattle.app_loads.specs.declared.loaded.LoadedApp.{LoadedApp}
-use Rattle.app_loads.specs.declared.loaded.Range.{Range}
+use Rattle.app_loads.specs.declared.loaded.{LoadedApp.LoadedApp, Range.Range}
 use Rattle.app_loads.specs.Regions.{AreFreeBeside, IsRangeWithin}
-use Rattle.app_loads.specs.Removing.{CanLeave}
-use Rattle.app_loads.specs.Taking.{AreTaken, free_places_in, frees}
-use Rattle.app_loads.specs.Writing.{CanClear}
+use Rattle.app_loads.specs.{Removing.CanLeave, Taking.AreTaken, Taking.free_places_in, Taking.frees, Writing.CanClear}
 use Rattle.app_loads.proofs.Settling.{changed_mesh}
 
 -- a mesh with other tables, deliveries and records
@@ -26,7 +21,8 @@ pub parted_whole : {s t : State} {u : Setup} {delivered : List Delivery} {dumped
 parted_whole {s} {u = u} {delivered = delivered} {dumped = dumped} same mesh setup long =
     subst (λ (v : Setup). IsMesh (record s { setup = v; delivered = delivered; dumped = dumped })) (sym setup) (mesh_with s u.tables delivered dumped (subst IsMesh (sym same) mesh) long)
 
-pub can_clear : {s t : State} {regions : List Region} {app : LoadedApp} {lent : List Range} → s ≡ t → IsMesh t → CanLeave t regions app → lent ≡ app.ranges → CanClear s.setup.machine s.setup.tables lent
+pub can_clear : {s t : State} {regions : List Region} {app : LoadedApp} {lent : List Range} → s ≡ t → IsMesh t →
+    CanLeave t regions app → lent ≡ app.ranges → CanClear s.setup.machine s.setup.tables lent
 can_clear {t = t} {regions = regions} {app = app} {lent = lent} same mesh can lent_is =
     subst (λ (x : State). CanClear x.setup.machine x.setup.tables lent) (sym same) (subst (CanClear t.setup.machine t.setup.tables) (sym lent_is) (record {
       tables_long = mesh.table_list;

@@ -1,31 +1,24 @@
 -- The fields of a host that an application left, or left not.
 use Rattle.std.proofs.Common.{◌≡◌, ℕ, suc, ◌<◌, ◌==◌, false, List, ◌++◌, length, take, drop, get_or, sym, ap, ◌∙◌, subst, Option, None, Some, Result, Ok, OnOk, inl, inr}
-use Rattle.std.proofs.lemmas.List.{drop-map, map-append, take-map}
+use Rattle.std.proofs.lemmas.{List.drop-map, List.map-append, List.take-map, Bool.cases_Bool, Bool.eqb-true}
+use Rattle.std.proofs.lemmas.Option.{slice_get-get_or, slice_get_within, same_Some}
 use Rattle.std.specs.Prelude.{IfSome, is_some, position}
 use Rattle.std.specs.List.{slice_get, Contains}
-use Rattle.std.proofs.lemmas.Bool.{cases_Bool, eqb-true}
-use Rattle.std.proofs.lemmas.Option.{slice_get-get_or, slice_get_within, same_Some}
 use Rattle.spin_base.proofs.Members.{Contains-at, any_among, position_nowhere, position_there}
 use Rattle.range_store.specs.Views.{Region}
 use Rattle.mesh_core.specs.State.{State}
 use Rattle.mesh_drain.specs.Draining.{SendAlone}
-use Rattle.app_loads.specs.declared.answers.Ended.{Ended}
-use Rattle.app_loads.specs.declared.answers.UnloadErr.{UnloadErr}
+use Rattle.app_loads.specs.declared.answers.{Ended.Ended, UnloadErr.UnloadErr}
 use Rattle.app_loads.specs.declared.answers.UnloadErr.TheVariants.{NotLoaded, Waiting, Memory}
-use Rattle.app_loads.specs.declared.apps.Apps.TheInside.{Inside}
-use Rattle.app_loads.specs.declared.loaded.LoadedApp.{LoadedApp}
-use Rattle.app_loads.specs.Applications.{AreApps}
-use Rattle.app_loads.specs.Host.{Host, all_ranges, is_loaded}
-use Rattle.app_loads.specs.Inner.{host_of, IsHost, mesh_in, numbers_of}
+use Rattle.app_loads.specs.declared.{apps.Apps.TheInside.Inside, loaded.LoadedApp.LoadedApp}
+use Rattle.app_loads.specs.{Applications.AreApps, Host.Host, Host.all_ranges, Host.is_loaded, Inner.host_of, Inner.IsHost, Inner.mesh_in, Inner.numbers_of}
 use Rattle.app_loads.specs.Leaving.{NoneUnderWay, others_than}
 use Rattle.app_loads.specs.Removing.{CanLeave, HasLeft, IsWhyHere}
 use Rattle.app_loads.specs.Taking.{AreGivenBack, frees}
 use Rattle.app_loads.specs.Unloading.{HasUnloaded, IsWhyNotUnloaded, NoneWaits}
 use Rattle.app_loads.proofs.FewClaims.{few_ranges}
 use Rattle.app_loads.proofs.LeftHost.{apps_left, has_unloaded, loaded_one, none_waits, taken_beside}
-use Rattle.app_loads.proofs.LoadedParts.{IsOut, host_is, mesh_h, old_is}
-use Rattle.app_loads.proofs.Others.{without_one}
-use Rattle.app_loads.proofs.Resting.{left_alone}
+use Rattle.app_loads.proofs.{LoadedParts.IsOut, LoadedParts.host_is, LoadedParts.mesh_h, LoadedParts.old_is, Others.without_one, Resting.left_alone}
 
 -- where no place is found, the number is not loaded
 pub not_loaded : (apps : List LoadedApp) (number : ℕ) → position (λ (app : LoadedApp). app.number == number) apps ≡ None → is_loaded apps number ≡ false
@@ -115,7 +108,8 @@ pub record HasGone (i j : Inside) (mesh : State) (given : List Region) (number a
   pub numbers : j.numbers.items ≡ take at i.numbers.items ++ drop (suc at) i.numbers.items
   pub senders : j.senders ≡ i.senders
 
-module _ {i j : Inside} {now : Host} {number at : ℕ} {app : LoadedApp} {mesh : State} {given : List Region} {ended : Ended} (leaves : Leaves i now number at app mesh given) (gone : HasGone i j mesh given number at app ended) where
+module _ {i j : Inside} {now : Host} {number at : ℕ} {app : LoadedApp} {mesh : State} {given : List Region} {ended : Ended}
+    (leaves : Leaves i now number at app mesh given) (gone : HasGone i j mesh given number at app ended) where
   abbrev old : Host
   old = host_of i
 

@@ -1,46 +1,32 @@
 -- A host to which an application came.
 use Rattle.std.proofs.Common.{◌≡◌, ◌≢◌, ℕ, zero, suc, ◌+◌, ◌<◌, ◌≤◌, ◌==◌, true, false, List, [], ◌∷◌, ◌++◌, ◌∙◌, Option, None, Some, ◌&&◌, if◌then◌else◌}
 use Rattle.std.proofs.Common.{length, take, refl, sym, ap, subst, inl, inr, arith, append-nil, append_assoc, ltb, not, get_or}
-use Rattle.std.specs.Option.{option_map_or}
-use Rattle.std.specs.List.{list_any, slice_get, slice_set, All, AllPairs, Contains, flat_map, filter_map, enumerate_from, cons_option}
 use Rattle.std.proofs.lemmas.Bool.{cases_Bool, cases_eq, eq-eqb, eqb-true, false≢true, and_parts, ne_eqb, or_parts}
 use Rattle.std.proofs.lemmas.Grind.{flat_map-append}
 use Rattle.std.proofs.lemmas.List.Elements.{All-append, All-contains, All-weaker, filter_map-append, All-push}
 use Rattle.std.proofs.lemmas.List.Folds.{list_any-append}
 use Rattle.std.proofs.lemmas.Option.{slice_get_within, same_Some, none-some, slice_get-get_or}
 use Rattle.std.proofs.lemmas.List.{take_all, same_lists}
+use Rattle.std.specs.Option.{option_map_or}
+use Rattle.std.specs.List.{list_any, slice_get, slice_set, All, AllPairs, Contains, flat_map, filter_map, enumerate_from, cons_option}
 use Rattle.spin_base.proofs.Members.{Among, Contains-at, among_any, among_left, among_right, among_contains, contains_among}
 use Rattle.spin_base.proofs.Pairs.{AllPairs-append, AllPairs-right, AllPairs-across}
 use Rattle.spin_base.proofs.Places.{All-each, enumerate_more, slice_get_there, slice_get-set_same, slice_get-set_other}
-use Rattle.spin_base.specs.declared.blocks.Entry.{Entry}
-use Rattle.spin_base.specs.declared.chips.Chip.{Chip}
-use Rattle.spin_base.specs.declared.chips.Spot.{Spot}
-use Rattle.spin_base.specs.declared.copies.McCopy.{McCopy}
-use Rattle.spin_base.specs.declared.copies.Packet.{Packet}
+use Rattle.spin_base.proofs.{Equality.spot_eq_same, Gathering.gathered_among}
+use Rattle.spin_base.specs.declared.{blocks.Entry.Entry, chips.Chip.Chip, chips.Spot.Spot, copies.McCopy.McCopy, copies.Packet.Packet}
 use Rattle.spin_base.specs.Equality.{spot_eq}
-use Rattle.spin_base.proofs.Equality.{spot_eq_same}
-use Rattle.machine_desc.specs.Description.{Description}
-use Rattle.machine_desc.specs.Live.{IsInside}
-use Rattle.machine_desc.specs.RoutingTree.{IsRoutingTree}
-use Rattle.range_store.specs.Views.{Region}
-use Rattle.range_store.specs.Regions.{AreRuns}
+use Rattle.machine_desc.specs.{Description.Description, Live.IsInside, RoutingTree.IsRoutingTree}
 use Rattle.machine_desc.specs.declared.nets.NetPlan.{NetPlan}
 use Rattle.machine_desc.specs.NetsOn.{AreNetsOn, HaveDisjointBlocks, vertex_at}
 use Rattle.machine_desc.specs.RightTables.{IsKeyOf, table_at}
-use Rattle.mesh_core.specs.State.{State}
-use Rattle.mesh_core.specs.Trail.{Mark, unsent}
+use Rattle.range_store.specs.{Views.Region, Regions.AreRuns}
+use Rattle.mesh_core.specs.{State.State, Trail.Mark, Trail.unsent}
 use Rattle.mesh_core.specs.Ledger.{MeetsLedgerFor, marks_of, marks_at, unsent_marks, input_marks, all_hand_marks, core_marks, delivered_marks, dumped_marks}
-use Rattle.mesh_core.proofs.Ways.{vertex_at_stands}
-use Rattle.spin_base.proofs.Gathering.{gathered_among}
 use Rattle.mesh_core.specs.Opened.{copy_from, first_copy}
-use Rattle.app_loads.specs.declared.answers.LoadErr.{LoadErr}
-use Rattle.app_loads.specs.declared.answers.LoadErr.TheVariants.{Refused, Memory}
-use Rattle.app_loads.specs.declared.answers.LoadRefusal.{LoadRefusal}
+use Rattle.mesh_core.proofs.Ways.{vertex_at_stands}
+use Rattle.app_loads.specs.declared.answers.{LoadErr.LoadErr, LoadErr.TheVariants.Refused, LoadErr.TheVariants.Memory, LoadRefusal.LoadRefusal}
 use Rattle.app_loads.specs.declared.answers.LoadRefusal.TheVariants.{Loaded, MemoryOut, KeysOut, RowsOut}
-use Rattle.app_loads.specs.declared.loaded.LoadedApp.{LoadedApp}
-use Rattle.app_loads.specs.declared.loaded.Range.{Range}
-use Rattle.app_loads.specs.declared.plans.AppNet.{AppNet}
-use Rattle.app_loads.specs.declared.plans.AppPlan.{AppPlan}
+use Rattle.app_loads.specs.declared.{loaded.LoadedApp.LoadedApp, loaded.Range.Range, plans.AppNet.AppNet, plans.AppPlan.AppPlan}
 use Rattle.app_loads.specs.Applications.{AreApps, HasRows, HaveOtherNumbers, HaveRows, IsLoadedOn}
 use Rattle.app_loads.specs.Claims.{AreServed, claims_of, IsRefusalDue}
 use Rattle.app_loads.specs.Host.{Free, Host, all_nets, all_ranges, all_spots, asked_of, is_loaded, is_spot_taken, nets_of}
@@ -52,16 +38,9 @@ use Rattle.app_loads.specs.Regions.{ShareNoPlace, AreFreeBeside, range_has, is_t
 use Rattle.app_loads.specs.Taking.{AreTaken, IsDueAlways, frees}
 use Rattle.app_loads.proofs.AppNets.{apps_disjoint, different_of, facts_at, facts_of, key_of_index, own_disjoint, roots_of, sources_in, targets_in, trees_of, usable_spot}
 use Rattle.app_loads.proofs.ClaimCases.{among_flat, flat_among, facts}
-use Rattle.app_loads.proofs.Copying.{mine_at, same_part}
-use Rattle.app_loads.proofs.Holes.{same_holes}
-use Rattle.app_loads.proofs.JoinLaws.{loaded_from}
-use Rattle.app_loads.proofs.Ledgers.{more_nets}
+use Rattle.app_loads.proofs.{Copying.mine_at, Copying.same_part, Holes.same_holes, JoinLaws.loaded_from, Ledgers.more_nets}
 use Rattle.app_loads.proofs.PacketLedger.{asked_is, none_past, other_tables, same_packets, sent_ledger}
-use Rattle.app_loads.proofs.RightRows.{right_rows}
-use Rattle.app_loads.proofs.Serving.{by_taken}
-use Rattle.app_loads.proofs.Settling.{settled_mesh, usable_there}
-use Rattle.app_loads.proofs.Others.{pairs_with_last}
-use Rattle.app_loads.proofs.RegionLaws.{one_free}
+use Rattle.app_loads.proofs.{RightRows.right_rows, Serving.by_taken, Settling.settled_mesh, Settling.usable_there, Others.pairs_with_last, RegionLaws.one_free}
 
 -- one item more at the end of a list made of lists
 flat_more : {X Y : Type 0} (f : X → List Y) (xs : List X) (x : X) → flat_map f (xs ++ x ∷ []) ≡ flat_map f xs ++ f x
@@ -81,11 +60,13 @@ same_frees m taken xs ys one other = same_lists xs ys long each
         let p = one.each k f (slice_get-get_or xs k d below) in
         let q = other.each k g (slice_get-get_or ys k d (omega (arith, below, long))) in
         let size : f.size ≡ g.size = p.size ∙ sym q.size in
-        let holes = same_holes 0 f.size f.holes g.holes p.runs (subst (λ n. AreRuns 0 n g.holes) (sym size) q.runs) (λ z. p.free z ∙ (ap (λ n. ltb z n && not (is_taken taken k z)) size ∙ sym (q.free z))) in
+        let holes = same_holes 0 f.size f.holes g.holes p.runs (subst (λ n. AreRuns 0 n g.holes) (sym size) q.runs)
+        (λ z. p.free z ∙ (ap (λ n. ltb z n && not (is_taken taken k z)) size ∙ sym (q.free z))) in
         one_free f.size g.size f.holes g.holes holes size
 
 -- what vertices have unsent
-sent_unsent : (spots : List Spot) (app : LoadedApp) (n : ℕ) (before after : List (List McCopy)) → AreSent spots app n before after → n ≤ length app.plan.packets → (v : ℕ) (q : List McCopy) → slice_get before v ≡ Some q →
+sent_unsent : (spots : List Spot) (app : LoadedApp) (n : ℕ) (before after : List (List McCopy)) → AreSent spots app n before after →
+    n ≤ length app.plan.packets → (v : ℕ) (q : List McCopy) → slice_get before v ≡ Some q →
     slice_get after v ≡ Some (q ++ filter_map (λ (e : ℕ × Packet). copy_from spots v e.0 e.1 (slice_get (nets_of app) e.1.net)) (enumerate_from app.first (take n app.plan.packets)))
 sent_unsent spots app zero before after sent le v q at = ap (λ l. slice_get l v) sent ∙ (at ∙ ap Some (sym (append-nil q)))
 sent_unsent spots app (suc n) before after sent le v q at =
@@ -93,8 +74,10 @@ sent_unsent spots app (suc n) before after sent le v q at =
     let was = sent_unsent spots app n before sent.0 sent.2 (omega (arith, le)) v q at in
     let next : suc n ≡ n + 1 = omega arith in
     let more = enumerate_more app.first app.plan.packets n (app.first + n) sent.1 sent.3 refl in
-    let listed : filter_map (sends v) (enumerate_from app.first (take (suc n) app.plan.packets)) ≡ filter_map (sends v) (enumerate_from app.first (take n app.plan.packets)) ++ filter_map (sends v) ((app.first + n, sent.1) ∷ []) =
-    ap (λ k. filter_map (sends v) (enumerate_from app.first (take k app.plan.packets))) next ∙ (ap (filter_map (sends v)) more ∙ filter_map-append (sends v) (enumerate_from app.first (take n app.plan.packets)) ((app.first + n, sent.1) ∷ [])) in
+    let listed : filter_map (sends v) (enumerate_from app.first (take (suc n) app.plan.packets)) ≡ filter_map (sends v)
+    (enumerate_from app.first (take n app.plan.packets)) ++ filter_map (sends v) ((app.first + n, sent.1) ∷ []) =
+    ap (λ k. filter_map (sends v) (enumerate_from app.first (take k app.plan.packets))) next
+    ∙ (ap (filter_map (sends v)) more ∙ filter_map-append (sends v) (enumerate_from app.first (take n app.plan.packets)) ((app.first + n, sent.1) ∷ [])) in
     elim (cases_eq v one.vertex) [
       | inl same ↦
           let mine : slice_get sent.0 v ≡ Some one.queue = ap (slice_get sent.0) same ∙ one.at in
@@ -178,7 +161,8 @@ module _ (h : Host) (apps : AreApps h) (number : ℕ) (plan : AppPlan) (may : Ma
   in_ranges a in_apps r in_a = among_contains r (all_ranges h.apps) (flat_among (λ (x : LoadedApp). x.ranges) r h.apps a (contains_among a h.apps in_apps) (contains_among r a.ranges in_a))
 
   across : (r s : Range) → Contains (all_ranges h.apps) r → Contains app.ranges s → ShareNoPlace r s
-  across r s in_r in_s = All-contains (ShareNoPlace r) app.ranges s (All-contains (λ a. All (ShareNoPlace a) app.ranges) (all_ranges h.apps) r (AllPairs-across ShareNoPlace (all_ranges h.apps) app.ranges taken_now.apart) in_r) in_s
+  across r s in_r in_s = All-contains (ShareNoPlace r) app.ranges s
+      (All-contains (λ a. All (ShareNoPlace a) app.ranges) (all_ranges h.apps) r (AllPairs-across ShareNoPlace (all_ranges h.apps) app.ranges taken_now.apart) in_r) in_s
 
   spots_free : (s : Spot) → Contains app.plan.spots s → is_spot_taken h.apps s ≡ false
   spots_free s has = All-contains (λ z. is_spot_taken h.apps z ≡ false) plan.spots s may.free (subst (λ (p : AppPlan). Contains p.spots s) served.plan_is has)
@@ -189,7 +173,8 @@ module _ (h : Host) (apps : AreApps h) (number : ℕ) (plan : AppPlan) (may : Ma
       All-each (λ (b : NetPlan). (key : ℕ) → IsKeyOf a.block key → IsKeyOf b.block key → ⊥) (nets_of app) (λ b in_b.
       let f = among_flat nets_of a h.apps (contains_among a (all_nets h.apps) in_a) in
       let in_apps = among_contains f.0 h.apps f.1 in
-      apps_disjoint m f.0 app (All-contains (IsLoadedOn m) h.apps f.0 apps.loaded in_apps) on (λ r s in_r in_s. across r s (in_ranges f.0 in_apps r in_r) in_s) a b (among_contains a (nets_of f.0) f.2) in_b)))
+      apps_disjoint m f.0 app (All-contains (IsLoadedOn m) h.apps f.0 apps.loaded in_apps) on
+      (λ r s in_r in_s. across r s (in_ranges f.0 in_apps r in_r) in_s) a b (among_contains a (nets_of f.0) f.2) in_b)))
 
   spots_in : (s : Spot) → Contains app.plan.spots s → Contains h.mesh.setup.spots s
   spots_in s has = subst (λ (l : List Spot). Contains l s) (sym apps.vertices) (usable_there m s (usable_spot m app on s has))
@@ -218,12 +203,14 @@ module _ (h : Host) (apps : AreApps h) (number : ℕ) (plan : AppPlan) (may : Ma
         (All-each (λ (a : LoadedApp). All (λ (r : Range). (c : Chip) → IsInside m c → r.region ≡ place_of m (Rows c) → HasRows m (nets_of a) c (table_at m t c) r) a.ranges) h.apps (λ a in_apps.
         All-each (λ (r : Range). (c : Chip) → IsInside m c → r.region ≡ place_of m (Rows c) → HasRows m (nets_of a) c (table_at m t c) r) a.ranges (λ r in_a c inside region.
         let was = All-contains (λ (r' : Range). (d : Chip) → IsInside m d → r'.region ≡ place_of m (Rows d) → HasRows m (nets_of a) d (table_at m h.mesh.setup.tables d) r') a.ranges r
-        (All-contains (λ (b : LoadedApp). All (λ (r' : Range). (d : Chip) → IsInside m d → r'.region ≡ place_of m (Rows d) → HasRows m (nets_of b) d (table_at m h.mesh.setup.tables d) r') b.ranges) h.apps a apps.rows.rows in_apps) in_a c inside region in
+        (All-contains (λ (b : LoadedApp). All (λ (r' : Range). (d : Chip) → IsInside m d → r'.region ≡ place_of m (Rows d) → HasRows m (nets_of b) d (table_at m h.mesh.setup.tables d) r')
+        b.ranges) h.apps a apps.rows.rows in_apps) in_a c inside region in
         record {
           rows = was.rows;
           plain = was.plain;
           entries = same_part (table_at m t c) (table_at m h.mesh.setup.tables c) r.place r.size (settled.written.long c inside ∙ sym (apps.rows.long c inside))
-              (λ k low high. settled.written.others c k inside (none_of_others r (in_ranges a in_apps r in_a) (place_of m (Rows c)) k (mine_at r (place_of m (Rows c)) k region low high))) ∙ was.entries;
+              (λ k low high. settled.written.others c k inside (none_of_others r (in_ranges a in_apps r in_a) (place_of m (Rows c)) k (mine_at r (place_of m (Rows c)) k region low high)))
+              ∙ was.entries;
         })))
         (All-each (λ (r : Range). (c : Chip) → IsInside m c → r.region ≡ place_of m (Rows c) → HasRows m (nets_of app) c (table_at m t c) r) app.ranges (λ r in_app. settled.written.rows r in_app));
     others = λ c k inside below free.
@@ -290,7 +277,8 @@ module _ (h : Host) (apps : AreApps h) (number : ℕ) (plan : AppPlan) (may : Ma
     ascending = pairs_with_last HaveOtherNumbers h.apps app apps.ascending
         (λ a in_apps. subst (λ n. a.first + length a.plan.packets ≤ n) (sym first_is) (All-contains (λ (x : LoadedApp). x.first + length x.plan.packets ≤ h.packets) h.apps a apps.counted in_apps));
     counted = All-push (λ (a : LoadedApp). a.first + length a.plan.packets ≤ h.packets + length plan.packets) h.apps app
-        (All-weaker (λ (a : LoadedApp). a.first + length a.plan.packets ≤ h.packets) (λ (a : LoadedApp). a.first + length a.plan.packets ≤ h.packets + length plan.packets) (λ a le. omega (arith, le)) h.apps apps.counted)
+        (All-weaker (λ (a : LoadedApp). a.first + length a.plan.packets ≤ h.packets) (λ (a : LoadedApp). a.first + length a.plan.packets ≤ h.packets + length plan.packets)
+        (λ a le. omega (arith, le)) h.apps apps.counted)
         (let f = first_is in let p = plan_packets in omega (arith, f, p));
     few_packets = may.numbers;
   }
@@ -315,7 +303,8 @@ module _ (h : Host) (apps : AreApps h) (number : ℕ) (plan : AppPlan) (may : Ma
     packets = refl;
     mesh = settled.mesh;
     unsent = λ v before at. sent_unsent h.mesh.setup.spots app (length app.plan.packets) h.mesh.unsent q settled.sent (omega arith) v before at
-        ∙ ap (λ l. Some (before ++ filter_map (λ (e : ℕ × Packet). copy_from h.mesh.setup.spots v e.0 e.1 (slice_get (nets_of app) e.1.net)) (enumerate_from app.first l))) (take_all (length app.plan.packets) app.plan.packets (omega arith));
+        ∙ ap (λ l. Some (before ++ filter_map (λ (e : ℕ × Packet). copy_from h.mesh.setup.spots v e.0 e.1 (slice_get (nets_of app) e.1.net)) (enumerate_from app.first l)))
+        (take_all (length app.plan.packets) app.plan.packets (omega arith));
     tables = λ c k inside free. settled.written.others c k inside free;
   }
 
@@ -323,7 +312,8 @@ module _ (h : Host) (apps : AreApps h) (number : ℕ) (plan : AppPlan) (may : Ma
 pub why_not : (h : Host) (apps : AreApps h) (number : ℕ) (plan : AppPlan) (old : List Region) → frees old ≡ h.regions → is_loaded h.apps number ≡ false → IsPlan h.mesh.setup.machine plan →
     (err : LoadErr) → IsDueAlways h.mesh.setup.machine (claims_of h.mesh.setup.machine plan) old err → IsWhyNotLoaded h number plan err
 why_not h apps number plan old same none valid Memory due = tt
-why_not h apps number plan old same none valid (Refused refusal) due = by_kind refusal (due (all_ranges h.apps) apps.apart (subst (AreFreeBeside h.mesh.setup.machine (all_ranges h.apps)) (sym same) apps.free))
+why_not h apps number plan old same none valid (Refused refusal) due =
+    by_kind refusal (due (all_ranges h.apps) apps.apart (subst (AreFreeBeside h.mesh.setup.machine (all_ranges h.apps)) (sym same) apps.free))
   where
     by_kind : (e : LoadRefusal) → IsRefusalDue h.mesh.setup.machine (all_ranges h.apps) (claims_of h.mesh.setup.machine plan) e → IsLoadRefusal h number plan e
     by_kind Loaded d = absurd ((facts h.mesh.setup.machine plan valid d.claim (Contains-at (claims_of h.mesh.setup.machine plan) (length d.ranges) d.claim d.is)).due d.refusal_is)
@@ -353,15 +343,15 @@ none_unsent h apps plan may net has v vertex = by_queue (slice_get h.mesh.unsent
         let has' : Contains (marks_of h.mesh) mark' = among_contains mark' (marks_of h.mesh) (among_left mark' (unsent_marks h.mesh) (behind h.mesh) in_unsent) in
         let on = apps.ledger.ledger.on_a_trail mark' has' in
         let from : ℕ = on.3.2 in
-        let parts = and_parts (v == from) (k.hop == 0) on.3.5 in
-        let same_vertex : v ≡ from = eqb-true v from parts.0 in
+        let same_vertex : v ≡ from = eqb-true v from (and_parts (v == from) (k.hop == 0) on.3.5).0 in
         let other_at : slice_get h.mesh.setup.spots v ≡ Some on.0.source = ap (slice_get h.mesh.setup.spots) same_vertex ∙ vertex_at_stands h.mesh.setup.spots on.0.source from on.3.4.begins in
         let same : on.0.source ≡ net.source = same_Some _ _ (sym other_at ∙ spot_at) in
         let f = among_flat nets_of on.0 h.apps (contains_among on.0 (all_nets h.apps) on.1) in
         let facts' = facts_of m' f.0 (All-contains (IsLoadedOn m') h.apps f.0 apps.loaded (among_contains f.0 h.apps f.1)) on.0 (among_contains on.0 (nets_of f.0) f.2) in
         let its : facts'.net.source ≡ net.source = ap (λ (x : NetPlan). x.source) facts'.is ∙ same in
         let is_taken' : is_spot_taken h.apps net.source ≡ true = among_any (λ (x : LoadedApp). list_any (spot_eq net.source) x.plan.spots) f.0 h.apps f.1
-        (among_any (spot_eq net.source) net.source f.0.plan.spots (contains_among net.source f.0.plan.spots (subst (λ s. Contains f.0.plan.spots s) its facts'.valid.source)) (spot_eq_same net.source)) in
+        (among_any (spot_eq net.source) net.source f.0.plan.spots (contains_among net.source f.0.plan.spots (subst (λ s. Contains f.0.plan.spots s) its facts'.valid.source))
+        (spot_eq_same net.source)) in
         let own = All-contains (IsAppNet m' plan.spots) plan.nets net may.valid.nets has in
         let is_free = All-contains (λ z. is_spot_taken h.apps z ≡ false) plan.spots net.source may.free own.source in
         absurd (false≢true (sym is_free ∙ is_taken'))

@@ -1,28 +1,18 @@
 -- The fields of a host to which an application came, or came not.
 use Rattle.std.proofs.Common.{◌≡◌, ℕ, ◌+◌, ◌^◌, ◌<◌, true, false, List, [], ◌∷◌, ◌++◌, length, refl, sym, ap, ◌∙◌, subst, inl, Option, None, Some, Result, Ok, Err, OnOk, OnErr}
-use Rattle.std.proofs.lemmas.List.{map-append}
+use Rattle.std.proofs.lemmas.List.{map-append, Elements.All-contains}
 use Rattle.std.specs.Prelude.{IfSome, is_err, is_some}
 use Rattle.std.specs.List.{Contains}
-use Rattle.std.proofs.lemmas.List.Elements.{All-contains}
 use Rattle.spin_base.proofs.Members.{among_contains, among_right}
 use Rattle.range_store.specs.Views.{Region}
 use Rattle.mesh_core.specs.State.{State}
 use Rattle.mesh_drain.specs.Draining.{SendAlone}
-use Rattle.app_loads.specs.declared.answers.LoadErr.{LoadErr}
-use Rattle.app_loads.specs.declared.apps.Apps.TheInside.{Inside}
-use Rattle.app_loads.specs.declared.loaded.LoadedApp.{LoadedApp}
-use Rattle.app_loads.specs.declared.plans.AppPlan.{AppPlan}
-use Rattle.app_loads.specs.Applications.{AreApps, IsLoadedOn}
-use Rattle.app_loads.specs.Claims.{claims_of}
-use Rattle.app_loads.specs.Host.{Free, Host, all_ranges, is_loaded}
+use Rattle.app_loads.specs.declared.{answers.LoadErr.LoadErr, apps.Apps.TheInside.Inside, loaded.LoadedApp.LoadedApp, plans.AppPlan.AppPlan}
+use Rattle.app_loads.specs.{Applications.AreApps, Applications.IsLoadedOn, Claims.claims_of, Host.Free, Host.Host, Host.all_ranges, Host.is_loaded}
 use Rattle.app_loads.specs.Inner.{host_of, IsHost, mesh_in, numbers_of}
-use Rattle.app_loads.specs.Joining.{CanJoin, IsServedApp, IsSettled}
-use Rattle.app_loads.specs.Loading.{HasLoaded, IsWhyNotLoaded}
-use Rattle.app_loads.specs.Plans.{MayLoad}
-use Rattle.app_loads.specs.Regions.{AreFreeBeside}
-use Rattle.app_loads.specs.Taking.{AreFreeAgain, IsDueAlways, frees}
+use Rattle.app_loads.specs.{Joining.CanJoin, Joining.IsServedApp, Joining.IsSettled, Loading.HasLoaded, Loading.IsWhyNotLoaded, Plans.MayLoad}
+use Rattle.app_loads.specs.{Regions.AreFreeBeside, Taking.AreFreeAgain, Taking.IsDueAlways, Taking.frees, Sending.AreWithSources}
 use Rattle.app_loads.proofs.LoadedHost.{apps_now, loaded_host, none_unsent, same_frees, why_not}
-use Rattle.app_loads.specs.Sending.{AreWithSources}
 use Rattle.app_loads.proofs.Resting.{with_alone}
 
 one_host : (a b : State) (r s : List Free) (p q : List LoadedApp) (n k : ℕ) → a ≡ b → r ≡ s → p ≡ q → n ≡ k →
@@ -129,7 +119,8 @@ pub record Joins (i j : Inside) (now : Host) (mesh : State) (given : List Region
   pub numbers : j.numbers.items ≡ i.numbers.items ++ app.number ∷ []
   pub sources : IfSome j.senders (AreWithSources after app.plan.nets i.senders)
 
-module _ {i j : Inside} {now : Host} {mesh : State} {given : List Region} {number : ℕ} {plan : AppPlan} {app : LoadedApp} (out : IsOut i now mesh given) (joins : Joins i j now mesh given number plan app) where
+module _ {i j : Inside} {now : Host} {mesh : State} {given : List Region} {number : ℕ} {plan : AppPlan} {app : LoadedApp}
+    (out : IsOut i now mesh given) (joins : Joins i j now mesh given number plan app) where
   abbrev old : Host
   old = host_of i
 

@@ -1,20 +1,16 @@
 -- Keys of one block of an application are alike: each table gives all of them the same.
 use Rattle.std.proofs.Common.{◌≡◌, ℕ, zero, suc, List, [], ◌∷◌, length, refl, sym, subst, arith, Some}
+use Rattle.std.proofs.lemmas.{List.Elements.All-contains, Option.same_Some}
 use Rattle.std.specs.List.{slice_get, Contains}
-use Rattle.std.proofs.lemmas.List.Elements.{All-contains}
-use Rattle.std.proofs.lemmas.Option.{same_Some}
 use Rattle.spin_base.proofs.Members.{Contains-at, among_contains, contains_among}
 use Rattle.spin_base.specs.declared.blocks.Block.{Block}
 use Rattle.machine_desc.specs.declared.nets.NetPlan.{NetPlan}
 use Rattle.machine_desc.specs.RightTables.{IsKeyOf}
-use Rattle.app_loads.specs.declared.loaded.LoadedApp.{LoadedApp}
-use Rattle.app_loads.specs.declared.plans.AppNet.{AppNet}
+use Rattle.app_loads.specs.declared.{loaded.LoadedApp.LoadedApp, plans.AppNet.AppNet}
 use Rattle.app_loads.specs.Applications.{AreApps, IsLoadedOn}
 use Rattle.app_loads.specs.Host.{Host, all_nets, net_with, nets_of, nets_with}
 use Rattle.app_loads.specs.Running.{AreAlikeInBlocks}
-use Rattle.app_loads.proofs.AppNets.{member_at}
-use Rattle.app_loads.proofs.ClaimCases.{flat_among}
-use Rattle.app_loads.proofs.RightRows.{alike}
+use Rattle.app_loads.proofs.{AppNets.member_at, ClaimCases.flat_among, RightRows.alike}
 
 -- the net that has a block
 net_at : (nets : List AppNet) (blocks : List Block) (i : ℕ) (block : Block) → length blocks ≡ length nets → slice_get blocks i ≡ Some block →

@@ -1,24 +1,17 @@
 -- Each net of a plan has one claim of keys, and so one block.
 use Rattle.std.proofs.Common.{◌≡◌, ℕ, zero, suc, ◌+◌, ◌<◌, ◌≤◌, ◌==◌, Bool, true, false, List, [], ◌∷◌, ◌++◌, refl, sym, ap, ◌∙◌, arith, Option, Some, None, count_by, if◌then◌else◌}
-use Rattle.std.specs.Prelude.{zip}
-use Rattle.std.specs.List.{flat_map, range_with_len, slice_get}
-use Rattle.std.proofs.lemmas.Bool.{eq-eqb, eqb-true, ne_eqb}
-use Rattle.std.proofs.lemmas.Option.{same_Some}
+use Rattle.std.proofs.lemmas.{Bool.eq-eqb, Bool.eqb-true, Bool.ne_eqb, Option.same_Some}
+use Rattle.std.specs.{Prelude.zip, List.flat_map, List.range_with_len, List.slice_get}
 use Rattle.spin_base.specs.Gathered.{gathered}
-use Rattle.spin_base.proofs.Counts.{count_by-append, count_by-cons}
-use Rattle.spin_base.proofs.Members.{among_at}
 use Rattle.spin_base.specs.declared.blocks.Block.{Block}
-use Rattle.machine_desc.specs.Description.{Description}
-use Rattle.machine_desc.specs.Live.{chip_of}
+use Rattle.spin_base.proofs.{Counts.count_by-append, Counts.count_by-cons, Members.among_at}
+use Rattle.machine_desc.specs.{Description.Description, Live.chip_of}
 use Rattle.tern_word.proofs.BlockLaws.{same_block}
 use Rattle.key_alloc.specs.KeyBlocks.{size_of}
 use Rattle.mesh_core.proofs.Counting.{count_some, counts_one}
 use Rattle.app_loads.specs.declared.answers.LoadRefusal.{LoadRefusal}
 use Rattle.app_loads.specs.declared.answers.LoadRefusal.TheVariants as refusals
-use Rattle.app_loads.specs.declared.loaded.Claim.{Claim}
-use Rattle.app_loads.specs.declared.loaded.Range.{Range}
-use Rattle.app_loads.specs.declared.plans.AppNet.{AppNet}
-use Rattle.app_loads.specs.declared.plans.AppPlan.{AppPlan}
+use Rattle.app_loads.specs.declared.{loaded.Claim.Claim, loaded.Range.Range, plans.AppNet.AppNet, plans.AppPlan.AppPlan}
 use Rattle.app_loads.specs.Claims.{claims_of, fixed_claim, has_chip, IsBlockOf, key_claim, memory_claim, row_claim, size_for}
 use Rattle.app_loads.specs.declared.places.Region.TheVariants.{Keys, Memory, Rows}
 use Rattle.app_loads.specs.Regions.{chip_count}
@@ -41,18 +34,12 @@ module _ (n : ℕ) where
   none_gathered : {X : Type 0} (f : ℕ → X → List Claim) → ((j : ℕ) (x : X) → count_by is_for (f j x) ≡ 0) → (i : ℕ) (xs : List X) → count_by is_for (gathered f i xs) ≡ 0
   none_gathered f none i [] = refl
   none_gathered f none i (x ∷ xs) =
-      let whole = count_by-append is_for (f i x) (gathered f (i + 1) xs) in
-      let here = none i x in
-      let rest = none_gathered f none (i + 1) xs in
-      omega (arith, whole, here, rest)
+      omega (arith, count_by-append is_for (f i x) (gathered f (i + 1) xs), none i x, none_gathered f none (i + 1) xs)
 
   none_mapped : {X : Type 0} (f : X → List Claim) → ((x : X) → count_by is_for (f x) ≡ 0) → (xs : List X) → count_by is_for (flat_map f xs) ≡ 0
   none_mapped f none [] = refl
   none_mapped f none (x ∷ xs) =
-      let whole = count_by-append is_for (f x) (flat_map f xs) in
-      let here = none x in
-      let rest = none_mapped f none xs in
-      omega (arith, whole, here, rest)
+      omega (arith, count_by-append is_for (f x) (flat_map f xs), none x, none_mapped f none xs)
 
   abbrev fixed : ℕ → List AppNet → List Claim
   fixed i nets = gathered (λ j (net : AppNet). fixed_claim j net.fixed) i nets
@@ -75,9 +62,8 @@ module _ (n : ℕ) where
       let other : (j == n) ≡ false = ne_eqb j n (λ e. omega (arith, e, past)) in
       let own = its_own j net.keys net.fixed ∙ ap (λ (b : Bool). if b then 1 else 0) other in
       let rest = none_above (j + 1) nets (omega (arith, past)) in
-      let first = count_by-append is_for (fixed_claim j net.fixed) (fixed (j + 1) nets) in
       let second = count_by-append is_for (key_claim j net.keys net.fixed) (keys (j + 1) nets) in
-      omega (arith, own, rest, first, second)
+      omega (arith, own, rest, count_by-append is_for (fixed_claim j net.fixed) (fixed (j + 1) nets), second)
 
   at_most_one : (j : ℕ) (nets : List AppNet) → count_by is_for (fixed j nets) + count_by is_for (keys j nets) ≤ 1
   at_most_one j [] = omega arith
@@ -96,9 +82,8 @@ module _ (n : ℕ) where
           count_by is_for (fixed j (net ∷ nets)) + count_by is_for (keys j (net ∷ nets)) ≤ 1
       by_test true is rest =
           let here : j ≡ n = eqb-true j n is in
-          let one = own true is in
           let none = none_above (j + 1) nets (omega (arith, here)) in
-          omega (arith, one, none, first, second)
+          omega (arith, own true is, none, first, second)
       by_test false is rest = let none = own false is in omega (arith, none, rest, first, second)
 
   module _ (m : Description) (plan : AppPlan) where
@@ -108,16 +93,12 @@ module _ (n : ℕ) where
         let rows : List Claim = flat_map (row_claim m plan.nets) (range_with_len 0 (chip_count m)) in
         let first = count_by-append is_for memory (fixed 0 plan.nets ++ (keys 0 plan.nets ++ rows)) in
         let second = count_by-append is_for (fixed 0 plan.nets) (keys 0 plan.nets ++ rows) in
-        let third = count_by-append is_for (keys 0 plan.nets) rows in
         let none : count_by is_for memory ≡ 0 = none_gathered memory_claim (λ j need.
-        none_unless (need.1 == 0) (record { region = Memory need.0.chip; size = need.1; align = 1; fixed = None; refusal = refusals.MemoryOut j }) refl) 0 (zip plan.spots plan.sdram)
-        in
+        none_unless (need.1 == 0) (record { region = Memory need.0.chip; size = need.1; align = 1; fixed = None; refusal = refusals.MemoryOut j }) refl) 0 (zip plan.spots plan.sdram) in
         let no_row : count_by is_for rows ≡ 0 = none_mapped (row_claim m plan.nets) (λ i.
         let long : ℕ = count_by (has_chip m (chip_of m i)) plan.nets in
-        none_unless (long == 0) (record { region = Rows (chip_of m i); size = long; align = 1; fixed = None; refusal = refusals.RowsOut (chip_of m i) }) refl) (range_with_len 0 (chip_count m))
-        in
-        let one = at_most_one 0 plan.nets in
-        omega (arith, first, second, third, none, no_row, one)
+        none_unless (long == 0) (record { region = Rows (chip_of m i); size = long; align = 1; fixed = None; refusal = refusals.RowsOut (chip_of m i) }) refl) (range_with_len 0 (chip_count m)) in
+        omega (arith, first, second, count_by-append is_for (keys 0 plan.nets) rows, none, no_row, at_most_one 0 plan.nets)
 
   -- places at which a claim for the net stands are one
   one_place : (claims : List Claim) → count_by is_for claims ≤ 1 → (i j : ℕ) (a b : Claim) → slice_get claims i ≡ Some a → slice_get claims j ≡ Some b → is_for a ≡ true → is_for b ≡ true → i ≡ j
@@ -125,17 +106,12 @@ module _ (n : ℕ) where
   one_place (c ∷ claims) few zero zero a b at also x y = refl
   one_place (c ∷ claims) few zero (suc j) a b at also x y =
       let first = counts_one (is_for c) (ap is_for (same_Some c a at) ∙ x) in
-      let later = count_some is_for b claims y (among_at claims j b also) in
-      let whole = count_by-cons is_for c claims in
-      absurd (omega (arith, few, first, later, whole))
+      absurd (omega (arith, few, first, count_some is_for b claims y (among_at claims j b also), count_by-cons is_for c claims))
   one_place (c ∷ claims) few (suc i) zero a b at also x y =
       let first = counts_one (is_for c) (ap is_for (same_Some c b also) ∙ y) in
-      let later = count_some is_for a claims x (among_at claims i a at) in
-      let whole = count_by-cons is_for c claims in
-      absurd (omega (arith, few, first, later, whole))
+      absurd (omega (arith, few, first, count_some is_for a claims x (among_at claims i a at), count_by-cons is_for c claims))
   one_place (c ∷ claims) few (suc i) (suc j) a b at also x y =
-      let whole = count_by-cons is_for c claims in
-      ap suc (one_place claims (omega (arith, few, whole)) i j a b at also x y)
+      ap suc (one_place claims (omega (arith, few, count_by-cons is_for c claims)) i j a b at also x y)
 
 -- so a net's block is one
 pub one_block : (m : Description) (plan : AppPlan) (ranges : List Range) (net : ℕ) (block other : Block) → IsBlockOf (claims_of m plan) ranges net block →
@@ -145,6 +121,4 @@ one_block m plan ranges net block other x y =
     let at : x.at ≡ y.at = one_place net (claims_of m plan) (one_claim net m plan) x.at y.at x.claim y.claim x.is y.is (for x.claim x.its) (for y.claim y.its) in
     let range : x.range ≡ y.range = same_Some x.range y.range (sym x.got ∙ (ap (slice_get ranges) at ∙ y.got)) in
     let size : x.range.size ≡ y.range.size = ap (λ (r : Range). r.size) range in
-    let mask = x.mask in
-    let also_mask = y.mask in
-    same_block block other (x.key ∙ (ap (λ (r : Range). r.place) range ∙ sym y.key)) (omega (arith, size, mask, also_mask))
+    same_block block other (x.key ∙ (ap (λ (r : Range). r.place) range ∙ sym y.key)) (omega (arith, size, x.mask, y.mask))

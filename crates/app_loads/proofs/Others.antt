@@ -1,10 +1,8 @@
 -- Lists of an application's items beside those of all others.
 use Rattle.std.proofs.Common.{◌≡◌, ◌≢◌, ℕ, zero, suc, ◌==◌, Bool, true, false, not, List, [], ◌∷◌, ◌++◌, take, drop, sym, ap, ◌∙◌, refl, subst, inl, inr, ◌⊎◌, arith, Some, get_or}
-use Rattle.std.specs.List.{slice_get, All, AllPairs, Contains, filter, flat_map}
 use Rattle.std.proofs.lemmas.Bool.{cases_Bool, cond_both, cond-true, cond-false, eq-eqb, eqb-true, false≢true, ne_eqb}
-use Rattle.std.proofs.lemmas.List.Elements.{All-contains, All-weaker}
-use Rattle.std.proofs.lemmas.Option.{same_Some, slice_get-get_or}
-use Rattle.std.proofs.lemmas.List.Quantifiers.{all_pairs_push}
+use Rattle.std.proofs.lemmas.{List.Elements.All-contains, List.Elements.All-weaker, Option.same_Some, Option.slice_get-get_or, List.Quantifiers.all_pairs_push}
+use Rattle.std.specs.List.{slice_get, All, AllPairs, Contains, filter, flat_map}
 use Rattle.spin_base.proofs.Members.{Among, among_at, among_contains, among_filter, contains_among, Contains-filter, Contains-from_filter, Contains-at}
 use Rattle.spin_base.proofs.Pairs.{AllPairs-append, AllPairs-left, AllPairs-right, AllPairs-across, AllPairs-head, AllPairs-tail}
 use Rattle.spin_base.proofs.Places.{All-each}
@@ -31,8 +29,7 @@ module _ {X Y : Type 0} (f : X → List Y) (p : X → Bool) where
   Contains-left_in xs y has = among_contains y (flat_map f xs) (among_left_in xs y (contains_among y (flat_map f (filter p xs)) has))
 
   pub All-left_in : (P : Y → Type 0) (xs : List X) → All P (flat_map f xs) → All P (flat_map f (filter p xs))
-  All-left_in P xs all =
-      All-each P (flat_map f (filter p xs)) (λ y has. All-contains P (flat_map f xs) y all (Contains-left_in xs y has))
+  All-left_in P xs all = All-each P (flat_map f (filter p xs)) (λ y has. All-contains P (flat_map f xs) y all (Contains-left_in xs y has))
 
   pub AllPairs-left_in : (R : Y → Y → Type 0) (xs : List X) → AllPairs R (flat_map f xs) → AllPairs R (flat_map f (filter p xs))
   AllPairs-left_in R [] pairs = pairs
@@ -76,9 +73,11 @@ pub only_one : (apps : List LoadedApp) → HaveNumbers apps → (a b : LoadedApp
 only_one [] pairs a b in_a in_b same = absurd in_a
 only_one (z ∷ zs) pairs a b (inl here) (inl here') same = here ∙ sym here'
 only_one (z ∷ zs) pairs a b (inl here) (inr later) same =
-    absurd (All-contains (λ (c : LoadedApp). z.number ≢ c.number) zs b (AllPairs-head (λ (c d : LoadedApp). c.number ≢ d.number) z zs pairs) (among_contains b zs later) (ap (λ (c : LoadedApp). c.number) (sym here) ∙ same))
+    absurd (All-contains (λ (c : LoadedApp). z.number ≢ c.number) zs b (AllPairs-head (λ (c d : LoadedApp). c.number ≢ d.number) z zs pairs)
+    (among_contains b zs later) (ap (λ (c : LoadedApp). c.number) (sym here) ∙ same))
 only_one (z ∷ zs) pairs a b (inr later) (inl here) same =
-    absurd (All-contains (λ (c : LoadedApp). z.number ≢ c.number) zs a (AllPairs-head (λ (c d : LoadedApp). c.number ≢ d.number) z zs pairs) (among_contains a zs later) (ap (λ (c : LoadedApp). c.number) (sym here) ∙ sym same))
+    absurd (All-contains (λ (c : LoadedApp). z.number ≢ c.number) zs a (AllPairs-head (λ (c d : LoadedApp). c.number ≢ d.number) z zs pairs)
+    (among_contains a zs later) (ap (λ (c : LoadedApp). c.number) (sym here) ∙ sym same))
 only_one (z ∷ zs) pairs a b (inr later) (inr later') same = only_one zs (AllPairs-tail (λ (c d : LoadedApp). c.number ≢ d.number) z zs pairs) a b later later' same
 
 abbrev is_other : ℕ → LoadedApp → Bool
@@ -92,7 +91,8 @@ all_others number (a ∷ apps) none =
     ∙ ap (λ l. a ∷ l) (all_others number apps (λ k d within. none (suc k) d (omega (arith, within))))
 
 -- those that are left where the application at a place is taken out
-pub without_one : (number : ℕ) (apps : List LoadedApp) (at : ℕ) (app : LoadedApp) → slice_get apps at ≡ Some app → app.number ≡ number → HaveNumbers apps → take at apps ++ drop (suc at) apps ≡ others_than number apps
+pub without_one : (number : ℕ) (apps : List LoadedApp) (at : ℕ) (app : LoadedApp) → slice_get apps at ≡ Some app → app.number ≡ number →
+    HaveNumbers apps → take at apps ++ drop (suc at) apps ≡ others_than number apps
 without_one number [] at app is its pairs = cc
 without_one number (a ∷ apps) zero app is its pairs =
     let same : a ≡ app = same_Some _ _ is in
@@ -100,7 +100,8 @@ without_one number (a ∷ apps) zero app is its pairs =
     sym (cond-false (is_other number a) (a ∷ others_than number apps) (others_than number apps) (ap not (eq-eqb a.number number mine))
     ∙ all_others number apps (subst (λ n. All (λ (x : LoadedApp). n ≢ x.number) apps) mine (AllPairs-head (λ (c d : LoadedApp). c.number ≢ d.number) a apps pairs)))
 without_one number (a ∷ apps) (suc at) app is its pairs =
-    let differ = All-contains (λ (c : LoadedApp). a.number ≢ c.number) apps app (AllPairs-head (λ (c d : LoadedApp). c.number ≢ d.number) a apps pairs) (among_contains app apps (among_at apps at app is)) in
+    let differ = All-contains (λ (c : LoadedApp). a.number ≢ c.number) apps app (AllPairs-head (λ (c d : LoadedApp). c.number ≢ d.number) a apps pairs)
+    (among_contains app apps (among_at apps at app is)) in
     ap (λ l. a ∷ l) (without_one number apps at app is its (AllPairs-tail (λ (c d : LoadedApp). c.number ≢ d.number) a apps pairs))
     ∙ sym (cond-true (is_other number a) (a ∷ others_than number apps) (others_than number apps) (ap not (ne_eqb a.number number (λ e. differ (e ∙ sym its)))))
 
@@ -133,7 +134,8 @@ module _ (apps : List LoadedApp) (numbers : HaveNumbers apps) (number : ℕ) (ap
   others_item f = Contains-left_in f (is_other number) apps
 
   -- an item of another with one of this one
-  pub with_mine : {Y : Type 0} (R : Y → Y → Type 0) → ((a b : Y) → R a b → R b a) → (f : LoadedApp → List Y) → AllPairs R (flat_map f apps) → (a b : Y) → Contains (flat_map f (others_than number apps)) a → Contains (f app) b → R a b
+  pub with_mine : {Y : Type 0} (R : Y → Y → Type 0) → ((a b : Y) → R a b → R b a) → (f : LoadedApp → List Y) → AllPairs R (flat_map f apps) →
+      (a b : Y) → Contains (flat_map f (others_than number apps)) a → Contains (f app) b → R a b
   with_mine R flip f pairs a b has_a has_b =
       let found = among_flat f a (others_than number apps) (contains_among a (flat_map f (others_than number apps)) has_a) in
       let other = other_in found.0 (among_contains found.0 (others_than number apps) found.1) in

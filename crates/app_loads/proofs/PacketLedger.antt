@@ -1,22 +1,15 @@
 -- The ledger of a mesh to which an application's packets came.
 use Rattle.std.proofs.Common.{◌≡◌, ℕ, zero, suc, ◌+◌, ◌-◌, ◌<◌, ◌≤◌, ◌==◌, List, [], ◌∷◌, ◌++◌, length, refl, sym, ap, ◌∙◌, subst, inl, inr, arith, Option, None, Some, if◌then◌else◌}
-use Rattle.std.specs.List.{slice_get, slice_set, All, Contains}
 use Rattle.std.proofs.lemmas.Bool.{cases_eq, cases_lt, eq-eqb, le-leb, lt-leb, ne_eqb}
-use Rattle.std.proofs.lemmas.List.{length-map}
-use Rattle.std.proofs.lemmas.List.Elements.{All-head, All-tail}
+use Rattle.std.proofs.lemmas.List.{length-map, Elements.All-head, Elements.All-tail}
 use Rattle.std.proofs.lemmas.Option.{slice_get_within, slice_get_past, get_or_from_slice_get}
-use Rattle.spin_base.specs.declared.blocks.Entry.{Entry}
-use Rattle.spin_base.specs.declared.chips.Spot.{Spot}
-use Rattle.spin_base.specs.declared.copies.McCopy.{McCopy}
-use Rattle.spin_base.specs.declared.copies.Packet.{Packet}
-use Rattle.machine_desc.specs.Description.{Description}
-use Rattle.machine_desc.specs.RoutingTree.{IsRoutingTree}
-use Rattle.machine_desc.proofs.Branches.{link_on_branch}
+use Rattle.std.specs.List.{slice_get, slice_set, All, Contains}
+use Rattle.spin_base.specs.declared.{blocks.Entry.Entry, chips.Spot.Spot, copies.McCopy.McCopy, copies.Packet.Packet}
+use Rattle.machine_desc.specs.{Description.Description, RoutingTree.IsRoutingTree}
 use Rattle.machine_desc.specs.declared.nets.NetPlan.{NetPlan}
 use Rattle.machine_desc.specs.RightTables.{IsKeyOf}
-use Rattle.mesh_core.specs.State.{State}
-use Rattle.mesh_core.specs.Ledger.{Asked, MeetsLedgerFor}
-use Rattle.mesh_core.specs.Opened.{asked_at, asked_by, label_in}
+use Rattle.machine_desc.proofs.Branches.{link_on_branch}
+use Rattle.mesh_core.specs.{State.State, Ledger.Asked, Ledger.MeetsLedgerFor, Opened.asked_at, Opened.asked_by, Opened.label_in}
 use Rattle.mesh_core.proofs.AskedPackets.{asked_from}
 use Rattle.app_loads.specs.declared.loaded.LoadedApp.{LoadedApp}
 use Rattle.app_loads.specs.Host.{asked_of, asked_of_app, either, nets_of}
@@ -75,9 +68,11 @@ module _ (app : LoadedApp) (asked : ℕ → Option Asked) where
         let is_own = own one.net (p.net, slice_get_within (nets_of app) p.net one.net one.is_net, get_or_from_slice_get (nets_of app) p.net one.net one.net one.is_net) in
         let target = some_target s.setup.machine one.net is_own.1 in
         let free : upto n i ≡ None = upto_past n i (omega arith) ∙ none i (omega arith) in
-        let more = one_packet_more (record s { unsent = sent.0 }) nets (upto n) i a one.vertex one.queue target.0 before one.at free one.is_vertex is_own.0 (keyed n p one.net sent.3 one.is_net) target.1 in
+        let more = one_packet_more (record s { unsent = sent.0 }) nets (upto n) i a one.vertex one.queue target.0 before one.at free one.is_vertex is_own.0
+        (keyed n p one.net sent.3 one.is_net) target.1 in
         subst (λ (l : List (List McCopy)). MeetsLedgerFor (record s { unsent = l }) nets (upto (suc n))) (sym one.is)
-        (subst (λ (o : Option Asked). MeetsLedgerFor (record s { unsent = slice_set sent.0 one.vertex (one.queue ++ record { packet = i; key = a.label.key; payload = a.label.payload; hop = 0 } ∷ []) })
+        (subst (λ (o : Option Asked). MeetsLedgerFor (record s
+        { unsent = slice_set sent.0 one.vertex (one.queue ++ record { packet = i; key = a.label.key; payload = a.label.payload; hop = 0 } ∷ []) })
         nets (λ j. if j == i then o else upto n j)) (sym asks) more)
 
 -- ---- packets of all applications
@@ -103,13 +98,16 @@ pub none_past : (apps : List LoadedApp) (packets j : ℕ) → All (λ (app : Loa
 none_past [] packets j counted past = refl
 none_past (a ∷ apps) packets j counted past =
     let here = All-head (λ (app : LoadedApp). app.first + length app.plan.packets ≤ packets) a apps counted in
-    ap (λ o. either o (asked_of apps j)) (past_app a j (omega (arith, here, past))) ∙ none_past apps packets j (All-tail (λ (app : LoadedApp). app.first + length app.plan.packets ≤ packets) a apps counted) past
+    ap (λ o. either o (asked_of apps j)) (past_app a j (omega (arith, here, past)))
+    ∙ none_past apps packets j (All-tail (λ (app : LoadedApp). app.first + length app.plan.packets ≤ packets) a apps counted) past
 
-pub asked_is : (apps : List LoadedApp) (app : LoadedApp) → ((i : ℕ) → app.first ≤ i → asked_of apps i ≡ None) → (j : ℕ) → upto app (asked_of apps) (length app.plan.packets) j ≡ asked_of (apps ++ app ∷ []) j
+pub asked_is : (apps : List LoadedApp) (app : LoadedApp) → ((i : ℕ) → app.first ≤ i → asked_of apps i ≡ None) → (j : ℕ) →
+    upto app (asked_of apps) (length app.plan.packets) j ≡ asked_of (apps ++ app ∷ []) j
 asked_is apps app none j = elim (cases_lt j app.first) [
   | inl before ↦
       upto_before app (asked_of apps) (length app.plan.packets) j before
-      ∙ (sym (either_none (asked_of apps j)) ∙ (ap (either (asked_of apps j)) (sym (ap (λ b. if b then asked_by (nets_of app) app.plan.packets (j - app.first) else None) (lt-leb app.first j before))) ∙ sym (asked_more apps app j)))
+      ∙ (sym (either_none (asked_of apps j)) ∙ (ap (either (asked_of apps j))
+      (sym (ap (λ b. if b then asked_by (nets_of app) app.plan.packets (j - app.first) else None) (lt-leb app.first j before))) ∙ sym (asked_more apps app j)))
   | inr after ↦
       let no_other : asked_of (apps ++ app ∷ []) j ≡ asked_of_app app j = asked_more apps app j ∙ ap (λ o. either o (asked_of_app app j)) (none j after) in
       elim (cases_lt j (app.first + length app.plan.packets)) [
@@ -124,7 +122,8 @@ asked_is apps app none j = elim (cases_lt j app.first) [
 pub same_packets : (s : State) (nets : List NetPlan) (f g : ℕ → Option Asked) → ((j : ℕ) → f j ≡ g j) → MeetsLedgerFor s nets f → MeetsLedgerFor s nets g
 same_packets s nets f g same = subst (MeetsLedgerFor s nets) (λ i j. same j i)
 
-pub other_tables : (s : State) (nets : List NetPlan) (asked : ℕ → Option Asked) (tables : List (List Entry)) → MeetsLedgerFor s nets asked → MeetsLedgerFor (record s { setup = record s.setup { tables = tables } }) nets asked
+pub other_tables : (s : State) (nets : List NetPlan) (asked : ℕ → Option Asked) (tables : List (List Entry)) → MeetsLedgerFor s nets asked →
+    MeetsLedgerFor (record s { setup = record s.setup { tables = tables } }) nets asked
 other_tables s nets asked tables l = record {
   ledger = record { nets_stand = l.ledger.nets_stand; labelled = l.ledger.labelled; on_a_trail = l.ledger.on_a_trail; once_on_each = l.ledger.once_on_each };
   of_its_net = l.of_its_net;

@@ -4,11 +4,8 @@ use Rattle.spin_base.specs.declared.wants.Memory.{Memory}
 use Rattle.range_store.specs.declared.holes.Hole.{Hole}
 use Rattle.range_store.specs.Views.{Region}
 use Rattle.range_store.specs.Regions.{AreRuns, IsFirstFit, HasNoFit, is_hole_range, is_free, in_range}
-use Rattle.app_loads.specs.declared.loaded.Claim.{Claim}
-use Rattle.app_loads.specs.declared.loaded.Range.{Range}
-use Rattle.app_loads.specs.Host.{Free}
-use Rattle.app_loads.specs.Regions.{IsFreeBeside, place_of}
-use Rattle.app_loads.specs.Claims.{IsLeastOpenRange}
+use Rattle.app_loads.specs.declared.loaded.{Claim.Claim, Range.Range}
+use Rattle.app_loads.specs.{Host.Free, Regions.IsFreeBeside, Regions.place_of, Claims.IsLeastOpenRange}
 use Rattle.app_loads.specs.Taking.{free_places_in, ServesClaim, RefusesClaim}
 use Rattle.app_loads.proofs.Taking.{taken_more, least_from_fit, refused_from_fit, least_from_fixed, refused_from_fixed}
 
@@ -19,7 +16,8 @@ module _ (claim : Claim) (before after : Region) (some : 0 < claim.size) (size :
       IfOk r (λ o. IfSome o (ServesClaim claim before after))
   by_take (Ok (Some place)) none found free = λ m taken beside. (
     least_from_fit m taken claim (free_places_in before) place none beside some found,
-    taken_more m taken (place_of m claim.region) (free_places_in before) (free_places_in after) (record { region = place_of m claim.region; place = place; size = claim.size }) refl beside size runs free,
+    taken_more m taken (place_of m claim.region) (free_places_in before) (free_places_in after)
+        (record { region = place_of m claim.region; place = place; size = claim.size }) refl beside size runs free,
   )
   by_take (Ok None) none found free = tt
   by_take (Err e) none found free = tt
@@ -38,7 +36,8 @@ module _ (claim : Claim) (before after : Region) (some : 0 < claim.size) (size :
       subst (λ q. (let range : Range = record { region = place_of m claim.region; place = q; size = claim.size } in
       IsLeastOpenRange m taken claim range × IsFreeBeside m (taken ++ range ∷ []) (place_of m claim.region) (free_places_in after))) (sym found.0) (
         least_from_fixed m taken claim (free_places_in before) place is aligned beside some found.1,
-        taken_more m taken (place_of m claim.region) (free_places_in before) (free_places_in after) (record { region = place_of m claim.region; place = place; size = claim.size }) refl beside size runs free,
+        taken_more m taken (place_of m claim.region) (free_places_in before) (free_places_in after)
+            (record { region = place_of m claim.region; place = place; size = claim.size }) refl beside size runs free,
       )
   by_fixed (Ok None) place is aligned found free = tt
   by_fixed (Err e) place is aligned found free = tt

@@ -1,19 +1,11 @@
 -- Which vertices may have packets unsent, where no copy waits.
 use Rattle.std.proofs.Common.{◌≡◌, ℕ, zero, suc, ◌<◌, List, [], ◌∷◌, ◌++◌, length, refl, sym, ap, ◌∙◌, subst, inl, inr, arith, Option, None, Some}
-use Rattle.std.specs.Prelude.{IfSome}
-use Rattle.std.specs.List.{slice_get, flat_map, All, Contains}
-use Rattle.std.specs.Option.{option_to_list}
-use Rattle.std.proofs.lemmas.Bool.{cases_eq}
-use Rattle.std.proofs.lemmas.List.Elements.{All-append, All-nil}
-use Rattle.std.proofs.lemmas.Option.{slice_get_within}
+use Rattle.std.proofs.lemmas.{Bool.cases_eq, List.Elements.All-append, List.Elements.All-nil, Option.slice_get_within}
+use Rattle.std.specs.{Prelude.IfSome, List.slice_get, List.flat_map, List.All, List.Contains, Option.option_to_list}
 use Rattle.spin_base.proofs.Members.{Among, Contains-at, among_at, among_contains, among_left, among_right, contains_among, position_there}
 use Rattle.spin_base.proofs.Places.{All-at, All-each, slice_get-set_other}
-use Rattle.spin_base.specs.declared.blocks.Entry.{Entry}
-use Rattle.spin_base.specs.declared.chips.Spot.{Spot}
-use Rattle.spin_base.specs.declared.copies.McCopy.{McCopy}
-use Rattle.spin_base.specs.declared.routes.Out.TheVariants.{Core}
-use Rattle.machine_desc.specs.Description.{Description}
-use Rattle.machine_desc.specs.Outputs.{leads_to_spot}
+use Rattle.spin_base.specs.declared.{blocks.Entry.Entry, chips.Spot.Spot, copies.McCopy.McCopy, routes.Out.TheVariants.Core}
+use Rattle.machine_desc.specs.{Description.Description, Outputs.leads_to_spot}
 use Rattle.machine_desc.specs.declared.nets.NetPlan.{NetPlan}
 use Rattle.machine_desc.specs.NetsOn.{vertex_at}
 use Rattle.machine_desc.proofs.Sites.{usable_parts}
@@ -22,12 +14,8 @@ use Rattle.mesh_core.specs.Expected.{IsAtRest, NothingWaits}
 use Rattle.mesh_core.proofs.ServingLaws.{vertex_behind-core}
 use Rattle.mesh_drain.specs.Draining.{SendAlone}
 use Rattle.mesh_drain.proofs.Senders.{Unsent}
-use Rattle.app_loads.specs.declared.loaded.LoadedApp.{LoadedApp}
-use Rattle.app_loads.specs.declared.plans.AppNet.{AppNet}
-use Rattle.app_loads.specs.Applications.{IsLoadedOn}
-use Rattle.app_loads.specs.Host.{nets_of}
-use Rattle.app_loads.specs.Joining.{AreSent, IsSettled}
-use Rattle.app_loads.specs.Leaving.{mesh_without}
+use Rattle.app_loads.specs.declared.{loaded.LoadedApp.LoadedApp, plans.AppNet.AppNet}
+use Rattle.app_loads.specs.{Applications.IsLoadedOn, Host.nets_of, Joining.AreSent, Joining.IsSettled, Leaving.mesh_without}
 use Rattle.app_loads.specs.Sending.{AreWithSources, source_vertex}
 use Rattle.app_loads.proofs.AppNets.{facts_of, usable_spot}
 use Rattle.app_loads.proofs.ClaimCases.{among_flat, flat_among}

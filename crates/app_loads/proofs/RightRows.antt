@@ -1,53 +1,36 @@
 -- Tables with the plain rows of all applications are right for their nets, and give all keys of a net's block the same.
-use Rattle.std.proofs.Common.{◌≡◌, ℕ, zero, suc, ◌+◌, ◌-◌, ◌<◌, ◌≤◌, ◌==◌, leb, ltb, cond, bit_and, Bool, true, false, List, [], ◌∷◌, map, take, drop, get_or, length, ◌*◌, refl, sym, ap, ◌∙◌, subst, inl, inr, arith, Some, count_by, find}
-use Rattle.std.specs.Int.Bits.{and_zero_r}
-use Rattle.std.specs.Option.{option_map_or}
-use Rattle.std.specs.List.{slice_get, All, Contains}
+use Rattle.std.proofs.Common.{◌≡◌, ℕ, zero, suc, ◌+◌, ◌-◌, ◌<◌, ◌≤◌, ◌==◌, leb, ltb, cond, bit_and, Bool, true, false, List, [], ◌∷◌, map, take, drop, get_or, length}
+use Rattle.std.proofs.Common.{◌*◌, refl, sym, ap, ◌∙◌, subst, inl, inr, arith, Some, count_by, find}
 use Rattle.std.proofs.lemmas.Bool.{cases_Bool, eqb-true, eq-eqb, and_parts, false≢true, ltb-true, leb-true}
-use Rattle.std.proofs.lemmas.List.Elements.{All-contains, All-from_get_or}
-use Rattle.std.proofs.lemmas.List.Sorted.{IsPermutation-sym, Contains-permutation}
+use Rattle.std.proofs.lemmas.List.{Elements.All-contains, Elements.All-from_get_or, Sorted.IsPermutation-sym, Sorted.Contains-permutation}
 use Rattle.std.proofs.lemmas.Option.{slice_get-get_or, same_Some}
-use Rattle.mesh_core.proofs.Moves.{chip_of-index_of}
+use Rattle.std.specs.{Int.Bits.and_zero_r, Option.option_map_or, List.slice_get, List.All, List.Contains}
+use Rattle.mesh_core.proofs.{Moves.chip_of-index_of, LedgerLaw.one_net}
 use Rattle.spin_base.proofs.Counts.{count_by-cons}
 use Rattle.spin_base.proofs.Members.{Among, Contains-at, Contains-none, Contains-first, Contains-later, Contains-cases, Contains-map, Contains-unmap, among_contains, contains_among}
 use Rattle.spin_base.proofs.Places.{All-each, AllZip-at_first, slice_get-mapped, unmapped}
-use Rattle.spin_base.specs.declared.blocks.Block.{Block}
-use Rattle.spin_base.specs.declared.blocks.Entry.{Entry}
-use Rattle.spin_base.specs.declared.chips.Chip.{Chip}
-use Rattle.spin_base.specs.declared.chips.Port.{Port}
-use Rattle.spin_base.specs.declared.routes.Out.{Out}
-use Rattle.spin_base.specs.declared.routes.Route.{Route}
+use Rattle.spin_base.specs.declared.{blocks.Block.Block, blocks.Entry.Entry, chips.Chip.Chip, chips.Port.Port, routes.Out.Out, routes.Route.Route}
 use Rattle.spin_base.specs.Lookup.{lookup, matches, default_route}
 use Rattle.spin_base.specs.Outputs.{has, IsOutput}
-use Rattle.machine_desc.specs.Description.{Description}
-use Rattle.machine_desc.specs.Live.{index_of, chip_of, IsInside}
-use Rattle.machine_desc.proofs.Far.{index_below}
-use Rattle.machine_desc.proofs.Live.{chip_of-inside, index_of-chip_of}
-use Rattle.machine_desc.specs.RoutingTree.{IsRoutingTree}
+use Rattle.machine_desc.specs.{Description.Description, Live.index_of, Live.chip_of, Live.IsInside, RoutingTree.IsRoutingTree}
 use Rattle.machine_desc.specs.declared.nets.NetPlan.{NetPlan}
-use Rattle.machine_desc.specs.NetsOn.{HaveDisjointBlocks}
-use Rattle.machine_desc.specs.Outputs.{is_wanted}
+use Rattle.machine_desc.specs.{NetsOn.HaveDisjointBlocks, Outputs.is_wanted}
 use Rattle.machine_desc.specs.RightTables.{IsKeyOf, AreRight, RoutesByTree, table_at}
+use Rattle.machine_desc.proofs.{Far.index_below, Live.chip_of-inside, Live.index_of-chip_of}
 use Rattle.range_store.specs.Regions.{in_range}
 use Rattle.tcam_find.specs.Memory.{unused}
 use Rattle.tern_word.specs.declared.tables.Row.{Row}
-use Rattle.tern_word.specs.Entries.{entry_of}
-use Rattle.tern_word.specs.SoundTable.{Original}
+use Rattle.tern_word.specs.{Entries.entry_of, SoundTable.Original}
 use Rattle.net_tables.specs.PlainTable.{HasChip, IsOriginalOf, IsPlainTable, row_of}
-use Rattle.net_tables.proofs.Trees.{chips_inside, comes_in_tree}
-use Rattle.net_tables.proofs.Whole.{has_original, from_net}
-use Rattle.mesh_core.proofs.LedgerLaw.{one_net}
-use Rattle.app_loads.specs.declared.loaded.LoadedApp.{LoadedApp}
-use Rattle.app_loads.specs.declared.loaded.Range.{Range}
+use Rattle.net_tables.proofs.{Trees.chips_inside, Trees.comes_in_tree, Whole.has_original, Whole.from_net}
+use Rattle.app_loads.specs.declared.loaded.{LoadedApp.LoadedApp, Range.Range}
 use Rattle.app_loads.specs.Applications.{HasRows, HaveRows, IsLoadedOn, IsRangeFor}
 use Rattle.app_loads.specs.Claims.{claims_of, has_chip}
 use Rattle.app_loads.specs.Host.{all_nets, all_ranges, nets_of}
 use Rattle.app_loads.specs.declared.places.Region.TheVariants.{Rows}
 use Rattle.app_loads.specs.Regions.{range_has, is_taken, place_of}
 use Rattle.app_loads.proofs.AppNets.{facts_of, member_at, spot_inside}
-use Rattle.app_loads.proofs.ClaimCases.{among_flat, flat_among, chip_claim}
-use Rattle.app_loads.proofs.Serving.{by_taken}
-use Rattle.app_loads.proofs.Settling.{has_chip-true}
+use Rattle.app_loads.proofs.{ClaimCases.among_flat, ClaimCases.flat_among, ClaimCases.chip_claim, Serving.by_taken, Settling.has_chip-true}
 
 -- ---- lookup in a table where all that match agree
 
@@ -89,16 +72,12 @@ of_part (y ∷ ys) (suc p) s j x e = let z : suc p + j ≡ suc (p + j) = omega a
 some_counted : {X : Type 0} (p : X → Bool) (xs : List X) (x : X) → Among x xs → p x ≡ true → 0 < count_by p xs
 some_counted p [] x a hit = absurd a
 some_counted p (y ∷ ys) x (inl here) hit =
-    let cons = count_by-cons p y ys in
     let one : cond (p y) 1 0 ≡ 1 = ap one_if (ap p (sym here) ∙ hit) in
-    omega (arith, cons, one)
+    omega (arith, count_by-cons p y ys, one)
   where
     one_if : Bool → ℕ
     one_if b = cond b 1 0
-some_counted p (y ∷ ys) x (inr later) hit =
-    let rest = some_counted p ys x later hit in
-    let cons = count_by-cons p y ys in
-    omega (arith, cons, rest)
+some_counted p (y ∷ ys) x (inr later) hit = omega (arith, count_by-cons p y ys, some_counted p ys x later hit)
 
 in_parts : (range : Range) (region k : ℕ) → range_has region k range ≡ true → (range.region ≡ region) × (range.place ≤ k) × (k < range.place + range.size)
 in_parts range region k e =
@@ -122,10 +101,12 @@ module _ (m : Description) (tables : List (List Entry)) (apps : List LoadedApp) 
   loaded_at : (app : LoadedApp) → Contains apps app → IsLoadedOn m app
   loaded_at app has' = All-contains (IsLoadedOn m) apps app loaded has'
 
-  rows_at : (app : LoadedApp) → Contains apps app → (range : Range) → Contains app.ranges range → (c : Chip) → IsInside m c → range.region ≡ place_of m (Rows c) → HasRows m (nets_of app) c (table_at m tables c) range
+  rows_at : (app : LoadedApp) → Contains apps app → (range : Range) → Contains app.ranges range → (c : Chip) → IsInside m c →
+      range.region ≡ place_of m (Rows c) → HasRows m (nets_of app) c (table_at m tables c) range
   rows_at app in_apps range in_ranges =
       All-contains (λ (r : Range). (c : Chip) → IsInside m c → r.region ≡ place_of m (Rows c) → HasRows m (nets_of app) c (table_at m tables c) r) app.ranges range
-      (All-contains (λ (a : LoadedApp). All (λ (r : Range). (c : Chip) → IsInside m c → r.region ≡ place_of m (Rows c) → HasRows m (nets_of a) c (table_at m tables c) r) a.ranges) apps app rows.rows in_apps) in_ranges
+      (All-contains (λ (a : LoadedApp). All (λ (r : Range). (c : Chip) → IsInside m c → r.region ≡ place_of m (Rows c) → HasRows m (nets_of a) c (table_at m tables c) r) a.ranges)
+      apps app rows.rows in_apps) in_ranges
 
   module _ (x : NetPlan) (in_x : Contains (all_nets apps) x) (c : Chip) (inside : IsInside m c) (key : ℕ) (keyed : IsKeyOf x.block key) where
     abbrev T : List Entry
@@ -197,12 +178,12 @@ module _ (m : Description) (tables : List (List Entry)) (apps : List LoadedApp) 
         let app : LoadedApp = own.app in
         let load = loaded_at app own.in_apps in
         let f = facts_of m app load x own.in_app in
-        let net_is = f.is in
-        let on_net : has_chip m c f.net ≡ true = has_chip-true m c f.net (subst (λ (n : NetPlan). HasChip m n c) (sym net_is) on) in
+        let on_net : has_chip m c f.net ≡ true = has_chip-true m c f.net (subst (λ (n : NetPlan). HasChip m n c) (sym f.is) on) in
         let i : ℕ = index_of m c in
         let back = chip_of-index_of m c inside in
         let counted : 0 < count_by (has_chip m (chip_of m i)) app.plan.nets =
-        subst (λ (d : Chip). 0 < count_by (has_chip m d) app.plan.nets) (sym back) (some_counted (has_chip m c) app.plan.nets f.net (contains_among f.net app.plan.nets (Contains-at app.plan.nets own.in_app.0 f.net f.at_net)) on_net) in
+        subst (λ (d : Chip). 0 < count_by (has_chip m d) app.plan.nets) (sym back)
+        (some_counted (has_chip m c) app.plan.nets f.net (contains_among f.net app.plan.nets (Contains-at app.plan.nets own.in_app.0 f.net f.at_net)) on_net) in
         let claimed = chip_claim m app.plan load.plan i (index_below m c inside) counted in
         let ranged = AllZip-at_first (IsRangeFor m) (claims_of m app.plan) app.ranges load.ranges claimed.1.0 claimed.0 (member_at (claims_of m app.plan) claimed.0 claimed.1) in
         let range : Range = ranged.0 in
@@ -212,12 +193,11 @@ module _ (m : Description) (tables : List (List Entry)) (apps : List LoadedApp) 
         let mine = has_original m c (nets_of app) r.plain.originals r.plain.originals_are j x own.in_app.1 (subst (λ (n : NetPlan). HasChip m n c) (sym own.in_app.2) on) in
         let row : Row = row_of mine.0 in
         let in_rows = Contains-permutation (map row_of r.plain.originals) r.rows row r.plain.one_row_each (Contains-map row_of r.plain.originals mine.0 mine.1) in
-        let at_row = member_at r.rows row in_rows in
-        let at_part : slice_get (take range.size (drop range.place table)) in_rows.0 ≡ Some (entry_of row) = ap (λ l. slice_get l in_rows.0) r.entries ∙ slice_get-mapped entry_of r.rows in_rows.0 row at_row in
-        let at_table = of_part table range.place range.size in_rows.0 (entry_of row) at_part in
+        let at_part : slice_get (take range.size (drop range.place table)) in_rows.0 ≡ Some (entry_of row) =
+        ap (λ l. slice_get l in_rows.0) r.entries ∙ slice_get-mapped entry_of r.rows in_rows.0 row (member_at r.rows row in_rows) in
         let block_is : row.block ≡ x.block = mine.2.keys ∙ ap (λ (n : NetPlan). n.block) own.in_app.2 in (
           entry_of row,
-          Contains-at table (range.place + in_rows.0) (entry_of row) at_table,
+          Contains-at table (range.place + in_rows.0) (entry_of row) (of_part table range.place range.size in_rows.0 (entry_of row) at_part),
           eq-eqb (bit_and key row.block.mask) row.block.key (ap (λ (b : Block). bit_and key b.mask) block_is ∙ (keyed.matches ∙ sym (ap (λ (b : Block). b.key) block_is))),
         )
 
@@ -234,8 +214,7 @@ module _ (m : Description) (tables : List (List Entry)) (apps : List LoadedApp) 
       let on = comes_in_tree m x.tree.root x.tree.edges c port comes in
       let tree = subst (λ (n : NetPlan). IsRoutingTree m n.tree.root n.tree.edges n.targets) f.is f.valid.tree in
       let root = subst (λ (n : NetPlan). IsInside m n.tree.root) f.is (subst (IsInside m) (sym f.valid.root) (spot_inside m own.app (loaded_at own.app own.in_apps) f.net.source f.valid.source)) in
-      let inside = chips_inside m x.tree.root x.tree.edges x.targets tree root c on in
-      routed_there x in_x c inside on key keyed o valid port
+      routed_there x in_x c (chips_inside m x.tree.root x.tree.edges x.targets tree root c on) on key keyed o valid port
 
   pub right_rows : AreRight m tables (all_nets apps)
   right_rows = All-each (RoutesByTree m tables) (all_nets apps) routes

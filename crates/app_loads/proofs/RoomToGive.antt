@@ -1,9 +1,7 @@
 -- Room made in regions for ranges that are to be given back.
 use Rattle.std.proofs.Common.{◌≡◌, ◌≢◌, ℕ, ◌+◌, ◌<◌, ◌≤◌, ◌==◌, List, [], ◌∷◌, ◌++◌, take, get_or, length, sym, ap, ◌∙◌, inl, inr, arith, Some}
+use Rattle.std.proofs.lemmas.{Option.slice_get-get_or, List.length-take, List.map-set, List.Sums.count_by-le-length}
 use Rattle.std.specs.List.{slice_get, slice_set, All}
-use Rattle.std.proofs.lemmas.Option.{slice_get-get_or}
-use Rattle.std.proofs.lemmas.List.{length-take, map-set}
-use Rattle.std.proofs.lemmas.List.Sums.{count_by-le-length}
 use Rattle.spin_base.proofs.Places.{slice_get-mapped, set-slice_get, take_more_at}
 use Rattle.range_store.specs.Views.{Region}
 use Rattle.app_loads.specs.declared.loaded.Range.{Range}
@@ -35,14 +33,14 @@ module _ (ranges : List Range) {i : ℕ} (d : Range) (below : i < length ranges)
     few_counted few =
         let was = counted range.region (get_or counts range.region e) (slice_get-get_or counts range.region e there) in
         let some : of_region range.region (take i ranges) ≤ length (take i ranges) = count_by-le-length (λ (r : Range). r.region == range.region) (take i ranges) in
-        let long = length-take i ranges in
-        omega (arith, was, some, long, few)
+        omega (arith, was, some, length-take i ranges, few)
 
     pub counted_more : (next : ℕ) → next ≡ get_or counts range.region e + 1 → (k n : ℕ) → slice_get (slice_set counts range.region next) k ≡ Some n → n ≡ of_region k (take (i + 1) ranges)
     counted_more next is k n at =
         counted_push (take i ranges) range counts (get_or counts range.region e) next (slice_get-get_or counts range.region e there) counted is k n at ∙ ap (of_region k) (sym one_further)
 
-  module _ (regions : List Region) (e : Region) (there : range.region < length regions) (after : Region) (same : (after.holes ≡ (get_or regions range.region e).holes) × (after.size ≡ (get_or regions range.region e).size)) where
+  module _ (regions : List Region) (e : Region) (there : range.region < length regions) (after : Region)
+      (same : (after.holes ≡ (get_or regions range.region e).holes) × (after.size ≡ (get_or regions range.region e).size)) where
     abbrev before : Region
     before = get_or regions range.region e
 

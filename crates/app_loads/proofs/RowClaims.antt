@@ -1,38 +1,33 @@
 -- How many entries nets need of a chip, counted in the list of the chips of their trees.
 use Rattle.std.proofs.Common.{◌≡◌, ◌≢◌, ℕ, zero, suc, ◌+◌, ◌-◌, ◌*◌, ◌<◌, ◌≤◌, Bool, true, false, ◌||◌, ◌==◌, List, [], ◌∷◌, ◌++◌, ◌∙◌, Option, None, Some, Result, Ok, Err, if◌then◌else◌}
 use Rattle.std.proofs.Common.{get_or, length, refl, sym, ap, inl, inr, arith, OnOk, append_assoc, append-nil, count_by, take}
-use Rattle.std.specs.List.{list_any, slice_get, All, AllPairs, flat_map, range_with_len, sum_by}
-use Rattle.std.specs.List.Sorted.{IsPermutation}
-use Rattle.std.specs.Option.{option_map_or}
 use Rattle.std.proofs.lemmas.Bool.{cases_Bool, cases_eq, cases_lt, eq-eqb, ne_eqb}
 use Rattle.std.proofs.lemmas.Grind.{flat_map-append}
 use Rattle.std.proofs.lemmas.List.Elements.{All-nil, All-cons, All-head, All-tail, All-append}
 use Rattle.std.proofs.lemmas.List.Sorted.{All-permutation, sum_by-IsPermutation}
-use Rattle.std.proofs.lemmas.List.Sums.{sum_by-cons}
-use Rattle.std.proofs.lemmas.Option.{slice_get_within, get_or_from_slice_get}
-use Rattle.std.proofs.lemmas.List.{flat_map_more}
-use Rattle.spin_base.proofs.Equality.{chip_eq_true}
-use Rattle.spin_base.proofs.Counts.{count_by-append, count_by-cons}
-use Rattle.spin_base.proofs.Pairs.{AllPairs-head, AllPairs-tail}
+use Rattle.std.proofs.lemmas.{List.Sums.sum_by-cons, Option.slice_get_within, Option.get_or_from_slice_get, List.flat_map_more}
+use Rattle.std.specs.List.{list_any, slice_get, All, AllPairs, flat_map, range_with_len, sum_by, Sorted.IsPermutation}
+use Rattle.std.specs.Option.{option_map_or}
+use Rattle.spin_base.proofs.{Equality.chip_eq_true, Counts.count_by-append, Counts.count_by-cons, Pairs.AllPairs-head, Pairs.AllPairs-tail}
 use Rattle.spin_base.proofs.Places.{All-at, slice_get_there, take_more_at}
 use Rattle.spin_base.specs.declared.chips.Chip.{Chip}
 use Rattle.spin_base.specs.Equality.{chip_eq}
 use Rattle.spin_base.specs.declared.wants.Memory.{Memory}
 use Rattle.machine_desc.specs.declared.trees.Edge.{Edge}
-use Rattle.machine_desc.specs.Description.{Description}
-use Rattle.machine_desc.specs.Live.{index_of, chip_of, IsInside}
-use Rattle.machine_desc.specs.RoutingTree.{end_of}
+use Rattle.machine_desc.specs.{Description.Description, Live.index_of, Live.chip_of, Live.IsInside, RoutingTree.end_of}
 use Rattle.machine_desc.proofs.Far.{far_inside, index_below, same_index, live_ends, live_inside}
-use Rattle.machine_desc.proofs.Live.{index_of-chip_of, chip_of-inside}
-use Rattle.machine_desc.proofs.Same.{chip_eq-from_same}
-use Rattle.app_loads.specs.declared.loaded.Claim.{Claim}
-use Rattle.app_loads.specs.declared.plans.AppNet.{AppNet}
-use Rattle.app_loads.specs.Regions.{chip_count}
-use Rattle.app_loads.specs.Claims.{has_chip, entries_claim, row_claim}
+use Rattle.machine_desc.proofs.{Live.index_of-chip_of, Live.chip_of-inside, Same.chip_eq-from_same}
+use Rattle.app_loads.specs.declared.{loaded.Claim.Claim, plans.AppNet.AppNet}
+use Rattle.app_loads.specs.{Regions.chip_count, Claims.has_chip, Claims.entries_claim, Claims.row_claim}
 use Rattle.app_loads.specs.Counting.{HasTree, IsRunEnd, chip_places, end_places, tree_places, run_claim}
 
 abbrev one_if : Bool → ℕ
 one_if b = if b then 1 else 0
+
+-- of two tests at most one of which holds
+either_counts : (p q : Bool) → (p ≡ true → q ≡ false) → one_if p + one_if q ≡ one_if (p || q)
+either_counts true q never = let none : one_if q ≡ 0 = ap one_if (never refl) in omega (arith, none)
+either_counts false q never = omega arith
 
 -- ---- counts in parts of a list
 
@@ -43,12 +38,14 @@ count_run : {X : Type 0} (p : X → Bool) (xs : List X) (at end : ℕ) → at �
     ((k : ℕ) (x : X) → end ≤ k → slice_get xs k ≡ Some x → p x ≡ false) → count_by p xs ≡ end - at
 count_run p [] at end le within before inside after = omega (arith, le, within)
 count_run p (x ∷ xs) zero zero le within before inside after =
-    let rest = count_run p xs 0 0 (omega arith) (omega arith) (λ k y less e. absurd (omega (arith, less))) (λ k y low less e. absurd (omega (arith, less))) (λ k y low e. after (suc k) y (omega arith) e) in
+    let rest = count_run p xs 0 0 (omega arith) (omega arith) (λ k y less e. absurd (omega (arith, less)))
+    (λ k y low less e. absurd (omega (arith, less))) (λ k y low e. after (suc k) y (omega arith) e) in
     let one = count_by-cons p x xs in
     let here : one_if (p x) ≡ 0 = ap one_if (after 0 x (omega arith) refl) in
     omega (arith, rest, one, here)
 count_run p (x ∷ xs) zero (suc end) le within before inside after =
-    let rest = count_run p xs 0 end (omega arith) (omega (arith, within)) (λ k y less e. absurd (omega (arith, less))) (λ k y low less e. inside (suc k) y (omega arith) (omega (arith, less)) e) (λ k y low e. after (suc k) y (omega (arith, low)) e) in
+    let rest = count_run p xs 0 end (omega arith) (omega (arith, within)) (λ k y less e. absurd (omega (arith, less)))
+    (λ k y low less e. inside (suc k) y (omega arith) (omega (arith, less)) e) (λ k y low e. after (suc k) y (omega (arith, low)) e) in
     let one = count_by-cons p x xs in
     let here : one_if (p x) ≡ 1 = ap one_if (inside 0 x (omega arith) (omega arith) refl) in
     omega (arith, rest, one, here)
@@ -97,7 +94,8 @@ up_to f next c le none =
     ∙ (flat_map-append f (range_with_len 0 (next + gap)) (range_with_len (0 + (next + gap)) 1)
     ∙ (ap (λ l. flat_map f l ++ flat_map f (range_with_len (0 + (next + gap)) 1)) (range_parts 0 next gap)
     ∙ (ap (λ l. l ++ flat_map f (range_with_len (0 + (next + gap)) 1)) (flat_map-append f (range_with_len 0 next) (range_with_len (0 + next) gap))
-    ∙ (ap (λ l. (flat_map f (range_with_len 0 next) ++ l) ++ flat_map f (range_with_len (0 + (next + gap)) 1)) (nothing_of f (0 + next) gap (λ i low high. none i (omega (arith, low)) (omega (arith, high, le))))
+    ∙ (ap (λ l. (flat_map f (range_with_len 0 next) ++ l) ++ flat_map f (range_with_len (0 + (next + gap)) 1))
+    (nothing_of f (0 + next) gap (λ i low high. none i (omega (arith, low)) (omega (arith, high, le))))
     ∙ (ap (λ l. l ++ flat_map f (range_with_len (0 + (next + gap)) 1)) (append-nil (flat_map f (range_with_len 0 next)))
     ∙ (ap (λ n. flat_map f (range_with_len 0 next) ++ flat_map f (range_with_len n 1)) place ∙ ap (λ l. flat_map f (range_with_len 0 next) ++ l) (append-nil (f c)))))))))
 
@@ -113,15 +111,14 @@ module _ (m : Description) (chips : List ℕ) where
     pub is : claims ≡ start ++ flat_map (run_claim m chips) (range_with_len 0 next)
 
   none_there : (i : ℕ) → ((k x : ℕ) → slice_get chips k ≡ Some x → x ≢ i) → run_claim m chips i ≡ []
-  none_there i other = ap (entries_claim m i) (count_run (λ k. k == i) chips 0 0 (omega arith) (omega arith) (λ k x less e. absurd (omega (arith, less))) (λ k x low less e. absurd (omega (arith, less))) (λ k x low e. ne_eqb x i (other k x e)))
+  none_there i other = ap (entries_claim m i) (count_run (λ k. k == i) chips 0 0 (omega arith) (omega arith) (λ k x less e. absurd (omega (arith, less)))
+      (λ k x low less e. absurd (omega (arith, less))) (λ k x low e. ne_eqb x i (other k x e)))
 
   module _ (sorted : AllPairs (λ a b. a ≤ b) chips) (inside : All (λ i. i < chip_count m) chips) where
     in_order : (j k x y : ℕ) → j < k → slice_get chips j ≡ Some x → slice_get chips k ≡ Some y → x ≤ y
     in_order j k x y less at_j at_k =
         let le = sorted j k x less (slice_get_within chips k y at_k) in
-        let first = get_or_from_slice_get chips j x x at_j in
-        let second = get_or_from_slice_get chips k y x at_k in
-        omega (arith, le, first, second)
+        omega (arith, le, get_or_from_slice_get chips j x x at_j, get_or_from_slice_get chips k y x at_k)
 
     pub run_more : (at end c : ℕ) (start claims after : List Claim) → slice_get chips at ≡ Some c → IsRunEnd chips at end → HaveRuns at start claims →
         after ≡ claims ++ entries_claim m c (end - at) → HaveRuns end start after
@@ -146,10 +143,9 @@ module _ (m : Description) (chips : List ℕ) where
         -- the item at the end is greater, and so are all after it
         at_end : (x : ℕ) → slice_get chips end ≡ Some x → c < x
         at_end x e =
-            let le = in_order at end c x after_at here e in
             elim (cases_eq x c) [
               | inl same ↦ absurd (run.other x c e here same)
-              | inr differ ↦ omega (arith, le, differ)
+              | inr differ ↦ omega (arith, in_order at end c x after_at here e, differ)
             ]
 
         beyond : (k x : ℕ) → end ≤ k → slice_get chips k ≡ Some x → c + 1 ≤ x
@@ -157,9 +153,8 @@ module _ (m : Description) (chips : List ℕ) where
           | inl same ↦ let w = at_end x (ap (slice_get chips) (sym same) ∙ e) in omega (arith, w)
           | inr more ↦
               let there = slice_get_there chips end (let w = slice_get_within chips k x e in omega (arith, low, more, w)) in
-              let w = at_end there.0 there.1 in
               let v = in_order end k there.0 x (omega (arith, low, more)) there.1 e in
-              omega (arith, w, v)
+              omega (arith, at_end there.0 there.1, v)
         ]
 
         counted : count_by (λ k. k == c) chips ≡ end - at
@@ -183,8 +178,7 @@ module _ (m : Description) (chips : List ℕ) where
         so_far.is
         ∙ ap (λ l. start ++ l) (
         let gap : ℕ = chip_count m - so_far.next in
-        let le = so_far.within in
-        let parts : so_far.next + gap ≡ chip_count m = omega (arith, le) in
+        let parts : so_far.next + gap ≡ chip_count m = omega (arith, so_far.within) in
         sym (
         ap (λ n. flat_map (run_claim m chips) (range_with_len 0 n)) (sym parts)
         ∙ (ap (flat_map (run_claim m chips)) (range_parts 0 so_far.next gap)
@@ -238,12 +232,26 @@ module _ (m : Description) (i : ℕ) (below : i < m.width * m.height) where
       by_end : (o : Option Chip) → end_of m e ≡ o → count_by is_i (chip_places m o) ≡ one_if (option_map_or (chip_eq c) o false)
       by_end None is = refl
       by_end (Some d) is =
-          let one = count_by-cons is_i (index_of m d) [] in
           let same : one_if (index_of m d == i) ≡ one_if (chip_eq c d) = ap one_if (one_case m i c d refl below (far_inside m e.chip d e.dir inside is)) in
-          omega (arith, one, same, zero_rest)
+          omega (arith, count_by-cons is_i (index_of m d) [], same, zero_rest)
         where
           zero_rest : count_by is_i [] ≡ 0
           zero_rest = refl
+
+  -- an edge that counts leads to the chip
+  hit_end : (e : Edge) → hits e ≡ true → end_of m e ≡ Some c
+  hit_end e = by_end (end_of m e)
+    where
+      by_end : (o : Option Chip) → option_map_or (chip_eq c) o false ≡ true → o ≡ Some c
+      by_end None hit = cc
+      by_end (Some d) hit = ap Some (sym (chip_eq_true c d hit))
+
+  none_hit : (P : Edge → Type 0) (es : List Edge) → All P es → ((e : Edge) → P e → end_of m e ≡ Some c → ⊥) → list_any hits es ≡ false
+  none_hit P [] all never = refl
+  none_hit P (e ∷ es) all never = elim (cases_Bool (hits e)) [
+    | inl hit ↦ absurd (never e (All-head P e es all) (hit_end e hit))
+    | inr miss ↦ ap (λ b. b || list_any hits es) miss ∙ none_hit P es (All-tail P e es all) never
+  ]
 
   -- of edges that lead to different chips at most one counts
   edges_count : (es : List Edge) → All (λ (e : Edge). IsInside m e.chip) es → AllPairs (λ e f. end_of m e ≢ end_of m f) es →
@@ -252,86 +260,30 @@ module _ (m : Description) (i : ℕ) (below : i < m.width * m.height) where
   edges_count (e ∷ es) inside differ =
       let one = one_edge e (All-head (λ (e : Edge). IsInside m e.chip) e es inside) in
       let rest = edges_count es (All-tail (λ (e : Edge). IsInside m e.chip) e es inside) (AllPairs-tail (λ e f. end_of m e ≢ end_of m f) e es differ) in
-      let both = count_by-append is_i (end_places m e) (flat_map (end_places m) es) in
-      by_hit (hits e) refl one rest both
-    where
-      none_after : hits e ≡ true → list_any hits es ≡ false
-      none_after hit = none_of es (AllPairs-head (λ e f. end_of m e ≢ end_of m f) e es differ)
-        where
-          to_end : (f : Edge) → hits f ≡ true → end_of m f ≡ Some c
-          to_end f h = by_end (end_of m f) refl h
-            where
-              by_end : (o : Option Chip) → end_of m f ≡ o → option_map_or (chip_eq c) o false ≡ true → o ≡ Some c
-              by_end None is e' = cc
-              by_end (Some d) is e' = ap Some (sym (chip_eq_true c d e'))
-
-          none_of : (fs : List Edge) → All (λ f. end_of m e ≢ end_of m f) fs → list_any hits fs ≡ false
-          none_of [] all = refl
-          none_of (f ∷ fs) all = elim (cases_Bool (hits f)) [
-            | inl also ↦ absurd (All-head (λ f. end_of m e ≢ end_of m f) f fs all (to_end e hit ∙ sym (to_end f also)))
-            | inr not_f ↦ ap (λ b. b || list_any hits fs) not_f ∙ none_of fs (All-tail (λ f. end_of m e ≢ end_of m f) f fs all)
-          ]
-
-      by_hit : (b : Bool) → hits e ≡ b → count_by is_i (end_places m e) ≡ one_if (hits e) → count_by is_i (flat_map (end_places m) es) ≡ one_if (list_any hits es) →
-          count_by is_i (end_places m e ++ flat_map (end_places m) es) ≡ count_by is_i (end_places m e) + count_by is_i (flat_map (end_places m) es) →
-          count_by is_i (end_places m e ++ flat_map (end_places m) es) ≡ one_if (hits e || list_any hits es)
-      by_hit true hit one rest both =
-          let here : one_if (hits e) ≡ 1 = ap one_if hit in
-          let none : one_if (list_any hits es) ≡ 0 = ap one_if (none_after hit) in
-          let all : one_if (hits e || list_any hits es) ≡ 1 = ap (λ b. one_if (b || list_any hits es)) hit in
-          omega (arith, one, rest, both, here, none, all)
-      by_hit false miss one rest both =
-          let here : one_if (hits e) ≡ 0 = ap one_if miss in
-          let all : one_if (hits e || list_any hits es) ≡ one_if (list_any hits es) = ap (λ b. one_if (b || list_any hits es)) miss in
-          omega (arith, one, rest, both, here, all)
+      let either = either_counts (hits e) (list_any hits es) (λ hit.
+      none_hit (λ f. end_of m e ≢ end_of m f) es (AllPairs-head (λ e f. end_of m e ≢ end_of m f) e es differ) (λ f differs at. differs (hit_end e hit ∙ sym at))) in
+      let all : count_by is_i (end_places m e ++ flat_map (end_places m) es) ≡ one_if (hits e || list_any hits es) =
+      omega (arith, one, rest, count_by-append is_i (end_places m e) (flat_map (end_places m) es), either) in
+      all
 
   -- a net's tree has the chip at most once
   net_count : (net : AppNet) → HasTree m net → count_by is_i (tree_places m net) ≡ one_if (has_chip m c net)
   net_count net has =
       let rest = edges_count net.tree.edges (edges_in m net has) has.tree.one_into_each in
-      let all = count_by-cons is_i (index_of m net.tree.root) (flat_map (end_places m) net.tree.edges) in
+      let all : count_by is_i (tree_places m net) ≡ one_if (index_of m net.tree.root == i) + count_by is_i (flat_map (end_places m) net.tree.edges) =
+      count_by-cons is_i (index_of m net.tree.root) (flat_map (end_places m) net.tree.edges) in
       let root : one_if (index_of m net.tree.root == i) ≡ one_if (chip_eq c net.tree.root) = ap one_if (one_case m i c net.tree.root refl below has.root) in
-      by_root (chip_eq c net.tree.root) refl rest all root
-    where
-      es : List Edge
-      es = net.tree.edges
-
-      none_into : chip_eq c net.tree.root ≡ true → list_any hits net.tree.edges ≡ false
-      none_into at = none_of net.tree.edges has.tree.none_into_root
-        where
-          none_of : (fs : List Edge) → All (λ f. end_of m f ≢ Some net.tree.root) fs → list_any hits fs ≡ false
-          none_of [] all = refl
-          none_of (f ∷ fs) all = elim (cases_Bool (hits f)) [
-            | inl also ↦ absurd (All-head (λ f. end_of m f ≢ Some net.tree.root) f fs all (by_end (end_of m f) also))
-            | inr not_f ↦ ap (λ b. b || list_any hits fs) not_f ∙ none_of fs (All-tail (λ f. end_of m f ≢ Some net.tree.root) f fs all)
-          ]
-            where
-              by_end : (o : Option Chip) → option_map_or (chip_eq c) o false ≡ true → o ≡ Some net.tree.root
-              by_end None e' = cc
-              by_end (Some d) e' = ap Some (sym (chip_eq_true c d e') ∙ chip_eq_true c net.tree.root at)
-
-      by_root : (b : Bool) → chip_eq c net.tree.root ≡ b → count_by is_i (flat_map (end_places m) net.tree.edges) ≡ one_if (list_any hits net.tree.edges) →
-          count_by is_i (tree_places m net) ≡ one_if (index_of m net.tree.root == i) + count_by is_i (flat_map (end_places m) net.tree.edges) →
-          one_if (index_of m net.tree.root == i) ≡ one_if (chip_eq c net.tree.root) →
-          count_by is_i (tree_places m net) ≡ one_if (chip_eq c net.tree.root || list_any hits net.tree.edges)
-      by_root true at rest all root =
-          let here : one_if (chip_eq c net.tree.root) ≡ 1 = ap one_if at in
-          let none : one_if (list_any hits net.tree.edges) ≡ 0 = ap one_if (none_into at) in
-          let both : one_if (chip_eq c net.tree.root || list_any hits net.tree.edges) ≡ 1 = ap (λ b. one_if (b || list_any hits net.tree.edges)) at in
-          omega (arith, rest, all, root, here, none, both)
-      by_root false off rest all root =
-          let here : one_if (chip_eq c net.tree.root) ≡ 0 = ap one_if off in
-          let both : one_if (chip_eq c net.tree.root || list_any hits net.tree.edges) ≡ one_if (list_any hits net.tree.edges) = ap (λ b. one_if (b || list_any hits net.tree.edges)) off in
-          omega (arith, rest, all, root, here, both)
+      let either = either_counts (chip_eq c net.tree.root) (list_any hits net.tree.edges) (λ at.
+      none_hit (λ f. end_of m f ≢ Some net.tree.root) net.tree.edges has.tree.none_into_root (λ f differs ends. differs (ends ∙ ap Some (chip_eq_true c net.tree.root at)))) in
+      let counted : count_by is_i (tree_places m net) ≡ one_if (chip_eq c net.tree.root || list_any hits net.tree.edges) = omega (arith, rest, all, root, either) in
+      counted
 
   nets_count : (nets : List AppNet) → All (HasTree m) nets → count_by is_i (flat_map (tree_places m) nets) ≡ count_by (has_chip m c) nets
   nets_count [] all = refl
   nets_count (net ∷ nets) all =
       let one = net_count net (All-head (HasTree m) net nets all) in
-      let rest = nets_count nets (All-tail (HasTree m) net nets all) in
       let both = count_by-append is_i (tree_places m net) (flat_map (tree_places m) nets) in
-      let cons = count_by-cons (has_chip m c) net nets in
-      omega (arith, one, rest, both, cons)
+      omega (arith, one, nets_count nets (All-tail (HasTree m) net nets all), both, count_by-cons (has_chip m c) net nets)
 
 as_sum : {X : Type 0} (p : X → Bool) (xs : List X) → sum_by (λ x. one_if (p x)) xs ≡ count_by p xs
 as_sum p [] = refl
@@ -347,7 +299,8 @@ rows_counted m nets chips claims start trees same is =
     is ∙ ap (λ l. start ++ l) (same_of (run_claim m chips) (row_claim m nets) 0 (chip_count m)
     (λ i low high. ap (entries_claim m i) (count_permuted (λ k. k == i) (flat_map (tree_places m) nets) chips same ∙ nets_count m i (omega (arith, high)) nets trees)))
 
-pub rows_counted_in : (m : Description) (nets : List AppNet) (chips lent : List ℕ) (claims start : List Claim) (r : Result (Unit {0}) Memory) → All (HasTree m) nets → IsPermutation (flat_map (tree_places m) nets) chips → lent ≡ chips →
+pub rows_counted_in : (m : Description) (nets : List AppNet) (chips lent : List ℕ) (claims start : List Claim) (r : Result (Unit {0}) Memory) →
+    All (HasTree m) nets → IsPermutation (flat_map (tree_places m) nets) chips → lent ≡ chips →
     OnOk r (claims ≡ start ++ flat_map (run_claim m lent) (range_with_len 0 (chip_count m))) → OnOk r (claims ≡ start ++ flat_map (row_claim m nets) (range_with_len 0 (chip_count m)))
 rows_counted_in m nets chips lent claims start (Ok u) trees same is claimed =
     rows_counted m nets chips claims start trees same (claimed ∙ ap (λ l. start ++ flat_map (run_claim m l) (range_with_len 0 (chip_count m))) is)

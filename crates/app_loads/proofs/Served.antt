@@ -1,21 +1,12 @@
 -- What the claims of a plan ask for can be served, and what follows where they are.
 use Rattle.std.proofs.Common.{◌≡◌, ◌+◌, ◌%◌, ◌^◌, ◌≤◌, List, length, sym, ap, ◌∙◌, subst, arith, Some}
+use Rattle.std.proofs.{Math.Pow.pow_mono, lemmas.Nat.pow_pos, lemmas.List.length-map, lemmas.Option.slice_get_within, lemmas.Option.slice_get-get_or}
 use Rattle.std.specs.List.{slice_get, All, Contains}
-use Rattle.std.proofs.Math.Pow.{pow_mono}
-use Rattle.std.proofs.lemmas.Nat.{pow_pos}
-use Rattle.std.proofs.lemmas.List.{length-map}
-use Rattle.std.proofs.lemmas.Option.{slice_get_within, slice_get-get_or}
-use Rattle.spin_base.proofs.Members.{Contains-at}
-use Rattle.spin_base.proofs.Places.{All-each}
+use Rattle.spin_base.proofs.{Members.Contains-at, Places.All-each}
 use Rattle.machine_desc.specs.Description.{Description}
 use Rattle.range_store.specs.Views.{Region}
-use Rattle.app_loads.specs.declared.loaded.Claim.{Claim}
-use Rattle.app_loads.specs.declared.loaded.Range.{Range}
-use Rattle.app_loads.specs.declared.plans.AppPlan.{AppPlan}
-use Rattle.app_loads.specs.Claims.{AreServed, claims_of}
-use Rattle.app_loads.specs.Joining.{AreKeyed}
-use Rattle.app_loads.specs.Plans.{IsPlan}
-use Rattle.app_loads.specs.Regions.{chip_count, place_of, region_size}
+use Rattle.app_loads.specs.declared.{loaded.Claim.Claim, loaded.Range.Range, plans.AppPlan.AppPlan}
+use Rattle.app_loads.specs.{Claims.AreServed, Claims.claims_of, Joining.AreKeyed, Plans.IsPlan, Regions.chip_count, Regions.place_of, Regions.region_size}
 use Rattle.app_loads.specs.Taking.{AreRegionsOf, CanServe, IsFair, free_places_in}
 use Rattle.app_loads.proofs.ClaimCases.{facts, net_claim}
 
@@ -36,7 +27,6 @@ module _ (m : Description) (plan : AppPlan) (valid : IsPlan m plan) (taken range
         let open' = served.first.each i claim range is got in
         let size : range.size ≡ claim.size = open'.size in
         let least : 2 ^ f.e ≤ 2 ^ 32 = pow_mono f.few in
-        let pos = pow_pos f.e in
         let claimed = f.size in
         let within = subst (λ r. range.place + claim.size ≤ r) (ap (λ r. region_size m (place_of m r)) f.region) open'.may.within in
         let below = slice_get_within plan.nets net f.net f.is in (
@@ -44,7 +34,7 @@ module _ (m : Description) (plan : AppPlan) (valid : IsPlan m plan) (taken range
             power = (f.e, size ∙ claimed);
             few = omega (arith, size, claimed, least);
             aligned = subst (λ s. range.place % s ≡ 0) (sym size) (f.aligned range.place open'.may.aligned open'.may.fixed);
-            small = omega (arith, within, pos, claimed);
+            small = omega (arith, within, pow_pos f.e, claimed);
           },
           below,
         );

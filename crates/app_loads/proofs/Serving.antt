@@ -1,32 +1,29 @@
 -- Ranges taken one after the other for claims, and given back.
 use Rattle.std.proofs.Common.{◌≡◌, ◌≢◌, ℕ, ◌+◌, ◌%◌, ◌<◌, ◌≤◌, zero, suc, Bool, true, false, ◌&&◌, ◌||◌, ◌⊎◌, ◌==◌, List, [], ◌∷◌, ◌++◌, ◌∙◌, Option, None, Some, if◌then◌else◌}
 use Rattle.std.proofs.Common.{not, ltb, take, drop, get_or, length, refl, sym, ap, subst, inl, inr, arith, IfSome, append_assoc, append-nil, count_by, replicate}
-use Rattle.std.specs.List.{slice_get, slice_set, All, AllPairs, Contains}
 use Rattle.std.proofs.lemmas.Bool.{cases_Bool, cases_eq, eqb-true, eq-eqb, and_parts, and_from, lt-ltb, ne_eqb, and_right, or_right}
 use Rattle.std.proofs.lemmas.List.{length-set, length_push, take_at, take-append-le, map-set, drop_more}
 use Rattle.std.proofs.lemmas.List.Elements.{All-nil, All-cons, All-head, All-tail, All-append, All-contains}
-use Rattle.std.proofs.lemmas.List.Folds.{list_any-append}
-use Rattle.std.proofs.lemmas.List.Sums.{count_by-le-length}
+use Rattle.std.proofs.lemmas.List.{Folds.list_any-append, Sums.count_by-le-length}
 use Rattle.std.proofs.lemmas.Option.{slice_get_within, slice_get-get_or, same_Some, none-some}
+use Rattle.std.proofs.Math.Bool.{or-false}
+use Rattle.std.specs.List.{slice_get, slice_set, All, AllPairs, Contains}
 use Rattle.key_alloc.proofs.Ranges.{in_facts}
 use Rattle.spin_base.proofs.Counts.{count_by-append, count_by-cons}
 use Rattle.spin_base.proofs.Pairs.{AllPairs-left, AllPairs-right, AllPairs-across, AllPairs-append, AllPairs-head, AllPairs-tail}
 use Rattle.spin_base.proofs.Places.{All-each, slice_get-mapped, slice_get-push_cases, slice_get-set_same, slice_get-set_other, set-slice_get}
 use Rattle.spin_base.proofs.Members.{any_among, among_any, contains_among, among_contains, among_right, among_either}
 use Rattle.machine_desc.specs.Description.{Description}
-use Rattle.range_store.specs.Views.{Region}
-use Rattle.range_store.specs.Regions.{AreRuns, is_free, in_range}
-use Rattle.app_loads.specs.declared.answers.LoadErr.{LoadErr}
-use Rattle.app_loads.specs.declared.answers.LoadErr.TheVariants.{Memory, Refused}
-use Rattle.app_loads.specs.declared.loaded.Claim.{Claim}
-use Rattle.app_loads.specs.declared.loaded.Range.{Range}
+use Rattle.range_store.specs.{Views.Region, Regions.AreRuns, Regions.is_free, Regions.in_range}
+use Rattle.range_store.proofs.HolePlaces.{clash}
+use Rattle.app_loads.specs.declared.answers.LoadErr.{LoadErr, TheVariants.Memory, TheVariants.Refused}
+use Rattle.app_loads.specs.declared.loaded.{Claim.Claim, Range.Range}
 use Rattle.app_loads.specs.Host.{Free}
 use Rattle.app_loads.specs.Regions.{AreFreeBeside, IsFreeBeside, ShareNoPlace, place_of, range_has, is_taken, region_size, IsRangeWithin}
 use Rattle.app_loads.specs.Claims.{IsLeastOpenRange, IsOpenRange, IsRefusalDue}
-use Rattle.app_loads.specs.Taking.{free_places_in, frees, range_at, ServesClaim, RefusesClaim, IsFair, IsFairFor, HaveRoom, CanServe, HaveServed, AreTaken, AreTakenAlways, AreServedAlways, IsDueAlways, IsDueOf}
-use Rattle.std.proofs.Math.Bool.{or-false}
+use Rattle.app_loads.specs.Taking.{free_places_in, frees, range_at, ServesClaim, RefusesClaim, IsFair, IsFairFor, HaveRoom, CanServe, HaveServed, AreTaken}
+use Rattle.app_loads.specs.Taking.{AreTakenAlways, AreServedAlways, IsDueAlways, IsDueOf}
 use Rattle.app_loads.proofs.Others.{pairs_with_last}
-use Rattle.range_store.proofs.HolePlaces.{clash}
 
 -- ---- lists
 
@@ -74,9 +71,7 @@ module _ (ranges : List Range) (range : Range) where
       (k n : ℕ) → slice_get (slice_set counts range.region next) k ≡ Some n → n ≡ of_region k (ranges ++ range ∷ [])
   counted_push counts count next there counted is k n at = elim (set_cases counts range.region k count next n there at) [
     | inl mine ↦
-        let was = counted range.region count there in
-        let more = more_here in
-        let all : n ≡ of_region range.region (ranges ++ range ∷ []) = let value = mine.1 in omega (arith, value, is, was, more) in
+        let all : n ≡ of_region range.region (ranges ++ range ∷ []) = let value = mine.1 in omega (arith, value, is, counted range.region count there, more_here) in
         all ∙ ap (λ r. of_region r (ranges ++ range ∷ [])) (sym mine.0)
     | inr other ↦ counted k n other.1 ∙ sym (none_elsewhere k other.0)
   ]
@@ -116,7 +111,8 @@ free_beside_more m taken old p before after range its beside at here = record {
 }
 
 -- a range that is open for a claim shares no place with those that are taken
-apart_from_open : (m : Description) (taken : List Range) (claim : Claim) (place : ℕ) → IsOpenRange m taken claim place → (other : Range) → Contains taken other → ShareNoPlace other (range_at m claim place)
+apart_from_open : (m : Description) (taken : List Range) (claim : Claim) (place : ℕ) → IsOpenRange m taken claim place →
+    (other : Range) → Contains taken other → ShareNoPlace other (range_at m claim place)
 apart_from_open m taken claim place may other has region k in_other in_mine =
     let parts = and_parts ((place_of m claim.region) == region) (in_range place claim.size k) in_mine in
     let region_is : (place_of m claim.region) ≡ region = eqb-true (place_of m claim.region) region parts.0 in
@@ -138,8 +134,7 @@ module _ (m : Description) (claims : List Claim) (old mid : List Region) (ranges
   served_more after place new some set serves spare = record {
     served = λ taken apart free.
         let was = so_far.served taken apart free in
-        let t = so_far.taken taken apart free in
-        let now = serves m (taken ++ ranges) (beside_in (taken ++ ranges) t.free) in
+        let now = serves m (taken ++ ranges) (beside_in (taken ++ ranges) (so_far.taken taken apart free).free) in
         record {
           few = let w = slice_get_within claims (length ranges) claim is in omega (arith, w, length_push ranges r);
           each = λ i c' r' is_c is_r. elim (slice_get-push_cases ranges r r' i is_r) [
@@ -169,14 +164,11 @@ module _ (m : Description) (claims : List Claim) (old mid : List Region) (ranges
         };
     room = λ i region is_region. elim (set_cases mid number i before after region at (sym (ap (λ l. slice_get l i) set) ∙ is_region)) [
       | inl mine ↦
-          let more = more_here ranges r in
           let same : region.spare ≡ after.spare = ap (λ (x : Region). x.spare) mine.1 in
           let counted : of_region i (ranges ++ r ∷ []) ≡ of_region number (ranges ++ r ∷ []) = ap (λ n. of_region n (ranges ++ r ∷ [])) mine.0 in
-          omega (arith, more, spare, same, counted)
+          omega (arith, more_here ranges r, spare, same, counted)
       | inr other ↦
-          let was = so_far.room i region other.1 in
-          let same = none_elsewhere ranges r i other.0 in
-          omega (arith, was, same)
+          omega (arith, so_far.room i region other.1, none_elsewhere ranges r i other.0)
     ];
     long = ap length set ∙ (length-set mid number after ∙ so_far.long);
   }
@@ -232,7 +224,8 @@ none_served m claims regions ranges none = subst (λ l. HaveServed m claims regi
 
 -- ---- one range is given back
 
-module _ (m : Description) (others : List Range) (range : Range) (rest : List Range) (old : List Region) (taken : AreTaken m others (range ∷ rest) old) (before : Region) (at : slice_get old range.region ≡ Some before) where
+module _ (m : Description) (others : List Range) (range : Range) (rest : List Range) (old : List Region) (taken : AreTaken m others (range ∷ rest) old)
+    (before : Region) (at : slice_get old range.region ≡ Some before) where
   beside_here : IsFreeBeside m (others ++ range ∷ rest) range.region (free_places_in before)
   beside_here = taken.free.each range.region (free_places_in before) (slice_get-mapped free_places_in old range.region before at)
 
@@ -269,7 +262,8 @@ module _ (m : Description) (others : List Range) (range : Range) (rest : List Ra
 
       either_side : (other : Range) → Contains (others ++ rest) other → range_has range.region k other ≡ true → ⊥
       either_side other has there = elim (among_either other others rest (contains_among other (others ++ rest) has)) [
-        | inl left ↦ (All-head (ShareNoPlace other) range rest (All-contains (λ a. All (ShareNoPlace a) (range ∷ rest)) others other across (among_contains other others left))) range.region k there (mine k here)
+        | inl left ↦ (All-head (ShareNoPlace other) range rest (All-contains (λ a. All (ShareNoPlace a) (range ∷ rest)) others other across (among_contains other others left)))
+            range.region k there (mine k here)
         | inr right ↦ (All-contains (ShareNoPlace range) rest other after (among_contains other rest right)) range.region k (mine k here) there
       ]
 
@@ -279,7 +273,8 @@ module _ (m : Description) (others : List Range) (range : Range) (rest : List Ra
     within = subst (λ n. All (IsRangeWithin m n) rest) (sym long) (All-tail (IsRangeWithin m (length old)) range rest taken.within);
     apart = AllPairs-append ShareNoPlace others rest (AllPairs-left ShareNoPlace others (range ∷ rest) taken.apart)
         (AllPairs-tail ShareNoPlace range rest (AllPairs-right ShareNoPlace others (range ∷ rest) taken.apart))
-        (All-each (λ a. All (ShareNoPlace a) rest) others (λ a has. All-tail (ShareNoPlace a) range rest (All-contains (λ z. All (ShareNoPlace z) (range ∷ rest)) others a (AllPairs-across ShareNoPlace others (range ∷ rest) taken.apart) has)));
+        (All-each (λ a. All (ShareNoPlace a) rest) others (λ a has.
+        All-tail (ShareNoPlace a) range rest (All-contains (λ z. All (ShareNoPlace z) (range ∷ rest)) others a (AllPairs-across ShareNoPlace others (range ∷ rest) taken.apart) has)));
     free = record {
       all = ap length (ap frees set ∙ map-set free_places_in old range.region after) ∙ (length-set (frees old) range.region (free_places_in after) ∙ taken.free.all);
       each = λ region f is.
@@ -316,10 +311,9 @@ module _ (m : Description) (others : List Range) (range : Range) (rest : List Ra
         runs = runs;
         free = λ k. free k ∙ elim (cases_Bool (in_range range.place range.size k)) [
           | inl inside ↦
-              let facts = in_facts range.place range.size k inside in
-              let w = give_within in
-              let below : ltb k after.size ≡ true = lt-ltb k after.size (omega (arith, facts, w, size)) in
-              ap (λ b. is_free before.holes k || b) inside ∙ (or_right (is_free before.holes k) true refl ∙ sym (ap (λ b. b && not (is_taken (others ++ rest) range.region k)) below ∙ ap (λ b. true && not b) (not_left k inside)))
+              let below : ltb k after.size ≡ true = lt-ltb k after.size (omega (arith, in_facts range.place range.size k inside, give_within, size)) in
+              ap (λ b. is_free before.holes k || b) inside ∙ (or_right (is_free before.holes k) true refl
+              ∙ sym (ap (λ b. b && not (is_taken (others ++ rest) range.region k)) below ∙ ap (λ b. true && not b) (not_left k inside)))
           | inr outside ↦
               ap (λ b. is_free before.holes k || b) outside
               ∙ (or-false (is_free before.holes k)
@@ -375,28 +369,23 @@ module _ (ranges : List Range) {others : List Range} {i : ℕ} {regions : List R
 
     pub spare_at : 0 < before.spare
     spare_at =
-        let most = room range.region before at_place in
-        let all = counted range.region in
         let one : one_if (range.region == range.region) ≡ 1 = ap one_if (eq-eqb range.region range.region refl) in
-        omega (arith, most, all, one)
+        omega (arith, room range.region before at_place, counted range.region, one)
 
     pub room_at : (after : Region) → before.spare ≤ after.spare + 1 → HaveRoom rest (slice_set regions range.region after)
     room_at after spare n region is = elim (set_cases regions range.region n before after region at_place is) [
       | inl mine ↦
-          let most = room range.region before at_place in
-          let all = counted range.region in
           let one : one_if (range.region == range.region) ≡ 1 = ap one_if (eq-eqb range.region range.region refl) in
           let same : region.spare ≡ after.spare = ap (λ (x : Region). x.spare) mine.1 in
           let number : count_by (λ (x : Range). x.region == n) rest ≡ count_by (λ (x : Range). x.region == range.region) rest = ap (λ k. count_by (λ (x : Range). x.region == k) rest) mine.0 in
-          omega (arith, most, all, one, same, number, spare)
+          omega (arith, room range.region before at_place, counted range.region, one, same, number, spare)
       | inr other ↦
-          let most = room n region other.1 in
-          let all = counted n in
-          omega (arith, most, all)
+          omega (arith, room n region other.1, counted n)
     ]
 
 -- where all are given back, none is left
-pub all_back : {m : Description} {others : List Range} {i : ℕ} (ranges : List Range) (regions : List Region) → length ranges ≤ i → AreFreeBeside m (others ++ drop i ranges) (frees regions) → AreFreeBeside m others (frees regions)
+pub all_back : {m : Description} {others : List Range} {i : ℕ} (ranges : List Range) (regions : List Region) → length ranges ≤ i →
+    AreFreeBeside m (others ++ drop i ranges) (frees regions) → AreFreeBeside m others (frees regions)
 all_back {m} {others} {i} ranges regions end free = subst (λ l. AreFreeBeside m l (frees regions)) (ap (λ l. others ++ l) (none_left ranges i end) ∙ append-nil others) free
   where
     none_left : {X : Type 0} (xs : List X) (n : ℕ) → length xs ≤ n → drop n xs ≡ []
@@ -465,9 +454,8 @@ module _ {m : Description} {claims : List Claim} {old mid : List Region} {ranges
     -- which are fewer than the claims
     pub few_held : length claims ≤ 262144 → get_or counts at f < 262144
     few_held few =
-        let held = count_held in
         let some : of_region at ranges ≤ length ranges = count_by-le-length (λ (range : Range). range.region == at) ranges in
-        omega (arith, below, each_one, few, held, some)
+        omega (arith, below, each_one, few, count_held, some)
 
     pub counts_more : (place : ℕ) (list : List Range) → list ≡ ranges ++ range_here place ∷ [] → (next : ℕ) → next ≡ get_or counts at f + 1 →
         (k n : ℕ) → slice_get (slice_set counts at next) k ≡ Some n → n ≡ of_region k list
@@ -495,8 +483,8 @@ module _ {m : Description} {claims : List Claim} {old mid : List Region} {ranges
       room_still m claims old mid ranges so_far claim is_claim before' at_claim after (slice_set mid at after) (ap (λ k. slice_set mid k after) at_is)
       (λ n le. stays n (let same = ap (λ k. of_region k ranges) at_is in omega (arith, le, counted, same)))
 
-pub all_served : {m : Description} {claims : List Claim} {old mid : List Region} {ranges : List Range} {i : ℕ} → length claims ≤ i → length ranges ≡ i → HaveServed m claims old ranges mid → AreServedAlways m claims old ranges
+pub all_served : {m : Description} {claims : List Claim} {old mid : List Region} {ranges : List Range} {i : ℕ} → length claims ≤ i →
+    length ranges ≡ i → HaveServed m claims old ranges mid → AreServedAlways m claims old ranges
 all_served end each_one so_far taken apart free =
     let first = so_far.served taken apart free in
-    let few = first.few in
-    record { first = first; all = omega (arith, end, each_one, few) }
+    record { first = first; all = omega (arith, end, each_one, first.few) }

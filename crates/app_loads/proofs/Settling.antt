@@ -1,50 +1,32 @@
 -- An application's rows and packets on a mesh.
 use Rattle.std.proofs.Common.{◌≡◌, ℕ, zero, suc, ◌+◌, ◌-◌, ◌*◌, ◌/◌, ◌%◌, ◌^◌, ◌<◌, ◌≤◌, ◌==◌, Bool, true, false, List, [], ◌∷◌, ◌++◌, ◌∙◌, ◌⊎◌, Option, None, Some, if◌then◌else◌}
 use Rattle.std.proofs.Common.{leb, length, drop, take, map, refl, sym, ap, subst, inl, inr, arith, count_by}
-use Rattle.std.specs.Option.{option_map_or}
-use Rattle.std.specs.List.{list_any, slice_get, All, Contains}
-use Rattle.std.proofs.lemmas.Bool.{cases_Bool, or_left, or_right, or_cases}
-use Rattle.std.proofs.lemmas.Bool.Decides.{nat_tests}
-use Rattle.std.proofs.lemmas.List.{length-map, length-set}
+use Rattle.std.proofs.lemmas.{Bool.cases_Bool, Bool.or_left, Bool.or_right, Bool.or_cases, Bool.Decides.nat_tests, List.length-map, List.length-set}
 use Rattle.std.proofs.lemmas.List.Elements.{All-contains, All-head, All-set, All-push}
 use Rattle.std.proofs.lemmas.List.Sorted.{IsPermutation-refl, length_permutation}
 use Rattle.std.proofs.lemmas.Option.{slice_get_within, same_Some}
-use Rattle.mesh_core.proofs.Moves.{chip_of-index_of}
-use Rattle.spin_base.proofs.Equality.{chip_eq_true}
-use Rattle.spin_base.proofs.Counts.{count_by-cons}
+use Rattle.std.specs.Option.{option_map_or}
+use Rattle.std.specs.List.{list_any, slice_get, All, Contains}
+use Rattle.mesh_core.proofs.{Moves.chip_of-index_of, Ways.vertex_there}
+use Rattle.mesh_core.specs.State.{Setup, State, IsMesh}
+use Rattle.spin_base.proofs.{Equality.chip_eq_true, Counts.count_by-cons}
 use Rattle.spin_base.proofs.Members.{Contains-at, Contains-filter, among_any, any_among, among_contains, contains_among}
 use Rattle.spin_base.proofs.Places.{All-at, All-each, AllZip-at_second, slice_get_there}
 use Rattle.spin_base.proofs.Ranges.{slice_get-map_range}
-use Rattle.spin_base.specs.declared.blocks.Block.{Block}
-use Rattle.spin_base.specs.declared.blocks.Entry.{Entry}
-use Rattle.spin_base.specs.declared.chips.Chip.{Chip}
-use Rattle.spin_base.specs.declared.chips.Spot.{Spot}
-use Rattle.spin_base.specs.declared.copies.Delivery.{Delivery}
-use Rattle.spin_base.specs.declared.copies.DumpRec.{DumpRec}
-use Rattle.spin_base.specs.declared.copies.McCopy.{McCopy}
-use Rattle.spin_base.specs.declared.copies.Packet.{Packet}
+use Rattle.spin_base.specs.declared.{blocks.Block.Block, blocks.Entry.Entry, chips.Chip.Chip, chips.Spot.Spot}
+use Rattle.spin_base.specs.declared.copies.{Delivery.Delivery, DumpRec.DumpRec, McCopy.McCopy, Packet.Packet}
 use Rattle.spin_base.specs.Equality.{chip_eq}
 use Rattle.machine_desc.specs.declared.trees.Edge.{Edge}
 use Rattle.machine_desc.specs.Description.{Description}
 use Rattle.machine_desc.specs.Live.{index_of, chip_of, is_usable, IsInside, IsUsable}
-use Rattle.machine_desc.specs.RoutingTree.{end_of, IsTreeChip}
-use Rattle.machine_desc.proofs.Far.{index_below, live_inside}
-use Rattle.machine_desc.proofs.Same.{chip_eq-from_same, same_spot}
-use Rattle.machine_desc.proofs.Sites.{usable_parts}
+use Rattle.machine_desc.specs.{RoutingTree.end_of, RoutingTree.IsTreeChip, RightTables.table_at}
+use Rattle.machine_desc.proofs.{Far.index_below, Far.live_inside, Same.chip_eq-from_same, Same.same_spot, Sites.usable_parts}
 use Rattle.machine_desc.proofs.TreeLemmas.{tree_cases, tree_end}
-use Rattle.tern_word.specs.declared.tables.Row.{Row}
-use Rattle.tern_word.specs.declared.tables.Table.{Table}
+use Rattle.tern_word.specs.declared.tables.{Row.Row, Table.Table}
 use Rattle.tern_word.specs.SoundTable.{Original}
-use Rattle.machine_desc.specs.RightTables.{table_at}
 use Rattle.net_tables.specs.PlainTable.{AreOriginals, AtEach, IsPlainTable, row_of}
-use Rattle.mesh_core.specs.State.{Setup, State, IsMesh}
-use Rattle.mesh_core.proofs.Ways.{vertex_there}
-use Rattle.app_loads.specs.declared.loaded.LoadedApp.{LoadedApp}
-use Rattle.app_loads.specs.declared.loaded.Range.{Range}
-use Rattle.app_loads.specs.declared.plans.AppNet.{AppNet}
-use Rattle.app_loads.specs.Applications.{IsRangeFor}
-use Rattle.app_loads.specs.Claims.{claims_of, has_chip}
-use Rattle.app_loads.specs.Host.{net_with, nets_with, nets_of}
+use Rattle.app_loads.specs.declared.{loaded.LoadedApp.LoadedApp, loaded.Range.Range, plans.AppNet.AppNet}
+use Rattle.app_loads.specs.{Applications.IsRangeFor, Claims.claims_of, Claims.has_chip, Host.net_with, Host.nets_with, Host.nets_of}
 use Rattle.app_loads.specs.Joining.{AreSent, AreWritten, CanSettle, IsSettled}
 use Rattle.app_loads.specs.Opening.{grid_spots, spot_of, usable_spots}
 use Rattle.app_loads.specs.Plans.{IsAppNet, IsPacketOfApp}
@@ -53,8 +35,7 @@ use Rattle.app_loads.specs.Regions.{chip_count, region_size, IsRangeWithin, plac
 use Rattle.app_loads.specs.Sending.{CanSend, IsPacketOn, IsSendingFrom}
 use Rattle.app_loads.specs.Writing.{AreCopied, CanCopy}
 use Rattle.app_loads.proofs.AppNets.{facts_at, key_of_index, member_at, spot_inside, usable_spot}
-use Rattle.app_loads.proofs.ClaimCases.{row_size}
-use Rattle.app_loads.proofs.Unsent.{nets_with_at}
+use Rattle.app_loads.proofs.{ClaimCases.row_size, Unsent.nets_with_at}
 
 -- each usable core is in the list of them
 pub usable_there : (m : Description) (s : Spot) → IsUsable m s → Contains (usable_spots m) s
@@ -69,7 +50,8 @@ usable_there m s usable =
     let core_is : k % 17 + 1 ≡ s.core = omega (arith, some, most) in
     let same : spot_of m k ≡ s = same_spot (spot_of m k) s (ap (chip_of m) chip_is ∙ chip_of-index_of m s.chip inside) core_is in
     let z : 0 + k ≡ k = omega arith in
-    let at : slice_get (grid_spots m) k ≡ Some s = slice_get-map_range (spot_of m) 0 (17 * (m.width * m.height)) k (omega (arith, below, some, most)) ∙ (ap (λ i. Some (spot_of m i)) z ∙ ap Some same) in
+    let at : slice_get (grid_spots m) k ≡ Some s = slice_get-map_range (spot_of m) 0 (17 * (m.width * m.height)) k (omega (arith, below, some, most))
+    ∙ (ap (λ i. Some (spot_of m i)) z ∙ ap Some same) in
     Contains-filter (is_usable m) (grid_spots m) s (Contains-at (grid_spots m) k s at) usable
 
 -- ---- rows of a chip
@@ -78,7 +60,8 @@ pub has_chip-true : (m : Description) (c : Chip) (net : AppNet) → IsTreeChip m
 has_chip-true m c net on = elim (tree_cases m net.tree.root net.tree.edges c on) [
   | inl at ↦ or_left (chip_eq c net.tree.root) (list_any (λ (e : Edge). option_map_or (chip_eq c) (end_of m e) false) net.tree.edges) (chip_eq-from_same c net.tree.root at)
   | inr into ↦ or_right (chip_eq c net.tree.root) (list_any (λ (e : Edge). option_map_or (chip_eq c) (end_of m e) false) net.tree.edges)
-      (among_any (λ (e : Edge). option_map_or (chip_eq c) (end_of m e) false) into.0 net.tree.edges (contains_among into.0 net.tree.edges into.1) (ap (λ o. option_map_or (chip_eq c) o false) into.2 ∙ chip_eq-from_same c c refl))
+      (among_any (λ (e : Edge). option_map_or (chip_eq c) (end_of m e) false) into.0 net.tree.edges (contains_among into.0 net.tree.edges into.1)
+      (ap (λ o. option_map_or (chip_eq c) o false) into.2 ∙ chip_eq-from_same c c refl))
 ]
 
 pub has_chip-tree : (m : Description) (c : Chip) (net : AppNet) → has_chip m c net ≡ true → IsTreeChip m net.tree.root net.tree.edges c
@@ -97,32 +80,31 @@ has_chip-tree m c net e = elim (or_cases (chip_eq c net.tree.root) (list_any (λ
 abbrev one_if : Bool → ℕ
 one_if b = if b then 1 else 0
 
-originals_count : (m : Description) (c : Chip) (nets : List AppNet) (blocks : List Block) (os : List Original) → length blocks ≡ length nets → AreOriginals m c (nets_with nets blocks) os → length os ≡ count_by (has_chip m c) nets
+originals_count : (m : Description) (c : Chip) (nets : List AppNet) (blocks : List Block) (os : List Original) → length blocks ≡ length nets →
+    AreOriginals m c (nets_with nets blocks) os → length os ≡ count_by (has_chip m c) nets
 originals_count m c [] [] os long are = ap length are
 originals_count m c [] (b ∷ bs) os long are = absurd (omega (arith, long))
 originals_count m c (n ∷ ns) [] os long are = absurd (omega (arith, long))
 originals_count m c (n ∷ ns) (b ∷ bs) os long (inl on) =
     let rest = originals_count m c ns bs on.3 (omega (arith, long)) on.5 in
     let all : length os ≡ suc (length on.3) = ap length on.4 in
-    let cons = count_by-cons (has_chip m c) n ns in
     let here : one_if (has_chip m c n) ≡ 1 = ap one_if (has_chip-true m c n on.0) in
-    omega (arith, rest, all, cons, here)
+    omega (arith, rest, all, count_by-cons (has_chip m c) n ns, here)
 originals_count m c (n ∷ ns) (b ∷ bs) os long (inr off) =
     let rest = originals_count m c ns bs os (omega (arith, long)) off.1 in
-    let cons = count_by-cons (has_chip m c) n ns in
     let here : one_if (has_chip m c n) ≡ 0 = ap one_if (not_there (cases_Bool (has_chip m c n))) in
-    omega (arith, rest, cons, here)
+    omega (arith, rest, count_by-cons (has_chip m c) n ns, here)
   where
     not_there : (has_chip m c n ≡ true) ⊎ (has_chip m c n ≡ false) → has_chip m c n ≡ false
     not_there (inl yes') = absurd (off.0 (has_chip-tree m c n yes'))
     not_there (inr no') = no'
 
-pub plain_count : (m : Description) (c : Chip) (nets : List AppNet) (blocks : List Block) (rows : List Row) → length blocks ≡ length nets → IsPlainTable m (nets_with nets blocks) c rows → length rows ≡ count_by (has_chip m c) nets
+pub plain_count : (m : Description) (c : Chip) (nets : List AppNet) (blocks : List Block) (rows : List Row) → length blocks ≡ length nets →
+    IsPlainTable m (nets_with nets blocks) c rows → length rows ≡ count_by (has_chip m c) nets
 plain_count m c nets blocks rows long plain =
     let same = length_permutation (map row_of plain.originals) rows plain.one_row_each in
-    let mapped = length-map plain.originals row_of in
     let counted = originals_count m c nets blocks plain.originals long plain.originals_are in
-    omega (arith, same, mapped, counted)
+    omega (arith, same, length-map plain.originals row_of, counted)
 
 pub rows_size : (m : Description) (i : ℕ) → region_size m (1 + (chip_count m + i)) ≡ 1024
 rows_size m i =
@@ -140,12 +122,14 @@ module _ (s : State) (app : LoadedApp) (can : CanSettle s app) where
   its_machine = s.setup.machine
 
   -- a range of a chip's entries is as long as nets have the chip
-  range_size : (range : Range) → Contains app.ranges range → (c : Chip) → IsInside its_machine c → range.region ≡ place_of its_machine (Rows c) → range.size ≡ count_by (has_chip its_machine c) app.plan.nets
+  range_size : (range : Range) → Contains app.ranges range → (c : Chip) → IsInside its_machine c → range.region ≡ place_of its_machine (Rows c) →
+      range.size ≡ count_by (has_chip its_machine c) app.plan.nets
   range_size range has c inside region =
       let claimed = AllZip-at_second (IsRangeFor its_machine) (claims_of its_machine app.plan) app.ranges can.loaded.ranges has.0 range (member_at app.ranges range has) in
       let of_region : place_of its_machine claimed.0.region ≡ 1 + (chip_count its_machine + index_of its_machine c) = sym claimed.2.0 ∙ region in
       claimed.2.1
-      ∙ (row_size its_machine app.plan can.loaded.plan claimed.0 (Contains-at (claims_of its_machine app.plan) has.0 claimed.0 claimed.1) (index_of its_machine c) (index_below its_machine c inside) of_region
+      ∙ (row_size its_machine app.plan can.loaded.plan claimed.0 (Contains-at (claims_of its_machine app.plan) has.0 claimed.0 claimed.1)
+      (index_of its_machine c) (index_below its_machine c inside) of_region
       ∙ ap (λ (d : Chip). count_by (has_chip its_machine d) app.plan.nets) (chip_of-index_of its_machine c inside))
 
   module _ (none : app.plan.nets ≡ []) where
@@ -153,9 +137,7 @@ module _ (s : State) (app : LoadedApp) (can : CanSettle s app) where
     no_packet [] all = refl
     no_packet (p ∷ packets) all =
         let of_net = All-head (IsPacketOfApp app.plan.nets) p packets all in
-        let within = slice_get_within app.plan.nets p.net of_net.0 of_net.1 in
-        let empty = ap length none in
-        absurd (omega (arith, within, empty))
+        absurd (omega (arith, slice_get_within app.plan.nets p.net of_net.0 of_net.1, ap length none))
 
     -- an application without nets leaves a mesh as it is
     pub settled_bare : IsSettled app s s
@@ -257,13 +239,15 @@ sent_long spots app (suc n) before after sent =
     let one = sent.4 in
     ap length one.is ∙ (length-set sent.0 one.vertex (one.queue ++ _ ∷ []) ∙ sent_long spots app n before sent.0 sent.2)
 
-sent_at_start : (spots : List Spot) (app : LoadedApp) (n : ℕ) (before after : List (List McCopy)) → All (λ q. All (λ (k : McCopy). k.hop ≡ 0) q) before → AreSent spots app n before after → All (λ q. All (λ (k : McCopy). k.hop ≡ 0) q) after
+sent_at_start : (spots : List Spot) (app : LoadedApp) (n : ℕ) (before after : List (List McCopy)) → All (λ q. All (λ (k : McCopy). k.hop ≡ 0) q) before →
+    AreSent spots app n before after → All (λ q. All (λ (k : McCopy). k.hop ≡ 0) q) after
 sent_at_start spots app zero before after start sent = subst (All (λ q. All (λ (k : McCopy). k.hop ≡ 0) q)) (sym sent) start
 sent_at_start spots app (suc n) before after start sent =
     let one = sent.4 in
     let rest = sent_at_start spots app n before sent.0 start sent.2 in
     subst (All (λ q. All (λ (k : McCopy). k.hop ≡ 0) q)) (sym one.is)
-    (All-set (λ q. All (λ (k : McCopy). k.hop ≡ 0) q) sent.0 one.vertex (one.queue ++ _ ∷ []) (All-push (λ (k : McCopy). k.hop ≡ 0) one.queue _ (All-at (λ q. All (λ (k : McCopy). k.hop ≡ 0) q) sent.0 one.vertex one.queue rest one.at) refl) rest)
+    (All-set (λ q. All (λ (k : McCopy). k.hop ≡ 0) q) sent.0 one.vertex (one.queue ++ _ ∷ [])
+    (All-push (λ (k : McCopy). k.hop ≡ 0) one.queue _ (All-at (λ q. All (λ (k : McCopy). k.hop ≡ 0) q) sent.0 one.vertex one.queue rest one.at) refl) rest)
 
 -- a mesh with other tables, unsent copies, deliveries and records
 pub changed_mesh : (s : State) (tables : List (List Entry)) (q : List (List McCopy)) (delivered : List Delivery) (dumped : List DumpRec) → IsMesh s → length tables ≡ length s.setup.tables →
@@ -318,7 +302,8 @@ module _ {s t : State} {app : LoadedApp} (same : s ≡ t) (can : CanSettle t app
   parted_copy {rows} plain = can_copy s app own whole (here rows plain)
 
   -- packets were sent, and the tables are others
-  module _ {given q put : List (List McCopy)} {u : Setup} (is : given ≡ s.unsent) (put_is : put ≡ q) (sent : AreSent s.setup.spots app (length app.plan.packets) given q) (setup : u ≡ record s.setup { tables = u.tables }) where
+  module _ {given q put : List (List McCopy)} {u : Setup} (is : given ≡ s.unsent) (put_is : put ≡ q) (sent : AreSent s.setup.spots app (length app.plan.packets) given q)
+      (setup : u ≡ record s.setup { tables = u.tables }) where
     sent_from : AreSent s.setup.spots app (length app.plan.packets) s.unsent q
     sent_from = subst (λ (l : List (List McCopy)). AreSent s.setup.spots app (length app.plan.packets) l q) is sent
 

@@ -1,22 +1,15 @@
 -- The usable cores of a machine as a list.
 use Rattle.std.proofs.Common.{◌≡◌, ◌≢◌, ℕ, ◌+◌, ◌*◌, ◌/◌, ◌%◌, refl, sym, ap, ◌∙◌, arith, List, [], ◌∷◌, ◌++◌, map, length, Bool, true, false, cond}
-use Rattle.std.specs.List.{All, AllPairs, filter, range_with_len, slice_index_or}
-use Rattle.std.proofs.lemmas.List.Elements.{All-weaker}
-use Rattle.std.proofs.lemmas.List.Kept.{AllPairs-filter}
+use Rattle.std.proofs.lemmas.List.{Elements.All-weaker, Kept.AllPairs-filter}
 use Rattle.std.proofs.lemmas.List.FromFn.{filter_of_map_range_with_len_more, get_or-map-range_with_len, length-map-range_with_len}
-use Rattle.spin_base.proofs.Members.{Contains-from_filter}
-use Rattle.spin_base.proofs.Places.{All-each}
+use Rattle.std.specs.List.{All, AllPairs, filter, range_with_len, slice_index_or}
+use Rattle.spin_base.proofs.{Members.Contains-from_filter, Places.All-each, Pairs.All-flat_map}
 use Rattle.spin_base.specs.declared.chips.Spot.{Spot}
 use Rattle.machine_desc.specs.Description.{Description}
 use Rattle.machine_desc.specs.Live.{index_of, chip_of, is_usable, IsSite, IsInside, IsUsable}
-use Rattle.machine_desc.proofs.Live.{index_of-chip_of}
-use Rattle.machine_desc.proofs.Sites.{usable_site, usable_parts}
-use Rattle.spin_base.proofs.Pairs.{All-flat_map}
-use Rattle.machine_desc.proofs.Far.{live_inside}
+use Rattle.machine_desc.proofs.{Live.index_of-chip_of, Sites.usable_site, Sites.usable_parts, Far.live_inside}
 use Rattle.app_loads.specs.declared.loaded.LoadedApp.{LoadedApp}
-use Rattle.app_loads.specs.Applications.{AreApps, IsLoadedOn}
-use Rattle.app_loads.specs.Host.{Host, all_spots}
-use Rattle.app_loads.specs.Opening.{spot_of, grid_spots, usable_spots}
+use Rattle.app_loads.specs.{Applications.AreApps, Applications.IsLoadedOn, Host.Host, Host.all_spots, Opening.spot_of, Opening.grid_spots, Opening.usable_spots}
 
 -- two numbers of one spot are one number
 same_number : (m : Description) (i j : ℕ) → spot_of m i ≡ spot_of m j → i ≡ j

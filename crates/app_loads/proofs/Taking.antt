@@ -5,12 +5,11 @@ use Rattle.std.proofs.lemmas.List.Folds.{list_any-append}
 use Rattle.key_alloc.proofs.Ranges.{in_facts, in_from, regroup, free_of}
 use Rattle.machine_desc.specs.Description.{Description}
 use Rattle.range_store.specs.Regions.{AreRuns, IsFirstFit, HasNoFit, is_hole_range, is_free, in_range}
-use Rattle.app_loads.specs.declared.loaded.Claim.{Claim}
-use Rattle.app_loads.specs.declared.loaded.Range.{Range}
+use Rattle.range_store.proofs.HolePlaces.{clash, free_in_range, range_of_free}
+use Rattle.app_loads.specs.declared.loaded.{Claim.Claim, Range.Range}
 use Rattle.app_loads.specs.Host.{Free}
 use Rattle.app_loads.specs.Regions.{IsFreeBeside, place_of, range_has, is_taken}
 use Rattle.app_loads.specs.Claims.{IsOpenRange, IsLeastOpenRange, IsRefusedClaim}
-use Rattle.range_store.proofs.HolePlaces.{clash, free_in_range, range_of_free}
 
 here_too : (region : ℕ) (b : Bool) → ((region == region) && b) ≡ b
 here_too region b = ap (λ z. z && b) (eq-eqb region region refl)
@@ -42,22 +41,19 @@ module _ (m : Description) (taken : List Range) (claim : Claim) (f : Free) (besi
       let at : (k : ℕ) → p ≤ k → k < p + claim.size → (ltb k f.size ≡ true) × (not (is_taken taken (place_of m claim.region) k) ≡ true) =
       λ k low high. and_parts (ltb k f.size) (not (is_taken taken (place_of m claim.region) k)) (sym (beside.free k) ∙ free_in_range f.holes p claim.size k fits low high) in
       let last = ltb-true (p + claim.size - 1) f.size (at (p + claim.size - 1) (omega (arith, some)) (omega (arith, some))).0 in
-      let size = beside.size in
       record {
         aligned = aligned;
         fixed = fixed;
-        within = omega (arith, last, size, some);
+        within = omega (arith, last, beside.size, some);
         untaken = λ k mine. let i = in_facts p claim.size k mine in not-true (is_taken taken (place_of m claim.region) k) (at k i.0 i.1).1;
       }
 
   -- and one that may be taken lies in a hole
   pub hole_from_open : (p : ℕ) → IsOpenRange m taken claim p → is_hole_range f.holes p claim.size ≡ true
   hole_from_open p o =
-      let size = beside.size in
-      let within = o.within in
       range_of_free 0 f.size f.holes p claim.size beside.runs some
       (λ k low high.
-      beside.free k ∙ free_of (ltb k f.size) (is_taken taken (place_of m claim.region) k) (lt-ltb k f.size (omega (arith, within, size, high)))
+      beside.free k ∙ free_of (ltb k f.size) (is_taken taken (place_of m claim.region) k) (lt-ltb k f.size (omega (arith, o.within, beside.size, high)))
       (o.untaken k (in_from p claim.size k low high)))
 
 -- the first fit is the least range

@@ -1,23 +1,18 @@
 -- Packets put to the vertices of their nets' sources, and queues emptied.
 use Rattle.std.proofs.Common.{◌≡◌, ◌≢◌, ℕ, zero, suc, ◌+◌, ◌^◌, ◌<◌, ◌≤◌, ◌==◌, List, [], ◌∷◌, ◌++◌, take, get_or, length, refl, sym, ap, ◌∙◌, subst, inl, inr, arith, Option, Some}
-use Rattle.std.specs.Prelude.{unwrap_or}
-use Rattle.std.specs.List.{list_any, slice_get, slice_set, All, Contains}
 use Rattle.std.proofs.lemmas.Bool.{cases_Bool, cases_eq, eqb-true, eq-eqb, false≢true}
 use Rattle.std.proofs.lemmas.List.{length-set, take_all, same_lists}
 use Rattle.std.proofs.lemmas.Option.{slice_get_within, slice_get-get_or, same_Some, unwrap_or-slice_get}
+use Rattle.std.specs.Prelude.{unwrap_or}
+use Rattle.std.specs.List.{list_any, slice_get, slice_set, All, Contains}
 use Rattle.mesh_core.proofs.ServingLaws.{vertex_at-below}
+use Rattle.mesh_core.specs.State.{Setup}
 use Rattle.spin_base.proofs.Members.{Among, Contains-at, any_among, among_any, among_contains, contains_among}
 use Rattle.spin_base.proofs.Places.{All-at, slice_get_there, slice_get-set_same, slice_get-set_other, slice_get-push_cases, take_more_at}
-use Rattle.spin_base.specs.declared.blocks.Block.{Block}
-use Rattle.spin_base.specs.declared.chips.Spot.{Spot}
-use Rattle.spin_base.specs.declared.copies.McCopy.{McCopy}
-use Rattle.spin_base.specs.declared.copies.Packet.{Packet}
+use Rattle.spin_base.specs.declared.{blocks.Block.Block, chips.Spot.Spot, copies.McCopy.McCopy, copies.Packet.Packet}
 use Rattle.machine_desc.specs.NetsOn.{vertex_at}
-use Rattle.mesh_core.specs.State.{Setup}
-use Rattle.app_loads.specs.declared.loaded.LoadedApp.{LoadedApp}
-use Rattle.app_loads.specs.declared.plans.AppNet.{AppNet}
-use Rattle.app_loads.specs.Host.{net_with, nets_with}
-use Rattle.app_loads.specs.Joining.{AreSent, NoneUnsent}
+use Rattle.app_loads.specs.declared.{loaded.LoadedApp.LoadedApp, plans.AppNet.AppNet}
+use Rattle.app_loads.specs.{Host.net_with, Host.nets_with, Joining.AreSent, Joining.NoneUnsent}
 use Rattle.app_loads.specs.Sending.{AreCleared, AreSources, CanAdd, IsPacketOn, IsSameBeside, IsSendingFrom}
 
 -- a net of the application, by its place
@@ -123,11 +118,13 @@ module _ (sources : List ℕ) (old cur : List (List McCopy)) (queues : All (λ v
   pub emptied_beside : (q : List McCopy) → q ≡ [] → IsSameBeside sources old (slice_set cur v q)
   emptied_beside q none = subst (λ (l : List McCopy). IsSameBeside sources old (slice_set cur v l)) (sym none) cleared_beside
 
-  pub emptied_more : (q : List McCopy) → q ≡ [] → ((w : ℕ) → Contains (take i sources) w → slice_get cur w ≡ Some []) → (w : ℕ) → Contains (take (i + 1) sources) w → slice_get (slice_set cur v q) w ≡ Some []
+  pub emptied_more : (q : List McCopy) → q ≡ [] → ((w : ℕ) → Contains (take i sources) w → slice_get cur w ≡ Some []) → (w : ℕ) →
+      Contains (take (i + 1) sources) w → slice_get (slice_set cur v q) w ≡ Some []
   emptied_more q none so_far w has = ap (λ (l : List McCopy). slice_get (slice_set cur v l) w) none ∙ cleared_more so_far w has
 
 -- all are emptied
-pub all_cleared : (sources : List ℕ) (old cur : List (List McCopy)) (i : ℕ) → length sources ≤ i → IsSameBeside sources old cur → ((w : ℕ) → Contains (take i sources) w → slice_get cur w ≡ Some []) → AreCleared sources old cur
+pub all_cleared : (sources : List ℕ) (old cur : List (List McCopy)) (i : ℕ) → length sources ≤ i → IsSameBeside sources old cur →
+    ((w : ℕ) → Contains (take i sources) w → slice_get cur w ≡ Some []) → AreCleared sources old cur
 all_cleared sources old cur i end same empty = record { beside = same; empty = λ v has. empty v (subst (λ (l : List ℕ). Contains l v) (sym (take_all i sources end)) has) }
 
 -- Where the sources had nothing unsent, all is as before.
@@ -185,9 +182,8 @@ pub can_add : (setup_spots : List Spot) (queues : ℕ) (app : LoadedApp) (unsent
     AreSources setup_spots app.plan.nets sources → CanAdd sources app unsent
 can_add spots queues app unsent sources long packets blocks numbers are = record {
   queues = λ k d below. (
-      let at = slice_get-get_or sources k d below in
       let net = slice_get_there app.plan.nets k (let a = are.all in omega (arith, below, a)) in
-      let is = are.each k (get_or sources k d) net.0 net.1 at in
+      let is = are.each k (get_or sources k d) net.0 net.1 (slice_get-get_or sources k d below) in
       subst (λ n. get_or sources k d < n) (sym long) (vertex_at-below spots net.0.source (get_or sources k d) is)
       );
   packets = subst (λ n. All (IsPacketOn app.blocks n) app.plan.packets) (sym are.all) packets;

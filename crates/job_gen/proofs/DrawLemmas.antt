@@ -1,11 +1,8 @@
 -- Drawing one thing after another.
 use Rattle.std.proofs.Common.{◌≡◌, ℕ, zero, suc, ◌+◌, ◌/◌, ◌<◌, ◌%◌, List, [], ◌∷◌, ◌++◌, length, All, get_or, refl, ap, ◌∙◌, add-one, arith, length-append}
-use Rattle.std.proofs.lemmas.List.Elements.{All-nil, All-push}
-use Rattle.std.proofs.lemmas.Nat.{mod_below}
+use Rattle.std.proofs.lemmas.{List.Elements.All-nil, List.Elements.All-push, Nat.mod_below}
 use Rattle.rand_xoshiro.specs.Xoshiro256.{plus_plus}
-use Rattle.job_gen.specs.declared.draws.DrawnNet.{DrawnNet}
-use Rattle.job_gen.specs.declared.draws.DrawnPacket.{DrawnPacket}
-use Rattle.job_gen.specs.declared.draws.Drawn.{Drawn}
+use Rattle.job_gen.specs.declared.draws.{DrawnNet.DrawnNet, DrawnPacket.DrawnPacket, Drawn.Drawn}
 use Rattle.job_gen.specs.Draws.{draw, draws, drawn_sdram, drawn_target, drawn_net, drawn_packet, drawn_from, keys_at}
 
 -- a draw is what the generator's next word gives
@@ -37,9 +34,7 @@ draws_more {A} f n first before after xs x so_far last =
 pub length-draws : {A : Type 0} (f : ℕ → List ℕ → A × List ℕ) (n : ℕ) (g : List ℕ) → length (draws f n g).0 ≡ n
 unfolding draws
 length-draws f zero g = refl
-length-draws {A} f (suc n) g =
-    let before = length-draws f n g in
-    omega (arith, before, length-append {A = A})
+length-draws {A} f (suc n) g = omega (arith, length-draws f n g, length-append {A = A})
 
 -- what each draw gives, each item has
 pub draws_each : {A : Type 0} (P : A → Type 0) (f : ℕ → List ℕ → A × List ℕ) (n : ℕ) (g : List ℕ)
@@ -70,7 +65,11 @@ net_from i source more keys targets g0 g1 g2 g3 g4 one two three four =
     ap (λ (p : ℕ × List ℕ). (net_with source targets (1 + p.0), p.1)) four
     ∙ ap (λ (p : List ℕ × List ℕ). (net_with source p.0 (1 + (draw 16 p.1).0), (draw 16 p.1).1)) three
     ∙ ap (λ (p : ℕ × List ℕ). (net_with source (draws drawn_target (1 + p.0) p.1).0 (1 + (draw 16 (draws drawn_target (1 + p.0) p.1).1).0), (draw 16 (draws drawn_target (1 + p.0) p.1).1).1)) two
-    ∙ ap (λ (p : ℕ × List ℕ). (net_with p.0 (draws drawn_target (1 + (draw 8 p.1).0) (draw 8 p.1).1).0 (1 + (draw 16 (draws drawn_target (1 + (draw 8 p.1).0) (draw 8 p.1).1).1).0), (draw 16 (draws drawn_target (1 + (draw 8 p.1).0) (draw 8 p.1).1).1).1)) one
+    ∙ ap (λ (p : ℕ × List ℕ). (
+      net_with p.0 (draws drawn_target (1 + (draw 8 p.1).0) (draw 8 p.1).1).0 (1 + (draw 16 (draws drawn_target (1 + (draw 8 p.1).0) (draw 8 p.1).1).1).0),
+      (draw 16
+          (draws drawn_target (1 + (draw 8 p.1).0) (draw 8 p.1).1).1).1,
+    )) one
 
 -- the keys of the net at a place
 pub keys_there : (nets : List DrawnNet) (k : ℕ) (d : DrawnNet) → k < length nets → (get_or nets k d).keys ≡ keys_at nets k

@@ -1,7 +1,6 @@
 -- What holds of all that a job draws.
 use Rattle.std.proofs.Common.{◌≡◌, ℕ, ◌+◌, ◌/◌, ◌<◌, ◌≤◌, List, length, map, All, arith}
-use Rattle.std.proofs.lemmas.List.{length-map}
-use Rattle.std.proofs.lemmas.List.Elements.{All-get_or, All-map}
+use Rattle.std.proofs.lemmas.List.{length-map, Elements.All-get_or, Elements.All-map}
 use Rattle.job_gen.specs.declared.draws.DrawnNet.{DrawnNet}
 use Rattle.job_gen.specs.Draws.{draw, draws, drawn_sdram, drawn_target, drawn_net, drawn_packet, drawn_from, drawn, seeded, keys_at, NeedsKey}
 use Rattle.job_gen.specs.DrawnFacts.{IsDrawnNet, IsDrawnPacket, IsDrawn}

@@ -1,7 +1,6 @@
 -- A chip's plain table has at most one row for each net.
 use Rattle.std.proofs.Common.{◌≤◌, List, length, map, arith}
-use Rattle.std.proofs.lemmas.List.{length-map}
-use Rattle.std.proofs.lemmas.List.Sorted.{length_permutation}
+use Rattle.std.proofs.lemmas.List.{length-map, Sorted.length_permutation}
 use Rattle.spin_base.specs.declared.chips.Chip.{Chip}
 use Rattle.machine_desc.specs.Description.{Description}
 use Rattle.machine_desc.specs.declared.nets.NetPlan.{NetPlan}

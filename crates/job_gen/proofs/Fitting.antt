@@ -1,31 +1,19 @@
 -- Generated jobs have room, keys and ways.
-use Rattle.std.proofs.Common.{◌≡◌, ℕ, ◌+◌, ◌<◌, ◌≤◌, List, [], ◌∷◌, length, take, All, Option, Some, None, MatchOption, slice_get, refl, sym, ap, ◌∙◌, subst, arith}
-use Rattle.std.specs.List.{filter_map}
-use Rattle.std.proofs.lemmas.Bool.{and_parts}
-use Rattle.std.proofs.lemmas.List.{length-map}
+use Rattle.std.proofs.Common.{◌≡◌, ℕ, ◌+◌, ◌<◌, ◌≤◌, List, [], ◌∷◌, length, take, All, Some, MatchOption, slice_get, refl, sym, ◌∙◌, subst, arith}
+use Rattle.std.proofs.lemmas.{Bool.and_parts, List.length-map}
 use Rattle.std.proofs.lemmas.List.Elements.{All-nil, All-cons, All-head, All-tail}
 use Rattle.std.proofs.lemmas.Option.{slice_get_within}
 use Rattle.spin_base.proofs.Places.{All-at, slice_get_there}
-use Rattle.spin_base.specs.declared.chips.Chip.{Chip}
-use Rattle.spin_base.specs.declared.chips.Spot.{Spot}
-use Rattle.machine_desc.specs.Description.{Description}
+use Rattle.spin_base.specs.declared.chips.{Chip.Chip, Spot.Spot}
 use Rattle.machine_desc.specs.Live.{is_live_chip, IsLiveChip}
-use Rattle.app_graph.specs.declared.graphs.Vertex.{Vertex}
 use Rattle.app_graph.specs.declared.graphs.Net.{Net}
 use Rattle.place_fit.specs.Placement.{IsCoreFor, HasDeviceRoom, device_spot, IsPlacement, HasNoRoom}
 use Rattle.key_alloc.specs.KeyBlocks.{fixed_of, AreKeysOut}
-use Rattle.net_plans.specs.CutOffTargets.{IsCutOffIn, IsFirstNetCutOff}
-use Rattle.job_gen.specs.declared.draws.DrawnNet.{DrawnNet}
-use Rattle.job_gen.specs.declared.draws.Drawn.{Drawn}
-use Rattle.job_gen.specs.Draws.{drawn}
-use Rattle.job_gen.specs.DrawnFacts.{IsDrawnNet, IsDrawn}
-use Rattle.job_gen.specs.Values.{numbered}
-use Rattle.job_gen.specs.Board.{generated_board}
+use Rattle.net_plans.specs.CutOffTargets.{IsFirstNetCutOff}
+use Rattle.job_gen.specs.declared.draws.{DrawnNet.DrawnNet, Drawn.Drawn}
+use Rattle.job_gen.specs.{Draws.drawn, DrawnFacts.IsDrawnNet, DrawnFacts.IsDrawn, Values.numbered, Board.generated_board}
 use Rattle.job_gen.specs.Generated.{generated_vertex, net_of, packet_of, graph_of, generated_run, job_of_drawn, gen_job}
-use Rattle.job_gen.proofs.DrawnLaws.{is_drawn}
-use Rattle.job_gen.proofs.ListReading.{length-numbered}
-use Rattle.job_gen.proofs.Joined.{not_cut_off}
-use Rattle.job_gen.proofs.Keyed.{NeedsFew, keys_are_left}
+use Rattle.job_gen.proofs.{DrawnLaws.is_drawn, ListReading.length-numbered, Joined.not_cut_off, Keyed.NeedsFew, Keyed.keys_are_left}
 use Rattle.job_gen.proofs.Roomy.{IsSmall, room_is_left}
 
 -- what each numbered item has
@@ -64,17 +52,20 @@ module _ (job : Drawn) (is : IsDrawn job) where
       (omega (arith, length-numbered net_of 0 job.nets, is.number_of_nets))
 
   -- a spot of a placement is on a live chip
-  live_spot : (spots : List Spot) (memory : List ℕ) → IsPlacement generated_board (numbered generated_vertex 0 job.sdrams) spots memory → (i : ℕ) (s : Spot) → slice_get spots i ≡ Some s → IsLiveChip generated_board s.chip
+  live_spot : (spots : List Spot) (memory : List ℕ) → IsPlacement generated_board (numbered generated_vertex 0 job.sdrams) spots memory → (i : ℕ) (s : Spot) → slice_get spots i ≡ Some s →
+      IsLiveChip generated_board s.chip
   live_spot spots memory placed i s at =
       let below : i < length spots = slice_get_within spots i s at in
       let vertex = slice_get_there (numbered generated_vertex 0 job.sdrams) i (omega (arith, below, placed.all)) in
       let small : IsSmall vertex.0 = All-at IsSmall (numbered generated_vertex 0 job.sdrams) i vertex.0 vertices_small vertex.1 in
       let core : IsCoreFor generated_board placed.order (take i (numbered generated_vertex 0 job.sdrams)) (take i spots) vertex.0 s =
-      subst (λ o. MatchOption o (IsCoreFor generated_board placed.order (take i (numbered generated_vertex 0 job.sdrams)) (take i spots) vertex.0 s) (λ device. HasDeviceRoom generated_board device × (s ≡ device_spot device)))
+      subst (λ o. MatchOption o (IsCoreFor generated_board placed.order (take i (numbered generated_vertex 0 job.sdrams)) (take i spots) vertex.0 s)
+      (λ device. HasDeviceRoom generated_board device × (s ≡ device_spot device)))
       small.device (placed.first.each i vertex.0 s vertex.1 at) in
       (and_parts (is_live_chip generated_board s.chip) _ (and_parts _ _ core.free).0).0
 
-  joined : (i : ℕ) (spots : List Spot) (memory : List ℕ) (target : Chip) → IsPlacement generated_board (numbered generated_vertex 0 job.sdrams) spots memory → (nets : List Net) → IsFirstNetCutOff generated_board spots nets i target → ⊥
+  joined : (i : ℕ) (spots : List Spot) (memory : List ℕ) (target : Chip) → IsPlacement generated_board (numbered generated_vertex 0 job.sdrams) spots memory → (nets : List Net) →
+      IsFirstNetCutOff generated_board spots nets i target → ⊥
   joined i spots memory target placed nets cut =
       let here = cut.target.is in
       not_cut_off cut.target.source.chip target

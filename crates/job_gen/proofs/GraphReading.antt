@@ -1,15 +1,15 @@
 -- The graph of a generated job is read as it was drawn.
 use Rattle.std.proofs.Common.{◌≡◌, ℕ, zero, suc, ◌+◌, ◌<◌, ◌≤◌, List, [], ◌∷◌, length, map, All, codes, decimal, true, Some, None, if◌then◌else◌, refl, ap, ◌∙◌, arith}
+use Rattle.std.proofs.lemmas.{Bool.le-leb, Bool.and_from, List.map-id}
 use Rattle.std.specs.Prelude.{slice_get, option_and_then, is_some, unwrap_or}
-use Rattle.std.proofs.lemmas.Bool.{le-leb, and_from}
-use Rattle.std.proofs.lemmas.List.{map-id}
-use Rattle.app_graph.specs.declared.graphs.Vertex.{Vertex}
-use Rattle.app_graph.specs.declared.graphs.Net.{Net}
+use Rattle.app_graph.specs.declared.graphs.{Vertex.Vertex, Net.Net}
 use Rattle.job_text.specs.Fields.{is_within, is_name}
 use Rattle.job_text.proofs.Items.{list_of-items_of}
 use Rattle.job_readers.specs.Members.{number_member_faults, number_member, list_member, member_since}
 use Rattle.job_readers.specs.Places.{name_place_in, reference_faults, reference_value, new_name_faults}
-use Rattle.job_readers.specs.GraphPart.{name_value, name_faults, at_faults, at_value, device_faults, device_value, vertex_faults, vertex_value, next_vertex_faults, vertex_names_of, sender_at, sender_in, net_source_faults, source_value, target_faults, target_value, has_item, some_faults, targets_faults, targets_value, keys_value, fixed_faults, fixed_value, net_faults, net_value, next_net_faults, net_names}
+use Rattle.job_readers.specs.GraphPart.{name_value, name_faults, at_faults, at_value, device_faults, device_value, vertex_faults, vertex_value, next_vertex_faults}
+use Rattle.job_readers.specs.GraphPart.{vertex_names_of, sender_at, sender_in, net_source_faults, source_value, target_faults, target_value, has_item, some_faults}
+use Rattle.job_readers.specs.GraphPart.{targets_faults, targets_value, keys_value, fixed_faults, fixed_value, net_faults, net_value, next_net_faults, net_names}
 use Rattle.job_gen.specs.declared.draws.DrawnNet.{DrawnNet}
 use Rattle.job_gen.specs.DrawnFacts.{IsDrawnNet}
 use Rattle.job_gen.specs.Values.{numbered, generated_vertex_name, vertex_data, name_data, net_data}
@@ -50,7 +50,8 @@ module _ (sdrams : List ℕ) (many : length sdrams ≡ 200) where
       ∙ found 118 (λ (v : Vertex). v.name) generated_vertex vertex_named 0 i sdrams (omega (arith, many)) (omega (arith, many))
 
   -- none of them is a device
-  no_device : (number i k : ℕ) (xs : List ℕ) → k < length xs → option_and_then (λ (v : Vertex). if is_some v.device then None else Some number) (slice_get (numbered generated_vertex i xs) k) ≡ Some number
+  no_device : (number i k : ℕ) (xs : List ℕ) → k < length xs →
+      option_and_then (λ (v : Vertex). if is_some v.device then None else Some number) (slice_get (numbered generated_vertex i xs) k) ≡ Some number
   unfolding numbered generated_vertex
   no_device number i k [] below = absurd (omega arith)
   no_device number i zero (x ∷ xs) below = refl

@@ -1,11 +1,9 @@
 -- A generated job is read without a fault, as its definition gives it.
 use Rattle.std.proofs.Common.{◌≡◌, ℕ, ◌+◌, ◌-◌, ◌<◌, ◌≤◌, List, [], ◌∷◌, length, map, codes, decimal, Bool, true, Some, None, if◌then◌else◌, slice_index, refl, ap, ◌∙◌, arith}
+use Rattle.std.proofs.lemmas.{Bool.le-leb, List.length-map}
 use Rattle.std.specs.Prelude.{unwrap_or}
-use Rattle.std.proofs.lemmas.Bool.{le-leb}
-use Rattle.std.proofs.lemmas.List.{length-map}
 use Rattle.machine_desc.specs.Live.{live_count_of}
-use Rattle.app_graph.specs.declared.graphs.Vertex.{Vertex}
-use Rattle.app_graph.specs.declared.graphs.Net.{Net}
+use Rattle.app_graph.specs.declared.graphs.{Vertex.Vertex, Net.Net}
 use Rattle.app_graph.specs.RunPart.{key_count_of}
 use Rattle.job_text.specs.declared.faults.JobFault.TheVariants.{TooMany}
 use Rattle.job_text.specs.Fields.{is_name, count_faults}
@@ -16,12 +14,12 @@ use Rattle.job_readers.specs.Entries.{chip_faults, chip_value}
 use Rattle.job_readers.specs.Places.{name_place_in, reference_faults, reference_value}
 use Rattle.job_readers.specs.Job.{job_own_faults, version_faults, version_value}
 use Rattle.job_readers.specs.MachinePart.{entries_faults, machine_members_faults, machine_members, machine_faults, machine_value}
-use Rattle.job_readers.specs.GraphPart.{name_value, vertex_value, next_vertex_faults, vertices_faults, vertices_value, net_value, next_net_faults, net_names, nets_faults, nets_value, graph_members_faults, graph_members, graph_faults, graph_value}
-use Rattle.job_readers.specs.RunPart.{packet_net_faults, packet_net, packet_faults, packet_value, packets_faults, packets_value, events_faults, events_value, places_faults, run_members_faults, run_members, run_faults, run_value}
+use Rattle.job_readers.specs.GraphPart.{name_value, vertex_value, next_vertex_faults, vertices_faults, vertices_value, net_value, next_net_faults}
+use Rattle.job_readers.specs.GraphPart.{net_names, nets_faults, nets_value, graph_members_faults, graph_members, graph_faults, graph_value}
+use Rattle.job_readers.specs.RunPart.{packet_net_faults, packet_net, packet_faults, packet_value, packets_faults, packets_value, events_faults}
+use Rattle.job_readers.specs.RunPart.{events_value, places_faults, run_members_faults, run_members, run_faults, run_value}
 use Rattle.job_readers.specs.WholeJob.{job_faults, job_value}
-use Rattle.job_gen.specs.declared.draws.DrawnNet.{DrawnNet}
-use Rattle.job_gen.specs.declared.draws.DrawnPacket.{DrawnPacket}
-use Rattle.job_gen.specs.declared.draws.Drawn.{Drawn}
+use Rattle.job_gen.specs.declared.draws.{DrawnNet.DrawnNet, DrawnPacket.DrawnPacket, Drawn.Drawn}
 use Rattle.job_gen.specs.Draws.{keys_at, drawn}
 use Rattle.job_gen.specs.DrawnFacts.{IsDrawnNet, IsDrawnPacket, IsDrawn}
 use Rattle.job_gen.specs.Values.{numbered, generated_net_name, vertex_data, net_data, packet_data, dead_pairs, machine_data, graph_data, run_data, job_data, gen_value}
@@ -39,7 +37,8 @@ few_faults path limit count few = ap (λ (b : Bool). if b then [] else TooMany p
 -- ---- the machine
 
 machine_clean : (path : List ℕ) (job : Drawn) → machine_faults path (job_data job) ≡ []
-unfolding machine_faults machine_members_faults entries_faults number_member_faults number_member flag_member_faults long_list_member_faults list_member items_faults chip_faults job_data graph_data machine_data run_data dead_pairs
+unfolding machine_faults machine_members_faults entries_faults number_member_faults number_member flag_member_faults long_list_member_faults list_member items_faults chip_faults
+    job_data graph_data machine_data run_data dead_pairs
 machine_clean path job = refl
 
 machine_is : (job : Drawn) → machine_value (job_data job) ≡ generated_board

@@ -1,19 +1,16 @@
 -- The chips of the board are joined by live links.
-use Rattle.std.proofs.Common.{◌≡◌, ℕ, zero, suc, ◌+◌, ◌<◌, ◌≤◌, List, [], ◌∷◌, ◌++◌, Bool, true, false, not, ◌&&◌, ◌||◌, Option, Some, None, if◌then◌else◌, inl, inr, ◌⊎◌, refl, sym, ap, ◌∙◌, subst, arith}
-use Rattle.std.specs.Prelude.{nat_lt}
+use Rattle.std.proofs.Common.{◌≡◌, ℕ, zero, suc, ◌+◌, ◌<◌, ◌≤◌, List, [], ◌∷◌, ◌++◌, Bool, true, false, not, ◌&&◌, ◌||◌}
+use Rattle.std.proofs.Common.{Option, Some, None, if◌then◌else◌, inl, inr, ◌⊎◌, refl, sym, ap, ◌∙◌, subst, arith}
 use Rattle.std.proofs.lemmas.Bool.{agree_below, agree_below_at, and_parts, or_cases, ltb-true, not-true, false≢true}
-use Rattle.spin_base.specs.declared.chips.Chip.{Chip}
-use Rattle.spin_base.specs.declared.chips.Dir.{Dir}
-use Rattle.spin_base.specs.declared.chips.Dir.TheVariants.{West, SouthWest, South}
-use Rattle.spin_base.specs.Equality.{chip_eq}
-use Rattle.spin_base.specs.Links.{opposite_of}
+use Rattle.std.specs.Prelude.{nat_lt}
+use Rattle.spin_base.specs.declared.chips.{Chip.Chip, Dir.Dir, Dir.TheVariants.West, Dir.TheVariants.SouthWest, Dir.TheVariants.South}
+use Rattle.spin_base.specs.{Equality.chip_eq, Links.opposite_of}
 use Rattle.spin_base.proofs.Equality.{chip_eq_true}
 use Rattle.machine_desc.specs.Description.{Description}
 use Rattle.machine_desc.specs.Live.{far_of, is_live_chip, is_live_link, IsLiveChip, IsLiveLink, LeadsTo, IsLiveWalk, live_count_of}
 use Rattle.machine_desc.proofs.Far.{inside_parts, live_inside, live_ends, far_back, live_back}
 use Rattle.link_detours.specs.Repair.{last_of, IsWalkTo, IsCutOff}
-use Rattle.job_gen.specs.Values.{dead_pairs}
-use Rattle.job_gen.specs.Board.{generated_board}
+use Rattle.job_gen.specs.{Values.dead_pairs, Board.generated_board}
 
 pub live_chips : live_count_of generated_board ≡ 48
 unfolding generated_board dead_pairs
@@ -64,7 +61,8 @@ pub record IsNearer (c : Chip) : Type 0 where
   pub live : IsLiveChip generated_board next
   pub less : steps_of next < steps_of c
 
-nearer_at : (c e : Chip) (d : Dir) → IsLiveChip generated_board c → IsLiveLink generated_board c d → far_of generated_board c d ≡ Some e → IsLiveChip generated_board e → is_nearer c (far_of generated_board c d) ≡ true → IsNearer c
+nearer_at : (c e : Chip) (d : Dir) → IsLiveChip generated_board c → IsLiveLink generated_board c d → far_of generated_board c d ≡ Some e → IsLiveChip generated_board e →
+    is_nearer c (far_of generated_board c d) ≡ true → IsNearer c
 nearer_at c e d live link far live_e less =
     let fewer : is_nearer c (Some e) ≡ true = ap (is_nearer c) (sym far) ∙ less in
     record {

@@ -1,17 +1,14 @@
 -- Nets that need at most 16 keys each, and have none fixed: the first i nets take keys below 16 * i, so a range is left.
-use Rattle.std.proofs.Common.{◌≡◌, ℕ, zero, suc, ◌+◌, ◌-◌, ◌*◌, ◌%◌, ◌^◌, ◌<◌, ◌≤◌, List, [], ◌∷◌, ◌++◌, length, take, map, All, Bool, true, false, Option, Some, None, MatchOption, slice_get, inl, inr, ◌⊎◌, refl, sym, ap, ◌∙◌, subst, arith}
+use Rattle.std.proofs.Common.{◌≡◌, ℕ, zero, suc, ◌+◌, ◌-◌, ◌*◌, ◌%◌, ◌^◌, ◌<◌, ◌≤◌, List, [], ◌∷◌, ◌++◌, length, take, get_or, leb, ltb}
+use Rattle.std.proofs.Common.{Some, None, MatchOption, slice_get, inl, inr, ◌⊎◌, refl, sym, ap, ◌∙◌, subst, arith}
+use Rattle.std.proofs.lemmas.Bool.{cases_lt, and_parts, leb-true, ltb-true}
+use Rattle.std.proofs.Math.Pow.{pow_mono}
+use Rattle.std.proofs.lemmas.List.{length-take, get_or-take, take_all}
+use Rattle.std.proofs.lemmas.Option.{slice_get_within, slice_get-get_or}
 use Rattle.std.specs.Int.{IsPowerOfTwo}
-use Rattle.std.specs.List.{filter_map}
-use Rattle.std.proofs.lemmas.Bool.{cases_lt}
 use Rattle.spin_base.specs.declared.blocks.Block.{Block}
 use Rattle.app_graph.specs.declared.graphs.Net.{Net}
-use Rattle.range_store.specs.Regions.{in_range}
-use Rattle.key_alloc.specs.KeyBlocks.{size_of, IsSizeFor, MissesRange, fixed_of, IsOpenPlace, IsLeastBlock, IsBlockFor, AreFirstBlocks, AreKeysOut}
-use Rattle.std.proofs.Math.Pow.{pow_mono}
-use Rattle.std.proofs.lemmas.Bool.{and_parts, leb-true, ltb-true}
-use Rattle.std.proofs.lemmas.List.{length-take, get_or-take, take_all}
-use Rattle.std.proofs.lemmas.Option.{slice_get_within, slice_get-get_or, get_or_from_slice_get}
-use Rattle.std.proofs.Common.{get_or, leb, ltb}
+use Rattle.key_alloc.specs.KeyBlocks.{size_of, IsSizeFor, MissesRange, fixed_of, IsOpenPlace, IsLeastBlock, AreFirstBlocks, AreKeysOut}
 
 -- ---- sizes
 
@@ -27,7 +24,8 @@ power_cases : (p : ℕ) → IsPowerOfTwo p → (p ≡ 1) ⊎ ((p ≡ 2) ⊎ ((p 
 power_cases p (k, is) = subst (λ n. (n ≡ 1) ⊎ ((n ≡ 2) ⊎ ((n ≡ 4) ⊎ ((n ≡ 8) ⊎ (16 ≤ n))))) (sym is) (powers k)
 
 -- a size that no smaller power of two can take the place of
-least_size : (keys size : ℕ) → IsPowerOfTwo size → keys ≤ size → ((size ≡ 1) × (1 ≤ keys)) ⊎ (((size ≡ 2) × (2 ≤ keys)) ⊎ (((size ≡ 4) × (3 ≤ keys)) ⊎ (((size ≡ 8) × (5 ≤ keys)) ⊎ ((size ≡ 16) × (9 ≤ keys))))) → IsSizeFor keys size
+least_size : (keys size : ℕ) → IsPowerOfTwo size → keys ≤ size →
+    ((size ≡ 1) × (1 ≤ keys)) ⊎ (((size ≡ 2) × (2 ≤ keys)) ⊎ (((size ≡ 4) × (3 ≤ keys)) ⊎ (((size ≡ 8) × (5 ≤ keys)) ⊎ ((size ≡ 16) × (9 ≤ keys))))) → IsSizeFor keys size
 least_size keys size power enough which = record {
   power = power;
   enough = enough;

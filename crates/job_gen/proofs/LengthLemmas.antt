@@ -1,22 +1,18 @@
 -- The text of a generated job is short.
 use Rattle.std.proofs.Common.{◌≡◌, ℕ, zero, suc, ◌+◌, ◌*◌, ◌/◌, ◌%◌, ◌^◌, ◌<◌, ◌≤◌, List, [], ◌∷◌, ◌++◌, length, map, All, codes, decimal, Bool, true, false, cond, refl, arith, length-append}
-use Rattle.std.specs.Prelude.{nat_lt, ◌&&◌}
-use Rattle.std.specs.Char.{digit_char}
-use Rattle.std.specs.List.{list_all}
-use Rattle.std.proofs.lemmas.Bool.{cond_both, and_parts, ltb-true}
-use Rattle.std.proofs.lemmas.Fmt.{length-decimal-le}
-use Rattle.std.proofs.lemmas.List.{length-map}
+use Rattle.std.proofs.lemmas.{Bool.cond_both, Bool.and_parts, Bool.ltb-true, Fmt.length-decimal-le, List.length-map}
 use Rattle.std.proofs.lemmas.List.Elements.{All-nil, All-cons, All-head, All-tail, All-get_or, All-map}
+use Rattle.std.specs.Prelude.{nat_lt, ◌&&◌}
+use Rattle.std.specs.{Char.digit_char, List.list_all}
 use Rattle.json.specs.Print.{escape_byte, escape, escape_letter, quoted}
 use Rattle.serde_json.specs.Data.{Data, Items, no_items, item, Members, no_members, member, unsigned, number, string, array, object}
 use Rattle.serde_json.specs.View.{items_of}
 use Rattle.serde_json.specs.Written.{compact_text, items_text, members_text, comma_if}
-use Rattle.job_gen.specs.declared.draws.DrawnNet.{DrawnNet}
-use Rattle.job_gen.specs.declared.draws.DrawnPacket.{DrawnPacket}
-use Rattle.job_gen.specs.declared.draws.Drawn.{Drawn}
+use Rattle.job_gen.specs.declared.draws.{DrawnNet.DrawnNet, DrawnPacket.DrawnPacket, Drawn.Drawn}
 use Rattle.job_gen.specs.Draws.{keys_at, drawn}
 use Rattle.job_gen.specs.DrawnFacts.{IsDrawnNet, IsDrawnPacket, IsDrawn}
-use Rattle.job_gen.specs.Values.{generated_vertex_name, generated_net_name, vertex_data, name_data, net_data, packet_data, pair_data, dead_pairs, machine_data, graph_data, run_data, job_data, gen_value, gen_text_of, numbered}
+use Rattle.job_gen.specs.Values.{generated_vertex_name, generated_net_name, vertex_data, name_data, net_data, packet_data, pair_data}
+use Rattle.job_gen.specs.Values.{dead_pairs, machine_data, graph_data, run_data, job_data, gen_value, gen_text_of, numbered}
 use Rattle.job_gen.proofs.DrawnLaws.{is_drawn}
 
 -- ---- strings
@@ -54,7 +50,8 @@ record AreShort (ms : Members) (n : ℕ) : Type 0 where
 none_short : AreShort no_members 1
 none_short = record { text = λ later. omega arith }
 
-member_short : (k : List ℕ) (d : Data) (few long : ℕ) {ms : Members} {rest : ℕ} → length k ≤ few → length (compact_text d) ≤ long → AreShort ms rest → AreShort (member k d ms) (6 * few + 4 + long + rest)
+member_short : (k : List ℕ) (d : Data) (few long : ℕ) {ms : Members} {rest : ℕ} → length k ≤ few → length (compact_text d) ≤ long → AreShort ms rest →
+    AreShort (member k d ms) (6 * few + 4 + long + rest)
 member_short k d few long {ms} {rest} name value others = record {
   text = λ later.
       let after : length (members_text true ms) ≤ rest = others.text true in
@@ -157,7 +154,8 @@ keys_few nets i all below =
     (omega (arith, length-map nets (λ (net : DrawnNet). net.keys), below))
     (All-map (λ k. k ≤ 16) (λ (net : DrawnNet). net.keys) nets (λ k d low. (all k d low).few_keys))
 
-IsLow : ℕ × ℕ → Type 0
+-- the numbers of a chip of the board are low
+unfoldable pub IsLow : ℕ × ℕ → Type 0
 IsLow p = (p.0 < 10) × (p.1 < 10)
 
 pair_short : (p : ℕ × ℕ) → IsLow p → length (compact_text (pair_data p)) ≤ 300
@@ -171,7 +169,7 @@ are_low : list_all (λ (p : ℕ × ℕ). nat_lt p.0 10 && nat_lt p.1 10) dead_pa
 unfolding dead_pairs
 are_low = refl
 
-pairs_low : All IsLow dead_pairs
+pub pairs_low : All IsLow dead_pairs
 unfolding IsLow
 pairs_low = all_low dead_pairs are_low
   where

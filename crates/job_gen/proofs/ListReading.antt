@@ -1,7 +1,6 @@
 -- Lists of items that have no fault, and what they are.
 use Rattle.std.proofs.Common.{◌≡◌, ℕ, suc, ◌+◌, ◌<◌, ◌≤◌, List, [], ◌∷◌, ◌++◌, length, map, All, refl, sym, ap, ◌∙◌, subst, arith, decimal}
-use Rattle.std.proofs.lemmas.List.{map_push}
-use Rattle.std.proofs.lemmas.List.Elements.{All-head, All-tail}
+use Rattle.std.proofs.lemmas.List.{map_push, Elements.All-head, Elements.All-tail}
 use Rattle.serde_json.specs.Data.{Data}
 use Rattle.job_text.specs.declared.faults.JobFault.{JobFault}
 use Rattle.job_text.specs.Paths.{item_at}
@@ -21,8 +20,7 @@ items_clean P f g each path i (x ∷ xs) all =
 pub items_are : {X A : Type 0} (P : X → Type 0) (value : Data → A) (g : X → Data) (h : X → A) → ((x : X) → P x → value (g x) ≡ h x)
     → (xs : List X) → All P xs → map value (map g xs) ≡ map h xs
 items_are P value g h each [] all = refl
-items_are P value g h each (x ∷ xs) all =
-    rw (each x (All-head P x xs all), items_are P value g h each xs (All-tail P x xs all)) refl
+items_are P value g h each (x ∷ xs) all = rw (each x (All-head P x xs all), items_are P value g h each xs (All-tail P x xs all)) refl
 
 -- what numbered items are
 pub numbered_are : {X Y A : Type 0} (P : X → Type 0) (value : Y → A) (g : ℕ → X → Y) (h : ℕ → X → A) → ((i : ℕ) (x : X) → P x → value (g i x) ≡ h i x)

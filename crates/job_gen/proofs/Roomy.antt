@@ -1,23 +1,20 @@
 -- Fewer than 816 vertices of at most 1,048,576 bytes find room on the board: some chip has fewer than seventeen of them, and so
 -- a free core and the memory.
-use Rattle.std.proofs.Common.{◌≡◌, ℕ, zero, suc, ◌+◌, ◌-◌, ◌*◌, ◌^◌, ◌<◌, ◌≤◌, ◌==◌, List, [], ◌∷◌, ◌++◌, length, take, map, filter, All, Bool, true, false, not, ◌&&◌, ◌||◌, cond, if◌then◌else◌, Option, Some, None, MatchOption, slice_get, get_or, inl, inr, ◌⊎◌, refl, sym, ap, ◌∙◌, subst, arith}
-use Rattle.std.specs.Prelude.{is_none}
-use Rattle.std.specs.List.{list_any, list_all}
-use Rattle.std.proofs.lemmas.Bool.{cases_lt, cases_Bool, and_parts, and_from, not-true, not_from_false, not_from_true, true≢false, eqb-true, ne_eqb, le-leb, or_left, or_right, or_cases, cond-true, cond-false}
-use Rattle.std.proofs.lemmas.List.Elements.{All-head, All-tail, All-same, filter_passes, All-take}
+use Rattle.std.proofs.Common.{◌≡◌, ℕ, zero, suc, ◌+◌, ◌-◌, ◌*◌, ◌<◌, ◌≤◌, List, [], ◌∷◌, length, take, filter, All, Bool, true, false, not, ◌&&◌}
+use Rattle.std.proofs.Common.{◌||◌, if◌then◌else◌, Option, Some, None, MatchOption, slice_get, inl, inr, ◌⊎◌, refl, sym, ap, ◌∙◌, subst, arith}
+use Rattle.std.proofs.lemmas.Bool.{cases_lt, cases_Bool, and_parts, and_from, not-true, not_from_false, true≢false, ne_eqb, le-leb, or_left, or_right, or_cases}
+use Rattle.std.proofs.lemmas.List.Elements.{All-head, All-tail, filter_passes, All-take}
 use Rattle.std.proofs.lemmas.Option.{slice_get_within}
-use Rattle.spin_base.specs.declared.chips.Chip.{Chip}
-use Rattle.spin_base.specs.declared.chips.Spot.{Spot}
+use Rattle.std.specs.{Prelude.is_none, List.list_any, List.list_all}
+use Rattle.spin_base.specs.declared.chips.{Chip.Chip, Spot.Spot}
 use Rattle.spin_base.specs.Equality.{chip_eq, spot_eq}
-use Rattle.spin_base.proofs.Equality.{chip_eq_same, chip_eq_true, spot_eq_same, spot_eq_true, nat_eq_same}
+use Rattle.spin_base.proofs.Equality.{chip_eq_same, chip_eq_true, spot_eq_same, spot_eq_true}
 use Rattle.machine_desc.specs.declared.trees.Edge.{Edge}
-use Rattle.machine_desc.specs.Description.{Description}
 use Rattle.machine_desc.specs.Live.{is_live_chip, is_usable, IsLiveChip}
 use Rattle.app_graph.specs.declared.graphs.Vertex.{Vertex}
 use Rattle.place_fit.specs.Curve.{hilbert, IsCurveLevel, IsChipOrder}
-use Rattle.place_fit.specs.Placement.{core_spot, need_of, used_on, is_free_core, HasRoom, IsFirstChip, choices, IsCoreFor, HasDeviceRoom, device_spot, IsSpotFor, AreFirstSpots, FindsNoRoom, HasNoRoom, IsPlacement}
-use Rattle.job_gen.specs.Values.{dead_pairs}
-use Rattle.job_gen.specs.Board.{generated_board}
+use Rattle.place_fit.specs.Placement.{core_spot, need_of, used_on, is_free_core, HasRoom, choices, HasDeviceRoom, HasNoRoom}
+use Rattle.job_gen.specs.{Values.dead_pairs, Board.generated_board}
 
 one_if : Bool → ℕ
 one_if true = 1
@@ -45,8 +42,7 @@ unfolding on one_if
 used_few c [] ss small = omega arith
 used_few c (v ∷ vs) [] small = omega arith
 used_few c (v ∷ vs) (s ∷ ss) small =
-    let one = All-head IsSmall v vs small in
-    let need : need_of v ≤ 1048576 = need_few v.device v.sdram one.sdram in
+    let need : need_of v ≤ 1048576 = need_few v.device v.sdram (All-head IsSmall v vs small).sdram in
     let rest = used_few c vs ss (All-tail IsSmall v vs small) in
     elim (chip_eq c s.chip) as (λ b. (if b then need_of v else 0) + used_on c vs ss ≤ 1048576 * (one_if b + on c ss)) [
       | true ↦ omega (arith, need, rest)
@@ -75,12 +71,12 @@ on_without : (s : Spot) (ss : List Spot) → list_any (spot_eq s) ss ≡ true �
 unfolding on one_if without
 on_without s [] there = absurd cc
 on_without s (t ∷ ss) there =
-    elim (spot_eq s t) as (λ b. spot_eq s t ≡ b → (b || list_any (spot_eq s) ss) ≡ true → on s.chip (if b then without s ss else t ∷ without s ss) + 1 ≤ one_if (chip_eq s.chip t.chip) + on s.chip ss) [
+    elim (spot_eq s t) as (λ b. spot_eq s t ≡ b → (b || list_any (spot_eq s) ss) ≡ true →
+    on s.chip (if b then without s ss else t ∷ without s ss) + 1 ≤ one_if (chip_eq s.chip t.chip) + on s.chip ss) [
       | true ↦ λ same was. (
           let here : chip_eq s.chip t.chip ≡ true = (and_parts (chip_eq s.chip t.chip) _ same).0 in
-          let rest = on_without_le s ss in
           let one : one_if (chip_eq s.chip t.chip) ≡ 1 = ap one_if here in
-          omega (arith, rest, one)
+          omega (arith, on_without_le s ss, one)
           )
       | false ↦ λ other was. (let rest = on_without s ss was in omega (arith, rest))
     ] refl there
@@ -119,7 +115,8 @@ taken c (suc n) ss all =
     omega (arith, one, rest)
 
 -- one of the cores 1 to n that none of the spots is, or all are taken
-pick : (c : Chip) (n : ℕ) (ss : List Spot) → ((p : ℕ) × ((1 ≤ p) × (p ≤ n)) × (list_any (spot_eq (core_spot c p)) ss ≡ false)) ⊎ ((p : ℕ) → 1 ≤ p → p ≤ n → list_any (spot_eq (core_spot c p)) ss ≡ true)
+pick : (c : Chip) (n : ℕ) (ss : List Spot) → ((p : ℕ) × ((1 ≤ p) × (p ≤ n)) × (list_any (spot_eq (core_spot c p)) ss ≡ false))
+    ⊎ ((p : ℕ) → 1 ≤ p → p ≤ n → list_any (spot_eq (core_spot c p)) ss ≡ true)
 pick c zero ss = inr (λ p some few. absurd (omega arith))
 pick c (suc n) ss = elim (cases_Bool (list_any (spot_eq (core_spot c (suc n))) ss)) [
   | inr free ↦ inl (suc n, (omega arith, omega arith), free)
@@ -129,7 +126,8 @@ pick c (suc n) ss = elim (cases_Bool (list_any (spot_eq (core_spot c (suc n))) s
   ]
 ]
   where
-    up_to : (p : ℕ) → 1 ≤ p → p ≤ suc n → ((q : ℕ) → 1 ≤ q → q ≤ n → list_any (spot_eq (core_spot c q)) ss ≡ true) → list_any (spot_eq (core_spot c (suc n))) ss ≡ true → list_any (spot_eq (core_spot c p)) ss ≡ true
+    up_to : (p : ℕ) → 1 ≤ p → p ≤ suc n → ((q : ℕ) → 1 ≤ q → q ≤ n → list_any (spot_eq (core_spot c q)) ss ≡ true) → list_any (spot_eq (core_spot c (suc n))) ss ≡ true →
+        list_any (spot_eq (core_spot c p)) ss ≡ true
     up_to p some few all used = elim (cases_lt p (suc n)) [
       | inl less ↦ all p some (omega arith)
       | inr more ↦ (let same : suc n ≡ p = omega arith in subst (λ q. list_any (spot_eq (core_spot c q)) ss ≡ true) same used)
@@ -159,8 +157,7 @@ full : (c : Chip) (vs : List Vertex) (ss : List Spot) (v : Vertex) → IsLiveChi
 full c vs ss v live small one none = elim (cases_lt (on c ss) 17) [
   | inl few ↦ (
       let core = free_core c ss live few in
-      let used = used_few c vs ss small in
-      absurd (none (record { core = core.0; free = core.1; memory = memory_left (used_on c vs ss) (on c ss) v.sdram used few one.sdram }))
+      absurd (none (record { core = core.0; free = core.1; memory = memory_left (used_on c vs ss) (on c ss) v.sdram (used_few c vs ss small) few one.sdram }))
       )
   | inr many ↦ many
 ]
@@ -216,9 +213,8 @@ unfolding AreFull
 full_away c [] ss apart full = tt
 full_away c (d ∷ cs) ss apart full =
     let both = and_parts (not (chip_eq c d)) _ apart in
-    let same = away_other c d ss (not-true (chip_eq c d) both.0) in
     let here : 17 ≤ on d ss = full.0 in
-    (omega (arith, same, here), full_away c cs ss both.1 full.1)
+    (omega (arith, away_other c d ss (not-true (chip_eq c d) both.0), here), full_away c cs ss both.1 full.1)
 
 -- where different chips have seventeen spots each, there are as many spots
 many_spots : (cs : List Chip) (ss : List Spot) → differ cs ≡ true → AreFull cs ss → 17 * length cs ≤ length ss
@@ -226,9 +222,8 @@ unfolding AreFull
 many_spots [] ss apart full = omega arith
 many_spots (c ∷ cs) ss apart full =
     let both = and_parts (list_all (λ d. not (chip_eq c d)) cs) (differ cs) apart in
-    let rest = many_spots cs (away c ss) both.1 (full_away c cs ss both.0 full.1) in
     let here : 17 ≤ on c ss = full.0 in
-    omega (arith, rest, here, away_length c ss)
+    omega (arith, many_spots cs (away c ss) both.1 (full_away c cs ss both.0 full.1), here, away_length c ss)
 
 -- ---- the order of the board's chips
 
@@ -258,7 +253,8 @@ order_live : All (IsLiveChip generated_board) chip_order
 unfolding chip_order
 order_live = filter_passes (is_live_chip generated_board) (hilbert 3)
 
-all_full : (cs : List Chip) (vs : List Vertex) (ss : List Spot) (v : Vertex) → All IsSmall vs → IsSmall v → All (IsLiveChip generated_board) cs → All (λ c. HasRoom generated_board vs ss v c → ⊥) cs → AreFull cs ss
+all_full : (cs : List Chip) (vs : List Vertex) (ss : List Spot) (v : Vertex) → All IsSmall vs → IsSmall v → All (IsLiveChip generated_board) cs →
+    All (λ c. HasRoom generated_board vs ss v c → ⊥) cs → AreFull cs ss
 unfolding AreFull
 all_full [] vs ss v small one live none = tt
 all_full (c ∷ cs) vs ss v small one live none = (
@@ -277,7 +273,8 @@ room_is_left vertices i few small none =
     let below : i < length vertices = slice_get_within vertices i none.vertex none.is in
     let one : IsSmall none.vertex = small_at vertices i none.vertex small none.is in
     let nowhere : All (λ c. HasRoom generated_board (take i vertices) none.spots none.vertex c → ⊥) (choices none.order none.vertex.at) =
-    subst (λ o. MatchOption o (All (λ c. HasRoom generated_board (take i vertices) none.spots none.vertex c → ⊥) (choices none.order none.vertex.at)) (λ device. HasDeviceRoom generated_board device → ⊥)) one.device none.none in
+    subst (λ o. MatchOption o (All (λ c. HasRoom generated_board (take i vertices) none.spots none.vertex c → ⊥) (choices none.order none.vertex.at))
+    (λ device. HasDeviceRoom generated_board device → ⊥)) one.device none.none in
     let anywhere : All (λ c. HasRoom generated_board (take i vertices) none.spots none.vertex c → ⊥) none.order =
     subst (λ o. All (λ c. HasRoom generated_board (take i vertices) none.spots none.vertex c → ⊥) (choices none.order o)) one.at nowhere in
     no_room_nowhere (take i vertices) none.spots none.vertex (All-take IsSmall i vertices small) one (omega (arith, below, few, none.here))

@@ -1,15 +1,11 @@
 -- How deep the value of a generated job nests, and that no number of it is a float.
 use Rattle.std.proofs.Common.{◌≡◌, ℕ, ◌+◌, ◌≤◌, List, [], ◌∷◌, map, false, Some, refl, sym, ap, ◌∙◌, subst, arith}
 use Rattle.std.specs.Str.{IsUtf8}
-use Rattle.serde_json.specs.Data.{Data, depth, items_depth}
-use Rattle.serde_json.specs.Read.{read}
-use Rattle.serde_json.specs.View.{items_of}
+use Rattle.serde_json.specs.{Data.Data, Data.depth, Data.items_depth, Read.read, View.items_of}
 use Rattle.serde_json.specs.Written.{has_float, items_have_float, compact_text}
 use Rattle.job_text.specs.Json.{json_of}
 use Rattle.job_text.proofs.Readings.{json_of-utf8}
-use Rattle.job_gen.specs.declared.draws.DrawnNet.{DrawnNet}
-use Rattle.job_gen.specs.declared.draws.DrawnPacket.{DrawnPacket}
-use Rattle.job_gen.specs.declared.draws.Drawn.{Drawn}
+use Rattle.job_gen.specs.declared.draws.{DrawnNet.DrawnNet, DrawnPacket.DrawnPacket, Drawn.Drawn}
 use Rattle.job_gen.specs.Draws.{drawn}
 use Rattle.job_gen.specs.Values.{vertex_data, name_data, net_data, packet_data, pair_data, dead_pairs, machine_data, graph_data, run_data, job_data, gen_value, gen_text_of, numbered}
 

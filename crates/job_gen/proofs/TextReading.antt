@@ -1,37 +1,25 @@
 -- The text of a generated job is read as its value.
 use Rattle.std.proofs.Common.{◌≡◌, ℕ, ◌+◌, ◌%◌, ◌^◌, ◌<◌, ◌≤◌, Bool, true, false, List, [], ◌∷◌, ◌++◌, map, length, codes, decimal, Some, option_and_then, option_map, refl, sym, ap, ◌∙◌, arith}
-use Rattle.std.specs.List.{All}
-use Rattle.std.specs.Str.{IsUtf8}
-use Rattle.std.proofs.lemmas.Bool.{lt-ltb}
-use Rattle.std.proofs.lemmas.Fmt.{decimal_by_steps}
-use Rattle.std.proofs.lemmas.List.{append-nil}
-use Rattle.std.proofs.lemmas.List.Elements.{All-from_recursion, All-head, All-tail}
-use Rattle.std.proofs.lemmas.Str.{IsUtf8-append}
+use Rattle.std.proofs.lemmas.{Bool.lt-ltb, Fmt.decimal_by_steps}
+use Rattle.std.proofs.lemmas.{List.append-nil, List.Elements.All-head, List.Elements.All-tail, Str.IsUtf8-append}
+use Rattle.std.specs.{List.All, Str.IsUtf8}
 use Rattle.json.specs.Json as json
-use Rattle.json.specs.Lex.{tokens}
-use Rattle.json.specs.Print.{quoted}
+use Rattle.json.specs.{Lex.tokens, Print.quoted}
 use Rattle.json.specs.Tree as tree
-use Rattle.json.proofs.Printed.Decimals.{IsNumber-decimal}
-use Rattle.json.proofs.Printed.Tokens.{tokens-print}
-use Rattle.json.proofs.Printed.Trees.{ArePrintable-json_tokens, value-json_tokens}
+use Rattle.json.proofs.Printed.{Decimals.IsNumber-decimal, Tokens.tokens-print, Trees.ArePrintable-json_tokens, Trees.value-json_tokens}
 use Rattle.json.proofs.Printed.Utf8.{IsUtf8-are_ascii, IsUtf8-quoted}
 use Rattle.serde_json.specs.Data.{Data, null, boolean, number, string, array, object, unsigned, Items, no_items, item, Members, no_members, member, depth, items_depth, members_depth}
-use Rattle.serde_json.specs.Read.{of_items, of_json, of_members, read}
-use Rattle.serde_json.specs.View.{items_of}
+use Rattle.serde_json.specs.{Read.of_items, Read.of_json, Read.of_members, View.items_of}
 use Rattle.serde_json.specs.Written.{compact_text, items_outline, items_text, members_outline, members_text, outline}
-use Rattle.serde_json.proofs.Numbers.{number_of-decimal}
-use Rattle.serde_json.proofs.Texts.{print-outline}
+use Rattle.serde_json.proofs.{Numbers.number_of-decimal, Texts.print-outline}
 use Rattle.job_text.specs.Json.{json_of}
 use Rattle.job_text.proofs.Readings.{json_of-utf8}
-use Rattle.job_gen.specs.declared.draws.DrawnNet.{DrawnNet}
-use Rattle.job_gen.specs.declared.draws.DrawnPacket.{DrawnPacket}
-use Rattle.job_gen.specs.declared.draws.Drawn.{Drawn}
+use Rattle.job_gen.specs.declared.draws.{DrawnNet.DrawnNet, DrawnPacket.DrawnPacket, Drawn.Drawn}
 use Rattle.job_gen.specs.DrawnFacts.{IsDrawn, IsDrawnNet, IsDrawnPacket}
 use Rattle.job_gen.specs.Draws.{drawn}
-use Rattle.job_gen.specs.Values.{dead_pairs, gen_text_of, gen_value, generated_net_name, generated_vertex_name, graph_data, job_data, machine_data, name_data, net_data, numbered, packet_data, pair_data, run_data, vertex_data}
-use Rattle.job_gen.proofs.DrawnLaws.{is_drawn}
-use Rattle.job_gen.proofs.LengthLemmas.{keys_few}
-use Rattle.job_gen.proofs.TextLemmas.{depth-gen}
+use Rattle.job_gen.specs.Values.{dead_pairs, gen_text_of, gen_value, generated_net_name, generated_vertex_name, graph_data, job_data, machine_data, name_data, net_data}
+use Rattle.job_gen.specs.Values.{numbered, packet_data, pair_data, run_data, vertex_data}
+use Rattle.job_gen.proofs.{DrawnLaws.is_drawn, LengthLemmas.IsLow, LengthLemmas.keys_few, LengthLemmas.pairs_low, TextLemmas.depth-gen}
 
 -- ---- what a value needs so that its text is read as it
 
@@ -68,8 +56,7 @@ read_whole : (d : Data) → ReadsBack d → depth d ≤ 127 → json_of (compact
 read_whole d back shallow =
     let low = same_depth d in
     let written : tokens (compact_text d) ≡ tree.json_tokens (outline d) =
-    ap tokens (sym (print-outline d)) ∙ tokens-print (tree.json_tokens (outline d)) (ArePrintable-json_tokens (outline d) back.numbers)
-    in
+    ap tokens (sym (print-outline d)) ∙ tokens-print (tree.json_tokens (outline d)) (ArePrintable-json_tokens (outline d) back.numbers) in
     json_of-utf8 (compact_text d) back.text
     ∙ (ap (λ ts. option_and_then of_json (option_and_then (λ p. json.if_last p.0 p.1) (json.value 127 ts))) (written ∙ sym (append-nil (tree.json_tokens (outline d))))
     ∙ (ap (λ o. option_and_then of_json (option_and_then (λ p. json.if_last p.0 p.1) o)) (value-json_tokens (outline d) 127 [] (omega (arith, low, shallow)))
@@ -183,10 +170,9 @@ net_back : (i : ℕ) (net : DrawnNet) → i < 1000 → IsDrawnNet net → ReadsB
 unfolding net_data
 net_back i net small is =
     let few = is.few_keys in
-    let source = is.source in
     let keys = number_back net.keys (omega (arith, few)) in
     let name = text_back (generated_net_name i) (net_name i (omega (arith, small))) in
-    let from = name_back net.source source in
+    let from = name_back net.source is.source in
     let to = array_back (items_of (map name_data net.targets)) (mapped_back (λ t. t < 200) name_data name_back net.targets is.targets) in
     let last : Members = member (codes "targets") (array (items_of (map name_data net.targets))) no_members in
     let third : Members = member (codes "source") (name_data net.source) last in
@@ -201,40 +187,28 @@ net_back i net small is =
 packet_back : (nets : List DrawnNet) (p : DrawnPacket) → p.index < 2 ^ 64 → IsDrawnPacket nets p → ReadsBack (packet_data p)
 unfolding packet_data
 packet_back nets p low is =
-    let of = is.net in
     let payload = is.payload in
-    let index = number_back p.index low in
-    let name = text_back (generated_net_name p.net) (net_name p.net (omega (arith, of))) in
+    let name = text_back (generated_net_name p.net) (net_name p.net (omega (arith, is.net))) in
     let carried = number_back p.payload (omega (arith, payload)) in
     let last : Members = member (codes "payload") (number (unsigned p.payload)) no_members in
     let second : Members = member (codes "net") (string (generated_net_name p.net)) last in
     object_back (member (codes "index") (number (unsigned p.index)) second)
-    (one_more (codes "index") (number (unsigned p.index)) second (IsUtf8-are_ascii (codes "index") refl) index
+    (one_more (codes "index") (number (unsigned p.index)) second (IsUtf8-are_ascii (codes "index") refl) (number_back p.index low)
     (one_more (codes "net") (string (generated_net_name p.net)) last (IsUtf8-are_ascii (codes "net") refl) name
     (one_more (codes "payload") (number (unsigned p.payload)) no_members (IsUtf8-are_ascii (codes "payload") refl) carried no_more)))
     (rw (number_of-decimal p.index low, number_of-decimal p.payload (omega (arith, payload))) refl)
 
--- the numbers of a chip are small
-abbrev IsSmallPair : ℕ × ℕ → Type 0
-IsSmallPair p = (p.0 < 8) × (p.1 < 8)
-
-pair_back : (p : ℕ × ℕ) → IsSmallPair p → ReadsBack (pair_data p)
+pair_back : (p : ℕ × ℕ) → IsLow p → ReadsBack (pair_data p)
+unfolding IsLow
 pair_back p is =
-    let x = is.0 in
-    let y = is.1 in
     array_back (item (number (unsigned p.0)) (item (number (unsigned p.1)) no_items))
-    (item_back (number (unsigned p.0)) (item (number (unsigned p.1)) no_items) (number_back p.0 (omega (arith, x)))
-    (item_back (number (unsigned p.1)) no_items (number_back p.1 (omega (arith, y))) none_back))
-
-small_pairs : All IsSmallPair dead_pairs
-unfolding dead_pairs
-small_pairs = All-from_recursion IsSmallPair dead_pairs
-    ((omega arith, omega arith), ((omega arith, omega arith), ((omega arith, omega arith), ((omega arith, omega arith), ((omega arith, omega arith), ((omega arith, omega arith), ((omega arith, omega arith), ((omega arith, omega arith), ((omega arith, omega arith), ((omega arith, omega arith), ((omega arith, omega arith), ((omega arith, omega arith), ((omega arith, omega arith), ((omega arith, omega arith), ((omega arith, omega arith), ((omega arith, omega arith), tt))))))))))))))))
+    (item_back (number (unsigned p.0)) (item (number (unsigned p.1)) no_items) (number_back p.0 (omega (arith, is.0)))
+    (item_back (number (unsigned p.1)) no_items (number_back p.1 (omega (arith, is.1))) none_back))
 
 machine_back : ReadsBack machine_data
 unfolding machine_data
 machine_back =
-    let dead = array_back (items_of (map pair_data dead_pairs)) (mapped_back IsSmallPair pair_data pair_back dead_pairs small_pairs) in
+    let dead = array_back (items_of (map pair_data dead_pairs)) (mapped_back IsLow pair_data pair_back dead_pairs pairs_low) in
     let eight = number_back 8 (omega arith) in
     let last : Members = member (codes "width") (number (unsigned 8)) no_members in
     let second : Members = member (codes "height") (number (unsigned 8)) last in
@@ -273,7 +247,8 @@ run_back packets back =
     (one_more (codes "target") (number (unsigned 0)) fifth (IsUtf8-are_ascii (codes "target") refl) (number_back 0 (omega arith))
     (one_more (codes "turns") (number (unsigned 64)) sixth (IsUtf8-are_ascii (codes "turns") refl) (number_back 64 (omega arith))
     (one_more (codes "workers") (number (unsigned 4)) no_members (IsUtf8-are_ascii (codes "workers") refl) (number_back 4 (omega arith)) no_more))))))
-    (rw (sent.same, number_of-decimal 16 (omega arith), number_of-decimal 1200 (omega arith), number_of-decimal 0 (omega arith), number_of-decimal 64 (omega arith), number_of-decimal 4 (omega arith)) refl)
+    (rw (sent.same, number_of-decimal 16 (omega arith), number_of-decimal 1200 (omega arith))
+    (rw (number_of-decimal 0 (omega arith), number_of-decimal 64 (omega arith), number_of-decimal 4 (omega arith)) refl))
 
 job_back : (job : Drawn) → IsDrawn job → ItemsReadBack (items_of (map packet_data job.packets)) → ReadsBack (job_data job)
 unfolding job_data
@@ -295,11 +270,8 @@ packets_back job is = mapped_back (IsDrawnPacket job.nets) packet_data (λ p of.
   where
     small : (p : DrawnPacket) → IsDrawnPacket job.nets p → p.index < 2 ^ 64
     small p of =
-        let net = of.net in
-        let many = is.number_of_nets in
-        let few = keys_few job.nets p.net is.nets (omega (arith, net, many)) in
-        let index = of.index in
-        omega (arith, few, index)
+        let few = keys_few job.nets p.net is.nets (omega (arith, of.net, is.number_of_nets)) in
+        omega (arith, few, of.index)
 
 value_back : (n : ℕ) → ReadsBack (gen_value n)
 unfolding gen_value

@@ -1,8 +1,7 @@
 -- Lists of values that are made one after the other.
 use Rattle.std.proofs.Common.{◌≡◌, ℕ, zero, suc, ◌+◌, ◌<◌, ◌≤◌, List, [], ◌∷◌, ◌++◌, length, map, take, get_or, sym, ap, ◌∙◌, add-one, arith}
 use Rattle.std.proofs.lemmas.List.{take_all, take_more, map_push}
-use Rattle.serde_json.specs.Data.{Data}
-use Rattle.serde_json.specs.View.{view, items_of}
+use Rattle.serde_json.specs.{Data.Data, View.view, View.items_of}
 use Rattle.serde_json.specs.declared.value.Value.{Value}
 use Rattle.job_gen.specs.Values.{numbered}
 
@@ -28,7 +27,8 @@ numbered_push f i xs d vs new v below pushed is so_far =
     ∙ numbered_more f 0 i xs d below
     ∙ ap (λ j. numbered f 0 (take j xs)) (sym (add-one i))
 
-pub numbered_all : {A : Type 0} (f : ℕ → A → Data) (i : ℕ) (xs : List A) (vs : List Value) → length xs ≤ i → map view vs ≡ numbered f 0 (take i xs) → items_of (map view vs) ≡ items_of (numbered f 0 xs)
+pub numbered_all : {A : Type 0} (f : ℕ → A → Data) (i : ℕ) (xs : List A) (vs : List Value) → length xs ≤ i → map view vs ≡ numbered f 0 (take i xs) →
+    items_of (map view vs) ≡ items_of (numbered f 0 xs)
 numbered_all f i xs vs end is = ap items_of (is ∙ ap (numbered f 0) (take_all i xs end))
 
 -- The same where the value of an item does not depend on its place.

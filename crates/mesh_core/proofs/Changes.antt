@@ -1,27 +1,20 @@
 -- What every mesh has stays when one list changes, and when a mesh is made.
 use Rattle.std.proofs.Common.{◌≡◌, ◌≢◌, ℕ, ◌*◌, ◌^◌, ◌<◌, ◌≤◌, refl, sym, ap, ◌∙◌, arith, true, false, List, [], ◌∷◌, length, set, replicate, Option, Some, None, inl, inr, lit<}
-use Rattle.std.specs.Prelude.{AllPairs, IfSome}
-use Rattle.std.specs.List.{All, slice_get}
 use Rattle.std.proofs.lemmas.List.{length-set, length-replicate, get_or-replicate}
 use Rattle.std.proofs.lemmas.List.Elements.{All-nil, All-set, All-tail, All-replicate}
-use Rattle.std.proofs.lemmas.Option.{slice_get-get_or}
-use Rattle.std.proofs.lemmas.Bool.{cases_eq}
-use Rattle.spin_base.specs.declared.chips.Chip.{Chip}
-use Rattle.spin_base.specs.declared.chips.Dir.{Dir}
-use Rattle.spin_base.specs.declared.chips.Port.{Port}
-use Rattle.spin_base.specs.declared.chips.Port.TheVariants.{Link as ByLink, Local}
-use Rattle.spin_base.specs.declared.copies.McCopy.{McCopy}
-use Rattle.spin_base.specs.declared.copies.Delivery.{Delivery}
-use Rattle.spin_base.specs.declared.copies.DumpRec.{DumpRec}
+use Rattle.std.proofs.lemmas.{Option.slice_get-get_or, Bool.cases_eq}
+use Rattle.std.specs.Prelude.{AllPairs, IfSome}
+use Rattle.std.specs.List.{All, slice_get}
+use Rattle.spin_base.specs.declared.chips.{Chip.Chip, Dir.Dir, Port.Port, Port.TheVariants.Link as ByLink, Port.TheVariants.Local}
+use Rattle.spin_base.specs.declared.copies.{McCopy.McCopy, Delivery.Delivery, DumpRec.DumpRec}
 use Rattle.spin_base.specs.Links.{port_number}
 use Rattle.spin_base.proofs.Outputs.{dir_number_below}
+use Rattle.spin_base.proofs.Places.{All-at, slice_get-set_same, slice_get-set_other}
 use Rattle.machine_desc.specs.Description.{Description, HasSize}
 use Rattle.machine_desc.specs.Live.{index_of, is_live_chip, is_live_link, IsInside, IsSite}
 use Rattle.machine_desc.proofs.Far.{index_below, live_inside, same_index}
 use Rattle.mesh_core.specs.State.{Setup, State, Hand, FitsQueue, FitsHand, IsMesh, queue_at}
-use Rattle.mesh_core.specs.Opened.{empty_mesh}
-use Rattle.mesh_core.specs.Queues.{drop_front}
-use Rattle.spin_base.proofs.Places.{All-at, slice_get-set_same, slice_get-set_other}
+use Rattle.mesh_core.specs.{Opened.empty_mesh, Queues.drop_front}
 
 -- what a port's number is below
 pub port_below : (port : Port) → port_number port < 7
@@ -170,8 +163,7 @@ pub empty_from : (u : Setup) (unsent inputs cores : List (List McCopy)) (hands :
     empty_mesh u ≡ record { setup = u; unsent = unsent; inputs = inputs; hands = hands; cores = cores; delivered = []; dumped = [] }
 empty_from u unsent inputs cores hands is_unsent is_inputs is_hands is_cores =
     let from : List (List McCopy) → List (List McCopy) → List (Option Hand) → List (List McCopy) → State =
-    λ v i h c. record { setup = u; unsent = v; inputs = i; hands = h; cores = c; delivered = []; dumped = [] }
-    in
+    λ v i h c. record { setup = u; unsent = v; inputs = i; hands = h; cores = c; delivered = []; dumped = [] } in
     sym (ap (λ v. from v inputs hands cores) is_unsent
     ∙ (ap (λ i. from (replicate (length u.spots) []) i hands cores) is_inputs
     ∙ (ap (λ h. from (replicate (length u.spots) []) (replicate (7 * (u.machine.width * u.machine.height)) []) h cores) is_hands

@@ -1,11 +1,10 @@
 -- Counts of a list by tests of which each item passes one.
-use Rattle.std.proofs.Common.{◌≡◌, ◌≢◌, ℕ, ◌+◌, ◌*◌, ◌<◌, ◌≤◌, suc, zero, List, [], ◌∷◌, Bool, true, false, ◌==◌, ◌&&◌, not, if◌then◌else◌, Some, refl, ap, sym, ◌∙◌, subst, arith, inl, inr, length, count_by}
-use Rattle.std.specs.List.{slice_get}
+use Rattle.std.proofs.Common.{◌≡◌, ◌≢◌, ℕ, ◌+◌, ◌*◌, ◌<◌, ◌≤◌, suc, zero, List, [], ◌∷◌, Bool, true, false, ◌==◌, ◌&&◌, not, if◌then◌else◌, Some, refl, ap, sym, ◌∙◌}
+use Rattle.std.proofs.Common.{subst, arith, inl, inr, length, count_by}
 use Rattle.std.proofs.lemmas.Bool.{cases_order, eq-eqb}
-use Rattle.spin_base.proofs.Counts.{count_by-append, count_by-cons, count_by-agree}
-use Rattle.spin_base.proofs.Members.{Among, contains_among}
+use Rattle.std.specs.List.{slice_get}
+use Rattle.spin_base.proofs.{Counts.count_by-append, Counts.count_by-cons, Counts.count_by-agree, Members.Among, Members.contains_among, Places.All-each}
 use Rattle.spin_base.specs.Gathered.{gathered}
-use Rattle.spin_base.proofs.Places.{All-each}
 
 -- a test that all pass counts all
 pub count_all : {X : Type 0} (p : X → Bool) (xs : List X) → ((x : X) → Among x xs → p x ≡ true) → count_by p xs ≡ length xs

@@ -1,35 +1,21 @@
 -- A mesh at rest that meets the ledger of a job, without a dump, has delivered what the job asks for.
 use Rattle.std.proofs.Common.{◌≡◌, ℕ, ◌+◌, ◌/◌, ◌%◌, suc, List, [], ◌∷◌, map, Bool, true, ◌==◌, ◌&&◌, Option, Some, None, refl, ap, sym, ◌∙◌, subst, arith, append-nil, inl, inr, length, count_by}
-use Rattle.std.specs.Cmp.{both_ways}
-use Rattle.std.specs.List.{slice_get, Contains}
-use Rattle.std.proofs.lemmas.List.Elements.{All-contains}
-use Rattle.std.proofs.lemmas.Bool.{and_parts, eqb-true, eq-eqb, and_from}
-use Rattle.std.proofs.lemmas.Option.{slice_get_within}
-use Rattle.spin_base.proofs.Counts.{count_by-map}
-use Rattle.spin_base.proofs.Members.{Among, among_contains, contains_among, map_among}
-use Rattle.spin_base.proofs.Gathering.{gathered_of_none}
+use Rattle.std.proofs.lemmas.{List.Elements.All-contains, Bool.and_parts, Bool.eqb-true, Bool.eq-eqb, Bool.and_from, Option.slice_get_within}
+use Rattle.std.specs.{Cmp.both_ways, List.slice_get, List.Contains}
+use Rattle.spin_base.proofs.{Counts.count_by-map, Members.Among, Members.among_contains, Members.contains_among, Members.map_among, Gathering.gathered_of_none}
 use Rattle.spin_base.proofs.Places.{slice_get_there}
-use Rattle.spin_base.specs.declared.chips.Spot.{Spot}
-use Rattle.spin_base.specs.declared.copies.McCopy.{McCopy}
-use Rattle.spin_base.specs.declared.copies.Delivery.{Delivery}
-use Rattle.spin_base.specs.declared.copies.Packet.{Packet}
-use Rattle.machine_desc.specs.Live.{chip_of}
-use Rattle.machine_desc.specs.RoutingTree.{IsRoutingTree}
-use Rattle.machine_desc.specs.Branch.{Exit, IsBranch}
-use Rattle.machine_desc.proofs.Branches.{same_place, exit_leads, ExitLeads}
+use Rattle.spin_base.specs.declared.{chips.Spot.Spot, copies.McCopy.McCopy, copies.Delivery.Delivery, copies.Packet.Packet}
+use Rattle.machine_desc.specs.{Live.chip_of, RoutingTree.IsRoutingTree, Branch.Exit, Branch.IsBranch}
 use Rattle.machine_desc.specs.declared.nets.NetPlan.{NetPlan}
-use Rattle.machine_desc.specs.RightTables.{IsKeyOf}
-use Rattle.machine_desc.specs.NetsOn.{IsWayOn}
+use Rattle.machine_desc.specs.{RightTables.IsKeyOf, NetsOn.IsWayOn}
+use Rattle.machine_desc.proofs.Branches.{same_place, exit_leads, ExitLeads}
 use Rattle.mesh_core.specs.State.{State}
 use Rattle.mesh_core.specs.Trail.{Mark, unsent, in_queue, at_core, delivered, is_packet_on_trail}
 use Rattle.mesh_core.specs.Ledger.{marks_of, marks_at, hand_marks, port_of, delivered_marks, Label, Asked, label_of}
 use Rattle.mesh_core.specs.Opened.{label_in, asked_by, MeetsJobLedger}
 use Rattle.mesh_core.specs.Expected.{IsAskedFor, AreAsExpected, IsAtRest}
 use Rattle.mesh_core.proofs.AskedPackets.{asks, asked_parts, asked_from, net_in_list, key_of_net}
-use Rattle.mesh_core.proofs.Moves.{mark}
-use Rattle.mesh_core.proofs.Counting.{count_agree}
-use Rattle.mesh_core.proofs.LedgerLaw.{one_net}
-use Rattle.mesh_core.proofs.Ways.{vertex_at_stands}
+use Rattle.mesh_core.proofs.{Moves.mark, Counting.count_agree, LedgerLaw.one_net, Ways.vertex_at_stands}
 
 -- the mark of a delivery
 abbrev mark_of : Delivery → Mark
@@ -121,8 +107,7 @@ module _ (s : State) (nets : List NetPlan) (packets : List Packet) (job : MeetsJ
       IsWayOn s.setup.machine s.setup.spots net t xs from to → IsWayOn s.setup.machine s.setup.spots net u ys from' to → length xs ≡ length ys
   same_length net has t u xs ys from from' to w w' =
       let tree : IsRoutingTree s.setup.machine net.tree.root net.tree.edges net.targets =
-      All-contains (λ n. IsRoutingTree s.setup.machine n.tree.root n.tree.edges n.targets) nets net job.ledger.ledger.nets_stand.trees has
-      in
+      All-contains (λ n. IsRoutingTree s.setup.machine n.tree.root n.tree.edges n.targets) nets net job.ledger.ledger.nets_stand.trees has in
       let on_t = vertex_at_stands s.setup.spots t to w.ends in
       let on_u = vertex_at_stands s.setup.spots u to w'.ends in
       let both : Some t ≡ Some u = sym on_t ∙ on_u in
@@ -130,8 +115,7 @@ module _ (s : State) (nets : List NetPlan) (packets : List Packet) (job : MeetsJ
       let x = last_exit t xs w.is_branch in
       let y = last_exit u ys w'.is_branch in
       let place = same_place s.setup.machine net.tree.root net.tree.edges (map (λ z. z.chip) net.targets) tree t u xs ys w.is_branch w'.is_branch
-      x.0 y.0 x.1 y.1 x.2 y.2 (x.4 ∙ (ap (λ (z : Spot). z.chip) same ∙ sym y.4))
-      in
+      x.0 y.0 x.1 y.1 x.2 y.2 (x.4 ∙ (ap (λ (z : Spot). z.chip) same ∙ sym y.4)) in
       sym x.3 ∙ (ap suc place.0 ∙ y.3)
     where
       at_end : (v : Spot) (zs : List Exit) (i : ℕ) (z : Exit) → suc i ≡ length zs → ExitLeads s.setup.machine net.tree.edges v zs i z → z.chip ≡ v.chip
@@ -178,8 +162,7 @@ module _ (s : State) (nets : List NetPlan) (packets : List Packet) (job : MeetsJ
       its_key : (k : Mark) → Contains (marks_of s) k → k.copy.packet ≡ i → IsKeyOf net.block k.copy.key
       its_key k has number =
           let key : k.copy.key ≡ net.block.key + p.index =
-          (job.ledger.ledger.labelled k has).0 ∙ (ap (λ n. (label_of (asked_by nets packets n)).key) number ∙ ap (λ (l : Label). l.key) label)
-          in
+          (job.ledger.ledger.labelled k has).0 ∙ (ap (λ n. (label_of (asked_by nets packets n)).key) number ∙ ap (λ (l : Label). l.key) label) in
           subst (λ n. IsKeyOf net.block n) (sym key) net_key
 
       one : count_by (is_packet_on_trail i from to branch) (marks_of s) ≡ 1
@@ -198,14 +181,12 @@ module _ (s : State) (nets : List NetPlan) (packets : List Packet) (job : MeetsJ
               let has = has_mark d (among_contains d s.delivered a) in
               let on = job.ledger.ledger.on_a_trail (mark_of d) has in
               let same_net : on.0 ≡ net =
-              one_net nets job.ledger.ledger.nets_stand.disjoint on.0 net on.1 in_nets d.copy.key on.2 (its_key (mark_of d) has number)
-              in
+              one_net nets job.ledger.ledger.nets_stand.disjoint on.0 net on.1 in_nets d.copy.key on.2 (its_key (mark_of d) has number) in
               let end : d.vertex ≡ on.3.3 = eqb-true d.vertex on.3.3 ((and_parts (d.vertex == on.3.3) (d.copy.hop == length on.3.1) on.3.5).0) in
               let hop : d.copy.hop ≡ length on.3.1 = eqb-true d.copy.hop (length on.3.1) ((and_parts (d.vertex == on.3.3) (d.copy.hop == length on.3.1) on.3.5).1) in
               let way : IsWayOn s.setup.machine s.setup.spots net on.3.0 on.3.1 on.3.2 to =
               subst (λ (n : NetPlan). IsWayOn s.setup.machine s.setup.spots n on.3.0 on.3.1 on.3.2 to) same_net
-              (subst (λ v. IsWayOn s.setup.machine s.setup.spots on.0 on.3.0 on.3.1 on.3.2 v) (sym end ∙ vertex) on.3.4)
-              in
+              (subst (λ v. IsWayOn s.setup.machine s.setup.spots on.0 on.3.0 on.3.1 on.3.2 v) (sym end ∙ vertex) on.3.4) in
               let long = same_length net in_nets on.3.0 target on.3.1 branch on.3.2 from to way w in
               and_from (d.copy.packet == i) ((d.vertex == to) && (d.copy.hop == length branch))
               (eq-eqb d.copy.packet i number)

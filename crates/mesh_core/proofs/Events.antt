@@ -1,28 +1,18 @@
 -- Each event that is enabled is one move of a copy that is under way.
 use Rattle.std.proofs.Common.{◌≡◌, ℕ, List, [], ◌∷◌, ◌++◌, map, Bool, true, false, ◌&&◌, not, if◌then◌else◌, Option, Some, None, refl, ap, sym, ◌∙◌, subst, inl, inr, ◌||◌, append-nil}
+use Rattle.std.proofs.lemmas.{Option.slice_get_within, Option.get_or_from_slice_get, Bool.and_parts}
 use Rattle.std.specs.List.{slice_get, slice_set, slice_index_or, list_any}
-use Rattle.std.proofs.lemmas.Option.{slice_get_within, get_or_from_slice_get}
-use Rattle.std.proofs.lemmas.Bool.{and_parts}
 use Rattle.spin_base.proofs.Exchange.{TakenOut, PutIn, taken_out_after}
-use Rattle.spin_base.specs.declared.chips.Chip.{Chip}
-use Rattle.spin_base.specs.declared.chips.Dir.{Dir}
-use Rattle.spin_base.specs.declared.chips.Spot.{Spot}
-use Rattle.spin_base.specs.declared.chips.Port.{Port}
-use Rattle.spin_base.specs.declared.chips.Port.TheVariants.{Link as ByLink, Local}
-use Rattle.spin_base.specs.declared.routes.Out.{Out}
-use Rattle.spin_base.specs.declared.routes.Out.TheVariants.{Link, Core}
-use Rattle.spin_base.specs.declared.copies.McCopy.{McCopy}
-use Rattle.spin_base.specs.declared.copies.Event.{Event}
-use Rattle.spin_base.specs.declared.copies.Event.TheVariants.{Inject, Take, Send, Dump, Collect}
-use Rattle.spin_base.specs.Links.{opposite_of}
-use Rattle.spin_base.specs.Equality.{out_eq}
 use Rattle.spin_base.proofs.Equality.{out_eq_true}
-use Rattle.spin_base.specs.Hops.{onward}
+use Rattle.spin_base.specs.declared.chips.{Chip.Chip, Dir.Dir, Spot.Spot, Port.Port, Port.TheVariants.Link as ByLink, Port.TheVariants.Local}
+use Rattle.spin_base.specs.declared.{routes.Out.Out, routes.Out.TheVariants.Link, routes.Out.TheVariants.Core, copies.McCopy.McCopy, copies.Event.Event}
+use Rattle.spin_base.specs.declared.copies.Event.TheVariants.{Inject, Take, Send, Dump, Collect}
+use Rattle.spin_base.specs.{Links.opposite_of, Equality.out_eq, Hops.onward}
 use Rattle.machine_desc.specs.Live.{far_of, index_of, is_live_chip, is_live_link, IsInside, IsSite}
-use Rattle.machine_desc.proofs.Far.{live_ends, live_inside, far_inside}
-use Rattle.machine_desc.proofs.Sites.{site_parts}
+use Rattle.machine_desc.proofs.{Far.live_ends, Far.live_inside, Far.far_inside, Sites.site_parts}
 use Rattle.mesh_core.specs.State.{State, Hand, IsMesh, Queue, input, core, behind, behind_link, core_queue_of, queue_at, vertex_behind}
-use Rattle.mesh_core.specs.Step.{step_of, inject_of, take_of, send_of, dump_of, collect_of, has_room, has_room_behind, push_behind, push_at, in_hand as held_for, outs_without, serves, after_serving, outputs}
+use Rattle.mesh_core.specs.Step.{step_of, inject_of, take_of, send_of, dump_of, collect_of, has_room, has_room_behind, push_behind, push_at, in_hand as held_for}
+use Rattle.mesh_core.specs.Step.{outs_without, serves, after_serving, outputs}
 use Rattle.mesh_core.specs.Trail.{unsent, in_queue, in_hand, at_core, delivered, dumped, Mark, IsUnderWayAt}
 use Rattle.mesh_core.specs.Ledger.{marks_of, hand_marks}
 use Rattle.mesh_core.proofs.Fixed.{push_behind_leaves}
@@ -65,9 +55,8 @@ arrives_at_core s v k room =
 -- the chip of a vertex is inside the grid
 vertex_inside : (s : State) → IsMesh s → (v : ℕ) (spot : Spot) → slice_get s.setup.spots v ≡ Some spot → IsInside s.setup.machine spot.chip
 vertex_inside s mesh v spot is =
-    let within = slice_get_within s.setup.spots v spot is in
     let there : slice_index_or s.setup.spots v spot ≡ spot = get_or_from_slice_get s.setup.spots v spot spot is in
-    let site : IsSite s.setup.machine spot = subst (λ (x : Spot). IsSite s.setup.machine x) there (mesh.sites v spot within) in
+    let site : IsSite s.setup.machine spot = subst (λ (x : Spot). IsSite s.setup.machine x) there (mesh.sites v spot (slice_get_within s.setup.spots v spot is)) in
     live_inside s.setup.machine spot.chip (site_parts s.setup.machine spot site).0
 
 inject_by_room : (s : State) (v : ℕ) (spot : Spot) (k : McCopy) (rest : List McCopy) → IsInside s.setup.machine spot.chip →
@@ -158,8 +147,7 @@ without_out_by f o p os true same has later = record {
   before_is = ap (λ q. f q ∷ map f os) (sym (out_eq_true o p same));
   after_is = refl;
 }
-without_out_by f o p os false other has later =
-    taken_out_after (f o) (f p ∷ []) (map f os) (map f (outs_without o os)) (later has)
+without_out_by f o p os false other has later = taken_out_after (f o) (f p ∷ []) (map f os) (map f (outs_without o os)) (later has)
 
 -- the mark of an output that is served leaves the hand
 without_out : (f : Out → Mark) (o : Out) (os : List Out) → list_any (out_eq o) os ≡ true → TakenOut (f o) (map f os) (map f (outs_without o os))

@@ -2,23 +2,17 @@
 -- asked packets and for a job.
 use Rattle.std.proofs.Common.{◌≡◌, ℕ, List, [], ◌∷◌, Bool, true, false, Option, Some, None, refl, sym, ◌∙◌, subst, unwrap_or, if◌then◌else◌}
 use Rattle.std.specs.List.{Contains}
-use Rattle.spin_base.proofs.Exchange.{among_taken_out}
-use Rattle.spin_base.proofs.Members.{among_contains}
-use Rattle.spin_base.specs.declared.copies.DumpRec.{DumpRec}
-use Rattle.spin_base.specs.declared.copies.Event.{Event}
-use Rattle.spin_base.specs.declared.copies.Packet.{Packet}
+use Rattle.spin_base.proofs.{Exchange.among_taken_out, Members.among_contains}
+use Rattle.spin_base.specs.declared.copies.{DumpRec.DumpRec, Event.Event, Packet.Packet}
 use Rattle.spin_base.specs.Hops.{onward}
 use Rattle.machine_desc.specs.declared.nets.NetPlan.{NetPlan}
 use Rattle.machine_desc.specs.RightTables.{AreRight}
 use Rattle.mesh_core.specs.State.{Setup, State, IsMesh, Queue, input, core, nowhere, behind}
 use Rattle.mesh_core.specs.Step.{step_of, after_event, after_events, has_room_behind, push_behind}
-use Rattle.mesh_core.specs.PutBack.{put_back_of, after_put_back}
-use Rattle.mesh_core.specs.Trail.{Mark, dumped}
+use Rattle.mesh_core.specs.{PutBack.put_back_of, PutBack.after_put_back, Trail.Mark, Trail.dumped}
 use Rattle.mesh_core.specs.Ledger.{marks_of, Label, Asked, label_of, MeetsLedger, MeetsLedgerFor}
 use Rattle.mesh_core.specs.Opened.{asked_by, MeetsJobLedger}
-use Rattle.mesh_core.proofs.Changes.{IsMesh-dumped}
-use Rattle.mesh_core.proofs.Events.{event_exchange, arrives}
-use Rattle.mesh_core.proofs.Fixed.{push_behind_leaves}
+use Rattle.mesh_core.proofs.{Changes.IsMesh-dumped, Events.event_exchange, Events.arrives, Fixed.push_behind_leaves}
 use Rattle.mesh_core.proofs.Keeping.{IsMesh-step_of, IsMesh-push_behind, onward_below, may_wait-behind}
 use Rattle.mesh_core.proofs.LedgerLaw.{Bag, bag_of_event, bag_keeps_ledger, bag_adds_no_packet, bag_keeps_packets, right_before, right_small}
 use Rattle.mesh_core.proofs.Moves.{mark, Exchange, dumped_out}

@@ -1,23 +1,18 @@
 -- The deliveries of a mesh that has delivered what its job asks for are as many as the targets of the packets' nets.
 use Rattle.std.proofs.Common.{◌≡◌, ◌≢◌, ℕ, ◌+◌, ◌≤◌, List, [], ◌∷◌, Bool, true, false, if◌then◌else◌, Option, Some, None, refl, ap, sym, ◌∙◌, arith, inl, inr, length, count_by}
+use Rattle.std.proofs.lemmas.List.{length-append, Elements.All-contains, Sums.length-filter, Sums.sum_by-cons}
 use Rattle.std.specs.List.{slice_get, AllPairs, Contains, All, list_any, filter}
-use Rattle.std.proofs.lemmas.List.{length-append}
-use Rattle.std.proofs.lemmas.List.Elements.{All-contains}
-use Rattle.std.proofs.lemmas.List.Sums.{length-filter, sum_by-cons}
 use Rattle.spin_base.specs.Gathered.{gathered}
+use Rattle.spin_base.specs.declared.{chips.Spot.Spot, copies.Delivery.Delivery, copies.Packet.Packet}
+use Rattle.spin_base.specs.Equality.{spot_eq}
 use Rattle.spin_base.proofs.Counts.{count_by-cons}
 use Rattle.spin_base.proofs.Members.{Among, among_contains, contains_among, any_among, among_any, Contains-filter}
-use Rattle.spin_base.specs.declared.chips.Spot.{Spot}
-use Rattle.spin_base.specs.declared.copies.Delivery.{Delivery}
-use Rattle.spin_base.specs.declared.copies.Packet.{Packet}
-use Rattle.spin_base.specs.Equality.{spot_eq}
 use Rattle.spin_base.proofs.Equality.{spot_eq_same, spot_eq_true}
 use Rattle.machine_desc.specs.declared.nets.NetPlan.{NetPlan}
 use Rattle.machine_desc.specs.NetsOn.{AreNetsOn}
 use Rattle.mesh_core.specs.State.{State, IsMesh}
 use Rattle.mesh_core.specs.Expected.{AreAsExpected, without_hop, delivery_at, deliveries_of, expected_deliveries, targets_of_net, expected_count}
-use Rattle.mesh_core.proofs.AskedPackets.{net_in_list}
-use Rattle.mesh_core.proofs.Counting.{count_all, count_covered}
+use Rattle.mesh_core.proofs.{AskedPackets.net_in_list, Counting.count_all, Counting.count_covered}
 use Rattle.mesh_core.proofs.ExpectedList.{ComesBefore, is_of, is_of_from, is_of_parts, bare, in_order, is_listed, listed_once, listed_made}
 use Rattle.mesh_core.proofs.Ordered.{ordered_from, at_most_one}
 
@@ -41,8 +36,7 @@ module _ (spots ts : List Spot) (different : AllPairs (λ a b. a ≢ b) spots) (
   at_least =
       let all : count_by (λ x. true) ts ≡ length ts = count_all (λ x. true) ts (λ x a. refl) in
       let few : count_by (λ x. true) ts ≤ length (filter is_target spots) =
-      count_covered (λ w x. spot_eq x w) (filter is_target spots) (λ x. true) ts kept (λ w a. one_spot ts apart w)
-      in
+      count_covered (λ w x. spot_eq x w) (filter is_target spots) (λ x. true) ts kept (λ w a. one_spot ts apart w) in
       let long : length (filter is_target spots) ≡ count_by is_target spots = length-filter is_target spots in
       omega (arith, all, few, long)
     where
@@ -69,21 +63,18 @@ length_of_net : (i : ℕ) (net : NetPlan) (p : Packet) (v : ℕ) (spots : List S
     length (gathered (delivery_at i net p) v spots) ≡ count_by (λ (spot : Spot). list_any (spot_eq spot) net.targets) spots
 length_of_net i net p v [] = refl
 length_of_net i net p v (x ∷ spots) =
-    let first = length_at i net p v x in
-    let rest = length_of_net i net p (v + 1) spots in
     let whole = length-append (delivery_at i net p v x) (gathered (delivery_at i net p) (v + 1) spots) in
     let counts = count_by-cons (λ (spot : Spot). list_any (spot_eq spot) net.targets) x spots in
-    omega (arith, first, rest, whole, counts)
+    omega (arith, length_at i net p v x, length_of_net i net p (v + 1) spots, whole, counts)
 
 module _ (spots : List Spot) (nets : List NetPlan) (each : (i : ℕ) (p : Packet) (o : Option NetPlan) → slice_get nets p.net ≡ o → length (deliveries_of spots i p o) ≡ targets_of_net o) where
   length_of_packets : (i : ℕ) (ps : List Packet) → length (gathered (λ j (p : Packet). deliveries_of spots j p (slice_get nets p.net)) i ps) ≡ expected_count nets ps
   length_of_packets i [] = refl
   length_of_packets i (p ∷ ps) =
       let first = each i p (slice_get nets p.net) refl in
-      let rest = length_of_packets (i + 1) ps in
       let whole = length-append (deliveries_of spots i p (slice_get nets p.net)) (gathered (λ j (q : Packet). deliveries_of spots j q (slice_get nets q.net)) (i + 1) ps) in
       let sums = sum_by-cons (λ (q : Packet). targets_of_net (slice_get nets q.net)) p ps in
-      omega (arith, first, rest, whole, sums)
+      omega (arith, first, length_of_packets (i + 1) ps, whole, sums)
 
 -- ---- the deliveries of a mesh
 
@@ -102,8 +93,7 @@ module _ (s : State) (nets : List NetPlan) (packets : List Packet) (mesh : IsMes
       let few : count_by (λ x. true) s.delivered ≤ length all_asked =
       count_covered alike all_asked (λ x. true) s.delivered
       (λ d a e. (without_hop d, is_listed s nets packets mesh stand expected d a, is_of_from d.copy.packet d.vertex d refl refl))
-      (λ w a. let one = listed_once s nets packets mesh stand expected w a in omega (arith, one))
-      in
+      (λ w a. let one = listed_once s nets packets mesh stand expected w a in omega (arith, one)) in
       omega (arith, all, few)
 
   no_fewer : length all_asked ≤ length s.delivered
@@ -144,7 +134,5 @@ module _ (s : State) (nets : List NetPlan) (packets : List Packet) (mesh : IsMes
 
   pub as_many : length s.delivered ≡ expected_count nets packets
   as_many =
-      let a = no_more in
-      let b = no_fewer in
       let long : length all_asked ≡ expected_count nets packets = length_of_packets s.setup.spots nets of_packet_long 0 packets in
-      omega (arith, a, b, long)
+      omega (arith, no_more, no_fewer, long)

@@ -1,28 +1,20 @@
 -- The deliveries of a mesh that has delivered what its job asks for, in their order, are the list that the job asks for.
-use Rattle.std.proofs.Common.{◌≡◌, ℕ, ◌+◌, ◌<◌, ◌≤◌, List, [], ◌∷◌, map, Bool, true, false, ◌==◌, ◌&&◌, if◌then◌else◌, Option, Some, None, refl, ap, sym, ◌∙◌, subst, arith, inl, inr, ◌⊎◌, count_by, cond}
-use Rattle.std.specs.List.{slice_get, AllPairs, Contains, list_any}
-use Rattle.std.specs.List.Sorted.{IsPermutation}
+use Rattle.std.proofs.Common.{◌≡◌, ℕ, ◌+◌, ◌<◌, ◌≤◌, List, [], ◌∷◌, map, Bool, true, false, ◌==◌, ◌&&◌, if◌then◌else◌, Option, Some, None, refl, ap, sym, ◌∙◌, subst}
+use Rattle.std.proofs.Common.{arith, inl, inr, ◌⊎◌, count_by, cond}
 use Rattle.std.proofs.lemmas.Bool.{and_parts, and_from, eqb-true, eq-eqb, cases_order}
-use Rattle.std.proofs.lemmas.List.Elements.{All-contains}
-use Rattle.std.proofs.lemmas.List.Sorted.{Contains-permutation, IsPermutation-sym, sum_by-IsPermutation}
-use Rattle.spin_base.proofs.Counts.{count_by-cons}
-use Rattle.spin_base.proofs.Gathering.{among_gathered, gathered_among}
+use Rattle.std.proofs.lemmas.List.{Elements.All-contains, Sorted.Contains-permutation, Sorted.IsPermutation-sym, Sorted.sum_by-IsPermutation}
+use Rattle.std.specs.List.{slice_get, AllPairs, Contains, list_any, Sorted.IsPermutation}
+use Rattle.spin_base.proofs.{Counts.count_by-cons, Gathering.among_gathered, Gathering.gathered_among}
 use Rattle.spin_base.proofs.Members.{Among, among_contains, contains_among, among_map, map_among, any_among, among_any}
 use Rattle.spin_base.proofs.Pairs.{AllPairs-head, AllPairs-tail, AllPairs-apart}
-use Rattle.spin_base.specs.declared.chips.Spot.{Spot}
-use Rattle.spin_base.specs.declared.copies.McCopy.{McCopy}
-use Rattle.spin_base.specs.declared.copies.Delivery.{Delivery}
-use Rattle.spin_base.specs.declared.copies.Packet.{Packet}
-use Rattle.spin_base.specs.Equality.{spot_eq}
 use Rattle.spin_base.proofs.Equality.{spot_eq_same, spot_eq_true}
+use Rattle.spin_base.specs.declared.{chips.Spot.Spot, copies.McCopy.McCopy, copies.Delivery.Delivery, copies.Packet.Packet}
+use Rattle.spin_base.specs.Equality.{spot_eq}
 use Rattle.machine_desc.specs.declared.nets.NetPlan.{NetPlan}
 use Rattle.machine_desc.specs.NetsOn.{AreNetsOn}
-use Rattle.mesh_core.specs.State.{State, IsMesh}
-use Rattle.mesh_core.specs.Opened.{first_copy}
+use Rattle.mesh_core.specs.{State.State, State.IsMesh, Opened.first_copy}
 use Rattle.mesh_core.specs.Expected.{IsAskedFor, AreAsExpected, without_hop, delivery_at, deliveries_of, expected_deliveries, IsDeliveryNotAfter}
-use Rattle.mesh_core.proofs.AskedPackets.{net_in_list}
-use Rattle.mesh_core.proofs.Counting.{count_some, counted}
-use Rattle.mesh_core.proofs.Ordered.{Ordered, ordered_gathered, same_ordered}
+use Rattle.mesh_core.proofs.{AskedPackets.net_in_list, Counting.count_some, Counting.counted, Ordered.Ordered, Ordered.ordered_gathered, Ordered.same_ordered}
 use Rattle.mesh_core.proofs.Ways.{vertex_at_stands, some_way}
 
 -- by the packet's number, then by the position of the vertex, and not the same in both
@@ -63,11 +55,10 @@ strictly [] pairs once = tt
 strictly (x ∷ xs) pairs once = (
   λ y there.
       let found = among_map without_hop y xs there in
-      subst (ComesBefore (without_hop x)) (sym found.2) (before found.0 found.1 (All-contains (IsDeliveryNotAfter x) xs found.0 (AllPairs-head IsDeliveryNotAfter x xs pairs) (among_contains found.0 xs found.1))),
+      subst (ComesBefore (without_hop x)) (sym found.2) (before found.0 found.1
+      (All-contains (IsDeliveryNotAfter x) xs found.0 (AllPairs-head IsDeliveryNotAfter x xs pairs) (among_contains found.0 xs found.1))),
   strictly xs (AllPairs-tail IsDeliveryNotAfter x xs pairs) (λ y a.
-      let all = once y (inr a) in
-      let split = count_by-cons (is_of y.copy.packet y.vertex) x xs in
-      omega (arith, all, split)),
+      omega (arith, once y (inr a), count_by-cons (is_of y.copy.packet y.vertex) x xs)),
 )
   where
     twice : (z : Delivery) → Among z xs → x.copy.packet ≡ z.copy.packet → x.vertex ≡ z.vertex → ⊥
@@ -161,9 +152,7 @@ module _ (spots : List Spot) (nets : List NetPlan) (packets : List Packet) where
 
   -- the list is in order
   packet_of : (i : ℕ) (p : Packet) (net : Option NetPlan) (y : Delivery) → Among y (deliveries_of spots i p net) → y.copy.packet ≡ i
-  packet_of i p net y a =
-      let of = of_net_parts i p net y a in
-      ap (λ (d : Delivery). d.copy.packet) of.2.3.is_delivery
+  packet_of i p net y a = ap (λ (d : Delivery). d.copy.packet) (of_net_parts i p net y a).2.3.is_delivery
 
   one_at : (i : ℕ) (net : NetPlan) (p : Packet) (v : ℕ) (spot : Spot) → Ordered ComesBefore (delivery_at i net p v spot)
   one_at i net p v spot = by_test (list_any (spot_eq spot) net.targets)
@@ -185,9 +174,7 @@ module _ (spots : List Spot) (nets : List NetPlan) (packets : List Packet) where
   in_order =
       ordered_gathered ComesBefore of_packet 0 packets (λ i p. packet_in_order i p (slice_get nets p.net))
       (λ j k z w a b less in_a in_b.
-      let x = packet_of j z (slice_get nets z.net) a in_a in
-      let y = packet_of k w (slice_get nets w.net) b in_b in
-      inl (omega (arith, x, y)))
+      inl (omega (arith, packet_of j z (slice_get nets z.net) a in_a, packet_of k w (slice_get nets w.net) b in_b)))
 
 -- ---- the deliveries of a mesh
 
@@ -214,8 +201,7 @@ module _ (s : State) (nets : List NetPlan) (packets : List Packet) (mesh : IsMes
   pub listed_once : (y : Delivery) → Among y the_list → count_by (is_of y.copy.packet y.vertex) s.delivered ≡ 1
   listed_once y there =
       let l = listed_parts s.setup.spots nets packets y there in
-      let has = net_in_list nets l.packet l.net l.is_net in
-      let w = some_way s.setup.machine s.setup.spots nets stand l.net has l.spot l.is_target in
+      let w = some_way s.setup.machine s.setup.spots nets stand l.net (net_in_list nets l.packet l.net l.is_net) l.spot l.is_target in
       let place : w.2 ≡ l.vertex = AllPairs-apart s.setup.spots l.spot mesh.different w.2 l.vertex (vertex_at_stands s.setup.spots l.spot w.2 w.3.ends) l.is_spot in
       let one : count_by (is_of l.number w.2) s.delivered ≡ 1 = expected.each_once l.number l.packet l.net l.is_packet l.is_net l.spot w.0 w.1 w.2 w.3 in
       let number : y.copy.packet ≡ l.number = ap (λ (d : Delivery). d.copy.packet) l.is_delivery in
@@ -257,6 +243,5 @@ module _ (s : State) (nets : List NetPlan) (packets : List Packet) (mesh : IsMes
       once d a =
           let one : count_by (is_of d.copy.packet d.vertex) s.delivered ≡ 1 = listed_once (without_hop d) (is_listed d (made d a)) in
           let same : count_by (is_of d.copy.packet d.vertex) sorted ≡ count_by (is_of d.copy.packet d.vertex) s.delivered =
-          sum_by-IsPermutation (λ (e : Delivery). cond (is_of d.copy.packet d.vertex e) 1 0) s.delivered sorted perm
-          in
+          sum_by-IsPermutation (λ (e : Delivery). cond (is_of d.copy.packet d.vertex e) 1 0) s.delivered sorted perm in
           omega (arith, one, same)

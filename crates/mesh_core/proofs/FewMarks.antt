@@ -1,36 +1,24 @@
 -- A mesh that meets the ledger of a job has few marks: at most one for each packet and each target of its net.
-use Rattle.std.proofs.Common.{◌≡◌, ◌≢◌, ℕ, ◌+◌, ◌*◌, ◌^◌, ◌<◌, ◌≤◌, suc, nat_lt, cond, List, [], ◌∷◌, ◌++◌, map, get_or, Bool, true, false, ◌==◌, Some, None, refl, ap, sym, ◌∙◌, subst, arith, inl, inr, length, count_by}
+use Rattle.std.proofs.Common.{◌≡◌, ◌≢◌, ℕ, ◌+◌, ◌*◌, ◌^◌, ◌<◌, ◌≤◌, suc, nat_lt, cond, List, [], ◌∷◌, ◌++◌, map, get_or, Bool, true, false, ◌==◌, Some, None, refl, ap}
+use Rattle.std.proofs.Common.{sym, ◌∙◌, subst, arith, inl, inr, length, count_by}
+use Rattle.std.proofs.lemmas.List.{Quantifiers.position-Some, length-append, length-map, get_or-map, get_or_default, Elements.All-contains}
+use Rattle.std.proofs.{lemmas.Option.slice_get_within, Math.Nat.mul-le-mul_left, lemmas.Bool.eqb-true, lemmas.Bool.and_from}
 use Rattle.std.specs.Prelude.{AllPairs, position}
 use Rattle.std.specs.List.{slice_index_or, position_or_len, All, Contains}
-use Rattle.std.proofs.lemmas.List.Quantifiers.{position-Some}
-use Rattle.std.proofs.lemmas.List.{length-append, length-map, get_or-map, get_or_default}
-use Rattle.std.proofs.lemmas.List.Elements.{All-contains}
-use Rattle.std.proofs.lemmas.Option.{slice_get_within}
-use Rattle.std.proofs.Math.Nat.{mul-le-mul_left}
-use Rattle.std.proofs.lemmas.Bool.{eqb-true, and_from}
-use Rattle.spin_base.proofs.Members.{Among, among_contains, contains_among}
-use Rattle.spin_base.proofs.Places.{slice_get_there}
-use Rattle.spin_base.specs.declared.chips.Spot.{Spot}
-use Rattle.spin_base.specs.declared.copies.Delivery.{Delivery}
-use Rattle.spin_base.specs.declared.copies.DumpRec.{DumpRec}
-use Rattle.spin_base.specs.declared.copies.Packet.{Packet}
+use Rattle.spin_base.proofs.{Members.Among, Members.among_contains, Members.contains_among, Places.slice_get_there, Equality.spot_eq_true}
+use Rattle.spin_base.specs.declared.{chips.Spot.Spot, copies.Delivery.Delivery, copies.DumpRec.DumpRec, copies.Packet.Packet}
 use Rattle.spin_base.specs.Equality.{spot_eq}
-use Rattle.spin_base.proofs.Equality.{spot_eq_true}
 use Rattle.machine_desc.specs.Branch.{Exit}
-use Rattle.machine_desc.proofs.Branches.{length_le_from_apart}
 use Rattle.machine_desc.specs.declared.nets.NetPlan.{NetPlan}
-use Rattle.machine_desc.specs.NetsOn.{AreNetsOn, IsWayOn}
-use Rattle.machine_desc.specs.RightTables.{IsKeyOf}
+use Rattle.machine_desc.specs.{NetsOn.AreNetsOn, NetsOn.IsWayOn, RightTables.IsKeyOf}
+use Rattle.machine_desc.proofs.Branches.{length_le_from_apart}
 use Rattle.mesh_core.specs.State.{State}
 use Rattle.mesh_core.specs.Trail.{Mark, delivered, dumped, is_on_trail, is_packet_on_trail}
 use Rattle.mesh_core.specs.Ledger.{marks_of, unsent_marks, input_marks, all_hand_marks, core_marks, delivered_marks, dumped_marks, Asked, label_of}
 use Rattle.mesh_core.specs.Opened.{asked_by, MeetsJobLedger}
 use Rattle.mesh_core.proofs.AskedPackets.{asks, asked_parts, asked_from, net_in_list}
 use Rattle.mesh_core.proofs.Counting.{count_all, count_covered, count_numbered}
-use Rattle.mesh_core.proofs.LedgerLaw.{one_net}
-use Rattle.mesh_core.proofs.Moves.{mark}
-use Rattle.mesh_core.proofs.OneWay.{AWay, one_way}
-use Rattle.mesh_core.proofs.Ways.{vertex_there, some_way}
+use Rattle.mesh_core.proofs.{LedgerLaw.one_net, Moves.mark, OneWay.AWay, OneWay.one_way, Ways.vertex_there, Ways.some_way}
 
 -- the place of a spot in the list
 abbrev place_in : List Spot → Spot → ℕ
@@ -66,8 +54,7 @@ few_different spots ts different within =
             by_test false e = cc
 
     below : (k d : ℕ) → k < length (map (place_in spots) ts) → get_or (map (place_in spots) ts) k d < length spots
-    below k d low =
-        subst (λ n. n < length spots) (sym (read k d low)) (there (get_or ts k nothing) (within k nothing (in_ts k low))).0
+    below k d low = subst (λ n. n < length spots) (sym (read k d low)) (there (get_or ts k nothing) (within k nothing (in_ts k low))).0
 
     apart : (i j d : ℕ) → i < j → j < length (map (place_in spots) ts) → get_or (map (place_in spots) ts) i d ≢ get_or (map (place_in spots) ts) j d
     apart i j d before low e =
@@ -75,12 +62,10 @@ few_different spots ts different within =
         let a : Spot = get_or ts i nothing in
         let b : Spot = get_or ts j nothing in
         let in_a = within i nothing (in_ts i low_i) in
-        let in_b = within j nothing (in_ts j low) in
         let places : place_in spots a ≡ place_in spots b = sym (read i d low_i) ∙ (e ∙ read j d low) in
-        let at_a = there a in_a in
-        let at_b = there b in_b in
+        let at_b = there b (within j nothing (in_ts j low)) in
         different i j nothing before (in_ts j low)
-        (at_a.1 ∙ (ap (λ n. slice_index_or spots n a) places ∙ (get_or_default spots (place_in spots b) a b at_b.0 ∙ sym at_b.1)))
+        ((there a in_a).1 ∙ (ap (λ n. slice_index_or spots n a) places ∙ (get_or_default spots (place_in spots b) a b at_b.0 ∙ sym at_b.1)))
 
 module _ (s : State) (nets : List NetPlan) (packets : List Packet) (job : MeetsJobLedger s nets packets) where
   stand : AreNetsOn s.setup.machine s.setup.spots nets
@@ -126,23 +111,19 @@ module _ (s : State) (nets : List NetPlan) (packets : List Packet) (job : MeetsJ
       let is_number : k.copy.packet ≡ i = eqb-true k.copy.packet i number in
       let on = job.ledger.ledger.on_a_trail k in_marks in
       let label : k.copy.key ≡ a.label.key =
-      (job.ledger.ledger.labelled k in_marks).0 ∙ (ap (λ n. (label_of (asked_by nets packets n)).key) is_number ∙ ap (λ o. (label_of o).key) asked)
-      in
+      (job.ledger.ledger.labelled k in_marks).0 ∙ (ap (λ n. (label_of (asked_by nets packets n)).key) is_number ∙ ap (λ o. (label_of o).key) asked) in
       let its_key : IsKeyOf a.net.block k.copy.key = subst (λ n. IsKeyOf a.net.block n) (sym label) (job.ledger.of_its_net i a asked).1 in
       let one : on.0 ≡ a.net = one_net nets stand.disjoint on.0 a.net on.1 has k.copy.key on.2 its_key in
       let its_way : IsWayOn s.setup.machine s.setup.spots a.net on.3.0 on.3.1 on.3.2 on.3.3 =
-      subst (λ (n : NetPlan). IsWayOn s.setup.machine s.setup.spots n on.3.0 on.3.1 on.3.2 on.3.3) one on.3.4
-      in
+      subst (λ (n : NetPlan). IsWayOn s.setup.machine s.setup.spots n on.3.0 on.3.1 on.3.2 on.3.3) one on.3.4 in
       let chosen = among_ways a.net has a.net.targets (λ t b. among_contains t a.net.targets b) on.3.0 (contains_among on.3.0 a.net.targets its_way.is_target) in
       let w : Way a.net = chosen.0 in
       let its : IsWayOn s.setup.machine s.setup.spots a.net on.3.0 w.branch w.from w.to =
-      subst (λ (t : Spot). IsWayOn s.setup.machine s.setup.spots a.net t w.branch w.from w.to) chosen.2 w.way
-      in
+      subst (λ (t : Spot). IsWayOn s.setup.machine s.setup.spots a.net t w.branch w.from w.to) chosen.2 w.way in
       let same = one_way s.setup.machine s.setup.spots nets stand a.net has on.3.0 on.3.1 w.branch on.3.2 w.from on.3.3 w.to its_way its in
       let on_it : is_on_trail w.from w.to w.branch k ≡ true =
       subst (λ n. is_on_trail n w.to w.branch k ≡ true) same.1
-      (subst (λ n. is_on_trail on.3.2 n w.branch k ≡ true) same.2 (subst (λ (l : List Exit). is_on_trail on.3.2 on.3.3 l k ≡ true) same.0 on.3.5))
-      in
+      (subst (λ n. is_on_trail on.3.2 n w.branch k ≡ true) same.2 (subst (λ (l : List Exit). is_on_trail on.3.2 on.3.3 l k ≡ true) same.0 on.3.5)) in
       (w, chosen.1, and_from (k.copy.packet == i) (is_on_trail w.from w.to w.branch k) number on_it)
 
   -- on the trail of a way there is one mark of a packet
@@ -150,8 +131,7 @@ module _ (s : State) (nets : List NetPlan) (packets : List Packet) (job : MeetsJ
   once i a asked has w =
       let k = job.ledger.each_asked i a asked in
       let label : k.0.copy.key ≡ a.label.key =
-      (job.ledger.ledger.labelled k.0 k.1).0 ∙ (ap (λ n. (label_of (asked_by nets packets n)).key) k.2 ∙ ap (λ o. (label_of o).key) asked)
-      in
+      (job.ledger.ledger.labelled k.0 k.1).0 ∙ (ap (λ n. (label_of (asked_by nets packets n)).key) k.2 ∙ ap (λ o. (label_of o).key) asked) in
       let its_key : IsKeyOf a.net.block k.0.copy.key = subst (λ n. IsKeyOf a.net.block n) (sym label) (job.ledger.of_its_net i a asked).1 in
       ap (λ n. count_by (is_packet_on_trail n w.from w.to w.branch) (marks_of s)) (sym k.2)
       ∙ job.ledger.ledger.once_on_each k.0 k.1 a.net has its_key w.target w.branch w.from w.to w.way
@@ -196,11 +176,9 @@ module _ (s : State) (nets : List NetPlan) (packets : List Packet) (job : MeetsJ
         let a = length-append (unsent_marks s) (input_marks s ++ (all_hand_marks s ++ (core_marks s ++ later))) in
         let b = length-append (input_marks s) (all_hand_marks s ++ (core_marks s ++ later)) in
         let c = length-append (all_hand_marks s) (core_marks s ++ later) in
-        let d = length-append (core_marks s) later in
-        let e = length-append (delivered_marks s) (dumped_marks s) in
         let f : length (delivered_marks s) ≡ length s.delivered = length-map s.delivered (λ (x : Delivery). mark x.copy (delivered x.vertex)) in
         let g : length (dumped_marks s) ≡ length s.dumped = length-map s.dumped (λ (x : DumpRec). mark x.copy (dumped x.chip x.out)) in
-        omega (arith, a, b, c, d, e, f, g)
+        omega (arith, a, b, c, length-append (core_marks s) later, length-append (delivered_marks s) (dumped_marks s), f, g)
 
   -- the targets of a net are different spots of vertices, so at most as many
   few_targets : All (λ net. length net.targets ≤ length s.setup.spots) nets

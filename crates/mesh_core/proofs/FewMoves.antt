@@ -1,18 +1,12 @@
 -- Few marks come where one leaves: a copy leaves a router by 24 outputs at most.
 use Rattle.std.proofs.Common.{◌≡◌, ◌≤◌, ◌==◌, refl, ap, ◌∙◌, arith, inl, inr, List, [], ◌∷◌, length, Bool, true, false, if◌then◌else◌}
-use Rattle.std.proofs.lemmas.List.{length-map}
-use Rattle.std.proofs.lemmas.List.Sums.{length-filter, count_by-le-length}
-use Rattle.spin_base.specs.declared.chips.Chip.{Chip}
-use Rattle.spin_base.specs.declared.chips.Port.{Port}
-use Rattle.spin_base.specs.declared.routes.Out.{Out}
-use Rattle.spin_base.specs.declared.routes.Route.{Route}
-use Rattle.spin_base.specs.declared.copies.McCopy.{McCopy}
+use Rattle.std.proofs.lemmas.List.{length-map, Sums.length-filter, Sums.count_by-le-length}
+use Rattle.spin_base.specs.declared.{chips.Chip.Chip, chips.Port.Port, routes.Out.Out, routes.Route.Route, copies.McCopy.McCopy}
 use Rattle.spin_base.specs.Lookup.{lookup}
 use Rattle.spin_base.specs.Outputs.{has, outs_of, all_outs, link_outs, core_outs}
 use Rattle.spin_base.specs.Hops.{last_hop}
 use Rattle.machine_desc.specs.RightTables.{table_at}
-use Rattle.mesh_core.specs.State.{State}
-use Rattle.mesh_core.specs.Step.{outputs}
+use Rattle.mesh_core.specs.{State.State, Step.outputs}
 use Rattle.mesh_core.specs.Trail.{Station, unsent, in_queue, in_hand, at_core, delivered, dumped, Mark}
 use Rattle.mesh_core.proofs.Moves.{mark, IsMove, IsMoveOf, Crosses}
 
@@ -22,13 +16,11 @@ all_few = refl
 
 few_outs : (r : Route) → length (outs_of r) ≤ 24
 few_outs r =
-    let counted = length-filter (has r) all_outs in
-    let within = count_by-le-length (has r) all_outs in
-    let all = all_few in
-    omega (arith, counted, within, all)
+    omega (arith, length-filter (has r) all_outs, count_by-le-length (has r) all_outs, all_few)
 
 few_outputs : (s : State) (c : Chip) (port : Port) (k : McCopy) → length (outputs s.setup c port k) ≤ 24
-few_outputs s c port k = by_last (k.hop == last_hop) (outs_of (lookup (table_at s.setup.machine s.setup.tables c) k.key port)) (few_outs (lookup (table_at s.setup.machine s.setup.tables c) k.key port))
+few_outputs s c port k = by_last (k.hop == last_hop) (outs_of (lookup (table_at s.setup.machine s.setup.tables c) k.key port))
+    (few_outs (lookup (table_at s.setup.machine s.setup.tables c) k.key port))
   where
     by_last : (b : Bool) (os : List Out) → length os ≤ 24 → length (if b then [] else os) ≤ 24
     by_last true os few = omega arith
@@ -48,8 +40,7 @@ few_come s x come move = by_station x.copy x.station move
     by_station k (unsent v) m = one _ m.2
     by_station k (in_queue c port) m =
         let long : length come ≡ length (outputs s.setup c port k) = ap length m ∙ length-map (outputs s.setup c port k) (λ o. mark k (in_hand c o)) in
-        let few = few_outputs s c port k in
-        omega (arith, long, few)
+        omega (arith, long, few_outputs s c port k)
     by_station k (in_hand c o) (inl m) = one _ m
     by_station k (in_hand c o) (inr m) = crossing k c o m
     by_station k (at_core v) m = one _ m

@@ -1,8 +1,7 @@
 -- What is left of the outputs of a hand.
 use Rattle.std.proofs.Common.{◌≡◌, ℕ, suc, ◌+◌, ◌<◌, refl, sym, ap, ◌∙◌, arith, Bool, true, false, List, [], ◌∷◌, length, cond, if◌then◌else◌, Some, None}
-use Rattle.std.specs.Prelude.{position, remove}
-use Rattle.std.specs.List.{position_from}
 use Rattle.std.proofs.lemmas.Iterator.Adapters.{position_from-zero}
+use Rattle.std.specs.{Prelude.position, Prelude.remove, List.position_from}
 use Rattle.spin_base.specs.Equality.{out_eq}
 use Rattle.spin_base.specs.declared.routes.Out.{Out}
 use Rattle.mesh_core.specs.Step.{outs_without}
@@ -38,8 +37,7 @@ without-found o os i e = (at_zero o os i (found_from o os 0 i (sym (position_fro
 none_step : (o x : Out) (os : List Out) (n : ℕ) → (position_from (out_eq o) (n + 1) os ≡ None → outs_without o os ≡ os) →
     (b : Bool) → out_eq o x ≡ b → cond b (Some n) (position_from (out_eq o) (n + 1) os) ≡ None → outs_without o (x ∷ os) ≡ x ∷ os
 none_step o x os n later true here e = cc
-none_step o x os n later false here e =
-    ap (λ b. if b then os else x ∷ outs_without o os) here ∙ ap (λ l. x ∷ l) (later e)
+none_step o x os n later false here e = ap (λ b. if b then os else x ∷ outs_without o os) here ∙ ap (λ l. x ∷ l) (later e)
 
 none_from : (o : Out) (os : List Out) (n : ℕ) → position_from (out_eq o) n os ≡ None → outs_without o os ≡ os
 none_from o [] n e = refl

@@ -1,10 +1,9 @@
 -- Weights that are powers of 25.
 use Rattle.std.proofs.Common.{ℕ, zero, suc, ◌*◌, ◌≤◌, refl, arith, inl, inr, List, [], ◌∷◌, length}
-use Rattle.std.specs.List.{sum_by}
 use Rattle.std.proofs.lemmas.List.Sums.{sum_by-cons}
+use Rattle.std.specs.List.{sum_by}
 use Rattle.spin_base.proofs.Members.{Among}
-use Rattle.mesh_core.specs.Trail.{Mark}
-use Rattle.mesh_core.specs.Heavy.{heavy}
+use Rattle.mesh_core.specs.{Trail.Mark, Heavy.heavy}
 
 pub one_heavy : (n : ℕ) → 1 ≤ heavy n
 unfolding heavy
@@ -23,5 +22,4 @@ light weight_of [] n each = omega arith
 light weight_of (y ∷ ys) n each =
     let first = each y (inl refl) in
     let rest = light weight_of ys n (λ z a. each z (inr a)) in
-    let whole = sum_by-cons weight_of y ys in
-    omega (arith, first, rest, whole)
+    omega (arith, first, rest, sum_by-cons weight_of y ys)

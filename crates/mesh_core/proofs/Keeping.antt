@@ -1,32 +1,18 @@
 -- Whatever happens, a mesh keeps what every mesh has.
-use Rattle.std.proofs.Common.{◌≡◌, ◌≢◌, ℕ, ◌+◌, ◌==◌, ◌^◌, ◌<◌, ◌≤◌, refl, sym, ap, ◌∙◌, subst, arith, Bool, true, false, not, ◌&&◌, if◌then◌else◌, List, [], ◌∷◌, ◌++◌, length, set, Option, Some, None}
-use Rattle.std.specs.Prelude.{IfSome}
-use Rattle.std.specs.List.{All, slice_get, list_any}
-use Rattle.std.proofs.lemmas.List.{length_push}
-use Rattle.std.proofs.lemmas.List.Elements.{All-head, All-tail, All-push}
-use Rattle.spin_base.proofs.Places.{All-at}
+use Rattle.std.proofs.Common.{◌≡◌, ◌≢◌, ℕ, ◌+◌, ◌==◌, ◌^◌, ◌<◌, ◌≤◌, refl, sym, ap, ◌∙◌, subst, arith, Bool, true, false, not, ◌&&◌, if◌then◌else◌, List, [], ◌∷◌, ◌++◌}
+use Rattle.std.proofs.Common.{length, set, Option, Some, None}
+use Rattle.std.proofs.lemmas.List.{length_push, Elements.All-head, Elements.All-tail, Elements.All-push}
 use Rattle.std.proofs.lemmas.Bool.{and_parts, ltb-true, eqb-false}
-use Rattle.spin_base.specs.declared.chips.Chip.{Chip}
-use Rattle.spin_base.specs.declared.chips.Spot.{Spot}
-use Rattle.spin_base.specs.declared.chips.Dir.{Dir}
-use Rattle.spin_base.specs.declared.chips.Port.{Port}
-use Rattle.spin_base.specs.declared.chips.Port.TheVariants.{Link as ByLink, Local}
-use Rattle.spin_base.specs.declared.routes.Out.{Out}
-use Rattle.spin_base.specs.declared.routes.Out.TheVariants.{Link, Core}
-use Rattle.spin_base.specs.declared.copies.McCopy.{McCopy}
-use Rattle.spin_base.specs.declared.copies.Event.{Event}
+use Rattle.std.specs.{Prelude.IfSome, List.All, List.slice_get, List.list_any}
+use Rattle.spin_base.proofs.{Places.All-at, Equality.port_number_injective}
+use Rattle.spin_base.specs.declared.chips.{Chip.Chip, Spot.Spot, Dir.Dir, Port.Port, Port.TheVariants.Link as ByLink, Port.TheVariants.Local}
+use Rattle.spin_base.specs.declared.{routes.Out.Out, routes.Out.TheVariants.Link, routes.Out.TheVariants.Core, copies.McCopy.McCopy, copies.Event.Event}
 use Rattle.spin_base.specs.declared.copies.Event.TheVariants.{Inject, Take, Send, Dump, Collect}
-use Rattle.spin_base.specs.Equality.{out_eq}
-use Rattle.spin_base.specs.Lookup.{lookup}
-use Rattle.spin_base.specs.Outputs.{outs_of}
-use Rattle.spin_base.specs.Links.{opposite_of, port_number}
-use Rattle.spin_base.proofs.Equality.{port_number_injective}
-use Rattle.spin_base.specs.Hops.{last_hop, onward}
+use Rattle.spin_base.specs.{Equality.out_eq, Lookup.lookup, Outputs.outs_of, Links.opposite_of, Links.port_number, Hops.last_hop, Hops.onward}
 use Rattle.machine_desc.specs.Description.{Description}
 use Rattle.machine_desc.specs.Live.{index_of, far_of, is_live_chip, is_live_link, IsInside, IsSite}
-use Rattle.machine_desc.proofs.Sites.{site_parts}
-use Rattle.machine_desc.proofs.Far.{same_index, live_inside, live_ends, live_back}
 use Rattle.machine_desc.specs.RightTables.{table_at}
+use Rattle.machine_desc.proofs.{Sites.site_parts, Far.same_index, Far.live_inside, Far.live_ends, Far.live_back}
 use Rattle.mesh_core.specs.State.{Setup, State, Hand, FitsQueue, FitsHand, IsMesh, queue_at, vertex_behind, Queue, input, core, nowhere, core_queue_of, behind_link, behind}
 use Rattle.mesh_core.specs.Step.{outputs, in_hand, outs_without, has_room, has_room_behind, push_at, push_behind, inject_of, take_of, serves, after_serving, send_of, dump_of, collect_of, step_of}
 use Rattle.mesh_core.proofs.Changes.{port_below, IsMesh-unsent, IsMesh-cores, IsMesh-hands, IsMesh-delivered, IsMesh-dumped, IsMesh-inputs}
@@ -134,7 +120,8 @@ arrived_input s i k (Some q) h at may room low =
     (λ c d dead inside same. absurd (may.port c d dead inside same)) (λ c dead inside same. absurd (may.chip c dead inside same))
 arrived_input s i k None h at may room low = cc
 
-arrived_core : (s : State) (v : ℕ) (k : McCopy) (q : Option (List McCopy)) → IsMesh s → slice_get s.cores v ≡ q → has_room s.setup.capacity q ≡ true → k.hop < 2 ^ 32 → IsMesh (record s { cores = push_at s.cores v k q })
+arrived_core : (s : State) (v : ℕ) (k : McCopy) (q : Option (List McCopy)) → IsMesh s → slice_get s.cores v ≡ q →
+    has_room s.setup.capacity q ≡ true → k.hop < 2 ^ 32 → IsMesh (record s { cores = push_at s.cores v k q })
 arrived_core s v k (Some q) h at room low =
     IsMesh-cores s v (q ++ k ∷ []) h (one_more_fits s.setup.capacity q k (All-at (FitsQueue s.setup.capacity) s.cores v q h.cores_within at) room low)
 arrived_core s v k None h at room low = cc
@@ -159,7 +146,8 @@ not_last u c port k low some = by_test (k.hop == last_hop) refl some
     by_test true is none = absurd (none refl)
     by_test false is some' = let other = eqb-false k.hop last_hop is in omega (arith, low, other)
 
-keeps_injected : (s t : State) (v : ℕ) (spot : Option Spot) (unsent : Option (List McCopy)) → IsMesh s → slice_get s.setup.spots v ≡ spot → slice_get s.unsent v ≡ unsent → inject_of s v spot unsent ≡ Some t → IsMesh t
+keeps_injected : (s t : State) (v : ℕ) (spot : Option Spot) (unsent : Option (List McCopy)) → IsMesh s → slice_get s.setup.spots v ≡ spot →
+    slice_get s.unsent v ≡ unsent → inject_of s v spot unsent ≡ Some t → IsMesh t
 keeps_injected s t v (Some spot) (Some (k ∷ rest)) h at_spot at_unsent moves =
     let queue : Queue = input (queue_at s.setup.machine spot.chip Local) in
     let now : State = record s { unsent = set s.unsent v rest } in
@@ -169,7 +157,8 @@ keeps_injected s t v (Some spot) (Some (k ∷ rest)) h at_spot at_unsent moves =
     let none_passed : k.hop ≡ 0 = All-head (λ (x : McCopy). x.hop ≡ 0) k rest at_start in
     let site : IsSite s.setup.machine spot = All-at (IsSite s.setup.machine) s.setup.spots v spot h.sites at_spot in
     let live : is_live_chip s.setup.machine spot.chip ≡ true = (site_parts s.setup.machine spot site).0 in
-    subst IsMesh parts.1 (arrived_input now (queue_at s.setup.machine spot.chip Local) k (slice_get s.inputs (queue_at s.setup.machine spot.chip Local)) (IsMesh-unsent s v rest h start) refl (may_wait-local s.setup.machine spot.chip live) parts.0 (omega (arith, none_passed)))
+    subst IsMesh parts.1 (arrived_input now (queue_at s.setup.machine spot.chip Local) k (slice_get s.inputs (queue_at s.setup.machine spot.chip Local))
+    (IsMesh-unsent s v rest h start) refl (may_wait-local s.setup.machine spot.chip live) parts.0 (omega (arith, none_passed)))
 keeps_injected s t v (Some spot) (Some []) h at_spot at_unsent moves = cc
 keeps_injected s t v (Some spot) None h at_spot at_unsent moves = cc
 keeps_injected s t v None (Some (k ∷ rest)) h at_spot at_unsent moves = cc
@@ -180,7 +169,8 @@ keeps_injected s t v None None h at_spot at_unsent moves = cc
 nothing_waited : {X : Type 0} (xs : List (List X)) (i j : ℕ) (x : X) (rest : List X) → slice_get xs i ≡ Some (x ∷ rest) → slice_get xs j ≡ Some [] → j ≡ i → rest ≡ []
 nothing_waited xs i j x rest here there same = let both : Some (x ∷ rest) ≡ Some [] = sym here ∙ (ap (slice_get xs) (sym same) ∙ there) in cc
 
-keeps_taken : (s t : State) (c : Chip) (port : Port) (hand : Option (Option Hand)) (queue : Option (List McCopy)) → IsMesh s → slice_get s.inputs (queue_at s.setup.machine c port) ≡ queue → take_of s c port hand queue ≡ Some t → IsMesh t
+keeps_taken : (s t : State) (c : Chip) (port : Port) (hand : Option (Option Hand)) (queue : Option (List McCopy)) → IsMesh s →
+    slice_get s.inputs (queue_at s.setup.machine c port) ≡ queue → take_of s c port hand queue ≡ Some t → IsMesh t
 keeps_taken s t c port (Some None) (Some (k ∷ rest)) h at_queue moves =
     let q : ℕ = queue_at s.setup.machine c port in
     let now : State = record s { inputs = set s.inputs q rest } in
@@ -190,9 +180,9 @@ keeps_taken s t c port (Some None) (Some (k ∷ rest)) h at_queue moves =
     let fits : FitsQueue s.setup.capacity (k ∷ rest) = All-at (FitsQueue s.setup.capacity) s.inputs q (k ∷ rest) h.inputs_within at_queue in
     let kept : IsMesh now = IsMesh-inputs s q rest h (rest_fits s.setup.capacity k rest fits)
     (λ e d dead inside same. nothing_waited s.inputs q (queue_at s.setup.machine e (ByLink d)) k rest at_queue (h.none_at_dead_ports e d dead inside) same)
-    (λ e dead inside same. nothing_waited s.inputs q (queue_at s.setup.machine e Local) k rest at_queue (h.none_on_dead_chips e dead inside) same)
-    in
-    subst IsMesh parts.1 (IsMesh-hands now c hand kept parts.0 (in_hand-fits k port (outputs s.setup c port k) (not_last s.setup c port k (All-head (λ (j : McCopy). j.hop < 2 ^ 32) k rest fits.hops))))
+    (λ e dead inside same. nothing_waited s.inputs q (queue_at s.setup.machine e Local) k rest at_queue (h.none_on_dead_chips e dead inside) same) in
+    subst IsMesh parts.1 (IsMesh-hands now c hand kept parts.0
+    (in_hand-fits k port (outputs s.setup c port k) (not_last s.setup c port k (All-head (λ (j : McCopy). j.hop < 2 ^ 32) k rest fits.hops))))
 keeps_taken s t c port (Some None) (Some []) h at_queue moves = cc
 keeps_taken s t c port (Some None) None h at_queue moves = cc
 keeps_taken s t c port (Some (Some held)) queue h at_queue moves = cc
@@ -216,7 +206,8 @@ keeps_sent s t c o (Some (Some held)) h at moves =
     let next : State = push_behind (after_serving s c o held) to (onward held.copy) in
     let parts : ((hands && has_room_behind s to) ≡ true) × (next ≡ t) = if_some (hands && has_room_behind s to) next t moves in
     let both : (hands ≡ true) × (has_room_behind s to ≡ true) = and_parts hands (has_room_behind s to) parts.0 in
-    subst IsMesh parts.1 (IsMesh-push_behind (after_serving s c o held) to (onward held.copy) (IsMesh-after_serving s c o held h at both.0) (may_wait-behind s.setup c o) (room_after s c o held to both.1) (onward_below held.copy))
+    subst IsMesh parts.1 (IsMesh-push_behind (after_serving s c o held) to (onward held.copy) (IsMesh-after_serving s c o held h at both.0)
+    (may_wait-behind s.setup c o) (room_after s c o held to both.1) (onward_below held.copy))
   where
     -- what a hand holds changes no room
     room_after : (s : State) (c : Chip) (o : Out) (held : Hand) (b : Queue) → has_room_behind s b ≡ true → has_room_behind (after_serving s c o held) b ≡ true

@@ -1,48 +1,31 @@
 -- A move keeps what the ledger says of one net: what comes in the place of a mark stands on the same trails.
-use Rattle.std.proofs.Common.{◌≡◌, ℕ, ◌+◌, ◌<◌, ◌≤◌, suc, List, [], ◌∷◌, map, ◌∙◌, Bool, true, false, ◌==◌, ◌&&◌, if◌then◌else◌, Option, Some, None, refl, ap, sym, subst, arith, inl, inr, length, min, count_by, nat_lt}
-use Rattle.std.specs.Cmp.{both_ways}
-use Rattle.std.specs.List.{slice_get, Contains}
-use Rattle.spin_base.proofs.Counts.{count_by-map, count_by-cons, count_by-none}
-use Rattle.spin_base.proofs.Members.{Among, among_filter, among_only}
-use Rattle.spin_base.proofs.Pairs.{AllPairs-apart}
-use Rattle.spin_base.proofs.Places.{slice_get_there}
+use Rattle.std.proofs.Common.{◌≡◌, ℕ, ◌+◌, ◌<◌, ◌≤◌, suc, List, [], ◌∷◌, map, ◌∙◌, Bool, true, false, ◌==◌, ◌&&◌, if◌then◌else◌, Option, Some, None, refl, ap, sym}
+use Rattle.std.proofs.Common.{subst, arith, inl, inr, length, min, count_by, nat_lt}
 use Rattle.std.proofs.Math.Nat.{add-zero}
-use Rattle.spin_base.specs.declared.chips.Chip.{Chip}
-use Rattle.spin_base.specs.declared.chips.Dir.{Dir}
-use Rattle.spin_base.specs.declared.chips.Spot.{Spot}
-use Rattle.spin_base.specs.declared.chips.Port.{Port}
-use Rattle.spin_base.specs.declared.chips.Port.TheVariants.{Link as ByLink, Local}
-use Rattle.spin_base.specs.declared.routes.Out.{Out}
-use Rattle.spin_base.specs.declared.routes.Out.TheVariants.{Link, Core}
-use Rattle.spin_base.specs.declared.routes.Route.{Route}
-use Rattle.spin_base.specs.declared.copies.McCopy.{McCopy}
-use Rattle.spin_base.specs.Links.{opposite_of}
-use Rattle.spin_base.specs.Equality.{chip_eq, port_eq, out_eq}
-use Rattle.spin_base.specs.Lookup.{lookup}
-use Rattle.spin_base.specs.Outputs.{has, outs_of, all_outs, out_of, IsOutput}
-use Rattle.spin_base.proofs.Equality.{chip_eq_same, chip_eq_true, port_eq_same, port_eq_true, out_eq_same, out_eq_true}
-use Rattle.spin_base.proofs.Once.{outs_once}
-use Rattle.spin_base.proofs.Outputs.{no_high_bit}
-use Rattle.spin_base.specs.Hops.{last_hop, onward}
-use Rattle.std.specs.Int.{bit_at}
 use Rattle.std.proofs.lemmas.Bool.{ltb-true, ltb-false, and_parts, eqb-true, eq-eqb, and_from}
-use Rattle.std.proofs.lemmas.List.Elements.{All-contains}
-use Rattle.std.proofs.lemmas.Option.{slice_get_within, get_or_from_slice_get}
+use Rattle.std.proofs.lemmas.{List.Elements.All-contains, Option.slice_get_within, Option.get_or_from_slice_get}
+use Rattle.std.specs.{Cmp.both_ways, List.slice_get, List.Contains, Int.bit_at}
+use Rattle.spin_base.proofs.Counts.{count_by-map, count_by-cons, count_by-none}
+use Rattle.spin_base.proofs.{Members.Among, Members.among_filter, Members.among_only, Pairs.AllPairs-apart, Places.slice_get_there}
+use Rattle.spin_base.proofs.Equality.{chip_eq_same, chip_eq_true, port_eq_same, port_eq_true, out_eq_same, out_eq_true}
+use Rattle.spin_base.proofs.{Once.outs_once, Outputs.no_high_bit}
+use Rattle.spin_base.specs.declared.chips.{Chip.Chip, Dir.Dir, Spot.Spot, Port.Port, Port.TheVariants.Link as ByLink, Port.TheVariants.Local}
+use Rattle.spin_base.specs.declared.{routes.Out.Out, routes.Out.TheVariants.Link, routes.Out.TheVariants.Core, routes.Route.Route, copies.McCopy.McCopy}
+use Rattle.spin_base.specs.{Links.opposite_of, Equality.chip_eq, Equality.port_eq, Equality.out_eq, Lookup.lookup}
+use Rattle.spin_base.specs.Outputs.{has, outs_of, all_outs, out_of, IsOutput}
+use Rattle.spin_base.specs.Hops.{last_hop, onward}
 use Rattle.machine_desc.specs.declared.trees.Edge.{Edge}
 use Rattle.machine_desc.specs.Live.{far_of, is_live_link, IsLiveLink, IsSite}
 use Rattle.machine_desc.specs.Branch.{Exit, IsBranch, arrival_at}
-use Rattle.machine_desc.proofs.Branches.{same_exit, ComesBy, comes_by, exit_leads, ExitLeads, exit_of}
-use Rattle.machine_desc.proofs.TreeLemmas.{one_edge_into}
-use Rattle.machine_desc.proofs.Sites.{end_is_no_live_link, same_site}
 use Rattle.machine_desc.specs.declared.nets.NetPlan.{NetPlan}
-use Rattle.machine_desc.specs.Outputs.{is_wanted, ComesIn}
-use Rattle.machine_desc.specs.RightTables.{IsKeyOf, table_at}
-use Rattle.mesh_core.specs.State.{State, vertex_behind}
-use Rattle.mesh_core.specs.Step.{outputs}
+use Rattle.machine_desc.specs.{Outputs.is_wanted, Outputs.ComesIn, RightTables.IsKeyOf, RightTables.table_at, NetsOn.IsWayOn}
+use Rattle.machine_desc.proofs.Branches.{same_exit, ComesBy, comes_by, exit_leads, ExitLeads, exit_of}
+use Rattle.machine_desc.proofs.{TreeLemmas.one_edge_into, Sites.end_is_no_live_link, Sites.same_site}
+use Rattle.mesh_core.specs.{State.State, State.vertex_behind, Step.outputs}
 use Rattle.mesh_core.specs.Trail.{Station, unsent, in_queue, in_hand, at_core, delivered, dumped, Mark, comes_in_there, leaves_there, on_trail, is_on_trail}
-use Rattle.machine_desc.specs.NetsOn.{IsWayOn}
 use Rattle.mesh_core.proofs.Moves.{mark, Crosses, IsMove, IsMoveOf}
-use Rattle.mesh_core.proofs.Ways.{Stands, vertex_at_stands, vertex_there, vertex_behind_stands, target_site, short_branch, onward_hop, one_place, branch_comes_in, exit_wanted, exit_is_output, wanted_on_branch}
+use Rattle.mesh_core.proofs.Ways.{Stands, vertex_at_stands, vertex_there, vertex_behind_stands, target_site, short_branch, onward_hop, one_place, branch_comes_in}
+use Rattle.mesh_core.proofs.Ways.{exit_wanted, exit_is_output, wanted_on_branch}
 
 -- ---- what the tests on a trail say
 
@@ -156,8 +139,7 @@ module _ (s : State) (net : NetPlan) (stands : Stands s net) where
       let same_spot : Some spot ≡ Some net.source = sym is_spot ∙ (ap (slice_get s.setup.spots) is_from ∙ stands_there) in
       let spot_is : spot ≡ net.source = cc in
       let right_side : on_trail from' to' ys hop (unsent v) ≡ true =
-      and_from (v == from') (hop == 0) (eq-eqb v from' (is_from ∙ one_from)) (eq-eqb hop 0 is_zero)
-      in
+      and_from (v == from') (hop == 0) (eq-eqb v from' (is_from ∙ one_from)) (eq-eqb hop 0 is_zero) in
       let first = first_exit u ys w'.is_branch in
       let left_side : comes_in_there ys 0 spot.chip Local (slice_get ys 0) ≡ true =
       comes_from ys 0 spot.chip Local (record {
@@ -165,8 +147,7 @@ module _ (s : State) (net : NetPlan) (stands : Stands s net) where
         at = first.1;
         chip = first.2 ∙ (stands.root ∙ ap (λ (q : Spot). q.chip) (sym spot_is));
         port_is = refl;
-      })
-      in
+      }) in
       ap (λ n. comes_in_there ys n spot.chip Local (slice_get ys n)) is_zero ∙ (left_side ∙ sym right_side)
     where
       first_exit : (t : Spot) (zs : List Exit) → IsBranch s.setup.machine net.tree.root net.tree.edges t zs →
@@ -190,8 +171,7 @@ module _ (s : State) (net : NetPlan) (stands : Stands s net) where
           )
       by_end (inr (chip, out, last)) =
           let dead : is_live_link s.setup.machine t.chip d ≡ false =
-          end_is_no_live_link s.setup.machine t d (target_site s net stands t w.is_target) (sym out)
-          in
+          end_is_no_live_link s.setup.machine t d (target_site s net stands t w.is_target) (sym out) in
           let lives : is_live_link s.setup.machine t.chip d ≡ true = ap (λ (q : Chip). is_live_link s.setup.machine q d) chip ∙ live in
           cc
 
@@ -219,8 +199,7 @@ module _ (s : State) (net : NetPlan) (stands : Stands s net) where
           let leads = goes_on u ys from' to' w' c d live hop at in
           let y : Exit = leads.1.0 in
           let by : ComesBy s.setup.machine net.tree.edges ys Local hop y.chip =
-          comes_by s.setup.machine net.tree.edges u net.tree.root Local ys hop y w'.is_branch leads.1.2
-          in
+          comes_by s.setup.machine net.tree.edges u net.tree.root Local ys hop y w'.is_branch leads.1.2 in
           let same : Some (exit_of by.edge) ≡ Some (record { chip = c; out = Link d }) = sym by.before ∙ at in
           let same_d : by.edge.dir ≡ d = same_dir by.edge c d same in
           let same_e : Some y.chip ≡ Some e = sym leads.1.1 ∙ is_far in
@@ -235,12 +214,10 @@ module _ (s : State) (net : NetPlan) (stands : Stands s net) where
       back in_tree on' =
           let there = comes_parts ys (suc hop) e (ByLink (opposite_of d)) on' in
           let by : ComesBy s.setup.machine net.tree.edges ys Local hop there.exit.chip =
-          comes_by s.setup.machine net.tree.edges u net.tree.root Local ys hop there.exit w'.is_branch there.at
-          in
+          comes_by s.setup.machine net.tree.edges u net.tree.root Local ys hop there.exit w'.is_branch there.at in
           let one : by.edge ≡ edge =
           one_edge_into s.setup.machine net.tree.root net.tree.edges (map (λ x. x.chip) net.targets) stands.tree by.edge edge e
-          by.in_tree in_tree (by.leads ∙ ap Some there.chip) is_far
-          in
+          by.in_tree in_tree (by.leads ∙ ap Some there.chip) is_far in
           leaves_from ys hop c (Link d) (by.before ∙ ap (λ (f : Edge). Some (exit_of f)) one)
 
   -- Crossing to a vertex: the branch ends there.
@@ -269,13 +246,12 @@ module _ (s : State) (net : NetPlan) (stands : Stands s net) where
 
       ends : ExitLeads s.setup.machine net.tree.edges u ys hop (record { chip = c; out = o }) → ((v == to') && (hop + 1 == length ys)) ≡ true
       ends (inl (d, out, in_tree, next)) =
-          let live : IsLiveLink s.setup.machine c d = All-contains (λ (f : Edge). IsLiveLink s.setup.machine f.chip f.dir) net.tree.edges (record { chip = c; dir = d }) stands.tree.edges_live in_tree in
+          let live : IsLiveLink s.setup.machine c d = All-contains (λ (f : Edge). IsLiveLink s.setup.machine f.chip f.dir) net.tree.edges
+          (record { chip = c; dir = d }) stands.tree.edges_live in_tree in
           let not_live = dead d out in
           cc
       ends (inr (chip, out, last)) =
-          let same : there.0 ≡ u =
-          same_site s.setup.machine there.0 u site (target_site s net stands u w'.is_target) (there.2 ∙ sym chip) (there.3 ∙ out)
-          in
+          let same : there.0 ≡ u = same_site s.setup.machine there.0 u site (target_site s net stands u w'.is_target) (there.2 ∙ sym chip) (there.3 ∙ out) in
           let same_v : v ≡ to' = AllPairs-apart s.setup.spots u stands.mesh.different v to' (there.1 ∙ ap Some same) goal in
           and_from (v == to') (hop + 1 == length ys) (eq-eqb v to' same_v) (eq-eqb (hop + 1) (length ys) (omega (arith, last)))
 
@@ -333,17 +309,12 @@ module _ (s : State) (net : NetPlan) (stands : Stands s net) where
       by_chip x at true same =
           let x_c : x.chip ≡ c = chip_eq_true x.chip c same in
           let valid : IsOutput x.out = exit_is_output s net u ys w'.is_branch k.hop x at in
-          let wanted : is_wanted net.tree.edges net.targets x.chip x.out ≡ true =
-          exit_wanted s net u w'.is_target ys w'.is_branch k.hop x at
-          in
+          let wanted : is_wanted net.tree.edges net.targets x.chip x.out ≡ true = exit_wanted s net u w'.is_target ys w'.is_branch k.hop x at in
           let given : has route x.out ≡ true =
           stands.right c port k.key x.out comes_in is_key valid
-          ∙ (ap (λ (d : Chip). is_wanted net.tree.edges net.targets d x.out) (sym x_c) ∙ wanted)
-          in
+          ∙ (ap (λ (d : Chip). is_wanted net.tree.edges net.targets d x.out) (sym x_c) ∙ wanted) in
           let one = one_place s net stands t u xs ys w.is_branch w'.is_branch k.hop k.hop there.exit x there.at at (there.chip ∙ sym x_c) in
-          let arrives : port_eq (arrival_at ys k.hop) port ≡ true =
-          ap (λ (p : Port). port_eq p port) (sym one.1 ∙ there.port_is) ∙ port_eq_same port
-          in
+          let arrives : port_eq (arrival_at ys k.hop) port ≡ true = ap (λ (p : Port). port_eq p port) (sym one.1 ∙ there.port_is) ∙ port_eq_same port in
           outs_once route x.out valid ∙ (ap (λ b. if b then 1 else 0) given ∙ ap (λ b. if b then 1 else 0) (sym arrives))
 
       by_exit : (x : Option Exit) → slice_get ys k.hop ≡ x →
@@ -413,15 +384,12 @@ module _ (s : State) (net : NetPlan) (stands : Stands s net) where
       let comes_in : ComesIn s.setup.machine net.tree.root net.tree.edges c port =
       subst (λ (d : Chip). ComesIn s.setup.machine net.tree.root net.tree.edges d port) there.chip
       (subst (λ (p : Port). ComesIn s.setup.machine net.tree.root net.tree.edges there.exit.chip p) there.port_is
-      (branch_comes_in s net t xs w.is_branch k.hop there.exit there.at))
-      in
+      (branch_comes_in s net t xs w.is_branch k.hop there.exit there.at)) in
       let wanted : is_wanted net.tree.edges net.targets c o ≡ true =
-      sym (stands.right c port k.key o comes_in is_key (has_is_output route o has_it)) ∙ has_it
-      in
+      sym (stands.right c port k.key o comes_in is_key (has_is_output route o has_it)) ∙ has_it in
       let other = wanted_on_branch s net stands (record { chip = c; out = o }) wanted in
       let one = one_place s net stands t other.target xs other.branch w.is_branch other.is_branch k.hop other.place there.exit
-      (record { chip = c; out = o }) there.at other.at there.chip
-      in
+      (record { chip = c; out = o }) there.at other.at there.chip in
       let end = vertex_there s.setup.spots other.target (All-contains (Contains s.setup.spots) net.targets other.target stands.targets other.is_target) in
       record {
         target = other.target;

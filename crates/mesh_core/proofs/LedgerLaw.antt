@@ -1,17 +1,13 @@
 -- The ledger of copies is kept by every bag of moves, of which an event is one move.
 use Rattle.std.proofs.Common.{◌≡◌, ℕ, ◌+◌, ◌<◌, ◌≤◌, List, [], ◌∷◌, Bool, true, false, ◌==◌, ◌&&◌, if◌then◌else◌, refl, ap, sym, ◌∙◌, subst, arith, inl, inr, ◌⊎◌, length, count_by, suc, zero}
+use Rattle.std.proofs.lemmas.{List.Elements.All-contains, Bool.cases_order, Bool.and_parts, Bool.eqb-true, List.get_or_default, Option.slice_get_within}
 use Rattle.std.specs.List.{slice_index_or, All, Contains}
-use Rattle.std.proofs.lemmas.List.Elements.{All-contains}
-use Rattle.std.proofs.lemmas.Bool.{cases_order, and_parts, eqb-true}
-use Rattle.std.proofs.lemmas.List.{get_or_default}
-use Rattle.std.proofs.lemmas.Option.{slice_get_within}
 use Rattle.spin_base.proofs.Counts.{count_by-cons, count_by-none}
 use Rattle.spin_base.proofs.Exchange.{count_taken_out, count_put_in}
 use Rattle.spin_base.proofs.Members.{Among, among_contains, contains_among}
 use Rattle.spin_base.specs.declared.chips.Spot.{Spot}
 use Rattle.spin_base.specs.Hops.{last_hop}
-use Rattle.machine_desc.specs.RoutingTree.{IsRoutingTree}
-use Rattle.machine_desc.specs.Branch.{Exit}
+use Rattle.machine_desc.specs.{RoutingTree.IsRoutingTree, Branch.Exit}
 use Rattle.machine_desc.specs.declared.nets.NetPlan.{NetPlan}
 use Rattle.machine_desc.specs.RightTables.{IsKeyOf, RoutesByTree, AreRight}
 use Rattle.machine_desc.specs.NetsOn.{HaveDisjointBlocks, AreNetsOn, IsWayOn}
@@ -259,8 +255,7 @@ module _ (s t : State) (nets : List NetPlan) (labels : ℕ → Label)
             let number : v.leaves.copy.packet ≡ n = eqb-true v.leaves.copy.packet n same in
             let its_key : v.leaves.copy.key ≡ (labels n).key = r.key ∙ ap (λ i. (labels i).key) number in
             let one : r.net ≡ net =
-            one_net nets ledger.nets_stand.disjoint r.net net r.in_nets has v.leaves.copy.key r.is_key (subst (λ i. IsKeyOf net.block i) (sym its_key) key)
-            in
+            one_net nets ledger.nets_stand.disjoint r.net net r.in_nets has v.leaves.copy.key r.is_key (subst (λ i. IsKeyOf net.block i) (sym its_key) key) in
             move_counts s r.net (stands r.net r.in_nets) r.trail.target target r.trail.branch branch r.trail.from from r.trail.to to r.trail.way
             (subst (λ (m : NetPlan). IsWayOn s.setup.machine s.setup.spots m target branch from to) (sym one) w) v.leaves v.come v.is_move r.is_key r.trail.on
 
@@ -312,12 +307,10 @@ module _ (s t : State) (nets : List NetPlan) (labels : ℕ → Label)
             let moved = all_moves n net in_list label_key target branch from to w_s bag.moves (λ v a. a) in
             let old = right_before r.origin r.was_there in
             let origin_key : IsKeyOf net.block r.origin.copy.key =
-            subst (λ i. IsKeyOf net.block i) (sym (old.key ∙ ap (λ i. (labels i).key) r.same_packet)) label_key
-            in
+            subst (λ i. IsKeyOf net.block i) (sym (old.key ∙ ap (λ i. (labels i).key) r.same_packet)) label_key in
             let before : count_by p (marks_of s) ≡ 1 =
             ap (λ i. count_by (is_packet_on_trail i from to branch) (marks_of s)) (sym r.same_packet)
-            ∙ ledger.once_on_each r.origin r.was_there net in_list origin_key target branch from to w_s
-            in
+            ∙ ledger.once_on_each r.origin r.was_there net in_list origin_key target branch from to w_s in
             omega arith
 
     -- A packet that has a mark had one before.
@@ -334,5 +327,8 @@ module _ (s t : State) (nets : List NetPlan) (labels : ℕ → Label)
         let even = bag.balance p in
         let moved = all_moves n r.net r.in_nets label_key r.trail.target r.trail.branch r.trail.from r.trail.to r.trail.way bag.moves (λ v a. a) in
         let before = ledger.once_on_each k has r.net r.in_nets r.is_key r.trail.target r.trail.branch r.trail.from r.trail.to r.trail.way in
-        let found = counted p (marks_of t) (omega arith) in
-        (found.0, among_contains found.0 (marks_of t) found.1, eqb-true found.0.copy.packet n ((and_parts (found.0.copy.packet == n) (is_on_trail r.trail.from r.trail.to r.trail.branch found.0) found.2).0))
+        let found = counted p (marks_of t) (omega arith) in (
+          found.0,
+          among_contains found.0 (marks_of t) found.1,
+          eqb-true found.0.copy.packet n ((and_parts (found.0.copy.packet == n) (is_on_trail r.trail.from r.trail.to r.trail.branch found.0) found.2).0),
+        )

@@ -2,18 +2,11 @@
 use Rattle.std.proofs.Common.{◌≡◌, ℕ, ◌+◌, ◌*◌, ◌<◌, ◌≤◌, List, [], ◌∷◌, map, Bool, true, false, ◌==◌, ◌&&◌, if◌then◌else◌, Option, Some, None, refl, ap, sym, arith, inl, inr, min, subst}
 use Rattle.std.proofs.lemmas.Bool.{and_parts, eqb-true, eq-eqb, and_from}
 use Rattle.spin_base.proofs.Members.{Among, among_only}
-use Rattle.spin_base.specs.declared.chips.Chip.{Chip}
-use Rattle.spin_base.specs.declared.chips.Port.{Port}
-use Rattle.spin_base.specs.declared.chips.Port.TheVariants.{Link as ByLink, Local}
-use Rattle.spin_base.specs.declared.routes.Out.{Out}
-use Rattle.spin_base.specs.declared.copies.McCopy.{McCopy}
-use Rattle.spin_base.specs.Links.{opposite_of}
-use Rattle.spin_base.specs.Lookup.{lookup}
-use Rattle.spin_base.specs.Outputs.{outs_of}
-use Rattle.machine_desc.specs.RightTables.{table_at}
-use Rattle.spin_base.specs.Equality.{chip_eq, port_eq, out_eq}
 use Rattle.spin_base.proofs.Equality.{chip_eq_same, chip_eq_true, port_eq_same, port_eq_true, out_eq_same, out_eq_true}
-use Rattle.spin_base.specs.Hops.{onward, last_hop}
+use Rattle.spin_base.specs.declared.chips.{Chip.Chip, Port.Port, Port.TheVariants.Link as ByLink, Port.TheVariants.Local}
+use Rattle.spin_base.specs.declared.{routes.Out.Out, copies.McCopy.McCopy}
+use Rattle.spin_base.specs.{Links.opposite_of, Lookup.lookup, Outputs.outs_of, Equality.chip_eq, Equality.port_eq, Equality.out_eq, Hops.onward, Hops.last_hop}
+use Rattle.machine_desc.specs.RightTables.{table_at}
 use Rattle.mesh_core.specs.State.{State}
 use Rattle.mesh_core.specs.Trail.{Station, unsent, in_queue, in_hand, at_core, delivered, dumped, Mark}
 use Rattle.mesh_core.proofs.Moves.{mark, IsMove, IsMoveOf, Crosses}
@@ -106,8 +99,7 @@ mark_eq_true a b e =
     (eqb-true a.copy.packet b.copy.packet ((and_parts (a.copy.packet == b.copy.packet) _ copies).0))
     (eqb-true a.copy.key b.copy.key ((and_parts (a.copy.key == b.copy.key) _ later1).0))
     (payload_true a.copy.payload b.copy.payload ((and_parts (payload_eq a.copy.payload b.copy.payload) (a.copy.hop == b.copy.hop) later2).0))
-    (eqb-true a.copy.hop b.copy.hop ((and_parts (payload_eq a.copy.payload b.copy.payload) (a.copy.hop == b.copy.hop) later2).1))
-    in
+    (eqb-true a.copy.hop b.copy.hop ((and_parts (payload_eq a.copy.payload b.copy.payload) (a.copy.hop == b.copy.hop) later2).1)) in
     marks_alike a.copy b.copy a.station b.station same_copy (station_true a.station b.station stations)
 
 -- ---- a number that each move raises

@@ -1,21 +1,13 @@
 -- What one event does to the marks of a mesh: one mark leaves, and others come in its place.
 use Rattle.std.proofs.Common.{◌≡◌, ℕ, ◌+◌, ◌*◌, ◌/◌, ◌%◌, false, List, [], ◌∷◌, ◌++◌, map, Option, Some, refl, ap, sym, ◌∙◌, subst, arith, zero-add, append-nil, ◌⊎◌}
-use Rattle.std.specs.List.{slice_get, slice_set}
 use Rattle.std.proofs.lemmas.List.{map-append}
+use Rattle.std.specs.List.{slice_get, slice_set}
 use Rattle.spin_base.proofs.Exchange.{TakenOut, PutIn, taken_out_after, taken_out_before, put_in_after, put_in_before, taken_out_gathered, put_in_gathered}
-use Rattle.spin_base.specs.declared.chips.Chip.{Chip}
-use Rattle.spin_base.specs.declared.chips.Dir.{Dir}
+use Rattle.spin_base.specs.declared.chips.{Chip.Chip, Dir.Dir}
 use Rattle.spin_base.specs.declared.chips.Dir.TheVariants.{East, NorthEast, North, West, SouthWest, South}
-use Rattle.spin_base.specs.declared.chips.Spot.{Spot}
-use Rattle.spin_base.specs.declared.chips.Port.{Port}
-use Rattle.spin_base.specs.declared.chips.Port.TheVariants.{Link as ByLink, Local}
-use Rattle.spin_base.specs.declared.routes.Out.{Out}
-use Rattle.spin_base.specs.declared.routes.Out.TheVariants.{Link}
-use Rattle.spin_base.specs.declared.copies.McCopy.{McCopy}
-use Rattle.spin_base.specs.declared.copies.Delivery.{Delivery}
-use Rattle.spin_base.specs.declared.copies.DumpRec.{DumpRec}
-use Rattle.spin_base.specs.Links.{opposite_of, port_number}
-use Rattle.spin_base.specs.Hops.{onward}
+use Rattle.spin_base.specs.declared.chips.{Spot.Spot, Port.Port, Port.TheVariants.Link as ByLink, Port.TheVariants.Local}
+use Rattle.spin_base.specs.declared.{routes.Out.Out, routes.Out.TheVariants.Link, copies.McCopy.McCopy, copies.Delivery.Delivery, copies.DumpRec.DumpRec}
+use Rattle.spin_base.specs.{Links.opposite_of, Links.port_number, Hops.onward}
 use Rattle.machine_desc.specs.Description.{Description}
 use Rattle.machine_desc.specs.Live.{far_of, index_of, chip_of, is_live_link, IsInside, IsLiveLink}
 pub use Rattle.machine_desc.proofs.Live.{chip_of-index_of}
@@ -99,9 +91,15 @@ hand_marks-held c k port (o ∷ os) = refl
 
 -- ---- one list of the mesh changes, so the marks of the mesh change
 
--- what stands behind the unsent copies
-abbrev behind_unsent : State → List Mark
-behind_unsent s = input_marks s ++ (all_hand_marks s ++ (core_marks s ++ (delivered_marks s ++ dumped_marks s)))
+-- what stands behind the copies in hands, behind those at ports and behind the unsent ones
+abbrev pub behind_hands : State → List Mark
+behind_hands s = core_marks s ++ (delivered_marks s ++ dumped_marks s)
+
+abbrev pub behind_inputs : State → List Mark
+behind_inputs s = all_hand_marks s ++ behind_hands s
+
+abbrev pub behind_unsent : State → List Mark
+behind_unsent s = input_marks s ++ behind_inputs s
 
 pub unsent_out : (s : State) (v : ℕ) (k : McCopy) (q : List McCopy) → slice_get s.unsent v ≡ Some (k ∷ q) →
     TakenOut (mark k (unsent v)) (marks_of s) (marks_of (record s { unsent = slice_set s.unsent v q }))
@@ -118,8 +116,7 @@ input_out s c port inside k q at =
     let i = queue_at s.setup.machine c port in
     let s' : State = record s { inputs = slice_set s.inputs i q } in
     taken_out_after (mark k (in_queue c port)) (unsent_marks s) (behind_unsent s) (behind_unsent s')
-    (taken_out_before (mark k (in_queue c port)) (input_marks s) (input_marks s')
-    (all_hand_marks s ++ (core_marks s ++ (delivered_marks s ++ dumped_marks s)))
+    (taken_out_before (mark k (in_queue c port)) (input_marks s) (input_marks s') (behind_inputs s)
     (taken_out_gathered (λ n copies. marks_at (in_queue (chip_of s.setup.machine (n / 7)) (port_of (n % 7))) copies)
     (mark k (in_queue c port)) 0 s.inputs i (k ∷ q) q at
     (subst (λ st. TakenOut (mark k (in_queue c port)) (marks_at st (k ∷ q)) (marks_at st q))
@@ -132,8 +129,7 @@ input_in s c port inside k q at =
     let i = queue_at s.setup.machine c port in
     let s' : State = record s { inputs = slice_set s.inputs i (q ++ k ∷ []) } in
     put_in_after (mark k (in_queue c port) ∷ []) (unsent_marks s) (behind_unsent s) (behind_unsent s')
-    (put_in_before (mark k (in_queue c port) ∷ []) (input_marks s) (input_marks s')
-    (all_hand_marks s ++ (core_marks s ++ (delivered_marks s ++ dumped_marks s)))
+    (put_in_before (mark k (in_queue c port) ∷ []) (input_marks s) (input_marks s') (behind_inputs s)
     (put_in_gathered (λ n copies. marks_at (in_queue (chip_of s.setup.machine (n / 7)) (port_of (n % 7))) copies)
     (mark k (in_queue c port) ∷ []) 0 s.inputs i q (q ++ k ∷ []) at
     (subst (λ st. PutIn (mark k (in_queue c port) ∷ []) (marks_at st q) (marks_at st (q ++ k ∷ [])))
@@ -148,9 +144,8 @@ hand_out s c inside old new x at t =
     let s' : State = record s { hands = slice_set s.hands i new } in
     let n_is : chip_of s.setup.machine (0 + i) ≡ c = ap (chip_of s.setup.machine) (zero-add i) ∙ chip_of-index_of s.setup.machine c inside in
     taken_out_after x (unsent_marks s) (behind_unsent s) (behind_unsent s')
-    (taken_out_after x (input_marks s) (all_hand_marks s ++ (core_marks s ++ (delivered_marks s ++ dumped_marks s)))
-    (all_hand_marks s' ++ (core_marks s ++ (delivered_marks s ++ dumped_marks s)))
-    (taken_out_before x (all_hand_marks s) (all_hand_marks s') (core_marks s ++ (delivered_marks s ++ dumped_marks s))
+    (taken_out_after x (input_marks s) (behind_inputs s) (behind_inputs s')
+    (taken_out_before x (all_hand_marks s) (all_hand_marks s') (behind_hands s)
     (taken_out_gathered (λ n h. hand_marks (chip_of s.setup.machine n) h) x 0 s.hands i old new at
     (subst (λ d. TakenOut x (hand_marks d old) (hand_marks d new)) (sym n_is) t))))
 
@@ -162,9 +157,7 @@ hand_in s c inside old new xs at t =
     let s' : State = record s { hands = slice_set s.hands i new } in
     let n_is : chip_of s.setup.machine (0 + i) ≡ c = ap (chip_of s.setup.machine) (zero-add i) ∙ chip_of-index_of s.setup.machine c inside in
     put_in_after xs (unsent_marks s) (behind_unsent s) (behind_unsent s')
-    (put_in_after xs (input_marks s) (all_hand_marks s ++ (core_marks s ++ (delivered_marks s ++ dumped_marks s)))
-    (all_hand_marks s' ++ (core_marks s ++ (delivered_marks s ++ dumped_marks s)))
-    (put_in_before xs (all_hand_marks s) (all_hand_marks s') (core_marks s ++ (delivered_marks s ++ dumped_marks s))
+    (put_in_after xs (input_marks s) (behind_inputs s) (behind_inputs s') (put_in_before xs (all_hand_marks s) (all_hand_marks s') (behind_hands s)
     (put_in_gathered (λ n h. hand_marks (chip_of s.setup.machine n) h) xs 0 s.hands i old new at
     (subst (λ d. PutIn xs (hand_marks d old) (hand_marks d new)) (sym n_is) t))))
 
@@ -175,9 +168,7 @@ core_out s v k q at =
     let x = mark k (at_core v) in
     let n_is : v ≡ 0 + v = omega arith in
     taken_out_after x (unsent_marks s) (behind_unsent s) (behind_unsent s')
-    (taken_out_after x (input_marks s) (all_hand_marks s ++ (core_marks s ++ (delivered_marks s ++ dumped_marks s)))
-    (all_hand_marks s ++ (core_marks s' ++ (delivered_marks s ++ dumped_marks s)))
-    (taken_out_after x (all_hand_marks s) (core_marks s ++ (delivered_marks s ++ dumped_marks s)) (core_marks s' ++ (delivered_marks s ++ dumped_marks s))
+    (taken_out_after x (input_marks s) (behind_inputs s) (behind_inputs s') (taken_out_after x (all_hand_marks s) (behind_hands s) (behind_hands s')
     (taken_out_before x (core_marks s) (core_marks s') (delivered_marks s ++ dumped_marks s)
     (taken_out_gathered (λ w copies. marks_at (at_core w) copies) x 0 s.cores v (k ∷ q) q at
     (subst (λ n. TakenOut x (marks_at (at_core n) (k ∷ q)) (marks_at (at_core n) q)) n_is (front_out (at_core v) k q))))))
@@ -189,9 +180,7 @@ core_in s v k q at =
     let xs = mark k (at_core v) ∷ [] in
     let n_is : v ≡ 0 + v = omega arith in
     put_in_after xs (unsent_marks s) (behind_unsent s) (behind_unsent s')
-    (put_in_after xs (input_marks s) (all_hand_marks s ++ (core_marks s ++ (delivered_marks s ++ dumped_marks s)))
-    (all_hand_marks s ++ (core_marks s' ++ (delivered_marks s ++ dumped_marks s)))
-    (put_in_after xs (all_hand_marks s) (core_marks s ++ (delivered_marks s ++ dumped_marks s)) (core_marks s' ++ (delivered_marks s ++ dumped_marks s))
+    (put_in_after xs (input_marks s) (behind_inputs s) (behind_inputs s') (put_in_after xs (all_hand_marks s) (behind_hands s) (behind_hands s')
     (put_in_before xs (core_marks s) (core_marks s') (delivered_marks s ++ dumped_marks s)
     (put_in_gathered (λ w copies. marks_at (at_core w) copies) xs 0 s.cores v q (q ++ k ∷ []) at
     (subst (λ n. PutIn xs (marks_at (at_core n) q) (marks_at (at_core n) (q ++ k ∷ []))) n_is (back_in (at_core v) k q))))))
@@ -203,9 +192,7 @@ delivered_in s v k =
     let s' : State = record s { delivered = s.delivered ++ d ∷ [] } in
     let xs = mark k (delivered v) ∷ [] in
     put_in_after xs (unsent_marks s) (behind_unsent s) (behind_unsent s')
-    (put_in_after xs (input_marks s) (all_hand_marks s ++ (core_marks s ++ (delivered_marks s ++ dumped_marks s)))
-    (all_hand_marks s ++ (core_marks s ++ (delivered_marks s' ++ dumped_marks s)))
-    (put_in_after xs (all_hand_marks s) (core_marks s ++ (delivered_marks s ++ dumped_marks s)) (core_marks s ++ (delivered_marks s' ++ dumped_marks s))
+    (put_in_after xs (input_marks s) (behind_inputs s) (behind_inputs s') (put_in_after xs (all_hand_marks s) (behind_hands s) (behind_hands s')
     (put_in_after xs (core_marks s) (delivered_marks s ++ dumped_marks s) (delivered_marks s' ++ dumped_marks s)
     (put_in_before xs (delivered_marks s) (delivered_marks s') (dumped_marks s) (record {
       front = delivered_marks s;
@@ -221,9 +208,7 @@ dumped_in s c o k =
     let s' : State = record s { dumped = s.dumped ++ r ∷ [] } in
     let xs = mark k (dumped c o) ∷ [] in
     put_in_after xs (unsent_marks s) (behind_unsent s) (behind_unsent s')
-    (put_in_after xs (input_marks s) (all_hand_marks s ++ (core_marks s ++ (delivered_marks s ++ dumped_marks s)))
-    (all_hand_marks s ++ (core_marks s ++ (delivered_marks s ++ dumped_marks s')))
-    (put_in_after xs (all_hand_marks s) (core_marks s ++ (delivered_marks s ++ dumped_marks s)) (core_marks s ++ (delivered_marks s ++ dumped_marks s'))
+    (put_in_after xs (input_marks s) (behind_inputs s) (behind_inputs s') (put_in_after xs (all_hand_marks s) (behind_hands s) (behind_hands s')
     (put_in_after xs (core_marks s) (delivered_marks s ++ dumped_marks s) (delivered_marks s ++ dumped_marks s')
     (put_in_after xs (delivered_marks s) (dumped_marks s) (dumped_marks s') (record {
       front = dumped_marks s;
@@ -239,9 +224,7 @@ dumped_out s r rest is =
     let s' : State = record s { dumped = rest } in
     let x : Mark = mark r.copy (dumped r.chip r.out) in
     taken_out_after x (unsent_marks s) (behind_unsent s) (behind_unsent s')
-    (taken_out_after x (input_marks s) (all_hand_marks s ++ (core_marks s ++ (delivered_marks s ++ dumped_marks s)))
-    (all_hand_marks s ++ (core_marks s ++ (delivered_marks s ++ dumped_marks s')))
-    (taken_out_after x (all_hand_marks s) (core_marks s ++ (delivered_marks s ++ dumped_marks s)) (core_marks s ++ (delivered_marks s ++ dumped_marks s'))
+    (taken_out_after x (input_marks s) (behind_inputs s) (behind_inputs s') (taken_out_after x (all_hand_marks s) (behind_hands s) (behind_hands s')
     (taken_out_after x (core_marks s) (delivered_marks s ++ dumped_marks s) (delivered_marks s ++ dumped_marks s')
     (taken_out_after x (delivered_marks s) (dumped_marks s) (dumped_marks s') (record {
       front = [];

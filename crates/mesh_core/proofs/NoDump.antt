@@ -1,35 +1,24 @@
 -- Where a queue has room for a copy of each packet that is under way, no copy is dumped.
-use Rattle.std.proofs.Common.{◌≡◌, ◌≢◌, ℕ, ◌+◌, ◌<◌, ◌≤◌, List, ◌∷◌, Bool, true, false, not, ◌==◌, ◌&&◌, if◌then◌else◌, Option, Some, None, is_some, refl, ap, sym, ◌∙◌, subst, arith, inl, inr, length, count_by}
+use Rattle.std.proofs.Common.{◌≡◌, ◌≢◌, ℕ, ◌+◌, ◌<◌, ◌≤◌, List, ◌∷◌, Bool, true, false, not, ◌==◌, ◌&&◌, if◌then◌else◌, Option, Some, None, is_some, refl, ap, sym, ◌∙◌}
+use Rattle.std.proofs.Common.{subst, arith, inl, inr, length, count_by}
+use Rattle.std.proofs.lemmas.Bool.{lt-ltb, and_parts, eq-eqb, eqb-true}
+use Rattle.std.proofs.lemmas.List.{Elements.All-contains, FromFn.length-range_with_len, Folds.Any-from_list_any}
 use Rattle.std.specs.Prelude.{Result, Ok, Err, IfOk}
 use Rattle.std.specs.List.{slice_get, list_any, range_with_len, Contains}
-use Rattle.std.proofs.lemmas.Bool.{lt-ltb, and_parts, eq-eqb, eqb-true}
-use Rattle.std.proofs.lemmas.List.Elements.{All-contains}
-use Rattle.std.proofs.lemmas.List.FromFn.{length-range_with_len}
-use Rattle.std.proofs.lemmas.List.Folds.{Any-from_list_any}
-use Rattle.spin_base.proofs.Counts.{count_by-cons, count_by-none}
-use Rattle.spin_base.proofs.Members.{Among, among_contains, contains_among}
-use Rattle.spin_base.specs.declared.chips.Chip.{Chip}
-use Rattle.spin_base.specs.declared.routes.Out.{Out}
-use Rattle.spin_base.specs.declared.copies.McCopy.{McCopy}
-use Rattle.spin_base.specs.declared.copies.Packet.{Packet}
-use Rattle.spin_base.specs.declared.copies.Event.{Event}
-use Rattle.spin_base.specs.declared.copies.Event.TheVariants.{Dump}
+use Rattle.spin_base.proofs.{Counts.count_by-cons, Counts.count_by-none, Members.Among, Members.among_contains, Members.contains_among, Equality.out_eq_true}
+use Rattle.spin_base.specs.declared.{chips.Chip.Chip, routes.Out.Out}
+use Rattle.spin_base.specs.declared.copies.{McCopy.McCopy, Packet.Packet, Event.Event, Event.TheVariants.Dump}
 use Rattle.spin_base.specs.Equality.{out_eq}
-use Rattle.spin_base.proofs.Equality.{out_eq_true}
 use Rattle.machine_desc.specs.Live.{index_of, is_live_chip, IsInside}
-use Rattle.machine_desc.proofs.Far.{live_inside}
 use Rattle.machine_desc.specs.declared.nets.NetPlan.{NetPlan}
-use Rattle.mesh_core.specs.declared.places.Did.{Did}
-use Rattle.mesh_core.specs.declared.places.Did.TheVariants.{Moved, Idle}
+use Rattle.machine_desc.proofs.Far.{live_inside}
+use Rattle.mesh_core.specs.declared.places.Did.{Did, TheVariants.Moved, TheVariants.Idle}
 use Rattle.mesh_core.specs.State.{State, Hand, IsMesh, Queue, input, core, nowhere, behind}
 use Rattle.mesh_core.specs.Step.{dump_of, serves, has_room, has_room_behind, answer}
 use Rattle.mesh_core.specs.Trail.{in_hand, Mark}
 use Rattle.mesh_core.specs.Ledger.{marks_of, label_of, Label, MeetsLedger, OnlyUnderWay}
-use Rattle.mesh_core.specs.Opened.{asked_by, MeetsJobLedger}
-use Rattle.mesh_core.specs.Waiting.{queue_of}
-use Rattle.mesh_core.proofs.Counting.{count_all, count_covered, count_le}
-use Rattle.mesh_core.proofs.Moves.{mark}
-use Rattle.mesh_core.proofs.OnlyUnderWay.{of_job}
+use Rattle.mesh_core.specs.{Opened.asked_by, Opened.MeetsJobLedger, Waiting.queue_of}
+use Rattle.mesh_core.proofs.{Counting.count_all, Counting.count_covered, Counting.count_le, Moves.mark, OnlyUnderWay.of_job}
 use Rattle.mesh_core.proofs.Queued.{FreeBehind, free_behind, once_in_queue, waiting_mark}
 use Rattle.mesh_core.proofs.Standing.{held_mark}
 
@@ -62,8 +51,7 @@ module _ (s : State) (nets : List NetPlan) (labels : ℕ → Label) (numbers : L
         let all : count_by (λ (j : McCopy). true) (k ∷ q) ≡ length (k ∷ q) = count_all (λ (j : McCopy). true) (k ∷ q) (λ j a. refl) in
         let few : count_by (λ (j : McCopy). true) (k ∷ q) ≤ length numbers =
         count_covered (λ n (j : McCopy). j.packet == n) numbers (λ j. true) (k ∷ q)
-        (λ j a yes'. (j.packet, contains_among j.packet numbers (listed j a), eq-eqb j.packet j.packet refl)) (λ n a. each n)
-        in
+        (λ j a yes'. (j.packet, contains_among j.packet numbers (listed j a), eq-eqb j.packet j.packet refl)) (λ n a. each n) in
         omega (arith, all, few)
       where
         listed : (j : McCopy) → Among j (k ∷ free.0) → Contains numbers j.packet
@@ -79,10 +67,8 @@ module _ (s : State) (nets : List NetPlan) (labels : ℕ → Label) (numbers : L
             none is =
                 let number : k.packet ≡ i = eqb-true k.packet i is in
                 let fewer = count_le (λ (j : McCopy). j.packet == i) (λ j. false) free.0 (λ j among same.
-                absurd (All-contains (λ (d : McCopy). d.packet ≢ k.packet) free.0 j free.2 (among_contains j free.0 among) (eqb-true j.packet i same ∙ sym number)))
-                in
-                let zero_count = count_by-none free.0 in
-                omega (arith, fewer, zero_count)
+                absurd (All-contains (λ (d : McCopy). d.packet ≢ k.packet) free.0 j free.2 (among_contains j free.0 among) (eqb-true j.packet i same ∙ sym number))) in
+                omega (arith, fewer, count_by-none free.0)
 
     room : has_room_behind s (behind s.setup c o) ≡ true
     room = room_of s (behind s.setup c o) free.0 free.1 (omega (arith, short, roomy))
@@ -115,10 +101,9 @@ module _ (s : State) (nets : List NetPlan) (labels : ℕ → Label) (numbers : L
 pub idle_answer : (did : Did) (s : State) (e is_e : Event) → e ≡ is_e → IsMesh s → did ≡ answer s is_e →
     (nets : List NetPlan) (packets : List Packet) (c : Chip) (o : Out) → MeetsJobLedger s nets packets → length packets ≤ s.setup.capacity → e ≡ Dump c o → did ≡ Idle
 idle_answer did s e is_e same mesh told nets packets c o job roomy is =
-    let packets_long = length-range_with_len 0 (length packets) in
     told ∙ (ap (answer s) (sym same ∙ is)
     ∙ no_dump s nets (λ i. label_of (asked_by nets packets i)) (range_with_len 0 (length packets)) mesh job.ledger.ledger (of_job s nets packets job)
-    (omega (arith, packets_long, roomy)) c o)
+    (omega (arith, length-range_with_len 0 (length packets), roomy)) c o)
 
 pub idle_result : {E : Type 0} (r : Result Did E) (s : State) (e is_e : Event) → e ≡ is_e → IsMesh s → IfOk r (λ did. did ≡ answer s is_e) →
     (nets : List NetPlan) (packets : List Packet) (c : Chip) (o : Out) → MeetsJobLedger s nets packets → length packets ≤ s.setup.capacity → e ≡ Dump c o →

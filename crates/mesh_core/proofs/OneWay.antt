@@ -1,19 +1,15 @@
 -- A net that stands on a machine has one way to each target.
 use Rattle.std.proofs.Common.{◌≡◌, ℕ, ◌+◌, ◌<◌, suc, zero, List, [], ◌∷◌, map, Some, refl, ap, sym, ◌∙◌, arith, inl, inr, length}
+use Rattle.std.proofs.lemmas.{List.Elements.All-contains, Option.slice_get_within}
 use Rattle.std.specs.List.{slice_get, Contains}
-use Rattle.std.proofs.lemmas.List.Elements.{All-contains}
-use Rattle.std.proofs.lemmas.Option.{slice_get_within}
 use Rattle.spin_base.proofs.Places.{slice_get_there}
-use Rattle.spin_base.specs.declared.chips.Port.TheVariants.{Local}
-use Rattle.spin_base.specs.declared.chips.Spot.{Spot}
+use Rattle.spin_base.specs.declared.chips.{Port.TheVariants.Local, Spot.Spot}
 use Rattle.machine_desc.specs.declared.trees.Edge.{Edge}
-use Rattle.machine_desc.specs.Description.{Description}
-use Rattle.machine_desc.specs.RoutingTree.{IsRoutingTree}
-use Rattle.machine_desc.specs.Branch.{Exit, IsBranch}
-use Rattle.machine_desc.proofs.Branches.{same_exit, ComesBy, comes_by, exit_leads, ExitLeads, same_place, exit_of, last_exit}
-use Rattle.machine_desc.proofs.TreeLemmas.{one_edge_into}
+use Rattle.machine_desc.specs.{Description.Description, RoutingTree.IsRoutingTree, Branch.Exit, Branch.IsBranch}
 use Rattle.machine_desc.specs.declared.nets.NetPlan.{NetPlan}
 use Rattle.machine_desc.specs.NetsOn.{AreNetsOn, IsWayOn}
+use Rattle.machine_desc.proofs.Branches.{same_exit, ComesBy, comes_by, exit_leads, ExitLeads, same_place, exit_of, last_exit}
+use Rattle.machine_desc.proofs.TreeLemmas.{one_edge_into}
 
 same_items : {X : Type 0} (xs ys : List X) → length xs ≡ length ys → ((i : ℕ) → i < length xs → slice_get xs i ≡ slice_get ys i) → xs ≡ ys
 same_items [] [] long same = refl
@@ -62,8 +58,7 @@ module _ (m : Description) (net : NetPlan) (tree : IsRoutingTree m net.tree.root
         let x : ComesBy m net.tree.edges xs Local i next.0.chip = comes_by m net.tree.edges t net.tree.root Local xs i next.0 is next.1 in
         let y : ComesBy m net.tree.edges ys Local i next.0.chip = comes_by m net.tree.edges t net.tree.root Local ys i next.0 also too in
         let one : x.edge ≡ y.edge =
-        one_edge_into m net.tree.root net.tree.edges (map (λ z. z.chip) net.targets) tree x.edge y.edge next.0.chip x.in_tree y.in_tree x.leads y.leads
-        in
+        one_edge_into m net.tree.root net.tree.edges (map (λ z. z.chip) net.targets) tree x.edge y.edge next.0.chip x.in_tree y.in_tree x.leads y.leads in
         x.before ∙ (ap (λ (e : Edge). Some (exit_of e)) one ∙ sym y.before)
 
     -- Two branches to one target are one.

@@ -1,25 +1,16 @@
 -- Which packets are under way: no event brings one that was not, and the packets of a job have the numbers below their number.
 use Rattle.std.proofs.Common.{◌≡◌, ℕ, ◌+◌, List, [], ◌∷◌, ◌++◌, map, length, Option, Some, None, ap, sym, refl, ◌∙◌, subst, arith, inl, inr, ◌⊎◌}
-use Rattle.std.specs.Prelude.{unwrap_or}
-use Rattle.std.specs.List.{Contains, range_with_len}
-use Rattle.std.proofs.lemmas.List.Elements.{Contains-get_or}
-use Rattle.std.proofs.lemmas.List.FromFn.{length-range_with_len, get_or-range_with_len}
+use Rattle.std.proofs.lemmas.List.{Elements.Contains-get_or, FromFn.length-range_with_len, FromFn.get_or-range_with_len}
+use Rattle.std.specs.{Prelude.unwrap_or, List.Contains, List.range_with_len}
 use Rattle.spin_base.proofs.Exchange.{TakenOut, PutIn, among_taken_out}
 use Rattle.spin_base.proofs.Members.{Among, among_contains, contains_among, among_either, among_left, among_only, among_right}
-use Rattle.spin_base.specs.declared.chips.Chip.{Chip}
-use Rattle.spin_base.specs.declared.copies.Event.{Event}
-use Rattle.spin_base.specs.declared.copies.McCopy.{McCopy}
-use Rattle.spin_base.specs.declared.copies.Packet.{Packet}
-use Rattle.spin_base.specs.declared.routes.Out.{Out}
+use Rattle.spin_base.specs.declared.{chips.Chip.Chip, copies.Event.Event, copies.McCopy.McCopy, copies.Packet.Packet, routes.Out.Out}
 use Rattle.machine_desc.specs.declared.nets.NetPlan.{NetPlan}
 use Rattle.mesh_core.specs.State.{State, IsMesh}
 use Rattle.mesh_core.specs.Step.{outputs, step_of, after_event}
 use Rattle.mesh_core.specs.Trail.{Station, unsent, in_queue, in_hand, at_core, delivered, dumped, Mark}
-use Rattle.mesh_core.specs.Ledger.{marks_of, OnlyUnderWay}
-use Rattle.mesh_core.specs.Opened.{MeetsJobLedger}
-use Rattle.mesh_core.proofs.Events.{event_exchange, MovesOn}
-use Rattle.mesh_core.proofs.FewMarks.{number_below}
-use Rattle.mesh_core.proofs.Moves.{mark, Crosses, IsMove, IsMoveOf}
+use Rattle.mesh_core.specs.{Ledger.marks_of, Ledger.OnlyUnderWay, Opened.MeetsJobLedger}
+use Rattle.mesh_core.proofs.{Events.event_exchange, Events.MovesOn, FewMarks.number_below, Moves.mark, Moves.Crosses, Moves.IsMove, Moves.IsMoveOf}
 
 -- what comes is of the packet that leaves
 same_packet : (s : State) (x : Mark) (come : List Mark) → IsMove s x come → (y : Mark) → Among y come → y.copy.packet ≡ x.copy.packet

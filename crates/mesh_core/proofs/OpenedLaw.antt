@@ -1,36 +1,26 @@
 -- The opened mesh of a job meets the ledger of the job.
-use Rattle.std.proofs.Common.{◌≡◌, ◌≢◌, ℕ, ◌+◌, ◌*◌, ◌/◌, ◌%◌, ◌<◌, List, [], ◌∷◌, Bool, true, false, ◌==◌, ◌&&◌, IsTrue, if◌then◌else◌, Option, Some, None, refl, ap, sym, ◌∙◌, subst, arith, append-nil, inl, inr, length, count_by}
+use Rattle.std.proofs.Common.{◌≡◌, ◌≢◌, ℕ, ◌+◌, ◌*◌, ◌/◌, ◌%◌, ◌<◌, List, [], ◌∷◌, Bool, true, false, ◌==◌, ◌&&◌, IsTrue, if◌then◌else◌, Option, Some, None, refl, ap}
+use Rattle.std.proofs.Common.{sym, ◌∙◌, subst, arith, append-nil, inl, inr, length, count_by}
+use Rattle.std.proofs.lemmas.List.{Elements.All-contains, Elements.All-map, FromFn.length-map-range_with_len, length-map}
+use Rattle.std.proofs.lemmas.Bool.{eqb-true, eq-eqb, ne_eqb, and_from}
+use Rattle.std.proofs.{Math.Bool.and-false, lemmas.Option.slice_get_within}
 use Rattle.std.specs.List.{slice_get, slice_index_or, range_with_len, All, Contains}
 use Rattle.std.specs.Option.{option_map_or}
-use Rattle.std.proofs.lemmas.List.Elements.{All-contains, All-map}
-use Rattle.std.proofs.lemmas.List.FromFn.{length-map-range_with_len}
-use Rattle.std.proofs.lemmas.List.{length-map}
-use Rattle.std.proofs.lemmas.Bool.{eqb-true, eq-eqb, ne_eqb, and_from}
-use Rattle.std.proofs.Math.Bool.{and-false}
-use Rattle.std.proofs.lemmas.Option.{slice_get_within}
 use Rattle.spin_base.proofs.Counts.{count_by-map}
 use Rattle.spin_base.proofs.Gathering.{gathered_nothing, among_made, made_among, count_made_one, among_chosen, chosen_among, count_chosen_one, count_chosen_none}
 use Rattle.spin_base.proofs.Members.{Among, among_contains, contains_among, among_map, map_among}
 use Rattle.spin_base.proofs.Places.{All-each}
-use Rattle.spin_base.specs.declared.chips.Spot.{Spot}
-use Rattle.spin_base.specs.declared.copies.McCopy.{McCopy}
-use Rattle.spin_base.specs.declared.copies.Packet.{Packet}
-use Rattle.machine_desc.specs.Description.{Description}
-use Rattle.machine_desc.specs.RoutingTree.{IsRoutingTree}
-use Rattle.machine_desc.specs.Branch.{Exit, IsBranch}
-use Rattle.machine_desc.proofs.Branches.{end_on_branch, link_on_branch}
+use Rattle.spin_base.specs.declared.{chips.Spot.Spot, copies.McCopy.McCopy, copies.Packet.Packet}
+use Rattle.machine_desc.specs.{Description.Description, RoutingTree.IsRoutingTree, Branch.Exit, Branch.IsBranch}
 use Rattle.machine_desc.specs.declared.nets.NetPlan.{NetPlan}
-use Rattle.machine_desc.specs.RightTables.{IsKeyOf}
-use Rattle.machine_desc.specs.NetsOn.{vertex_at, AreNetsOn, IsWayOn}
+use Rattle.machine_desc.specs.{RightTables.IsKeyOf, NetsOn.vertex_at, NetsOn.AreNetsOn, NetsOn.IsWayOn, Live.chip_of}
+use Rattle.machine_desc.proofs.Branches.{end_on_branch, link_on_branch}
 use Rattle.mesh_core.specs.State.{Setup, State, IsMesh}
 use Rattle.mesh_core.specs.Trail.{Mark, unsent, in_queue, at_core, on_trail, is_on_trail, is_packet_on_trail}
 use Rattle.mesh_core.specs.Ledger.{marks_of, marks_at, hand_marks, port_of, unsent_marks, Label, label_of}
 use Rattle.mesh_core.specs.Opened.{label_in, asked_by, first_copy, copy_from, unsent_of, empty_mesh, opened_mesh, AreOfNets, MeetsJobLedger}
 use Rattle.mesh_core.proofs.AskedPackets.{asked_parts, asked_from, asked_of_net, net_in_list, key_of_net}
-use Rattle.machine_desc.specs.Live.{chip_of}
-use Rattle.mesh_core.proofs.Moves.{mark}
-use Rattle.mesh_core.proofs.LedgerLaw.{one_net}
-use Rattle.mesh_core.proofs.Ways.{vertex_at_stands, vertex_there}
+use Rattle.mesh_core.proofs.{Moves.mark, LedgerLaw.one_net, Ways.vertex_at_stands, Ways.vertex_there}
 
 -- a copy that a vertex sends, and of what packet it is
 record IsSent (spots : List Spot) (nets : List NetPlan) (p : Packet) (i v : ℕ) (k : McCopy) : Type 0 where
@@ -102,8 +92,7 @@ module _ (setup : Setup) (nets : List NetPlan) (packets : List Packet) where
       let i : ℕ = in_list.0 in
       let zero_more : 0 + i ≡ i = omega arith in
       let copy_is : copy_from spots v i in_list.1 (slice_get nets in_list.1.net) ≡ Some in_marked.0 =
-      ap (λ n. copy_from spots v n in_list.1 (slice_get nets in_list.1.net)) (sym zero_more) ∙ in_list.3
-      in
+      ap (λ n. copy_from spots v n in_list.1 (slice_get nets in_list.1.net)) (sym zero_more) ∙ in_list.3 in
       let sent = sent_parts spots nets in_list.1 i v in_marked.0 (slice_get nets in_list.1.net) refl copy_is in
       record {
         vertex = v;
@@ -123,12 +112,10 @@ module _ (setup : Setup) (nets : List NetPlan) (packets : List Packet) where
       let zero_more : 0 + i ≡ i = omega arith in
       let in_list : Among (first_copy i net p) (copies v) =
       chosen_among (λ (e : ℕ × Packet). copy_from spots v e.0 e.1 (slice_get nets e.1.net)) (first_copy i net p) 0 packets i p at
-      (ap (λ n. copy_from spots v n p (slice_get nets p.net)) zero_more ∙ sent_from spots nets p i v net is vertex)
-      in
+      (ap (λ n. copy_from spots v n p (slice_get nets p.net)) zero_more ∙ sent_from spots nets p i v net is vertex) in
       let there : Among (mark (first_copy i net p) (unsent v)) (unsent_marks opened) =
       made_among (λ w q. marks_at (unsent w) q) copies (mark (first_copy i net p) (unsent v)) 0 number v (omega arith) (omega arith)
-      (map_among (λ (c : McCopy). mark c (unsent v)) (first_copy i net p) (copies v) in_list)
-      in
+      (map_among (λ (c : McCopy). mark c (unsent v)) (first_copy i net p) (copies v) in_list) in
       subst (λ l. Contains l (mark (first_copy i net p) (unsent v))) (sym opened_marks) (among_contains (mark (first_copy i net p) (unsent v)) (unsent_marks opened) there)
 
   -- unsent copies have passed no router
@@ -286,8 +273,7 @@ module _ (setup : Setup) (nets : List NetPlan) (packets : List Packet) where
             (record { net = u.sent.net; label = label_in u.sent.net u.packet }, ap (asked_by nets packets) (unsent_number k u) ∙ asked);
         each_asked = λ i a is.
             let parts = asked_parts nets packets i a is in
-            let in_list = net_in_list nets parts.packet parts.net parts.is_net in
-            let on_spot = All-contains (λ n. Contains spots n.source) nets parts.net stand.sources in_list in
+            let on_spot = All-contains (λ n. Contains spots n.source) nets parts.net stand.sources (net_in_list nets parts.packet parts.net parts.is_net) in
             let start = vertex_there spots parts.net.source on_spot in (
               mark (first_copy i parts.net parts.packet) (unsent start.0),
               has_mark i parts.packet parts.net start.0 parts.is_packet parts.is_net start.1,

@@ -1,12 +1,9 @@
 -- Lists in an order that is never both ways.
 use Rattle.std.proofs.Common.{◌≡◌, ℕ, ◌+◌, ◌<◌, ◌≤◌, List, [], ◌∷◌, ◌++◌, Bool, true, false, if◌then◌else◌, refl, ap, sym, ◌∙◌, subst, arith, inl, inr, count_by}
+use Rattle.std.proofs.lemmas.{Bool.cases_order, List.Elements.All-contains}
 use Rattle.std.specs.List.{AllPairs}
-use Rattle.std.proofs.lemmas.Bool.{cases_order}
-use Rattle.std.proofs.lemmas.List.Elements.{All-contains}
 use Rattle.spin_base.specs.Gathered.{gathered}
-use Rattle.spin_base.proofs.Gathering.{among_gathered_from}
-use Rattle.spin_base.proofs.Counts.{count_by-cons}
-use Rattle.spin_base.proofs.Members.{Among, among_contains, among_either}
+use Rattle.spin_base.proofs.{Gathering.among_gathered_from, Counts.count_by-cons, Members.Among, Members.among_contains, Members.among_either}
 use Rattle.spin_base.proofs.Pairs.{AllPairs-head, AllPairs-tail}
 use Rattle.mesh_core.proofs.Counting.{counted}
 

@@ -6,7 +6,8 @@ use Rattle.spin_base.specs.declared.copies.McCopy.{McCopy}
 use Rattle.mesh_core.specs.Queues.{drop_front}
 
 -- what a queue is after its front left
-pub drop_front-popped : (lists : List (List McCopy)) (i : ℕ) (old new : List McCopy) (front : Option McCopy) → slice_get lists i ≡ Some old → old ≡ option_to_list front ++ new → (IsNone front ↔ (old ≡ [])) → set lists i new ≡ drop_front lists i (slice_get lists i)
+pub drop_front-popped : (lists : List (List McCopy)) (i : ℕ) (old new : List McCopy) (front : Option McCopy) → slice_get lists i ≡ Some old →
+    old ≡ option_to_list front ++ new → (IsNone front ↔ (old ≡ [])) → set lists i new ≡ drop_front lists i (slice_get lists i)
 drop_front-popped lists i old new (Some k) here popped none =
     let is : slice_get lists i ≡ Some (k ∷ new) = here ∙ ap Some popped in rw is refl
 drop_front-popped lists i old new None here popped none =

@@ -1,45 +1,28 @@
 -- Where a packet waits, in a mesh that meets the ledger: behind each output that a hand still has to serve there is a queue
 -- without a copy of the hand's packet, and no queue has two copies of one packet.
 use Rattle.std.proofs.Common.{◌≡◌, ◌≢◌, ℕ, ◌+◌, ◌/◌, ◌%◌, ◌<◌, ◌≤◌, suc, List, ◌++◌, Bool, true, false, ◌==◌, Some, refl, ap, sym, ◌∙◌, subst, arith, inl, inr, length, count_by}
-use Rattle.std.specs.List.{slice_get, All, Contains}
 use Rattle.std.proofs.lemmas.Bool.{cases_order, and_parts, eqb-true, eq-eqb, and_from}
-use Rattle.std.proofs.lemmas.List.Elements.{All-contains}
-use Rattle.std.proofs.lemmas.Option.{slice_get_within, get_or_from_slice_get}
-use Rattle.spin_base.proofs.Counts.{count_by-map, count_by-append}
-use Rattle.spin_base.proofs.Gathering.{gathered_among}
+use Rattle.std.proofs.lemmas.{List.Elements.All-contains, Option.slice_get_within, Option.get_or_from_slice_get}
+use Rattle.std.specs.List.{slice_get, All, Contains}
+use Rattle.spin_base.proofs.{Counts.count_by-map, Counts.count_by-append, Gathering.gathered_among}
 use Rattle.spin_base.proofs.Members.{Among, among_left, among_right, among_contains, contains_among, map_among}
-use Rattle.spin_base.proofs.Pairs.{AllPairs-apart}
-use Rattle.spin_base.proofs.Places.{All-each, slice_get_there}
-use Rattle.spin_base.specs.declared.chips.Chip.{Chip}
-use Rattle.spin_base.specs.declared.chips.Dir.{Dir}
-use Rattle.spin_base.specs.declared.chips.Spot.{Spot}
-use Rattle.spin_base.specs.declared.chips.Port.{Port}
-use Rattle.spin_base.specs.declared.chips.Port.TheVariants.{Link as ByLink}
-use Rattle.spin_base.specs.declared.routes.Out.{Out}
-use Rattle.spin_base.specs.declared.routes.Out.TheVariants.{Link, Core}
-use Rattle.spin_base.specs.declared.copies.McCopy.{McCopy}
-use Rattle.spin_base.specs.Links.{opposite_of}
-use Rattle.spin_base.specs.Outputs.{out_of}
+use Rattle.spin_base.proofs.{Pairs.AllPairs-apart, Places.All-each, Places.slice_get_there}
+use Rattle.spin_base.specs.declared.chips.{Chip.Chip, Dir.Dir, Spot.Spot, Port.Port, Port.TheVariants.Link as ByLink}
+use Rattle.spin_base.specs.declared.{routes.Out.Out, routes.Out.TheVariants.Link, routes.Out.TheVariants.Core, copies.McCopy.McCopy}
+use Rattle.spin_base.specs.{Links.opposite_of, Outputs.out_of}
 use Rattle.machine_desc.specs.Live.{far_of, chip_of, is_live_link, IsInside, IsLiveLink, IsSite}
 use Rattle.machine_desc.specs.Branch.{Exit}
-use Rattle.machine_desc.proofs.Branches.{exit_leads, ExitLeads}
-use Rattle.machine_desc.proofs.Far.{live_inside, live_ends, far_inside}
-use Rattle.machine_desc.proofs.Sites.{end_is_no_live_link, same_site}
 use Rattle.machine_desc.specs.declared.nets.NetPlan.{NetPlan}
-use Rattle.machine_desc.specs.NetsOn.{IsWayOn}
-use Rattle.machine_desc.specs.RightTables.{IsKeyOf}
-use Rattle.machine_desc.specs.RoutingTree.{IsRoutingTree}
+use Rattle.machine_desc.specs.{NetsOn.IsWayOn, RightTables.IsKeyOf, RoutingTree.IsRoutingTree}
+use Rattle.machine_desc.proofs.Branches.{exit_leads, ExitLeads}
+use Rattle.machine_desc.proofs.{Far.live_inside, Far.live_ends, Far.far_inside, Sites.end_is_no_live_link, Sites.same_site}
 use Rattle.mesh_core.specs.State.{Setup, State, IsMesh, Queue, input, core, nowhere, queue_at, core_queue_of, behind, behind_link, vertex_behind}
 use Rattle.mesh_core.specs.Trail.{Station, in_queue, in_hand, at_core, Mark, is_on_trail, is_packet_on_trail}
 use Rattle.mesh_core.specs.Ledger.{marks_of, marks_at, port_of, unsent_marks, input_marks, all_hand_marks, core_marks, delivered_marks, dumped_marks, Label, MeetsLedger}
-use Rattle.mesh_core.specs.Waiting.{queue_of}
-use Rattle.mesh_core.specs.Whereabouts.{IsTracked}
+use Rattle.mesh_core.specs.{Waiting.queue_of, Whereabouts.IsTracked}
 use Rattle.mesh_core.proofs.Changes.{queue_at-below}
 use Rattle.mesh_core.proofs.Counting.{count_two, count_le, counted, count_gathered_part}
-use Rattle.mesh_core.proofs.Law.{leaves_parts, comes_parts}
-use Rattle.mesh_core.proofs.Moves.{mark}
-use Rattle.mesh_core.proofs.Standing.{queued_mark, core_mark}
-use Rattle.mesh_core.proofs.WalkingUp.{comes_on, ends_on}
+use Rattle.mesh_core.proofs.{Law.leaves_parts, Law.comes_parts, Moves.behind_inputs, Moves.behind_unsent, Moves.mark, Standing.queued_mark, Standing.core_mark, WalkingUp.comes_on, WalkingUp.ends_on}
 use Rattle.mesh_core.proofs.Ways.{vertex_at_stands, vertex_behind_there, vertex_behind_stands, leads_to}
 
 -- the queue behind an output, which has no copy of this packet
@@ -86,8 +69,7 @@ module _ (s : State) (nets : List NetPlan) (labels : ℕ → Label) (ledger : Me
       let px : p x ≡ true = and_from (x.copy.packet == x.copy.packet) (is_on_trail t.from t.to t.branch x) (eq-eqb x.copy.packet x.copy.packet refl) t.on in
       let py : p y ≡ true = and_from (y.copy.packet == x.copy.packet) (is_on_trail t.from t.to t.branch y) (eq-eqb y.copy.packet x.copy.packet same) on in
       let two = count_two p x y (marks_of s) apart px py (contains_among x (marks_of s) has) (contains_among y (marks_of s) there) in
-      let one = t.once in
-      absurd (omega (arith, two, one))
+      absurd (omega (arith, two, t.once))
 
   -- ---- behind a hand
 
@@ -116,9 +98,7 @@ module _ (s : State) (nets : List NetPlan) (labels : ℕ → Label) (ledger : Me
           ap (queue_of s) is_behind ∙ q.1,
           All-each (λ j. j.packet ≢ k.packet) q.0 (λ j in_q same.
               let m : Mark = mark j (in_queue y.chip port) in
-              let there : Contains (marks_of s) m =
-              among_contains m (marks_of s) (queued_mark s y.chip port inside j q.0 q.1 (contains_among j q.0 in_q))
-              in
+              let there : Contains (marks_of s) m = among_contains m (marks_of s) (queued_mark s y.chip port inside j q.0 q.1 (contains_among j q.0 in_q)) in
               not_twice x has t m there same
               (comes_on s t.net k.packet t.tracked t.target t.way.is_target t.branch t.from t.to t.way m there same (suc k.hop) y.chip y.out port next refl)
               (λ e'. let stations : in_hand c o ≡ in_queue y.chip port = ap (λ (z : Mark). z.station) e' in cc)),
@@ -129,14 +109,12 @@ module _ (s : State) (nets : List NetPlan) (labels : ℕ → Label) (ledger : Me
     behind_end chip out =
         let u : Setup = s.setup in
         let on_spot : Contains u.spots t.target =
-        All-contains (Contains u.spots) t.net.targets t.target (All-contains (λ n. All (Contains u.spots) n.targets) nets t.net ledger.nets_stand.targets t.in_nets) t.way.is_target
-        in
+        All-contains (Contains u.spots) t.net.targets t.target (All-contains (λ n. All (Contains u.spots) n.targets) nets t.net ledger.nets_stand.targets t.in_nets) t.way.is_target in
         let site : IsSite u.machine t.target = All-contains (IsSite u.machine) u.spots t.target mesh.sites on_spot in
         let vertex = vertex_behind_there u.spots c o t.target on_spot (leads_to c o t.target chip out) in
         let spot = vertex_behind_stands u.spots c o vertex.0 vertex.1 in
         let its_site : IsSite u.machine spot.0 =
-        subst (IsSite u.machine) (get_or_from_slice_get u.spots vertex.0 spot.0 spot.0 spot.1) (mesh.sites vertex.0 spot.0 (slice_get_within u.spots vertex.0 spot.0 spot.1))
-        in
+        subst (IsSite u.machine) (get_or_from_slice_get u.spots vertex.0 spot.0 spot.0 spot.1) (mesh.sites vertex.0 spot.0 (slice_get_within u.spots vertex.0 spot.0 spot.1)) in
         let same_spot : spot.0 ≡ t.target = same_site u.machine spot.0 t.target its_site site (spot.2 ∙ sym chip) (spot.3 ∙ out) in
         let goal : slice_get u.spots t.to ≡ Some t.target = vertex_at_stands u.spots t.target t.to t.way.ends in
         let is_to : vertex.0 ≡ t.to = AllPairs-apart u.spots t.target mesh.different vertex.0 t.to (spot.1 ∙ ap Some same_spot) goal in
@@ -157,8 +135,7 @@ module _ (s : State) (nets : List NetPlan) (labels : ℕ → Label) (ledger : Me
         to_vertex : (p : Out) → p ≡ out_of t.target.core → (v : ℕ) → vertex_behind s.setup.spots c p ≡ Some v → IsSite s.setup.machine t.target → behind s.setup c p ≡ core v
         to_vertex (Link d) is v vertex site =
             let dead : is_live_link s.setup.machine c d ≡ false =
-            ap (λ (z : Chip). is_live_link s.setup.machine z d) (sym chip) ∙ end_is_no_live_link s.setup.machine t.target d site (sym is)
-            in
+            ap (λ (z : Chip). is_live_link s.setup.machine z d) (sym chip) ∙ end_is_no_live_link s.setup.machine t.target d site (sym is) in
             ap (λ b. behind_link s.setup c d b (far_of s.setup.machine c d)) dead ∙ ap core_queue_of vertex
         to_vertex (Core p) is v vertex site = ap core_queue_of vertex
 
@@ -179,7 +156,7 @@ module _ (s : State) (nets : List NetPlan) (labels : ℕ → Label) (ledger : Me
   -- what is counted in one part is counted in all marks
   in_input_marks : (p : Mark → Bool) → count_by p (input_marks s) ≤ count_by p (marks_of s)
   in_input_marks p =
-      let later : List Mark = all_hand_marks s ++ (core_marks s ++ (delivered_marks s ++ dumped_marks s)) in
+      let later : List Mark = behind_inputs s in
       omega (arith, count_by-append p (unsent_marks s) (input_marks s ++ later), count_by-append p (input_marks s) later)
 
   in_core_marks : (p : Mark → Bool) → count_by p (core_marks s) ≤ count_by p (marks_of s)
@@ -210,12 +187,9 @@ module _ (s : State) (nets : List NetPlan) (labels : ℕ → Label) (ledger : Me
         let fewer : count_by (λ j. j.packet == n) q ≤ count_by (λ j. p (mark j at)) q =
         count_le (λ (j : McCopy). j.packet == n) (λ j. p (mark j at)) q (λ j among passes.
         let same : j.packet ≡ a.packet = eqb-true j.packet n passes ∙ sym number in
-        and_from (j.packet == a.packet) (is_on_trail t.from t.to t.branch (mark j at)) (eq-eqb j.packet a.packet same) (same_trail a t j among same))
-        in
+        and_from (j.packet == a.packet) (is_on_trail t.from t.to t.branch (mark j at)) (eq-eqb j.packet a.packet same) (same_trail a t j among same)) in
         let mapped : count_by p (marks_at at q) ≡ count_by (λ j. p (mark j at)) q = count_by-map p (λ (j : McCopy). mark j at) q in
-        let all = part p in
-        let one = t.once in
-        omega (arith, fewer, mapped, all, one)
+        omega (arith, fewer, mapped, part p, t.once)
   ]
 
   -- the mark of a copy in a queue
@@ -228,8 +202,7 @@ module _ (s : State) (nets : List NetPlan) (labels : ℕ → Label) (ledger : Me
   waiting_mark (input i) q at j among =
       let m : Mark = mark j (in_queue (chip_of s.setup.machine (i / 7)) (port_of (i % 7))) in
       among_contains m (marks_of s)
-      (among_right m (unsent_marks s) (input_marks s ++ (all_hand_marks s ++ (core_marks s ++ (delivered_marks s ++ dumped_marks s))))
-      (among_left m (input_marks s) (all_hand_marks s ++ (core_marks s ++ (delivered_marks s ++ dumped_marks s)))
+      (among_right m (unsent_marks s) (behind_unsent s) (among_left m (input_marks s) (behind_inputs s)
       (gathered_among (λ l copies. marks_at (in_queue (chip_of s.setup.machine (l / 7)) (port_of (l % 7))) copies) m s.inputs i q at
       (map_among (λ (d : McCopy). mark d (in_queue (chip_of s.setup.machine (i / 7)) (port_of (i % 7)))) j q among))))
   waiting_mark (core v) q at j among = let m : Mark = mark j (at_core v) in among_contains m (marks_of s) (core_mark s v j q at among)
@@ -245,15 +218,12 @@ module _ (s : State) (nets : List NetPlan) (labels : ℕ → Label) (ledger : Me
       let n_is : 0 + i ≡ i = omega arith in
       let part : count_by p (marks_at (in_queue c port) q) ≤ count_by p (input_marks s) =
       subst (λ l. count_by p (marks_at (in_queue (chip_of s.setup.machine (l / 7)) (port_of (l % 7))) q) ≤ count_by p (input_marks s)) n_is
-      (count_gathered_part (λ l copies. marks_at (in_queue (chip_of s.setup.machine (l / 7)) (port_of (l % 7))) copies) p 0 s.inputs i q at)
-      in
-      let whole = in_input_marks p in
-      omega (arith, part, whole))
+      (count_gathered_part (λ l copies. marks_at (in_queue (chip_of s.setup.machine (l / 7)) (port_of (l % 7))) copies) p 0 s.inputs i q at) in
+      omega (arith, part, in_input_marks p))
       (λ x t j among same.
       let there = comes_parts t.branch x.hop c port t.on in
       let place : slice_get t.branch x.hop ≡ Some (record { chip = c; out = there.exit.out }) =
-      there.at ∙ ap (λ (d : Chip). let z : Exit = record { chip = d; out = there.exit.out } in Some z) there.chip
-      in
+      there.at ∙ ap (λ (d : Chip). let z : Exit = record { chip = d; out = there.exit.out } in Some z) there.chip in
       comes_on s t.net x.packet t.tracked t.target t.way.is_target t.branch t.from t.to t.way (mark j (in_queue c port)) (waiting_mark (input i) q at j among) same
       x.hop c there.exit.out port place refl)
       n
@@ -262,10 +232,8 @@ module _ (s : State) (nets : List NetPlan) (labels : ℕ → Label) (ledger : Me
       (λ p.
       let n_is : 0 + v ≡ v = omega arith in
       let part : count_by p (marks_at (at_core v) q) ≤ count_by p (core_marks s) =
-      subst (λ l. count_by p (marks_at (at_core l) q) ≤ count_by p (core_marks s)) n_is (count_gathered_part (λ l copies. marks_at (at_core l) copies) p 0 s.cores v q at)
-      in
-      let whole = in_core_marks p in
-      omega (arith, part, whole))
+      subst (λ l. count_by p (marks_at (at_core l) q) ≤ count_by p (core_marks s)) n_is (count_gathered_part (λ l copies. marks_at (at_core l) copies) p 0 s.cores v q at) in
+      omega (arith, part, in_core_marks p))
       (λ x t j among same.
       let is_to : v ≡ t.to = eqb-true v t.to ((and_parts (v == t.to) (x.hop == length t.branch) t.on).0) in
       ends_on s t.net x.packet t.tracked t.target t.way.is_target t.branch t.from t.to t.way (mark j (at_core v)) (waiting_mark (core v) q at j among) same

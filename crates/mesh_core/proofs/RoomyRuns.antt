@@ -1,27 +1,21 @@
 -- Where a queue has room for a copy of each packet that is under way, no list of events makes a dump record. So a run that comes
 -- to rest has delivered all, where it has room for a copy of each packet of the job.
 use Rattle.std.proofs.Common.{◌≡◌, ◌≤◌, ℕ, refl, ap, sym, ◌∙◌, subst, arith, List, [], ◌∷◌, length, Option}
-use Rattle.std.specs.Prelude.{unwrap_or}
-use Rattle.std.specs.List.{slice_get, range_with_len}
 use Rattle.std.proofs.lemmas.List.FromFn.{length-range_with_len}
+use Rattle.std.specs.{Prelude.unwrap_or, List.slice_get, List.range_with_len}
 use Rattle.spin_base.specs.declared.copies.Event.{Event}
 use Rattle.spin_base.specs.declared.copies.Event.TheVariants.{Inject, Take, Send, Dump, Collect}
 use Rattle.spin_base.specs.declared.copies.Packet.{Packet}
 use Rattle.machine_desc.specs.Live.{index_of}
 use Rattle.machine_desc.specs.declared.nets.NetPlan.{NetPlan}
-use Rattle.machine_desc.specs.NetsOn.{AreNetsOn}
-use Rattle.machine_desc.specs.RightTables.{AreRight}
+use Rattle.machine_desc.specs.{NetsOn.AreNetsOn, RightTables.AreRight}
 use Rattle.mesh_core.specs.State.{Setup, State, IsMesh}
 use Rattle.mesh_core.specs.Step.{after_event, after_events}
 use Rattle.mesh_core.specs.Ledger.{label_of, Label, MeetsLedger, OnlyUnderWay}
 use Rattle.mesh_core.specs.Opened.{asked_by, opened_mesh, AreOfNets, MeetsJobLedger}
 use Rattle.mesh_core.specs.Expected.{IsAtRest, AreAsExpected}
-use Rattle.mesh_core.proofs.DeliveredLaw.{delivered_as_expected}
-use Rattle.mesh_core.proofs.EventsLaw.{event_keeps, events_keep_job}
-use Rattle.mesh_core.proofs.Fixed.{after_event_setup, dumped_stays}
-use Rattle.mesh_core.proofs.NoDump.{dump_none}
-use Rattle.mesh_core.proofs.OnlyUnderWay.{of_job, only_after}
-use Rattle.mesh_core.proofs.OpenedLaw.{opened_meets_ledger}
+use Rattle.mesh_core.proofs.{DeliveredLaw.delivered_as_expected, EventsLaw.event_keeps, EventsLaw.events_keep_job, Fixed.after_event_setup, Fixed.dumped_stays}
+use Rattle.mesh_core.proofs.{NoDump.dump_none, OnlyUnderWay.of_job, OnlyUnderWay.only_after, OpenedLaw.opened_meets_ledger}
 
 module _ (nets : List NetPlan) (labels : ℕ → Label) (numbers : List ℕ) where
   records_stay : (s : State) → IsMesh s → MeetsLedger s nets labels → OnlyUnderWay numbers s → length numbers ≤ s.setup.capacity → (e : Event) → (after_event s e).dumped ≡ s.dumped
@@ -49,7 +43,6 @@ pub run_delivers_all : (nets : List NetPlan) (packets : List Packet) (setup : Se
 run_delivers_all nets packets setup mesh right stand of_nets roomy es rest =
     let opened : State = opened_mesh setup nets packets in
     let job : MeetsJobLedger opened nets packets = opened_meets_ledger setup nets packets stand of_nets in
-    let packets_long = length-range_with_len 0 (length packets) in
     delivered_as_expected (after_events opened es) nets packets (events_keep_job opened nets packets mesh right job es) rest
     (records_after nets (λ i. label_of (asked_by nets packets i)) (range_with_len 0 (length packets)) opened mesh right job.ledger.ledger
-    (of_job opened nets packets job) (omega (arith, packets_long, roomy)) es)
+    (of_job opened nets packets job) (omega (arith, length-range_with_len 0 (length packets), roomy)) es)

@@ -1,36 +1,25 @@
 -- What the searches of a port, an output and a core find.
 use Rattle.std.proofs.Common.{◌≡◌, ℕ, ◌<◌, List, Bool, true, false, ◌==◌, ◌&&◌, Option, Some, None, refl, ap, sym, ◌∙◌, subst, arith, inl, inr, ◌⊎◌, length, get_or}
-use Rattle.std.proofs.lemmas.List.Elements.{All-contains}
-use Rattle.std.specs.List.{All, slice_get, slice_index_or, list_any, Contains, position}
-use Rattle.std.proofs.lemmas.Bool.{and_parts, eqb-true, eq-eqb, and_from}
+use Rattle.std.proofs.lemmas.{List.Elements.All-contains, Bool.and_parts, Bool.eqb-true, Bool.eq-eqb, Bool.and_from}
 use Rattle.std.proofs.lemmas.Option.{slice_get-get_or, slice_get_within}
-use Rattle.spin_base.specs.declared.chips.Chip.{Chip}
-use Rattle.spin_base.specs.declared.chips.Spot.{Spot}
-use Rattle.spin_base.specs.declared.chips.Port.{Port}
-use Rattle.spin_base.specs.declared.routes.Out.{Out}
-use Rattle.spin_base.specs.declared.copies.McCopy.{McCopy}
-use Rattle.spin_base.specs.declared.copies.Delivery.{Delivery}
-use Rattle.spin_base.specs.declared.copies.DumpRec.{DumpRec}
+use Rattle.std.specs.List.{All, slice_get, slice_index_or, list_any, Contains, position}
+use Rattle.spin_base.specs.declared.{chips.Chip.Chip, chips.Spot.Spot, chips.Port.Port, routes.Out.Out}
+use Rattle.spin_base.specs.declared.copies.{McCopy.McCopy, Delivery.Delivery, DumpRec.DumpRec}
 use Rattle.spin_base.specs.Equality.{chip_eq, out_eq}
 use Rattle.spin_base.proofs.Equality.{chip_eq_same, chip_eq_true, out_eq_same, out_eq_true}
+use Rattle.spin_base.proofs.Members.{Among, among_contains, contains_among, any_among, among_any, position_there, position_nowhere}
 use Rattle.machine_desc.specs.declared.trees.Edge.{Edge}
-use Rattle.machine_desc.specs.Description.{Description}
-use Rattle.machine_desc.specs.Live.{index_of, IsInside}
-use Rattle.machine_desc.specs.RoutingTree.{IsRoutingTree}
-use Rattle.machine_desc.proofs.Far.{live_inside, live_ends}
-use Rattle.machine_desc.proofs.Live.{index_of-chip_of}
+use Rattle.machine_desc.specs.{Description.Description, Live.index_of, Live.IsInside, RoutingTree.IsRoutingTree}
 use Rattle.machine_desc.specs.declared.nets.NetPlan.{NetPlan}
+use Rattle.machine_desc.specs.NetsOn.{vertex_at}
+use Rattle.machine_desc.proofs.{Far.live_inside, Far.live_ends, Live.index_of-chip_of}
 use Rattle.mesh_core.specs.declared.places.Place.TheVariants.{InQueue, Hand as HandAt, CoreQueue}
 use Rattle.mesh_core.specs.declared.places.Where.TheVariants.{At, Delivered, Dumped}
-use Rattle.machine_desc.specs.NetsOn.{vertex_at}
 use Rattle.mesh_core.specs.State.{State, Hand, IsMesh, queue_at}
 use Rattle.mesh_core.specs.Trail.{Station, in_queue, in_hand, at_core, delivered, dumped, Mark}
-use Rattle.mesh_core.specs.Ledger.{marks_of}
-use Rattle.mesh_core.specs.Whereabouts.{IsTracked}
+use Rattle.mesh_core.specs.{Ledger.marks_of, Whereabouts.IsTracked}
 use Rattle.mesh_core.specs.Searches.{IsMarkThere, IsFound, IsOfCore, IsOfOutput, IsOfPort, is_held}
-use Rattle.spin_base.proofs.Members.{Among, among_contains, contains_among, any_among, among_any, position_there, position_nowhere}
-use Rattle.mesh_core.proofs.Moves.{mark}
-use Rattle.mesh_core.proofs.Ways.{vertex_at_stands}
+use Rattle.mesh_core.proofs.{Moves.mark, Ways.vertex_at_stands}
 use Rattle.mesh_core.proofs.Standing.{StandsAt, mark_stands, queued_mark, held_mark, core_mark, delivered_mark, dumped_mark, place_of_queue}
 
 module _ (s : State) (packet : ℕ) where
@@ -61,8 +50,7 @@ module _ (s : State) (packet : ℕ) where
       let both : Some stands.1 ≡ Some q = sym stands.2 ∙ (ap (slice_get s.inputs) place ∙ at) in
       let one : stands.1 ≡ q = cc in
       let found : list_any (λ (d : McCopy). d.packet == packet) stands.1 ≡ true =
-      among_any (λ (d : McCopy). d.packet == packet) k.copy stands.1 stands.5 (eq-eqb k.copy.packet packet is_packet)
-      in
+      among_any (λ (d : McCopy). d.packet == packet) k.copy stands.1 stands.5 (eq-eqb k.copy.packet packet is_packet) in
       let also : list_any (λ (d : McCopy). d.packet == packet) stands.1 ≡ false = ap (list_any (λ (d : McCopy). d.packet == packet)) one ∙ none in
       cc
 
@@ -117,9 +105,7 @@ module _ (s : State) (packet : ℕ) where
   output_lacks c o inside none nowhere k has is_packet (inl there) =
       let stands : StandsAt s k.copy (in_hand c o) = stands_there k has (in_hand c o) there in
       let h : Hand = stands.1 in
-      let place : stands.0 ≡ index_of s.setup.machine c =
-      sym (index_of-chip_of s.setup.machine stands.0) ∙ ap (index_of s.setup.machine) stands.3
-      in
+      let place : stands.0 ≡ index_of s.setup.machine c = sym (index_of-chip_of s.setup.machine stands.0) ∙ ap (index_of s.setup.machine) stands.3 in
       let at : slice_get s.hands (index_of s.setup.machine c) ≡ Some (Some h) = ap (slice_get s.hands) (sym place) ∙ stands.2 in
       let serves : list_any (out_eq o) h.outs ≡ true = among_any (out_eq o) o h.outs stands.5 (out_eq_same o) in
       let of_packet : (h.copy.packet == packet) ≡ true = eq-eqb h.copy.packet packet (ap (λ (d : McCopy). d.packet) stands.4 ∙ is_packet) in
@@ -179,8 +165,7 @@ module _ (s : State) (packet : ℕ) where
           let queues : Some stands.0 ≡ Some q = sym stands.1 ∙ (ap (slice_get s.cores) same ∙ at) in
           let one : stands.0 ≡ q = cc in
           let found : list_any (λ (d : McCopy). d.packet == packet) stands.0 ≡ true =
-          among_any (λ (d : McCopy). d.packet == packet) k.copy stands.0 stands.2 (eq-eqb k.copy.packet packet is_packet)
-          in
+          among_any (λ (d : McCopy). d.packet == packet) k.copy stands.0 stands.2 (eq-eqb k.copy.packet packet is_packet) in
           let also : list_any (λ (d : McCopy). d.packet == packet) stands.0 ≡ false = ap (list_any (λ (d : McCopy). d.packet == packet)) one ∙ none in
           cc
       by_station w is (inr here) =
@@ -219,6 +204,5 @@ pub edges_inside : (s : State) (net : NetPlan) (packet : ℕ) → IsTracked s ne
 edges_inside s net packet tracked =
     let m : Description = s.setup.machine in
     let tree : IsRoutingTree m net.tree.root net.tree.edges net.targets =
-    All-contains (λ n. IsRoutingTree m n.tree.root n.tree.edges n.targets) tracked.nets net tracked.ledger.nets_stand.trees tracked.in_nets
-    in
+    All-contains (λ n. IsRoutingTree m n.tree.root n.tree.edges n.targets) tracked.nets net tracked.ledger.nets_stand.trees tracked.in_nets in
     λ k d below. let e : Edge = get_or net.tree.edges k d in live_inside m e.chip (live_ends m e.chip e.dir (tree.edges_live k d below)).2

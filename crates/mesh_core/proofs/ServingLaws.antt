@@ -1,40 +1,23 @@
 -- Serving an output: the hands after it, and the queue behind it.
-use Rattle.std.proofs.Common.{◌≡◌, ℕ, ◌<◌, ◌≤◌, ◌+◌, ◌-◌, refl, sym, ap, ◌∙◌, subst, arith, Bool, true, false, cond, List, [], ◌∷◌, length, get_or, set, Option, Some, None, ◌==◌, if◌then◌else◌, is_some}
-use Rattle.std.specs.Cmp.{both_ways}
-use Rattle.std.specs.List.{All, slice_get, position_from}
-use Rattle.std.proofs.lemmas.List.{set-set}
-use Rattle.std.proofs.lemmas.List.Elements.{All-head, All-tail}
-use Rattle.std.proofs.lemmas.List.Quantifiers.{position-Some}
-use Rattle.std.proofs.lemmas.Iterator.Adapters.{position_from-zero}
-use Rattle.std.proofs.lemmas.Bool.{and_parts, and_from, false_from_ne_true}
+use Rattle.std.proofs.Common.{◌≡◌, ℕ, ◌<◌, ◌≤◌, ◌+◌, ◌-◌, refl, sym, ap, ◌∙◌, subst, arith, Bool, true, false, cond, List, [], ◌∷◌, length, get_or, set, Option, Some}
+use Rattle.std.proofs.Common.{None, ◌==◌, if◌then◌else◌, is_some}
+use Rattle.std.proofs.lemmas.List.{set-set, Elements.All-head, Elements.All-tail, Quantifiers.position-Some}
+use Rattle.std.proofs.lemmas.{Iterator.Adapters.position_from-zero, Bool.and_parts, Bool.and_from, Bool.false_from_ne_true}
 use Rattle.std.proofs.lemmas.Option.{slice_get-get_or, get_or_from_slice_get}
-use Rattle.spin_base.specs.declared.chips.Chip.{Chip}
-use Rattle.spin_base.specs.declared.chips.Port.{Port}
-use Rattle.spin_base.specs.declared.chips.Spot.{Spot}
-use Rattle.spin_base.specs.declared.blocks.Entry.{Entry}
-use Rattle.spin_base.specs.declared.copies.McCopy.{McCopy}
-use Rattle.spin_base.specs.Lookup.{lookup}
-use Rattle.spin_base.specs.Links.{dir_number, dir_at}
-use Rattle.spin_base.specs.Outputs.{outs_of, out_of}
-use Rattle.spin_base.specs.declared.chips.Dir.{Dir}
-use Rattle.spin_base.specs.declared.routes.Out.{Out}
-use Rattle.spin_base.specs.declared.routes.Out.TheVariants.{Link, Core}
+use Rattle.std.specs.{Cmp.both_ways, List.All, List.slice_get, List.position_from}
+use Rattle.spin_base.specs.declared.{chips.Chip.Chip, chips.Port.Port, chips.Spot.Spot, blocks.Entry.Entry, copies.McCopy.McCopy}
+use Rattle.spin_base.specs.{Lookup.lookup, Links.dir_number, Links.dir_at, Outputs.outs_of, Outputs.out_of}
+use Rattle.spin_base.specs.declared.{chips.Dir.Dir, routes.Out.Out, routes.Out.TheVariants.Link, routes.Out.TheVariants.Core}
 use Rattle.spin_base.specs.Equality.{chip_eq, spot_eq, out_eq}
+use Rattle.spin_base.specs.Hops.{last_hop}
 use Rattle.spin_base.proofs.Equality.{chip_eq_true, chip_eq_same, spot_eq_true, spot_eq_same, out_eq_true, out_eq_same}
 use Rattle.spin_base.proofs.Spots.{dir_at-dir_number, out_of-core, out_of-device, spot_of_core, spot_of_link}
-use Rattle.spin_base.specs.Hops.{last_hop}
-use Rattle.machine_desc.specs.Description.{Description}
-use Rattle.machine_desc.specs.Live.{index_of, IsInside, IsSite}
-use Rattle.machine_desc.proofs.Same.{same_spot}
-use Rattle.machine_desc.proofs.Sites.{site_parts}
-use Rattle.machine_desc.specs.NetsOn.{vertex_at}
-use Rattle.machine_desc.specs.Outputs.{leads_to_spot}
-use Rattle.mesh_core.specs.State.{State, Hand, vertex_behind}
-use Rattle.mesh_core.specs.Step.{in_hand, outputs, outs_without}
-use Rattle.mesh_core.specs.Serving.{hands_after}
-use Rattle.mesh_core.specs.VertexTable.{TellsVertices, spot_place}
 use Rattle.spin_base.proofs.Places.{set-slice_get}
-use Rattle.mesh_core.proofs.VertexTableLaws.{spot_place-below, vertex_at-from}
+use Rattle.machine_desc.specs.{Description.Description, Live.index_of, Live.IsSite, NetsOn.vertex_at, Outputs.leads_to_spot}
+use Rattle.machine_desc.proofs.{Same.same_spot, Sites.site_parts}
+use Rattle.mesh_core.specs.State.{State, Hand, vertex_behind}
+use Rattle.mesh_core.specs.{Step.in_hand, Step.outputs, Step.outs_without, Serving.hands_after}
+use Rattle.mesh_core.proofs.VertexTableLaws.{vertex_at-from}
 
 -- a hand served an output
 pub hands_after-some : (hands : List (Option Hand)) (i : ℕ) (o : Out) (d x r : Option Hand) (h : Hand) → i < length hands → get_or hands i d ≡ Some h →
@@ -110,22 +93,12 @@ vertex_behind-beyond spots c p beyond =
 pub vertex_at-below : (spots : List Spot) (s : Spot) (v : ℕ) → vertex_at spots s ≡ Some v → v < length spots
 vertex_at-below spots s v e = (position-Some (spot_eq s) spots v s e).0
 
--- what the table has at the place of a spot
-pub vertex_read : (m : Description) (spots : List Spot) (table : List (Option ℕ)) (s : Spot) (p : ℕ) (r : Option ℕ) → TellsVertices m spots table → IsInside m s.chip → s.core < 24 →
-    p ≡ spot_place m s → r ≡ get_or table p r → r ≡ vertex_at spots s
-vertex_read m spots table s p r tells inside small at read =
-    let below : p < length table = omega (arith, tells.long, spot_place-below m s inside small) in
-    let here : slice_get table p ≡ Some r = slice_get-get_or table p r below ∙ ap Some (sym read) in
-    let same : Some (vertex_at spots s) ≡ Some r = sym (tells.told s inside small) ∙ (ap (slice_get table) (sym at) ∙ here) in
-    cc
-
 -- the outputs that a router gives, by the table that was looked up
 outputs_read : (s : State) (c : Chip) (port : Port) (k : McCopy) (n : ℕ) (table : List Entry) → n ≡ index_of s.setup.machine c → slice_get s.setup.tables n ≡ Some table →
     (if k.hop == last_hop then [] else outs_of (lookup table k.key port)) ≡ outputs s.setup c port k
 outputs_read s c port k n table at here =
     let is : table ≡ get_or s.setup.tables (index_of s.setup.machine c) [] =
-    sym (get_or_from_slice_get s.setup.tables n table [] here) ∙ ap (λ i. get_or s.setup.tables i []) at
-    in
+    sym (get_or_from_slice_get s.setup.tables n table [] here) ∙ ap (λ i. get_or s.setup.tables i []) at in
     ap (λ (t : List Entry). if k.hop == last_hop then [] else outs_of (lookup t k.key port)) is
 
 -- the same, by the table at a place of a list

@@ -3,20 +3,14 @@ use Rattle.std.proofs.Common.{◌≡◌, ℕ, ◌+◌, ◌/◌, ◌%◌, ◌<◌
 use Rattle.std.specs.List.{slice_get}
 use Rattle.spin_base.proofs.Members.{Among, among_left, among_right, among_either, among_map, map_among}
 use Rattle.spin_base.proofs.Gathering.{among_gathered, gathered_among_from, gathered_among}
-use Rattle.spin_base.specs.declared.chips.Chip.{Chip}
-use Rattle.spin_base.specs.declared.chips.Port.{Port}
-use Rattle.spin_base.specs.declared.routes.Out.{Out}
-use Rattle.spin_base.specs.declared.copies.McCopy.{McCopy}
-use Rattle.spin_base.specs.declared.copies.Delivery.{Delivery}
-use Rattle.spin_base.specs.declared.copies.DumpRec.{DumpRec}
+use Rattle.spin_base.specs.declared.{chips.Chip.Chip, chips.Port.Port, routes.Out.Out, copies.McCopy.McCopy, copies.Delivery.Delivery, copies.DumpRec.DumpRec}
 use Rattle.spin_base.specs.Links.{port_number}
-use Rattle.machine_desc.specs.Description.{Description}
-use Rattle.machine_desc.specs.Live.{chip_of, index_of, IsInside}
+use Rattle.machine_desc.specs.{Description.Description, Live.chip_of, Live.index_of, Live.IsInside}
 use Rattle.machine_desc.proofs.Live.{index_of-chip_of}
 use Rattle.mesh_core.specs.State.{State, Hand, queue_at}
 use Rattle.mesh_core.specs.Trail.{Station, unsent, in_queue, in_hand, at_core, delivered, dumped, Mark}
 use Rattle.mesh_core.specs.Ledger.{marks_of, marks_at, hand_marks, port_of, unsent_marks, input_marks, all_hand_marks, core_marks, delivered_marks, dumped_marks}
-use Rattle.mesh_core.proofs.Moves.{mark, chip_of-index_of, station_of_queue}
+use Rattle.mesh_core.proofs.Moves.{behind_hands, behind_inputs, behind_unsent, mark, chip_of-index_of, station_of_queue}
 
 -- ---- chips and ports by number
 
@@ -122,11 +116,9 @@ queued_mark s c port inside k q at a =
     let place : Station = in_queue (chip_of s.setup.machine ((0 + i) / 7)) (port_of ((0 + i) % 7)) in
     let is : place ≡ in_queue c port = station_of_queue s.setup.machine c port inside in
     let here : Among (mark k (in_queue c port)) (marks_at place q) =
-    subst (λ (p : Station). Among (mark k (in_queue c port)) (marks_at p q)) (sym is) (map_among (λ (d : McCopy). mark d (in_queue c port)) k q a)
-    in
+    subst (λ (p : Station). Among (mark k (in_queue c port)) (marks_at p q)) (sym is) (map_among (λ (d : McCopy). mark d (in_queue c port)) k q a) in
     let y : Mark = mark k (in_queue c port) in
-    among_right y (unsent_marks s) (input_marks s ++ (all_hand_marks s ++ (core_marks s ++ (delivered_marks s ++ dumped_marks s))))
-    (among_left y (input_marks s) (all_hand_marks s ++ (core_marks s ++ (delivered_marks s ++ dumped_marks s)))
+    among_right y (unsent_marks s) (behind_unsent s) (among_left y (input_marks s) (behind_inputs s)
     (gathered_among_from (λ n (l : List McCopy). marks_at (in_queue (chip_of s.setup.machine (n / 7)) (port_of (n % 7))) l) y 0 s.inputs i q at here))
 
 pub held_mark : (s : State) (c : Chip) (o : Out) → IsInside s.setup.machine c → (h : Hand) →
@@ -135,37 +127,28 @@ held_mark s c o inside h at a =
     let i : ℕ = index_of s.setup.machine c in
     let y : Mark = mark h.copy (in_hand c o) in
     let here : Among y (hand_marks (chip_of s.setup.machine i) (Some h)) =
-    subst (λ (d : Chip). Among y (hand_marks d (Some h))) (sym (chip_of-index_of s.setup.machine c inside)) (map_among (λ p. mark h.copy (in_hand c p)) o h.outs a)
-    in
-    among_right y (unsent_marks s) (input_marks s ++ (all_hand_marks s ++ (core_marks s ++ (delivered_marks s ++ dumped_marks s))))
-    (among_right y (input_marks s) (all_hand_marks s ++ (core_marks s ++ (delivered_marks s ++ dumped_marks s)))
-    (among_left y (all_hand_marks s) (core_marks s ++ (delivered_marks s ++ dumped_marks s))
+    subst (λ (d : Chip). Among y (hand_marks d (Some h))) (sym (chip_of-index_of s.setup.machine c inside)) (map_among (λ p. mark h.copy (in_hand c p)) o h.outs a) in
+    among_right y (unsent_marks s) (behind_unsent s) (among_right y (input_marks s) (behind_inputs s) (among_left y (all_hand_marks s) (behind_hands s)
     (gathered_among (λ n (l : Option Hand). hand_marks (chip_of s.setup.machine n) l) y s.hands i (Some h) at here)))
 
 pub core_mark : (s : State) (v : ℕ) (k : McCopy) (q : List McCopy) → slice_get s.cores v ≡ Some q → Among k q →
     Among (mark k (at_core v)) (marks_of s)
 core_mark s v k q at a =
     let y : Mark = mark k (at_core v) in
-    among_right y (unsent_marks s) (input_marks s ++ (all_hand_marks s ++ (core_marks s ++ (delivered_marks s ++ dumped_marks s))))
-    (among_right y (input_marks s) (all_hand_marks s ++ (core_marks s ++ (delivered_marks s ++ dumped_marks s)))
-    (among_right y (all_hand_marks s) (core_marks s ++ (delivered_marks s ++ dumped_marks s))
+    among_right y (unsent_marks s) (behind_unsent s) (among_right y (input_marks s) (behind_inputs s) (among_right y (all_hand_marks s) (behind_hands s)
     (among_left y (core_marks s) (delivered_marks s ++ dumped_marks s)
     (gathered_among (λ n (l : List McCopy). marks_at (at_core n) l) y s.cores v q at (map_among (λ (c : McCopy). mark c (at_core v)) k q a)))))
 
 pub delivered_mark : (s : State) (d : Delivery) → Among d s.delivered → Among (mark d.copy (delivered d.vertex)) (marks_of s)
 delivered_mark s d a =
     let y : Mark = mark d.copy (delivered d.vertex) in
-    among_right y (unsent_marks s) (input_marks s ++ (all_hand_marks s ++ (core_marks s ++ (delivered_marks s ++ dumped_marks s))))
-    (among_right y (input_marks s) (all_hand_marks s ++ (core_marks s ++ (delivered_marks s ++ dumped_marks s)))
-    (among_right y (all_hand_marks s) (core_marks s ++ (delivered_marks s ++ dumped_marks s))
+    among_right y (unsent_marks s) (behind_unsent s) (among_right y (input_marks s) (behind_inputs s) (among_right y (all_hand_marks s) (behind_hands s)
     (among_right y (core_marks s) (delivered_marks s ++ dumped_marks s)
     (among_left y (delivered_marks s) (dumped_marks s) (map_among (λ (e : Delivery). mark e.copy (delivered e.vertex)) d s.delivered a)))))
 
 pub dumped_mark : (s : State) (r : DumpRec) → Among r s.dumped → Among (mark r.copy (dumped r.chip r.out)) (marks_of s)
 dumped_mark s r a =
     let y : Mark = mark r.copy (dumped r.chip r.out) in
-    among_right y (unsent_marks s) (input_marks s ++ (all_hand_marks s ++ (core_marks s ++ (delivered_marks s ++ dumped_marks s))))
-    (among_right y (input_marks s) (all_hand_marks s ++ (core_marks s ++ (delivered_marks s ++ dumped_marks s)))
-    (among_right y (all_hand_marks s) (core_marks s ++ (delivered_marks s ++ dumped_marks s))
+    among_right y (unsent_marks s) (behind_unsent s) (among_right y (input_marks s) (behind_inputs s) (among_right y (all_hand_marks s) (behind_hands s)
     (among_right y (core_marks s) (delivered_marks s ++ dumped_marks s)
     (among_right y (delivered_marks s) (dumped_marks s) (map_among (λ (e : DumpRec). mark e.copy (dumped e.chip e.out)) r s.dumped a)))))

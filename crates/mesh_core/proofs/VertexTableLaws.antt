@@ -1,23 +1,17 @@
 -- The table of vertices, as it is made.
-use Rattle.std.proofs.Common.{◌≡◌, ◌≢◌, ℕ, ◌+◌, ◌*◌, ◌<◌, ◌≤◌, refl, sym, ap, ◌∙◌, subst, arith, Bool, true, false, List, [], ◌∷◌, ◌++◌, length, take, get_or, set, replicate, cond, Option, Some, None, inl, inr}
-use Rattle.std.specs.Prelude.{AllPairs}
-use Rattle.std.specs.List.{position_from, slice_get, All}
+use Rattle.std.proofs.Common.{◌≡◌, ◌≢◌, ℕ, ◌+◌, ◌*◌, ◌<◌, refl, sym, ap, ◌∙◌, subst, arith, Bool, true, false, List, [], ◌∷◌, ◌++◌, length, take, get_or, set}
+use Rattle.std.proofs.Common.{replicate, cond, Option, Some, None, inl, inr}
 use Rattle.std.proofs.lemmas.Iterator.Adapters.{position_from-zero}
-use Rattle.std.proofs.lemmas.List.{take_more, length-set, length-replicate, get_or-replicate, length-take-le, get_or-take, get_or_default, take_all}
-use Rattle.std.proofs.lemmas.Option.{slice_get-get_or}
-use Rattle.std.proofs.lemmas.Bool.{cases_eq}
-use Rattle.std.proofs.lemmas.List.Elements.{All-head, All-tail}
+use Rattle.std.proofs.lemmas.List.{take_more, length-set, length-replicate, get_or-replicate, length-take-le, get_or-take, get_or_default}
+use Rattle.std.proofs.lemmas.{Option.slice_get-get_or, Bool.cases_eq, List.Elements.All-head, List.Elements.All-tail}
+use Rattle.std.specs.{Prelude.AllPairs, List.position_from, List.slice_get, List.All}
 use Rattle.spin_base.specs.declared.chips.Spot.{Spot}
 use Rattle.spin_base.specs.Equality.{spot_eq}
 use Rattle.spin_base.proofs.Equality.{spot_eq_true, spot_eq_same}
-use Rattle.machine_desc.specs.Description.{Description}
-use Rattle.machine_desc.specs.Live.{index_of, IsInside, IsSite}
-use Rattle.machine_desc.proofs.Far.{same_index, index_below, live_inside}
-use Rattle.machine_desc.proofs.Same.{same_spot}
-use Rattle.machine_desc.proofs.Sites.{site_parts}
-use Rattle.machine_desc.specs.NetsOn.{vertex_at}
-use Rattle.mesh_core.specs.VertexTable.{spot_place, TellsVertices}
 use Rattle.spin_base.proofs.Places.{slice_get-set_same, slice_get-set_other}
+use Rattle.machine_desc.specs.{Description.Description, Live.index_of, Live.IsInside, Live.IsSite, NetsOn.vertex_at}
+use Rattle.machine_desc.proofs.{Far.same_index, Far.index_below, Far.live_inside, Same.same_spot, Sites.site_parts}
+use Rattle.mesh_core.specs.VertexTable.{spot_place, TellsVertices}
 
 -- a site is one of the 24 spots of a chip of the grid
 pub site_inside : (m : Description) (s : Spot) → IsSite m s → IsInside m s.chip × (s.core < 24)
@@ -105,8 +99,7 @@ TellsVertices-more m spots i y table below is_y different site tells =
     earlier : All (λ x. y ≢ x) (take i spots)
     earlier = λ k d k_below e.
         let k_small : k < i = omega (arith, taken) in
-        let same : get_or spots k y ≡ get_or spots i y =
-        get_or_default spots k y d (omega arith) ∙ (sym (get_or-take i spots k d k_small) ∙ (sym e ∙ is_y)) in
+        let same : get_or spots k y ≡ get_or spots i y = get_or_default spots k y d (omega arith) ∙ (sym (get_or-take i spots k d k_small) ∙ (sym e ∙ is_y)) in
         different k i y k_small below same
 
     at_y : (s : Spot) → IsInside m s.chip → s.core < 24 → spot_place m s ≡ spot_place m y → slice_get (set table (spot_place m y) (Some i)) (spot_place m s) ≡ Some (vertex_at (take (i + 1) spots) s)
@@ -115,10 +108,3 @@ TellsVertices-more m spots i y table below is_y different site tells =
         ap (λ p. slice_get (set table (spot_place m y) (Some i)) p) here
         ∙ (slice_get-set_same table (spot_place m y) (vertex_at (take i spots) y) (Some i) (tells.told y at.0 at.1)
         ∙ ap Some (sym (ap (λ l. vertex_at l s) more ∙ (vertex_at-push_new (take i spots) y s same earlier ∙ ap Some taken))))
-
--- all vertices are told once all are written
-pub TellsVertices-all : (m : Description) (spots : List Spot) (n : ℕ) (table : List (Option ℕ)) → length spots ≤ n → TellsVertices m (take n spots) table → TellsVertices m spots table
-TellsVertices-all m spots n table all tells = record {
-  long = tells.long;
-  told = λ s inside small. tells.told s inside small ∙ ap (λ l. Some (vertex_at l s)) (take_all n spots all);
-}

@@ -1,41 +1,29 @@
 -- Walking up a branch from its target finds the target's copy of a packet.
 use Rattle.std.proofs.Common.{◌≡◌, ◌≢◌, ℕ, ◌+◌, ◌*◌, ◌<◌, ◌≤◌, zero, suc, List, map, true, ◌==◌, ◌&&◌, Option, Some, None, refl, ap, sym, ◌∙◌, subst, arith, inl, inr, ◌⊎◌, length, count_by}
-use Rattle.std.specs.List.{slice_get, All, Contains}
 use Rattle.std.proofs.lemmas.Bool.{cases_order, and_parts, eqb-true, eq-eqb, and_from}
-use Rattle.std.proofs.lemmas.List.Elements.{All-contains}
-use Rattle.std.proofs.lemmas.Option.{slice_get_within}
+use Rattle.std.proofs.lemmas.{List.Elements.All-contains, Option.slice_get_within}
+use Rattle.std.specs.List.{slice_get, All, Contains}
 use Rattle.spin_base.proofs.Members.{among_contains}
-use Rattle.spin_base.specs.declared.chips.Chip.{Chip}
-use Rattle.spin_base.specs.declared.chips.Spot.{Spot}
-use Rattle.spin_base.specs.declared.chips.Port.{Port}
-use Rattle.spin_base.specs.declared.chips.Port.TheVariants.{Link as ByLink, Local}
-use Rattle.spin_base.specs.declared.routes.Out.{Out}
-use Rattle.spin_base.specs.declared.routes.Out.TheVariants.{Link}
-use Rattle.spin_base.specs.declared.copies.McCopy.{McCopy}
-use Rattle.spin_base.specs.Links.{opposite_of}
+use Rattle.spin_base.specs.declared.chips.{Chip.Chip, Spot.Spot, Port.Port, Port.TheVariants.Link as ByLink, Port.TheVariants.Local}
+use Rattle.spin_base.specs.declared.{routes.Out.Out, routes.Out.TheVariants.Link, copies.McCopy.McCopy}
+use Rattle.spin_base.specs.{Links.opposite_of, Outputs.out_of}
 use Rattle.machine_desc.specs.declared.trees.Edge.{Edge}
 use Rattle.machine_desc.specs.Live.{IsInside, IsLiveChip, IsSite}
 use Rattle.machine_desc.specs.RoutingTree.{end_of, IsRoutingTree}
 use Rattle.machine_desc.specs.Branch.{Exit, IsBranch, arrival_at}
-use Rattle.machine_desc.proofs.Branches.{ComesBy, comes_by, way_first, same_place, branch_short, branch_inside, exit_of, last_exit}
-use Rattle.machine_desc.proofs.Sites.{site_parts}
-use Rattle.machine_desc.proofs.TreeLemmas.{one_edge_into}
-use Rattle.spin_base.specs.Outputs.{out_of}
 use Rattle.machine_desc.specs.declared.nets.NetPlan.{NetPlan}
-use Rattle.machine_desc.specs.RightTables.{IsKeyOf}
-use Rattle.mesh_core.specs.declared.places.Where.{Where}
-use Rattle.mesh_core.specs.declared.places.Where.TheVariants.{Unsent}
+use Rattle.machine_desc.specs.{RightTables.IsKeyOf, NetsOn.AreNetsOn, NetsOn.IsWayOn}
+use Rattle.machine_desc.proofs.Branches.{ComesBy, comes_by, way_first, same_place, branch_short, branch_inside, exit_of, last_exit}
+use Rattle.machine_desc.proofs.{Sites.site_parts, TreeLemmas.one_edge_into}
+use Rattle.mesh_core.specs.declared.places.Where.{Where, TheVariants.Unsent}
 use Rattle.mesh_core.specs.State.{State, IsMesh}
 use Rattle.mesh_core.specs.Trail.{Station, unsent, in_queue, in_hand, at_core, delivered, dumped, Mark, on_trail, is_on_trail, is_packet_on_trail}
-use Rattle.machine_desc.specs.NetsOn.{AreNetsOn, IsWayOn}
 use Rattle.mesh_core.specs.Ledger.{marks_of}
 use Rattle.mesh_core.specs.Whereabouts.{TellsStation, IsFoundThere, IsWhere, IsTracked}
 use Rattle.mesh_core.specs.Searches.{IsMarkThere, IsFound, IsOfCore, IsOfOutput, IsOfPort, port_behind, IsEdgeInto}
-use Rattle.mesh_core.proofs.Counting.{counted}
-use Rattle.mesh_core.proofs.LedgerLaw.{one_net}
+use Rattle.mesh_core.proofs.{Counting.counted, LedgerLaw.one_net}
 use Rattle.mesh_core.proofs.Law.{leaves_parts, leaves_from, ComesThere, comes_parts, comes_from}
-use Rattle.mesh_core.proofs.OneWay.{last_place}
-use Rattle.mesh_core.proofs.Ways.{vertex_at_stands, some_way}
+use Rattle.mesh_core.proofs.{OneWay.last_place, Ways.vertex_at_stands, Ways.some_way}
 
 -- ---- how far the walk has come
 
@@ -103,7 +91,8 @@ module _ (s : State) (net : NetPlan) (packet : ℕ) (tracked : IsTracked s net p
   one_place_of = same_place s.setup.machine net.tree.root net.tree.edges (map (λ x. x.chip) net.targets) tree
 
   -- branches to one vertex are of one length
-  one_length : (t u : Spot) (xs ys : List Exit) (from from' to : ℕ) → IsWayOn s.setup.machine s.setup.spots net t xs from to → IsWayOn s.setup.machine s.setup.spots net u ys from' to → length xs ≡ length ys
+  one_length : (t u : Spot) (xs ys : List Exit) (from from' to : ℕ) → IsWayOn s.setup.machine s.setup.spots net t xs from to →
+      IsWayOn s.setup.machine s.setup.spots net u ys from' to → length xs ≡ length ys
   one_length t u xs ys from from' to w w' =
       let on_t = vertex_at_stands s.setup.spots t to w.ends in
       let on_u = vertex_at_stands s.setup.spots u to w'.ends in
@@ -111,8 +100,7 @@ module _ (s : State) (net : NetPlan) (packet : ℕ) (tracked : IsTracked s net p
       let same : t ≡ u = cc in
       let x = last_place s.setup.machine net tree t xs w.is_branch in
       let y = last_place s.setup.machine net tree u ys w'.is_branch in
-      let place = one_place_of t u xs ys w.is_branch w'.is_branch x.0 y.0 (last_exit t) (last_exit u) x.1 y.1 (ap (λ (z : Spot). z.chip) same)
-      in
+      let place = one_place_of t u xs ys w.is_branch w'.is_branch x.0 y.0 (last_exit t) (last_exit u) x.1 y.1 (ap (λ (z : Spot). z.chip) same) in
       sym x.2 ∙ (ap (λ n. n + 1) place.0 ∙ y.2)
 
   -- ---- a mark of the packet on the target's branch is on the target's trail
@@ -130,9 +118,7 @@ module _ (s : State) (net : NetPlan) (packet : ℕ) (tracked : IsTracked s net p
   its_key k has is_packet =
       let here = (tracked.ledger.labelled k has).0 in
       let there = (tracked.ledger.labelled tracked.mark tracked.is_mark).0 in
-      let same : tracked.mark.copy.key ≡ k.copy.key =
-      there ∙ (ap (λ n. (tracked.labels n).key) (tracked.is_packet ∙ sym is_packet) ∙ sym here)
-      in
+      let same : tracked.mark.copy.key ≡ k.copy.key = there ∙ (ap (λ n. (tracked.labels n).key) (tracked.is_packet ∙ sym is_packet) ∙ sym here) in
       subst (λ n. IsKeyOf net.block n) same tracked.is_key
 
   on_net : (k : Mark) → Contains (marks_of s) k → k.copy.packet ≡ packet → OnNet k
@@ -163,8 +149,7 @@ module _ (s : State) (net : NetPlan) (packet : ℕ) (tracked : IsTracked s net p
         leaves : slice_get u.branch k.copy.hop ≡ Some (record { chip = c; out = o }) → slice_get xs k.copy.hop ≡ Some (record { chip = c; out = o })
         leaves on =
             let one = one_place_of target u.goal xs u.branch way.is_branch u.way.is_branch i k.copy.hop
-            (record { chip = c; out = o }) (record { chip = c; out = o }) at on refl
-            in
+            (record { chip = c; out = o }) (record { chip = c; out = o }) at on refl in
             ap (slice_get xs) (sym one.0) ∙ at
 
         by_station : IsOfOutput c o k.station → is_on_trail from to xs k ≡ true
@@ -182,16 +167,14 @@ module _ (s : State) (net : NetPlan) (packet : ℕ) (tracked : IsTracked s net p
         let on = sym (ap (on_trail u.from u.to u.branch k.copy.hop) is) ∙ u.on in
         let there : ComesThere u.branch k.copy.hop c port = comes_parts u.branch k.copy.hop c port on in
         let one = one_place_of target u.goal xs u.branch way.is_branch u.way.is_branch i k.copy.hop
-        (record { chip = c; out = o }) there.exit at there.at (sym there.chip)
-        in
+        (record { chip = c; out = o }) there.exit at there.at (sym there.chip) in
         let here : ComesThere xs k.copy.hop c port =
         record {
           exit = record { chip = c; out = o };
           at = ap (slice_get xs) (sym one.0) ∙ at;
           chip = refl;
           port_is = ap (arrival_at xs) (sym one.0) ∙ (one.1 ∙ there.port_is);
-        }
-        in
+        } in
         on_by k (in_queue c port) is (comes_from xs k.copy.hop c port here)
 
     -- a mark at the target's vertex
@@ -211,7 +194,8 @@ module _ (s : State) (net : NetPlan) (packet : ℕ) (tracked : IsTracked s net p
         at_end on =
             let its_to : v ≡ u.to = eqb-true v u.to ((and_parts (v == u.to) (k.copy.hop == length u.branch) on).0) in
             let hop : k.copy.hop ≡ length u.branch = eqb-true k.copy.hop (length u.branch) ((and_parts (v == u.to) (k.copy.hop == length u.branch) on).1) in
-            let other : IsWayOn s.setup.machine s.setup.spots net u.goal u.branch u.from to = subst (λ n. IsWayOn s.setup.machine s.setup.spots net u.goal u.branch u.from n) (sym its_to ∙ is_to) u.way in
+            let other : IsWayOn s.setup.machine s.setup.spots net u.goal u.branch u.from to =
+            subst (λ n. IsWayOn s.setup.machine s.setup.spots net u.goal u.branch u.from n) (sym its_to ∙ is_to) u.way in
             let long = one_length u.goal target u.branch xs u.from from to other way in
             and_from (v == to) (k.copy.hop == length xs) (eq-eqb v to is_to) (eq-eqb k.copy.hop (length xs) (hop ∙ long))
 
@@ -240,12 +224,10 @@ module _ (s : State) (net : NetPlan) (packet : ℕ) (tracked : IsTracked s net p
     told_unsent : ((k : Mark) → Contains (marks_of s) k → k.copy.packet ≡ packet → is_on_trail from to xs k ≡ true → IsBefore 0 k.copy.hop k.station) →
         IsFoundThere s packet xs from to Unsent
     told_unsent before =
-        let once = only_one in
-        let k = counted (is_packet_on_trail packet from to xs) (marks_of s) (omega (arith, once)) in
+        let k = counted (is_packet_on_trail packet from to xs) (marks_of s) (omega (arith, only_one)) in
         let has = among_contains k.0 (marks_of s) k.1 in
         let of_packet : k.0.copy.packet ≡ packet =
-        eqb-true k.0.copy.packet packet ((and_parts (k.0.copy.packet == packet) (is_on_trail from to xs k.0) k.2).0)
-        in
+        eqb-true k.0.copy.packet packet ((and_parts (k.0.copy.packet == packet) (is_on_trail from to xs k.0) k.2).0) in
         let on = (and_parts (k.0.copy.packet == packet) (is_on_trail from to xs k.0) k.2).1 in
         told_by k.0 has of_packet on Unsent (by_station k.0.copy k.0.station (before k.0 has of_packet on))
       where
@@ -324,8 +306,7 @@ module _ (s : State) (net : NetPlan) (packet : ℕ) (tracked : IsTracked s net p
       let on = walked w.0 w.1 w.2 w.3 in
       let place : on.place + 1 + steps ≡ length w.0 = on.is_place in
       let short : length w.0 ≤ s.setup.machine.width * s.setup.machine.height =
-      branch_short s.setup.machine net.tree.root net.tree.edges (map (λ x. x.chip) net.targets) tree (root_lives mesh) target w.0 w.3.is_branch
-      in
+      branch_short s.setup.machine net.tree.root net.tree.edges (map (λ x. x.chip) net.targets) tree (root_lives mesh) target w.0 w.3.is_branch in
       omega arith
 
   -- the edge into a place's chip tells the port there, and the exit before
@@ -345,8 +326,7 @@ module _ (s : State) (net : NetPlan) (packet : ℕ) (tracked : IsTracked s net p
   behind_place xs from to way (suc i) x at (Some e) into =
       let by : ComesBy s.setup.machine net.tree.edges xs Local i x.chip = comes_by s.setup.machine net.tree.edges target net.tree.root Local xs i x way.is_branch at in
       let one : by.edge ≡ e =
-      one_edge_into s.setup.machine net.tree.root net.tree.edges (map (λ y. y.chip) net.targets) tree by.edge e x.chip by.in_tree into.0 by.leads into.1
-      in
+      one_edge_into s.setup.machine net.tree.root net.tree.edges (map (λ y. y.chip) net.targets) tree by.edge e x.chip by.in_tree into.0 by.leads into.1 in
       record {
         arrives = by.arrives ∙ ap (λ (f : Edge). ByLink (opposite_of f.dir)) one;
         prior = by.before ∙ ap (λ (f : Edge). Some (exit_of f)) one;

@@ -1,38 +1,23 @@
 -- Facts on the ways of a net: their ends are vertices, their places are few, and each wanted output lies on one.
 use Rattle.std.proofs.Common.{◌≡◌, ◌⊎◌, ℕ, ◌+◌, ◌*◌, ◌<◌, ◌≤◌, suc, zero, List, map, Bool, true, false, Option, Some, None, refl, ap, sym, ◌∙◌, subst, arith, inl, inr, length, min}
+use Rattle.std.proofs.lemmas.{Bool.and_from, List.Elements.All-contains}
+use Rattle.std.proofs.{Math.Nat.mul-le-mul_left, lemmas.Option.slice_get-get_or, lemmas.List.Quantifiers.position-Some}
 use Rattle.std.specs.Prelude.{position}
-use Rattle.std.proofs.lemmas.Bool.{and_from}
-use Rattle.std.proofs.lemmas.List.Elements.{All-contains}
-use Rattle.std.proofs.Math.Nat.{mul-le-mul_left}
 use Rattle.std.specs.List.{slice_get, slice_index_or, All, Contains}
-use Rattle.std.proofs.lemmas.Option.{slice_get-get_or}
-use Rattle.std.proofs.lemmas.List.Quantifiers.{position-Some}
-use Rattle.spin_base.proofs.Members.{contains_among, position_nowhere}
-use Rattle.spin_base.proofs.Places.{All-at}
-use Rattle.spin_base.proofs.Tests.{answers_none}
-use Rattle.spin_base.specs.declared.chips.Spot.{Spot}
-use Rattle.spin_base.specs.declared.chips.Chip.{Chip}
-use Rattle.spin_base.specs.declared.chips.Dir.{Dir}
-use Rattle.spin_base.specs.declared.chips.Port.TheVariants.{Local}
-use Rattle.spin_base.specs.declared.routes.Out.{Out}
-use Rattle.spin_base.specs.declared.routes.Out.TheVariants.{Link, Core}
-use Rattle.spin_base.specs.Equality.{chip_eq, out_eq, spot_eq}
-use Rattle.spin_base.specs.Outputs.{IsOutput, out_of}
-use Rattle.spin_base.proofs.Spots.{out_of-has_bit}
+use Rattle.spin_base.proofs.{Members.contains_among, Members.position_nowhere, Places.All-at, Tests.answers_none, Spots.out_of-has_bit}
 use Rattle.spin_base.proofs.Equality.{chip_eq_same, out_eq_same, spot_eq_same, spot_eq_true}
-use Rattle.spin_base.specs.Hops.{last_hop}
+use Rattle.spin_base.specs.declared.chips.{Spot.Spot, Chip.Chip, Dir.Dir, Port.TheVariants.Local}
+use Rattle.spin_base.specs.declared.routes.Out.{Out, TheVariants.Link, TheVariants.Core}
+use Rattle.spin_base.specs.{Equality.chip_eq, Equality.out_eq, Equality.spot_eq, Outputs.IsOutput, Outputs.out_of, Hops.last_hop}
 use Rattle.machine_desc.specs.declared.trees.Edge.{Edge}
 use Rattle.machine_desc.specs.Description.{Description}
 use Rattle.machine_desc.specs.Live.{far_of, is_live_chip, is_live_link, IsLiveChip, IsSite}
-use Rattle.machine_desc.specs.RoutingTree.{IsRoutingTree}
-use Rattle.machine_desc.specs.Branch.{Exit, IsBranch, arrival_at}
-use Rattle.machine_desc.proofs.Far.{live_ends}
-use Rattle.machine_desc.proofs.Sites.{site_parts}
-use Rattle.machine_desc.proofs.Branches.{same_exit, ComesBy, comes_by, exit_leads, way_first, same_place, branch_short, end_on_branch, link_on_branch, exit_of, last_exit, ExitLeads}
+use Rattle.machine_desc.specs.{RoutingTree.IsRoutingTree, Branch.Exit, Branch.IsBranch, Branch.arrival_at}
 use Rattle.machine_desc.specs.declared.nets.NetPlan.{NetPlan}
 use Rattle.machine_desc.specs.Outputs.{leads_to_spot, is_wanted, ComesIn}
-use Rattle.machine_desc.specs.NetsOn.{vertex_at, AreNetsOn, IsWayOn}
-use Rattle.machine_desc.specs.RightTables.{RoutesByTree}
+use Rattle.machine_desc.specs.{NetsOn.vertex_at, NetsOn.AreNetsOn, NetsOn.IsWayOn, RightTables.RoutesByTree}
+use Rattle.machine_desc.proofs.{Far.live_ends, Sites.site_parts}
+use Rattle.machine_desc.proofs.Branches.{same_exit, ComesBy, comes_by, exit_leads, way_first, same_place, branch_short, end_on_branch, link_on_branch, exit_of, last_exit, ExitLeads}
 use Rattle.machine_desc.proofs.Wanted.{spot_of_out, wanted_cases, edge_wanted, end_wanted}
 use Rattle.mesh_core.specs.State.{Setup, State, IsMesh, vertex_behind, nowhere, core_queue_of, behind_link, behind}
 
@@ -90,8 +75,7 @@ pub short_branch : (s : State) (net : NetPlan) → Stands s net → (t : Spot) (
 short_branch s net stands t branch is =
     let m = s.setup.machine in
     let short : length branch ≤ m.width * m.height =
-    branch_short m net.tree.root net.tree.edges (map (λ x. x.chip) net.targets) stands.tree (root_lives s net stands) t branch is
-    in
+    branch_short m net.tree.root net.tree.edges (map (λ x. x.chip) net.targets) stands.tree (root_lives s net stands) t branch is in
     let w : m.width ≤ 64 = stands.mesh.size.width_to_64 in
     let h : m.height ≤ 64 = stands.mesh.size.height_to_64 in
     let area : m.width * m.height ≤ m.width * 64 = mul-le-mul_left m.width h in
@@ -106,8 +90,7 @@ pub one_place : (s : State) (net : NetPlan) → Stands s net → (t u : Spot) (x
     IsBranch s.setup.machine net.tree.root net.tree.edges t xs → IsBranch s.setup.machine net.tree.root net.tree.edges u ys →
     (i j : ℕ) (x y : Exit) → slice_get xs i ≡ Some x → slice_get ys j ≡ Some y → x.chip ≡ y.chip →
     (i ≡ j) × (arrival_at xs i ≡ arrival_at ys j)
-one_place s net stands =
-    same_place s.setup.machine net.tree.root net.tree.edges (map (λ x. x.chip) net.targets) stands.tree
+one_place s net stands = same_place s.setup.machine net.tree.root net.tree.edges (map (λ x. x.chip) net.targets) stands.tree
 
 -- the net's packets come in where its branches pass
 pub branch_comes_in : (s : State) (net : NetPlan) → (t : Spot) (xs : List Exit) → IsBranch s.setup.machine net.tree.root net.tree.edges t xs →

@@ -1,29 +1,18 @@
 -- A router looks at a copy's hop number and what its table gives the key alone: so a packet with a key alike goes the same way.
-use Rattle.std.proofs.Common.{◌≡◌, ℕ, cond, inl, inr, subst, suc, zero, ◌*◌, ◌<◌, ◌&&◌, ◌==◌, Bool, true, false, nat_lt, if◌then◌else◌, List, [], ◌∷◌, ◌++◌, length, map, set, get_or, drop, refl, sym, ap, ◌∙◌, Option, None, Some, arith}
-use Rattle.std.specs.Prelude.{unwrap_or}
-use Rattle.std.specs.List.{slice_get, slice_index_or, All}
-use Rattle.std.specs.Option.{option_map}
+use Rattle.std.proofs.Common.{◌≡◌, ℕ, cond, inl, inr, subst, suc, zero, ◌*◌, ◌<◌, ◌&&◌, ◌==◌, Bool, true, false, nat_lt, if◌then◌else◌, List, [], ◌∷◌, ◌++◌, length, map}
+use Rattle.std.proofs.Common.{set, get_or, drop, refl, sym, ap, ◌∙◌, Option, None, Some, arith}
 use Rattle.std.proofs.lemmas.Bool.{cases_Bool, eqb-true, eq-eqb}
 use Rattle.std.proofs.lemmas.List.{append_assoc, append-nil, drop_at, length-map, map-append, map-set}
 use Rattle.std.proofs.lemmas.List.Elements.{All-cons, All-head, All-tail, All-weaker}
 use Rattle.std.proofs.lemmas.Option.{slice_get-get_or, slice_get-map}
-use Rattle.spin_base.specs.declared.blocks.Entry.{Entry}
-use Rattle.spin_base.specs.declared.chips.Chip.{Chip}
-use Rattle.spin_base.specs.declared.chips.Spot.{Spot}
-use Rattle.spin_base.specs.declared.chips.Port.{Port}
-use Rattle.spin_base.specs.declared.chips.Port.TheVariants.{Local}
-use Rattle.spin_base.specs.declared.copies.Delivery.{Delivery}
-use Rattle.spin_base.specs.declared.copies.DumpRec.{DumpRec}
-use Rattle.spin_base.specs.declared.copies.Event.{Event}
+use Rattle.std.specs.{Prelude.unwrap_or, List.slice_get, List.slice_index_or, List.All, Option.option_map}
+use Rattle.spin_base.specs.declared.{blocks.Entry.Entry, chips.Chip.Chip, chips.Spot.Spot, chips.Port.Port, chips.Port.TheVariants.Local}
+use Rattle.spin_base.specs.declared.copies.{Delivery.Delivery, DumpRec.DumpRec, Event.Event}
 use Rattle.spin_base.specs.declared.copies.Event.TheVariants.{Inject, Take, Send, Dump, Collect}
-use Rattle.spin_base.specs.declared.copies.McCopy.{McCopy}
-use Rattle.spin_base.specs.declared.routes.Out.{Out}
-use Rattle.spin_base.specs.Hops.{last_hop, onward}
-use Rattle.spin_base.specs.Lookup.{lookup}
-use Rattle.spin_base.specs.Outputs.{outs_of}
+use Rattle.spin_base.specs.declared.{copies.McCopy.McCopy, routes.Out.Out}
+use Rattle.spin_base.specs.{Hops.last_hop, Hops.onward, Lookup.lookup, Outputs.outs_of}
 use Rattle.spin_base.proofs.Places.{All-at}
-use Rattle.machine_desc.specs.Live.{index_of, is_live_chip}
-use Rattle.machine_desc.specs.RightTables.{table_at}
+use Rattle.machine_desc.specs.{Live.index_of, Live.is_live_chip, RightTables.table_at}
 use Rattle.mesh_core.specs.Expected.{NothingWaits}
 use Rattle.mesh_core.specs.State.{Setup, State, Hand, IsMesh, Queue, behind, input, core, nowhere, queue_at}
 use Rattle.mesh_core.specs.Step.{after_event, after_events, after_serving, collect_of, has_room, has_room_behind, in_hand, outputs, outs_without, push_at, push_behind, send_of, serves, take_of}
@@ -215,14 +204,12 @@ same_at_rest : (key : ℕ) (k : McCopy) (s t : State) → IsMesh s → IsMesh t 
 same_at_rest key k s t mesh_s mesh_t quiet_s quiet_t same =
     let chips = ap (λ (u : Setup). u.machine.width * u.machine.height) same in
     let spots = ap (λ (u : Setup). length u.spots) same in
-    let is = mesh_s.input_lists in
-    let it = mesh_t.input_lists in
     let hs = mesh_s.hand_list in
     let ht = mesh_t.hand_list in
     let cs = mesh_s.core_lists in
     let ct = mesh_t.core_lists in
     record {
-      inputs = all_same [] s.inputs t.inputs quiet_s.inputs_empty quiet_t.inputs_empty (is ∙ (ap (λ n. 7 * n) chips ∙ sym it)) ∙ sym
+      inputs = all_same [] s.inputs t.inputs quiet_s.inputs_empty quiet_t.inputs_empty (mesh_s.input_lists ∙ (ap (λ n. 7 * n) chips ∙ sym mesh_t.input_lists)) ∙ sym
           (all_mapped (map (numbered key k)) [] refl t.inputs quiet_t.inputs_empty);
       hands = all_same None s.hands t.hands quiet_s.hands_empty quiet_t.hands_empty (hs ∙ (chips ∙ sym ht)) ∙ sym (all_mapped (held key k) None refl t.hands quiet_t.hands_empty);
       cores = all_same [] s.cores t.cores quiet_s.cores_empty quiet_t.cores_empty (cs ∙ (spots ∙ sym ct)) ∙ sym (all_mapped (map (numbered key k)) [] refl t.cores quiet_t.cores_empty);
@@ -295,8 +282,15 @@ module _ (s t : State) (v : ℕ) (k : McCopy) (rest : List McCopy) (may : MaySen
         let at : IsSameAtRest k.key x r s = same_at_rest k.key x r s may_r.kept.mesh may.kept.mesh may_r.quiet may.quiet same in
         let i : ℕ = queue_at s.setup.machine spot.chip Local in
         let made : Setup → List (List McCopy) → List (Option Hand) → List (List McCopy) → State =
-        λ u inputs hands cores. record { setup = u; unsent = unsent; inputs = set inputs (queue_at u.machine spot.chip Local) (x ∷ []); hands = hands; cores = cores; delivered = r.delivered; dumped = r.dumped }
-        in
+        λ u inputs hands cores. record {
+          setup = u;
+          unsent = unsent;
+          inputs = set inputs (queue_at u.machine spot.chip Local) (x ∷ []);
+          hands = hands;
+          cores = cores;
+          delivered = r.delivered;
+          dumped = r.dumped;
+        } in
         let with_inputs : List (List McCopy) → State = λ inputs. record (alike r.delivered s) { inputs = inputs } in
         begun_r
         ∙ (ap (λ u. made u r.inputs r.hands r.cores) same
@@ -312,8 +306,7 @@ module _ (s t : State) (v : ℕ) (k : McCopy) (rest : List McCopy) (may : MaySen
         let setup : t.setup ≡ r.setup = setup_reached s t dropless ∙ sym same in
         let at : IsSameAtRest k.key x r t = same_at_rest k.key x r t may_r.kept.mesh (kept_reached s t may.kept dropless).mesh may_r.quiet quiet (sym setup) in
         let made : Setup → List (List McCopy) → List (Option Hand) → List (List McCopy) → State =
-        λ u inputs hands cores. record { setup = u; unsent = unsent; inputs = inputs; hands = hands; cores = cores; delivered = ds; dumped = r.dumped }
-        in
+        λ u inputs hands cores. record { setup = u; unsent = unsent; inputs = inputs; hands = hands; cores = cores; delivered = ds; dumped = r.dumped } in
         ap (λ u. made u (queues k.key x t.inputs) (map (held k.key x) t.hands) (queues k.key x t.cores)) setup
         ∙ (ap (λ l. made r.setup l (map (held k.key x) t.hands) (queues k.key x t.cores)) (sym at.inputs)
         ∙ (ap (λ l. made r.setup r.inputs l (queues k.key x t.cores)) (sym at.hands)

@@ -1,15 +1,13 @@
 -- Events that drop no copy: what they leave as it is, and that they follow on each other.
 use Rattle.std.proofs.Common.{◌≡◌, ℕ, refl, sym, ap, ◌∙◌, subst, List, [], ◌∷◌, ◌++◌}
-use Rattle.std.specs.List.{slice_get, All}
 use Rattle.std.proofs.lemmas.List.Elements.{All-head, All-tail, All-nil, All-cons, All-append, All-weaker}
+use Rattle.std.specs.List.{slice_get, All}
 use Rattle.spin_base.specs.declared.copies.Event.{Event}
 use Rattle.spin_base.specs.declared.copies.Event.TheVariants.{Inject, Take, Send, Dump, Collect}
 use Rattle.machine_desc.specs.Live.{index_of}
-use Rattle.mesh_core.specs.State.{State, queue_at}
-use Rattle.mesh_core.specs.Step.{after_event, after_events}
+use Rattle.mesh_core.specs.{State.State, State.queue_at, Step.after_event, Step.after_events, HasRun.DropsNone}
 use Rattle.mesh_core.proofs.EventsLaw.{events_keep}
 use Rattle.mesh_core.proofs.Fixed.{setup_after, after_events-append, push_behind_leaves, by_take, by_send, by_collect, dumped_stays}
-use Rattle.mesh_core.specs.HasRun.{DropsNone}
 use Rattle.mesh_drain.specs.Draining.{MeetsSomeLedger, IsOnward, IsReachedDropless, IsReachedOnward}
 
 -- ---- what stays

@@ -1,34 +1,24 @@
 -- A copy that waits can be moved, and is lighter then.
 use Rattle.std.proofs.Common.{◌≡◌, ℕ, ◌<◌, ◌≤◌, arith, length, refl, sym, ap, ◌∙◌, subst, inl, Bool, true, false, ◌&&◌, not, if◌then◌else◌, List, [], ◌∷◌, ◌++◌, Option, Some, None}
+use Rattle.std.proofs.lemmas.{List.Elements.All-append, List.Elements.All-nil, Option.none-some}
 use Rattle.std.specs.Prelude.{unwrap_or, is_some, OnOk, Result, Ok, Err}
-use Rattle.spin_base.specs.declared.wants.Memory.{Memory}
 use Rattle.std.specs.List.{slice_get, list_any}
-use Rattle.std.proofs.lemmas.List.Elements.{All-append, All-nil}
-use Rattle.std.proofs.lemmas.Option.{none-some}
-use Rattle.mesh_core.proofs.Fixed.{after_events-append, setup_after}
-use Rattle.spin_base.specs.declared.chips.Chip.{Chip}
-use Rattle.spin_base.specs.declared.routes.Out.{Out}
-use Rattle.spin_base.specs.declared.copies.McCopy.{McCopy}
-use Rattle.spin_base.specs.declared.copies.Event.{Event}
-use Rattle.spin_base.specs.declared.copies.Event.TheVariants.{Send, Dump}
+use Rattle.spin_base.specs.declared.{wants.Memory.Memory, chips.Chip.Chip, routes.Out.Out, copies.McCopy.McCopy}
+use Rattle.spin_base.specs.declared.copies.Event.{Event, TheVariants.Send, TheVariants.Dump}
 use Rattle.spin_base.specs.Equality.{out_eq}
-use Rattle.spin_base.proofs.Equality.{out_eq_same}
-use Rattle.spin_base.proofs.Members.{Among, among_any}
-use Rattle.spin_base.proofs.Places.{All-at}
-use Rattle.machine_desc.specs.Live.{index_of, is_live_chip, IsInside}
+use Rattle.spin_base.proofs.{Equality.out_eq_same, Members.Among, Members.among_any, Places.All-at}
+use Rattle.mesh_core.proofs.Fixed.{after_events-append, setup_after}
+use Rattle.mesh_core.proofs.EventsLaw.{events_keep, IsMesh-after_events}
 use Rattle.mesh_core.specs.State.{Setup, State, Hand, IsMesh, behind, queue_at}
 use Rattle.mesh_core.specs.Step.{has_room_behind, send_of, dump_of, step_of, after_event, after_events, answer}
 use Rattle.mesh_core.specs.declared.places.Did.TheVariants.{Moved, Idle}
-use Rattle.mesh_core.specs.HasRun.{DropsNone}
-use Rattle.mesh_core.specs.Expected.{NothingWaits}
-use Rattle.mesh_core.proofs.EventsLaw.{events_keep, IsMesh-after_events}
+use Rattle.mesh_core.specs.{HasRun.DropsNone, Expected.NothingWaits}
+use Rattle.machine_desc.specs.Live.{index_of, is_live_chip, IsInside}
 use Rattle.mesh_drain.specs.Draining.{MeetsSomeLedger, IsReachedDropless, IsAfter, IsMoved}
 use Rattle.mesh_drain.specs.UnderWay.{weight_in}
-use Rattle.mesh_drain.specs.declared.waiting.Waits.{Waits}
-use Rattle.mesh_drain.specs.declared.waiting.Waits.TheVariants.{InCore, InHand, AtPort}
+use Rattle.mesh_drain.specs.declared.waiting.Waits.{Waits, TheVariants.InCore, TheVariants.InHand, TheVariants.AtPort}
 use Rattle.mesh_drain.specs.Waiting.{HasCopies, IsNextOut, IsWaiting}
-use Rattle.mesh_drain.proofs.Frame.{dumped_reached}
-use Rattle.mesh_drain.proofs.Progress.{moved_lighter, event_lighter}
+use Rattle.mesh_drain.proofs.{Frame.dumped_reached, Progress.moved_lighter, Progress.event_lighter}
 
 -- ---- events, one after the other
 
@@ -70,9 +60,7 @@ after_lighter s t mesh after = subst (λ x. weight_in x ≤ weight_in s) (sym af
     by_events : (u : State) → IsMesh u → (es : List Event) → weight_in (after_events u es) ≤ weight_in u
     by_events u own [] = omega arith
     by_events u own (e ∷ es) =
-        let one = event_lighter u e own in
-        let rest = by_events (after_event u e) (IsMesh-after_events u (e ∷ []) own) es in
-        omega (arith, one, rest)
+        omega (arith, event_lighter u e own, by_events (after_event u e) (IsMesh-after_events u (e ∷ []) own) es)
 
 -- where something waited at the start, whatever comes
 pub moved_on : (s t u : State) → IsMoved s t → (NothingWaits s → ⊥) → IsAfter t u → IsMoved s u

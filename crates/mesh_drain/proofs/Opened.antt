@@ -1,22 +1,15 @@
 -- A packet of a job, its net, and the vertex that sends it.
 use Rattle.std.proofs.Common.{◌≡◌, ℕ, ◌+◌, ◌<◌, sym, ap, ◌∙◌, subst, List, [], ◌∷◌, ◌++◌, map, take, length, get_or, Some, arith}
+use Rattle.std.proofs.lemmas.List.{take_more, length-take-le, length-map, get_or-map, Elements.All-contains}
+use Rattle.std.proofs.lemmas.Option.{slice_get_within, get_or_from_slice_get, slice_get-get_or}
 use Rattle.std.specs.List.{slice_get, slice_index_or, All, Contains}
 use Rattle.std.specs.Prelude.{unwrap_or}
-use Rattle.std.proofs.lemmas.List.{take_more, length-take-le, length-map, get_or-map}
-use Rattle.std.proofs.lemmas.List.Elements.{All-contains}
-use Rattle.std.proofs.lemmas.Option.{slice_get_within, get_or_from_slice_get, slice_get-get_or}
-use Rattle.spin_base.specs.declared.chips.Spot.{Spot}
-use Rattle.spin_base.specs.declared.copies.McCopy.{McCopy}
-use Rattle.spin_base.specs.declared.copies.Packet.{Packet}
-use Rattle.machine_desc.specs.Description.{Description}
-use Rattle.machine_desc.specs.Live.{IsSite}
+use Rattle.spin_base.specs.declared.{chips.Spot.Spot, copies.McCopy.McCopy, copies.Packet.Packet}
+use Rattle.machine_desc.specs.{Description.Description, Live.IsSite}
 use Rattle.machine_desc.specs.declared.nets.NetPlan.{NetPlan}
 use Rattle.machine_desc.specs.NetsOn.{vertex_at}
-use Rattle.mesh_core.specs.State.{Setup, State}
-use Rattle.mesh_core.specs.Step.{push_at}
-use Rattle.mesh_core.specs.Opened.{empty_mesh, opened_mesh, first_copy, AreOfNets}
-use Rattle.mesh_core.proofs.ServingLaws.{vertex_at-below}
-use Rattle.mesh_core.proofs.Ways.{vertex_there}
+use Rattle.mesh_core.specs.{State.Setup, State.State, Step.push_at, Opened.empty_mesh, Opened.opened_mesh, Opened.first_copy, Opened.AreOfNets}
+use Rattle.mesh_core.proofs.{ServingLaws.vertex_at-below, Ways.vertex_there}
 use Rattle.mesh_drain.specs.Opening.{source_vertex_of}
 use Rattle.mesh_drain.proofs.Unsent.{opened_more, opened_none}
 
@@ -73,7 +66,12 @@ opens u nets = ap (λ l. record (empty_mesh u) { unsent = l }) (opened_none u.sp
 pub grows : (u : Setup) (nets : List NetPlan) (packets : List Packet) (i : ℕ) (d : Packet) (n : NetPlan) (v : ℕ) (copy : McCopy) (s t : State) →
     (k : Known u.spots nets (slice_index_or packets i d)) → i < length packets →
     s ≡ opened_mesh u nets (take i packets) →
-    copy ≡ record { packet = i; key = (slice_index_or nets (slice_index_or packets i d).net n).block.key + (slice_index_or packets i d).index; payload = (slice_index_or packets i d).payload; hop = 0 } →
+    copy ≡ record {
+      packet = i;
+      key = (slice_index_or nets (slice_index_or packets i d).net n).block.key + (slice_index_or packets i d).index;
+      payload = (slice_index_or packets i d).payload;
+      hop = 0;
+    } →
     v ≡ k.source →
     t ≡ record s { unsent = push_at s.unsent v copy (slice_get s.unsent v) } →
     t ≡ opened_mesh u nets (take (i + 1) packets)
@@ -84,8 +82,7 @@ grows u nets packets i d n v copy s t k within before is_copy vertex step =
     let its_copy : copy ≡ first_copy (length so_far) k.net p =
     is_copy
     ∙ (ap (λ (x : NetPlan). record { packet = i; key = x.block.key + p.index; payload = p.payload; hop = 0 }) (get_or_from_slice_get nets p.net k.net n k.is_net)
-    ∙ ap (λ j. first_copy j k.net p) (sym many))
-    in
+    ∙ ap (λ j. first_copy j k.net p) (sym many)) in
     let with_it : State → ℕ → McCopy → State = λ x w c. record x { unsent = push_at x.unsent w c (slice_get x.unsent w) } in
     step
     ∙ (ap (λ x. with_it x v copy) before

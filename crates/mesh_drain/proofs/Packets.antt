@@ -1,28 +1,19 @@
 -- A packet is send_of, and at its end nothing waits.
 use Rattle.std.proofs.Common.{◌≡◌, ℕ, ◌+◌, ◌*◌, ◌<◌, ◌≤◌, ◌==◌, refl, sym, ap, ◌∙◌, subst, arith, List, [], ◌∷◌, length, map, get_or, Option, Some, None, Bool, true, false, if◌then◌else◌, nat_lt}
-use Rattle.std.specs.List.{slice_get, slice_index_or, slice_set, All}
 use Rattle.std.proofs.Math.Nat.{mul-le-mul_left}
 use Rattle.std.proofs.lemmas.Bool.{lt-ltb, ltb-true, ltb-false}
 use Rattle.std.proofs.lemmas.List.{get_or_default, get_or_past, get_or-map, length-map}
 use Rattle.std.proofs.lemmas.List.Elements.{All-nil, All-cons, All-set}
-use Rattle.spin_base.specs.declared.chips.Chip.{Chip}
-use Rattle.spin_base.specs.declared.chips.Spot.{Spot}
-use Rattle.spin_base.specs.declared.chips.Port.TheVariants.{Local}
-use Rattle.spin_base.specs.declared.copies.McCopy.{McCopy}
-use Rattle.spin_base.specs.declared.copies.Event.TheVariants.{Inject}
-use Rattle.spin_base.proofs.Equality.{nat_eq_same}
+use Rattle.std.specs.List.{slice_get, slice_index_or, slice_set, All}
+use Rattle.spin_base.specs.declared.{chips.Chip.Chip, chips.Spot.Spot, chips.Port.TheVariants.Local, copies.McCopy.McCopy, copies.Event.TheVariants.Inject}
+use Rattle.spin_base.proofs.{Equality.nat_eq_same, Counts.count_by-cons, Places.All-at}
 use Rattle.machine_desc.specs.Live.{index_of, IsLiveChip, IsSite}
-use Rattle.machine_desc.proofs.Branches.{length_le_from_apart}
-use Rattle.machine_desc.proofs.Sites.{site_parts}
+use Rattle.machine_desc.proofs.{Branches.length_le_from_apart, Sites.site_parts}
 use Rattle.mesh_core.specs.State.{State, IsMesh, Hand, queue_at}
-use Rattle.mesh_core.specs.Step.{has_room, inject_of, push_at, after_event}
-use Rattle.mesh_core.specs.VertexTable.{spot_place}
-use Rattle.spin_base.proofs.Counts.{count_by-cons}
-use Rattle.spin_base.proofs.Places.{All-at}
+use Rattle.mesh_core.specs.{Step.has_room, Step.inject_of, Step.push_at, Step.after_event, VertexTable.spot_place, Expected.NothingWaits}
 use Rattle.mesh_core.proofs.VertexTableLaws.{site_inside, same_spot_place, spot_place-below}
 use Rattle.mesh_drain.specs.declared.draining.Waiting.{Waiting}
 use Rattle.mesh_drain.specs.Draining.{MeetsSomeLedger}
-use Rattle.mesh_core.specs.Expected.{NothingWaits}
 use Rattle.mesh_drain.specs.UnderWay.{times, WaitsAlone, IsServing}
 use Rattle.mesh_drain.proofs.Steps.{kept_after, moved, written, queue_there}
 
@@ -51,8 +42,7 @@ module _ (s : State) (kept : MeetsSomeLedger s) (quiet : NothingWaits s) (v : �
   unfolding sent_mesh
   injected_is =
       let i : ℕ = queue_at s.setup.machine spot.chip Local in
-      let there = queue_there s [] kept spot.chip Local live_chip in
-      let at : slice_get s.inputs i ≡ Some [] = there.1 ∙ ap Some (empty_at s quiet i) in
+      let at : slice_get s.inputs i ≡ Some [] = (queue_there s [] kept spot.chip Local live_chip).1 ∙ ap Some (empty_at s quiet i) in
       let room : has_room s.setup.capacity (slice_get s.inputs i) ≡ true = ap (has_room s.setup.capacity) at ∙ lt-ltb 0 s.setup.capacity kept.mesh.room in
       let after : Option (List McCopy) → State = λ q. record s { unsent = slice_set s.unsent v rest; inputs = push_at s.inputs i k q } in
       moved s sent_mesh (Inject v)
@@ -82,7 +72,8 @@ module _ (s : State) (kept : MeetsSomeLedger s) (quiet : NothingWaits s) (v : �
         collected = quiet.cores_empty;
         live = All-cons (λ (x : Waiting). IsLiveChip s.setup.machine x.chip) begun [] live_chip (All-nil (λ (x : Waiting). IsLiveChip s.setup.machine x.chip));
         listed = λ j. written (λ q. length q ≤ times s.setup.machine j (begun ∷ [])) s.inputs i j (k ∷ []) there.0
-            (λ same. let one = count_by-cons (λ (x : Waiting). queue_at s.setup.machine x.chip x.port == j) begun [] ∙ ap (λ b. (if b then 1 else 0) + 0) (ap (λ n. i == n) (sym same) ∙ nat_eq_same i) in omega (arith, one))
+            (λ same. let one = count_by-cons (λ (x : Waiting). queue_at s.setup.machine x.chip x.port == j) begun []
+            ∙ ap (λ b. (if b then 1 else 0) + 0) (ap (λ n. i == n) (sym same) ∙ nat_eq_same i) in omega (arith, one))
             (λ other. let none : length (slice_index_or s.inputs j []) ≡ 0 = ap length (empty_at s quiet j) in omega (arith, none));
         of_packet = λ j. written (All Of) s.inputs i j (k ∷ []) there.0
             (λ same. All-cons Of k [] refl (All-nil Of))
@@ -136,12 +127,9 @@ few_in_mesh s mesh =
     (λ i d below.
     let below_i : i < length s.setup.spots = omega (arith, below, long) in
     let a = parts i below_i in
-    subst (λ n. n < 24 * (s.setup.machine.width * s.setup.machine.height)) (sym (is i d below)) (spot_place-below s.setup.machine (get_or s.setup.spots i nowhere) a.0 a.1))
-    in
-    let w = mesh.size.width_to_64 in
-    let h = mesh.size.height_to_64 in
-    let area : s.setup.machine.width * s.setup.machine.height ≤ s.setup.machine.width * 64 = mul-le-mul_left s.setup.machine.width h in
-    omega (arith, few, long, w, area)
+    subst (λ n. n < 24 * (s.setup.machine.width * s.setup.machine.height)) (sym (is i d below)) (spot_place-below s.setup.machine (get_or s.setup.spots i nowhere) a.0 a.1)) in
+    let area : s.setup.machine.width * s.setup.machine.height ≤ s.setup.machine.width * 64 = mul-le-mul_left s.setup.machine.width mesh.size.height_to_64 in
+    omega (arith, few, long, mesh.size.width_to_64, area)
 
 pub few_spots : (s : State) → MeetsSomeLedger s → length s.setup.spots ≤ 98304
 few_spots s kept = few_in_mesh s kept.mesh

@@ -1,15 +1,10 @@
 -- What holds at every port, every chip and every vertex.
 use Rattle.std.proofs.Common.{◌≡◌, ◌≢◌, ℕ, ◌*◌, ◌/◌, ◌%◌, ◌<◌, ◌≤◌, refl, sym, ap, ◌∙◌, subst, arith, List, [], ◌∷◌, length, Option, Some, None, IfSome, IfNone}
-use Rattle.std.specs.List.{slice_get, All}
 use Rattle.std.proofs.lemmas.Option.{get_or_from_slice_get, same_Some}
-use Rattle.spin_base.proofs.Spots.{dir_at-dir_number}
-use Rattle.spin_base.proofs.Outputs.{dir_number_below}
-use Rattle.spin_base.proofs.Places.{All-at}
-use Rattle.spin_base.specs.declared.chips.Chip.{Chip}
-use Rattle.spin_base.specs.declared.chips.Port.{Port}
-use Rattle.spin_base.specs.declared.chips.Port.TheVariants.{Link, Local}
-use Rattle.spin_base.specs.declared.routes.Out.{Out}
-use Rattle.spin_base.specs.declared.copies.McCopy.{McCopy}
+use Rattle.std.specs.List.{slice_get, All}
+use Rattle.spin_base.proofs.{Spots.dir_at-dir_number, Outputs.dir_number_below, Places.All-at}
+use Rattle.spin_base.specs.declared.chips.{Chip.Chip, Port.Port, Port.TheVariants.Link, Port.TheVariants.Local}
+use Rattle.spin_base.specs.declared.{routes.Out.Out, copies.McCopy.McCopy}
 use Rattle.spin_base.specs.Links.{dir_number, dir_at, port_number}
 use Rattle.machine_desc.specs.Live.{index_of, chip_of, IsInside}
 use Rattle.machine_desc.proofs.Live.{index_of-chip_of}

@@ -1,30 +1,21 @@
 -- Each event that is enabled makes the marks of a mesh lighter.
 use Rattle.std.proofs.Common.{◌≡◌, ℕ, suc, ◌+◌, ◌*◌, ◌-◌, ◌<◌, ◌≤◌, ◌^◌, min, refl, sym, ap, ◌∙◌, subst, arith, inl, inr, List, [], ◌∷◌, ◌++◌, map, Option, Some, None, unwrap_or}
-use Rattle.std.specs.List.{sum_by, All}
-use Rattle.std.specs.Prelude.{IfSome}
 use Rattle.std.proofs.Math.Nat.{mul-le-mul_left}
 use Rattle.std.proofs.lemmas.List.Sums.{sum_by-append, sum_by-cons}
-use Rattle.spin_base.specs.declared.copies.Event.{Event}
-use Rattle.spin_base.specs.declared.copies.McCopy.{McCopy}
-use Rattle.spin_base.specs.declared.chips.Chip.{Chip}
-use Rattle.spin_base.specs.declared.chips.Port.{Port}
-use Rattle.spin_base.specs.declared.routes.Out.{Out}
+use Rattle.std.specs.{List.sum_by, List.All, Prelude.IfSome}
+use Rattle.spin_base.specs.declared.{copies.Event.Event, copies.McCopy.McCopy, chips.Chip.Chip, chips.Port.Port, routes.Out.Out}
 use Rattle.spin_base.specs.Links.{opposite_of}
 use Rattle.spin_base.specs.declared.chips.Port.TheVariants.{Link as ByLink, Local}
 use Rattle.spin_base.specs.Hops.{last_hop, onward}
+use Rattle.spin_base.proofs.Exchange.{among_taken_out, TakenOut, PutIn}
+use Rattle.spin_base.proofs.{Members.Among, Members.among_contains, Members.among_only, Places.All-at}
 use Rattle.mesh_core.specs.State.{State, Hand, FitsHand, FitsQueue, IsMesh}
 use Rattle.mesh_core.specs.Step.{outputs, step_of, after_event}
 use Rattle.mesh_core.specs.Trail.{Station, unsent, in_queue, in_hand, at_core, delivered, dumped, Mark, IsUnderWayAt}
-use Rattle.mesh_core.specs.Ledger.{marks_of}
-use Rattle.mesh_core.proofs.Events.{event_exchange}
-use Rattle.spin_base.proofs.Exchange.{among_taken_out, TakenOut, PutIn}
-use Rattle.spin_base.proofs.Members.{Among, among_contains, among_only}
-use Rattle.mesh_core.specs.Heavy.{heavy}
-use Rattle.mesh_core.proofs.FewMoves.{few_come}
-use Rattle.mesh_core.proofs.Heavy.{one_heavy, heavy_grows, light}
+use Rattle.mesh_core.specs.{Ledger.marks_of, Heavy.heavy}
+use Rattle.mesh_core.proofs.{Events.event_exchange, FewMoves.few_come, Heavy.one_heavy, Heavy.heavy_grows, Heavy.light}
 use Rattle.mesh_core.proofs.Moves.{mark, IsMove, IsMoveOf, Crosses}
 use Rattle.mesh_core.proofs.Standing.{StandsAt, mark_stands}
-use Rattle.spin_base.proofs.Places.{All-at}
 use Rattle.mesh_drain.specs.UnderWay.{stage, advance, advance_weight_of, weight_in}
 
 -- ---- weights
@@ -123,14 +114,9 @@ come_lighter s x come small next move = by_bound (4 * last_hop + 4) (advance_bel
         let mine : advance_weight_of x ≡ 25 * heavy n = ap (λ k. heavy (k - advance x)) (sym is) ∙ ap heavy left in
         let each : (y : Mark) → Among y come → advance_weight_of y ≤ heavy n =
         λ y a.
-        let further = move_advances s x come next move y a in
-        let fewer : b - advance y ≤ n = omega (arith, further) in
-        subst (λ k. heavy (k - advance y) ≤ heavy n) is (heavy_grows (b - advance y) n fewer)
-        in
-        let all = light advance_weight_of come (heavy n) each in
-        let few = mul-le-mul_left (heavy n) (few_come s x come move) in
-        let one = one_heavy n in
-        omega (arith, mine, all, few, one)
+        let fewer : b - advance y ≤ n = omega (arith, move_advances s x come next move y a) in
+        subst (λ k. heavy (k - advance y) ≤ heavy n) is (heavy_grows (b - advance y) n fewer) in
+        omega (arith, mine, light advance_weight_of come (heavy n) each, mul-le-mul_left (heavy n) (few_come s x come move), one_heavy n)
 
 -- ---- events
 
@@ -143,27 +129,21 @@ moved_lighter s t e mesh is =
     let stands = mark_stands s x.leaves (among_taken_out x.leaves (marks_of s) x.rest x.out) in
     let small = small_under_way s mesh x.leaves.copy x.leaves.station moves.1 stands in
     let lighter = come_lighter s x.leaves x.come small (has_next s mesh x.leaves.copy x.leaves.station moves.1 stands) x.move in
-    let before = sum_taken_out x.leaves (marks_of s) x.rest x.out in
-    let after = sum_put_in x.come x.rest (marks_of t) x.put in
-    omega (arith, lighter, before, after)
+    omega (arith, lighter, sum_taken_out x.leaves (marks_of s) x.rest x.out, sum_put_in x.come x.rest (marks_of t) x.put)
   where
     sum_taken_out : (y : Mark) (from rest : List Mark) → TakenOut y from rest → sum_by advance_weight_of from ≡ sum_by advance_weight_of rest + advance_weight_of y
     sum_taken_out y from rest out =
         let whole = sum_by-append advance_weight_of out.front (y ∷ out.back) in
-        let less = sum_by-append advance_weight_of out.front out.back in
-        let head = sum_by-cons advance_weight_of y out.back in
         let b : sum_by advance_weight_of from ≡ sum_by advance_weight_of (out.front ++ y ∷ out.back) = ap (sum_by advance_weight_of) out.before_is in
         let a : sum_by advance_weight_of rest ≡ sum_by advance_weight_of (out.front ++ out.back) = ap (sum_by advance_weight_of) out.after_is in
-        omega (arith, whole, less, head, a, b)
+        omega (arith, whole, sum_by-append advance_weight_of out.front out.back, sum_by-cons advance_weight_of y out.back, a, b)
 
     sum_put_in : (ys rest to : List Mark) → PutIn ys rest to → sum_by advance_weight_of to ≡ sum_by advance_weight_of rest + sum_by advance_weight_of ys
     sum_put_in ys rest to put =
-        let whole = sum_by-append advance_weight_of put.front put.back in
         let more = sum_by-append advance_weight_of put.front (ys ++ put.back) in
-        let inner = sum_by-append advance_weight_of ys put.back in
         let b : sum_by advance_weight_of rest ≡ sum_by advance_weight_of (put.front ++ put.back) = ap (sum_by advance_weight_of) put.before_is in
         let a : sum_by advance_weight_of to ≡ sum_by advance_weight_of (put.front ++ (ys ++ put.back)) = ap (sum_by advance_weight_of) put.after_is in
-        omega (arith, whole, more, inner, a, b)
+        omega (arith, sum_by-append advance_weight_of put.front put.back, more, sum_by-append advance_weight_of ys put.back, a, b)
 
 -- an event never makes them heavier
 pub event_lighter : (s : State) (e : Event) → IsMesh s → weight_in (after_event s e) ≤ weight_in s

@@ -1,15 +1,11 @@
 -- Vertices that alone have packets unsent, and send them one after the other.
 use Rattle.std.proofs.Common.{◌≡◌, ℕ, suc, ◌+◌, ◌<◌, ◌≤◌, get_or, drop, refl, sym, ap, ◌∙◌, subst, arith, inl, inr, List, [], ◌∷◌, length, Some}
+use Rattle.std.proofs.{Math.Seq.drop-cons, lemmas.Bool.cases_eq, lemmas.List.drop_all, lemmas.Option.slice_get-get_or, lemmas.Option.same_Some}
 use Rattle.std.specs.List.{slice_get, slice_set, All, Contains}
-use Rattle.std.proofs.Math.Seq.{drop-cons}
-use Rattle.std.proofs.lemmas.Bool.{cases_eq}
-use Rattle.std.proofs.lemmas.List.{drop_all}
-use Rattle.std.proofs.lemmas.Option.{slice_get-get_or, same_Some}
 use Rattle.spin_base.proofs.Members.{Among, among_contains, contains_among}
 use Rattle.spin_base.proofs.Places.{slice_get-set_other, slice_get-set_same, slice_get_there}
 use Rattle.spin_base.specs.declared.copies.McCopy.{McCopy}
-use Rattle.mesh_core.specs.State.{Setup, State}
-use Rattle.mesh_core.specs.Expected.{IsAtRest, NothingWaits}
+use Rattle.mesh_core.specs.{State.Setup, State.State, Expected.IsAtRest, Expected.NothingWaits}
 use Rattle.mesh_drain.specs.Draining.{IsMoved, IsReachedDropless, SendAlone}
 use Rattle.mesh_drain.proofs.Frame.{dumped_reached, setup_reached}
 

@@ -1,41 +1,25 @@
 -- What each event of the packet under way does.
-use Rattle.std.proofs.Common.{◌≡◌, ◌≢◌, ℕ, zero, suc, ◌+◌, ◌<◌, ◌≤◌, ◌==◌, ◌&&◌, ◌||◌, refl, sym, ap, ◌∙◌, subst, arith, inl, List, [], ◌∷◌, ◌++◌, set, length, Option, Some, None, Bool, true, false, if◌then◌else◌, unwrap_or, nat_lt}
-use Rattle.std.specs.List.{slice_get, slice_index_or, slice_set, All, list_any, Contains}
-use Rattle.std.proofs.lemmas.Bool.{and_from, eqb-true, lt-ltb}
-use Rattle.std.proofs.lemmas.List.{get_or-set_same, get_or-set_other}
+use Rattle.std.proofs.Common.{◌≡◌, ◌≢◌, ℕ, zero, suc, ◌+◌, ◌<◌, ◌≤◌, ◌==◌, ◌&&◌, ◌||◌, refl, sym, ap, ◌∙◌, subst, arith, inl, List, [], ◌∷◌, ◌++◌, set, length, Option}
+use Rattle.std.proofs.Common.{Some, None, Bool, true, false, if◌then◌else◌, unwrap_or, nat_lt}
+use Rattle.std.proofs.lemmas.{Bool.and_from, Bool.eqb-true, Bool.lt-ltb, List.get_or-set_same, List.get_or-set_other}
 use Rattle.std.proofs.lemmas.List.Elements.{All-head, All-tail, All-nil, All-cons, All-append}
 use Rattle.std.proofs.lemmas.Option.{slice_get-get_or, get_or_from_slice_get}
-use Rattle.spin_base.specs.declared.chips.Chip.{Chip}
-use Rattle.spin_base.specs.declared.chips.Dir.{Dir}
-use Rattle.spin_base.specs.declared.chips.Port.{Port}
-use Rattle.spin_base.specs.declared.chips.Port.TheVariants.{Link as ByLink, Local}
-use Rattle.spin_base.specs.declared.routes.Out.{Out}
-use Rattle.spin_base.specs.declared.routes.Out.TheVariants.{Link, Core}
-use Rattle.spin_base.specs.declared.copies.McCopy.{McCopy}
-use Rattle.spin_base.specs.declared.copies.Event.{Event}
-use Rattle.spin_base.specs.declared.copies.Event.TheVariants.{Take, Send, Collect}
-use Rattle.spin_base.specs.Equality.{out_eq}
-use Rattle.spin_base.specs.Links.{opposite_of}
+use Rattle.std.specs.List.{slice_get, slice_index_or, slice_set, All, list_any, Contains}
+use Rattle.spin_base.specs.declared.chips.{Chip.Chip, Dir.Dir, Port.Port, Port.TheVariants.Link as ByLink, Port.TheVariants.Local}
+use Rattle.spin_base.specs.declared.routes.Out.{Out, TheVariants.Link, TheVariants.Core}
+use Rattle.spin_base.specs.declared.copies.{McCopy.McCopy, Event.Event, Event.TheVariants.Take, Event.TheVariants.Send, Event.TheVariants.Collect}
+use Rattle.spin_base.specs.{Equality.out_eq, Links.opposite_of, Hops.onward}
 use Rattle.spin_base.proofs.Equality.{nat_eq_same, out_eq_same}
-use Rattle.spin_base.specs.Hops.{onward}
+use Rattle.spin_base.proofs.{Counts.count_by-append, Counts.count_by-cons, Members.among_contains, Pairs.All-left, Pairs.All-right}
+use Rattle.spin_base.proofs.Places.{All-at, slice_get-set_same, set-slice_get, set_put_back}
 use Rattle.machine_desc.specs.Description.{Description}
 use Rattle.machine_desc.specs.Live.{far_of, index_of, IsInside, IsLiveChip, is_live_link}
 use Rattle.machine_desc.proofs.Far.{live_inside, live_ends, index_below}
 use Rattle.mesh_core.specs.State.{Setup, State, Hand, Queue, input, core, nowhere, core_queue_of, behind, behind_link, vertex_behind, queue_at}
 use Rattle.mesh_core.specs.Step.{has_room, has_room_behind, outputs, in_hand, outs_without, push_at, push_behind, after_serving, serves, take_of, send_of, collect_of, step_of, after_event}
-use Rattle.mesh_core.specs.Trail.{in_hand as held_at}
-use Rattle.mesh_core.specs.Ledger.{marks_of}
+use Rattle.mesh_core.specs.{Trail.in_hand as held_at, Ledger.marks_of, Waiting.queue_of}
 use Rattle.mesh_core.proofs.Changes.{queue_at-below}
-use Rattle.mesh_core.proofs.EventsLaw.{event_keeps}
-use Rattle.spin_base.proofs.Counts.{count_by-append, count_by-cons}
-use Rattle.spin_base.proofs.Members.{among_contains}
-use Rattle.spin_base.proofs.Pairs.{All-left, All-right}
-use Rattle.spin_base.proofs.Places.{All-at, slice_get-set_same, set-slice_get, set_put_back}
-use Rattle.mesh_core.specs.Waiting.{queue_of}
-use Rattle.mesh_core.proofs.Keeping.{input_is_somewhere}
-use Rattle.mesh_core.proofs.Moves.{mark}
-use Rattle.mesh_core.proofs.Queued.{FreeBehind, free_behind}
-use Rattle.mesh_core.proofs.Standing.{held_mark}
+use Rattle.mesh_core.proofs.{EventsLaw.event_keeps, Keeping.input_is_somewhere, Moves.mark, Queued.FreeBehind, Queued.free_behind, Standing.held_mark}
 use Rattle.mesh_drain.specs.declared.draining.Waiting.{Waiting}
 use Rattle.mesh_drain.specs.Draining.{MeetsSomeLedger}
 use Rattle.mesh_drain.specs.UnderWay.{far_port, next_place, outs_in, times, weight_in, WaitsAlone, IsServing}
@@ -70,9 +54,7 @@ pub times_more : (m : Description) (i : ℕ) (w : List Waiting) (a : Waiting) �
     times m i (w ++ a ∷ []) ≡ times m i w + (if queue_at m a.chip a.port == i then 1 else 0)
 times_more m i w a =
     let p : Waiting → Bool = λ x. queue_at m x.chip x.port == i in
-    let whole = count_by-append p w (a ∷ []) in
-    let last = count_by-cons p a [] in
-    omega (arith, whole, last)
+    omega (arith, count_by-append p w (a ∷ []), count_by-cons p a [])
 
 -- ---- the ledger goes with it
 
@@ -95,8 +77,7 @@ module _ (s : State) (waiting : List Waiting) where
       (queue_at s.setup.machine c port < length s.inputs) × (slice_get s.inputs (queue_at s.setup.machine c port) ≡ Some (slice_index_or s.inputs (queue_at s.setup.machine c port) []))
   queue_there kept c port live =
       let below = queue_at-below s.setup.machine c port (live_inside s.setup.machine c live) in
-      let long = kept.mesh.input_lists in
-      let within : queue_at s.setup.machine c port < length s.inputs = omega (arith, below, long) in
+      let within : queue_at s.setup.machine c port < length s.inputs = omega (arith, below, kept.mesh.input_lists) in
       (within, slice_get-get_or s.inputs (queue_at s.setup.machine c port) [] within)
 
 -- ---- Take
@@ -142,17 +123,16 @@ module _ (s : State) (w : List Waiting) (a : Waiting) (u : WaitsAlone s (w ++ a 
       by_test : (b : Bool) → (queue_at s.setup.machine a.chip a.port == j) ≡ b → length (slice_index_or s.inputs j []) ≤ times s.setup.machine j w
       by_test true e = absurd (other (eqb-true (queue_at s.setup.machine a.chip a.port) j e))
       by_test false e =
-          let most = u.listed j in
           let more = times_more s.setup.machine j w a ∙ ap (λ b. times s.setup.machine j w + (if b then 1 else 0)) e in
-          omega (arith, most, more)
+          omega (arith, u.listed j, more)
 
   -- this one once less
   listed_here : length queue ≤ times s.setup.machine i w + 1
   unfolding i queue
   listed_here =
-      let most = u.listed (queue_at s.setup.machine a.chip a.port) in
-      let more = times_more s.setup.machine (queue_at s.setup.machine a.chip a.port) w a ∙ ap (λ b. times s.setup.machine (queue_at s.setup.machine a.chip a.port) w + (if b then 1 else 0)) (nat_eq_same (queue_at s.setup.machine a.chip a.port)) in
-      omega (arith, most, more)
+      let more = times_more s.setup.machine (queue_at s.setup.machine a.chip a.port) w a
+      ∙ ap (λ b. times s.setup.machine (queue_at s.setup.machine a.chip a.port) w + (if b then 1 else 0)) (nat_eq_same (queue_at s.setup.machine a.chip a.port)) in
+      omega (arith, u.listed (queue_at s.setup.machine a.chip a.port), more)
 
   -- what the hand holds that was just made
   outs_in-hand : (k : McCopy) (os : List Out) → outs_in (Some (in_hand k a.port os)) ≡ os
@@ -168,8 +148,7 @@ module _ (s : State) (w : List Waiting) (a : Waiting) (u : WaitsAlone s (w ++ a 
   take_none empty =
       let none : step_of s (Take a.chip a.port) ≡ None =
       ap (λ h. take_of s a.chip a.port h (slice_get s.inputs (queue_at s.setup.machine a.chip a.port))) hand_free
-      ∙ ap (take_of s a.chip a.port (Some None)) (there.1 ∙ ap Some empty)
-      in
+      ∙ ap (take_of s a.chip a.port (Some None)) (there.1 ∙ ap Some empty) in
       let same : after_event s (Take a.chip a.port) ≡ s = ap (λ (o : Option State). unwrap_or o s) none in
       let outs : outs_in (slice_get s.hands (index_of s.setup.machine a.chip)) ≡ [] = ap outs_in hand_free in
       subst (λ t. IsServing t w a.chip (outs_in (slice_get t.hands (index_of t.setup.machine a.chip)))) (sym same)
@@ -211,8 +190,7 @@ module _ (s : State) (w : List Waiting) (a : Waiting) (u : WaitsAlone s (w ++ a 
       let step : step_of s (Take a.chip a.port) ≡ Some t =
       ap (λ h. take_of s a.chip a.port h (slice_get s.inputs j)) hand_free
       ∙ (ap (take_of s a.chip a.port (Some None)) (there.1 ∙ ap Some full)
-      ∙ ap (λ b. if b then Some t else None) live_here)
-      in
+      ∙ ap (λ b. if b then Some t else None) live_here) in
       let is : after_event s (Take a.chip a.port) ≡ t = moved s t (Take a.chip a.port) step in
       let outs : outs_in (slice_get t.hands n) ≡ os = ap outs_in (slice_get-set_same s.hands n None (in_hand k a.port os) hand_free) ∙ outs_in-hand k os in
       let all : All (λ (x : McCopy). x.packet ≡ u.packet) (k ∷ rest) = subst (All (λ (x : McCopy). x.packet ≡ u.packet)) full (u.of_packet j) in
@@ -377,9 +355,8 @@ module _ (s : State) (w : List Waiting) (c : Chip) (o : Out) (os : List Out) (u 
 
   pub send_link_lighter : weight_in (after_event s (Send c o)) < weight_in s
   send_link_lighter =
-      let less = moved_lighter s linked (Send c o) u.kept.mesh is_linked in
       let same : weight_in (after_event s (Send c o)) ≡ weight_in linked = ap weight_in (moved s linked (Send c o) is_linked) in
-      omega (arith, less, same)
+      omega (arith, moved_lighter s linked (Send c o) u.kept.mesh is_linked, same)
 
   pub send_link : IsServing (after_event s (Send c o)) (w ++ next ∷ []) c os
   unfolding linked
@@ -399,7 +376,8 @@ module _ (s : State) (w : List Waiting) (c : Chip) (o : Out) (os : List Out) (u 
         collected = u.collected;
         live = All-append Live w (next ∷ []) u.live (All-cons Live next [] far.live (All-nil Live));
         listed = λ x. written (λ q. length q ≤ times s.setup.machine x (w ++ next ∷ [])) s.inputs i x (onward u.copy ∷ []) far_there
-            (λ here. let more = times_more s.setup.machine x w next ∙ ap (λ y. times s.setup.machine x w + (if y then 1 else 0)) (ap (λ y. y == x) (far.place ∙ here) ∙ nat_eq_same x) in omega (arith, more))
+            (λ here. let more = times_more s.setup.machine x w next
+            ∙ ap (λ y. times s.setup.machine x w + (if y then 1 else 0)) (ap (λ y. y == x) (far.place ∙ here) ∙ nat_eq_same x) in omega (arith, more))
             (λ other. let most = u.listed x in let more = times_more s.setup.machine x w next in omega (arith, most, more));
         of_packet = λ x. written (All Of) s.inputs i x (onward u.copy ∷ []) far_there
             (λ here. All-cons Of (onward u.copy) [] refl (All-nil Of))
@@ -427,15 +405,13 @@ module _ (s : State) (w : List Waiting) (c : Chip) (o : Out) (os : List Out) (u 
       let step : step_of s (Send c o) ≡ Some t =
       send_to s w c o os u (core v) is has
       ∙ (ap (λ h. Some (from h)) (hands_then s w c o os u)
-      ∙ ap (λ q. Some (record s { cores = push_at s.cores v k q; hands = hands })) at)
-      in
+      ∙ ap (λ q. Some (record s { cores = push_at s.cores v k q; hands = hands })) at) in
       let same : after_event s (Send c o) ≡ t = moved s t (Send c o) step in
       let end : State = record s { hands = hands; delivered = s.delivered ++ record { vertex = v; copy = k } ∷ [] } in
       let back : set (set s.cores v (k ∷ [])) v [] ≡ s.cores = set_put_back s.cores v [] (k ∷ []) at in
       let take : step_of t (Collect v) ≡ Some end =
       ap (collect_of t v) (slice_get-set_same s.cores v [] (k ∷ []) at)
-      ∙ ap (λ l. Some (record end { cores = l })) back
-      in
+      ∙ ap (λ l. Some (record end { cores = l })) back in
       let last : after_event (after_event s (Send c o)) (Collect v) ≡ end = ap (λ x. after_event x (Collect v)) same ∙ moved t end (Collect v) take in
       subst (λ x. IsServing x w c os) (sym last) (record {
         kept = subst MeetsSomeLedger last (kept_after (after_event s (Send c o)) (Collect v) (kept_after s (Send c o) u.kept));

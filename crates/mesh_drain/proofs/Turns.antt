@@ -1,30 +1,20 @@
 -- What the calls of a packet under way leave, as they follow on each other.
 use Rattle.std.proofs.Common.{◌≡◌, ◌≢◌, ◌==◌, true, false, ℕ, suc, ◌+◌, ◌<◌, ◌≤◌, set, get_or, drop, refl, sym, ap, ◌∙◌, subst, arith, List, [], ◌∷◌, ◌++◌, length, Some}
-use Rattle.std.specs.List.{slice_get, All}
-use Rattle.std.specs.Option.{option_to_list}
-use Rattle.std.specs.Prelude.{OnOk, Result, Ok, Err}
 use Rattle.std.proofs.Math.Seq.{drop-cons}
 use Rattle.std.proofs.lemmas.List.{length-append, get_or-set_same, get_or_default, set-get_or}
-use Rattle.std.proofs.lemmas.Option.{slice_get-get_or, slice_get_within, get_or_from_slice_get}
-use Rattle.spin_base.specs.declared.chips.Chip.{Chip}
-use Rattle.spin_base.specs.declared.chips.Spot.{Spot}
-use Rattle.spin_base.specs.declared.chips.Port.TheVariants.{Local}
-use Rattle.spin_base.specs.declared.routes.Out.{Out}
-use Rattle.spin_base.specs.declared.copies.McCopy.{McCopy}
+use Rattle.std.proofs.lemmas.{Option.slice_get-get_or, Option.slice_get_within, Option.get_or_from_slice_get, Bool.eqb-true}
+use Rattle.std.specs.{List.slice_get, List.All, Option.option_to_list}
+use Rattle.std.specs.Prelude.{OnOk, Result, Ok, Err}
+use Rattle.spin_base.specs.declared.{chips.Chip.Chip, chips.Spot.Spot, chips.Port.TheVariants.Local, routes.Out.Out, copies.McCopy.McCopy}
 use Rattle.spin_base.specs.declared.copies.Event.TheVariants.{Inject, Take, Send, Collect}
-use Rattle.std.proofs.lemmas.Bool.{eqb-true}
-use Rattle.machine_desc.specs.Description.{Description}
-use Rattle.machine_desc.specs.Live.{index_of}
+use Rattle.machine_desc.specs.{Description.Description, Live.index_of}
 use Rattle.mesh_core.specs.State.{Setup, State, Queue, input, core, nowhere, behind}
+use Rattle.mesh_core.specs.{Step.after_event, Expected.IsAtRest, Expected.NothingWaits}
 use Rattle.mesh_core.proofs.Fixed.{after_event_setup}
-use Rattle.mesh_core.specs.Step.{after_event}
 use Rattle.mesh_drain.specs.declared.draining.Waiting.{Waiting}
 use Rattle.mesh_drain.specs.Draining.{MeetsSomeLedger, IsReachedDropless}
-use Rattle.mesh_core.specs.Expected.{IsAtRest, NothingWaits}
 use Rattle.mesh_drain.specs.UnderWay.{work, weight_in, outs_in, next_place, WaitsAlone, IsServing}
-use Rattle.mesh_drain.proofs.Frame.{setup_reached, kept_reached}
-use Rattle.mesh_drain.proofs.Moving.{after_reached, there_after}
-use Rattle.mesh_drain.proofs.Progress.{event_lighter}
+use Rattle.mesh_drain.proofs.{Frame.setup_reached, Frame.kept_reached, Moving.after_reached, Moving.there_after, Progress.event_lighter}
 use Rattle.mesh_drain.proofs.Packets.{inject_step, inject_unsent, packet_done}
 use Rattle.mesh_drain.proofs.Steps.{kept_after, written, set_twice, take_step, next, next_is, send_link, send_link_lighter, send_core, send_nowhere}
 
@@ -54,10 +44,9 @@ module _ (s t : State) (w : List Waiting) (c : Chip) (o : Out) (is : t ≡ after
       let there : Waiting = next s w c o rest u i to in
       let list : w' ≡ w ++ there ∷ [] = more ∙ ap (λ x. w ++ option_to_list x) (ap (λ n. next_place n c o) kept ∙ next_is s w c o rest u i to) in
       let long : length w' ≡ length w + 1 = ap length list ∙ length-append w (there ∷ []) in
-      let lighter = send_link_lighter s w c o rest u i to in
       let same : weight_in t ≡ weight_in (after_event s (Send c o)) = ap weight_in is in (
         subst (λ l. IsServing t l c rest) (sym list) (subst (λ x. IsServing x (w ++ there ∷ []) c rest) (sym is) (send_link s w c o rest u i to)),
-        omega (arith, lighter, same, long),
+        omega (arith, send_link_lighter s w c o rest u i to, same, long),
       )
 
   -- to a vertex, which takes it
@@ -84,9 +73,8 @@ taken_serving s t w a os items is u held list =
 
 pub taken_less : (s t : State) (w v : List Waiting) (a : Waiting) → t ≡ after_event s (Take a.chip a.port) → WaitsAlone s (v ++ a ∷ []) → work t w ≤ work s w
 taken_less s t w v a is u =
-    let lighter = event_lighter s (Take a.chip a.port) u.kept.mesh in
     let there : weight_in t ≡ weight_in (after_event s (Take a.chip a.port)) = ap weight_in is in
-    omega (arith, lighter, there)
+    omega (arith, event_lighter s (Take a.chip a.port) u.kept.mesh, there)
 
 pub outs_left : (os : List Out) (i : ℕ) (d : Out) → i < length os → drop i os ≡ get_or os i d ∷ drop (i + 1) os
 outs_left os i d below =
@@ -104,8 +92,7 @@ pub begins : (s t : State) (v : ℕ) (w items : List Waiting) (spots : List Spot
 begins s t v w items spots d kept quiet below some is list none more =
     let spot : Spot = get_or s.setup.spots v d in
     let stands : slice_get s.setup.spots v ≡ Some spot = slice_get-get_or s.setup.spots v d below in
-    let long = kept.mesh.unsent_lists in
-    let there = slice_get-get_or s.unsent v [] (omega (arith, below, long)) in
+    let there = slice_get-get_or s.unsent v [] (omega (arith, below, kept.mesh.unsent_lists)) in
     let first = has_first (get_or s.unsent v []) (λ empty. some (there ∙ ap Some empty)) in
     let at : List Spot → Waiting = λ l. record { chip = (get_or l v d).chip; port = Local } in
     let same : items ≡ at s.setup.spots ∷ [] = more ∙ (ap (λ l. l ++ at spots ∷ []) none ∙ ap (λ l. at l ∷ []) list) in
@@ -153,8 +140,7 @@ one_vertex_more now after v within is before i below =
 
 pub all_vertices : (s : State) (n : ℕ) → MeetsSomeLedger s → length s.setup.spots ≤ n → ((i : ℕ) → i < n → get_or s.unsent i [] ≡ []) → All (λ (q : List McCopy). q ≡ []) s.unsent
 all_vertices s n kept all before = λ i d below.
-    let long = kept.mesh.unsent_lists in
-    get_or_default s.unsent i d [] below ∙ before i (omega (arith, below, long, all))
+    get_or_default s.unsent i d [] below ∙ before i (omega (arith, below, kept.mesh.unsent_lists, all))
 
 -- one place less waits, and no more is to be done
 pub popped_smaller : (s t : State) (w left after : List Waiting) (a : Waiting) → w ≡ left ++ a ∷ [] → work t after ≤ work s left → work t after < work s w

@@ -1,18 +1,13 @@
 -- What each vertex still has to send, packet by packet.
 use Rattle.std.proofs.Common.{◌≡◌, ◌≢◌, ℕ, zero, suc, ◌+◌, ◌<◌, ◌==◌, refl, sym, ap, ◌∙◌, false, if◌then◌else◌, List, [], ◌∷◌, ◌++◌, map, length, replicate, Option, Some, None, arith, append-nil}
+use Rattle.std.proofs.lemmas.{Bool.eq-eqb, Bool.ne_eqb, List.Elements.filter_map-append}
 use Rattle.std.specs.List.{slice_get, range_with_len, filter_map, enumerate_from, cons_option}
 use Rattle.std.specs.Option.{option_map_or}
-use Rattle.std.proofs.lemmas.Bool.{eq-eqb, ne_eqb}
-use Rattle.std.proofs.lemmas.List.Elements.{filter_map-append}
-use Rattle.spin_base.specs.declared.chips.Spot.{Spot}
-use Rattle.spin_base.specs.declared.copies.McCopy.{McCopy}
-use Rattle.spin_base.specs.declared.copies.Packet.{Packet}
+use Rattle.spin_base.specs.declared.{chips.Spot.Spot, copies.McCopy.McCopy, copies.Packet.Packet}
+use Rattle.spin_base.proofs.{Places.enumerate_push, Ranges.slice_get-map_range, Ranges.set-map_range}
 use Rattle.machine_desc.specs.declared.nets.NetPlan.{NetPlan}
 use Rattle.machine_desc.specs.NetsOn.{vertex_at}
-use Rattle.mesh_core.specs.Opened.{copy_from, first_copy}
-use Rattle.mesh_core.specs.Step.{push_at}
-use Rattle.spin_base.proofs.Places.{enumerate_push}
-use Rattle.spin_base.proofs.Ranges.{slice_get-map_range, set-map_range}
+use Rattle.mesh_core.specs.{Opened.copy_from, Opened.first_copy, Step.push_at}
 
 -- ---- what a vertex has of a list of packets, numbered from i on
 
@@ -46,16 +41,13 @@ opened_more spots nets ps p net v is vertex below =
     let new : ℕ → List McCopy = copies_from spots nets 0 (ps ++ p ∷ []) in
     let makes : ℕ → ℕ × Packet → Option McCopy = λ w e. copy_from spots w e.0 e.1 (slice_get nets e.1.net) in
     let grown : (w : ℕ) → new w ≡ old w ++ cons_option (copy_from spots w (length ps) p (slice_get nets p.net)) [] =
-    λ w. ap (filter_map (makes w)) (enumerate_push 0 ps p (length ps) (omega arith)) ∙ filter_map-append (makes w) (enumerate_from 0 ps) ((length ps, p) ∷ [])
-    in
+    λ w. ap (filter_map (makes w)) (enumerate_push 0 ps p (length ps) (omega arith)) ∙ filter_map-append (makes w) (enumerate_from 0 ps) ((length ps, p) ∷ []) in
     let here : 0 + v ≡ v = omega arith in
     let got : slice_get (map old (range_with_len 0 (length spots))) v ≡ Some (old v) = slice_get-map_range old 0 (length spots) v below ∙ ap (λ w. Some (old w)) here in
     let with_it : old v ++ k ∷ [] ≡ new (0 + v) =
-    ap (λ o. old v ++ cons_option o []) (sym (its_copy spots nets (length ps) p net v is vertex)) ∙ (sym (grown v) ∙ ap new (sym here))
-    in
+    ap (λ o. old v ++ cons_option o []) (sym (its_copy spots nets (length ps) p net v is vertex)) ∙ (sym (grown v) ∙ ap new (sym here)) in
     let unchanged : (w : ℕ) → w ≢ v → new w ≡ old w =
-    λ w other. grown w ∙ (ap (λ o. old w ++ cons_option o []) (no_copy spots nets (length ps) p net v w is vertex other) ∙ append-nil (old w))
-    in
+    λ w other. grown w ∙ (ap (λ o. old w ++ cons_option o []) (no_copy spots nets (length ps) p net v w is vertex other) ∙ append-nil (old w)) in
     ap (push_at (map old (range_with_len 0 (length spots))) v k) got
     ∙ set-map_range old new 0 (length spots) v (old v ++ k ∷ []) below with_it
     (λ w other. sym (unchanged w (λ same. other (omega (arith, same)))))

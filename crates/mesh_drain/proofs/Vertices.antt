@@ -1,20 +1,13 @@
 -- No copy is dropped at an output that leads to a vertex, where none waits for one.
-use Rattle.std.proofs.Common.{◌≡◌, ℕ, ◌+◌, ◌<◌, ◌≤◌, refl, sym, ap, ◌∙◌, subst, arith, Bool, true, false, ◌&&◌, not, if◌then◌else◌, List, [], ◌∷◌, ◌++◌, append_assoc, append-nil, length, set, get_or, Option, Some, None, unwrap_or}
-use Rattle.std.specs.List.{slice_get, All}
-use Rattle.std.specs.Prelude.{OnErr, OnOk, Result, Ok, Err}
-use Rattle.std.proofs.Math.Seq.{set-get_or}
-use Rattle.std.proofs.lemmas.Bool.{lt-ltb}
-use Rattle.std.proofs.lemmas.List.{get_or_default}
+use Rattle.std.proofs.Common.{◌≡◌, ℕ, ◌+◌, ◌<◌, ◌≤◌, refl, sym, ap, ◌∙◌, subst, arith, Bool, true, false, ◌&&◌, not, if◌then◌else◌, List, [], ◌∷◌, ◌++◌, append_assoc}
+use Rattle.std.proofs.Common.{append-nil, length, set, get_or, Option, Some, None, unwrap_or}
+use Rattle.std.proofs.{Math.Seq.set-get_or, lemmas.Bool.lt-ltb, lemmas.List.get_or_default}
 use Rattle.std.proofs.lemmas.List.Elements.{All-nil, All-cons, All-append}
 use Rattle.std.proofs.lemmas.Option.{slice_get-get_or, slice_get_within}
-use Rattle.spin_base.specs.declared.chips.Chip.{Chip}
-use Rattle.spin_base.specs.declared.chips.Dir.{Dir}
-use Rattle.spin_base.specs.declared.chips.Port.{Port}
-use Rattle.spin_base.specs.declared.routes.Out.{Out}
-use Rattle.spin_base.specs.declared.routes.Out.TheVariants.{Link, Core}
-use Rattle.spin_base.specs.declared.copies.McCopy.{McCopy}
-use Rattle.spin_base.specs.declared.wants.Memory.{Memory}
-use Rattle.spin_base.specs.declared.copies.DumpRec.{DumpRec}
+use Rattle.std.specs.List.{slice_get, All}
+use Rattle.std.specs.Prelude.{OnErr, OnOk, Result, Ok, Err}
+use Rattle.spin_base.specs.declared.{chips.Chip.Chip, chips.Dir.Dir, chips.Port.Port, routes.Out.Out, routes.Out.TheVariants.Link, routes.Out.TheVariants.Core}
+use Rattle.spin_base.specs.declared.{copies.McCopy.McCopy, wants.Memory.Memory, copies.DumpRec.DumpRec}
 use Rattle.spin_base.specs.declared.copies.Event.TheVariants.{Take, Send, Dump, Collect}
 use Rattle.spin_base.specs.Hops.{onward}
 use Rattle.spin_base.proofs.Places.{All-at, slice_get-set_same, set-slice_get, set_put_back}
@@ -26,8 +19,7 @@ use Rattle.mesh_core.proofs.Fixed.{by_take, by_dump, by_collect, after_event_set
 use Rattle.mesh_core.proofs.Keeping.{input_is_no_core, same_core, core_is_somewhere}
 use Rattle.mesh_core.proofs.Ways.{vertex_behind_stands}
 use Rattle.mesh_drain.specs.Draining.{AreCollected, DropsAtNoVertex, IsSameBesidesCores, LeadsToNoVertex, collected_from}
-use Rattle.mesh_drain.proofs.Steps.{set_twice}
-use Rattle.mesh_drain.proofs.Turns.{one_vertex_more}
+use Rattle.mesh_drain.proofs.{Steps.set_twice, Turns.one_vertex_more}
 
 -- ---- one after the other
 
@@ -72,8 +64,7 @@ pushed_collected u none (core v) k = by_queue (slice_get u.cores v) refl
         let end : State = record u { delivered = u.delivered ++ record { vertex = v; copy = k } ∷ [] } in
         let last : after_event t (Collect v) ≡ end =
         ap (λ x. unwrap_or (collect_of t v x) t) (slice_get-set_same u.cores v [] (k ∷ []) there)
-        ∙ ap (λ l. record end { cores = l }) (set_put_back u.cores v [] (k ∷ []) there)
-        in
+        ∙ ap (λ l. record end { cores = l }) (set_put_back u.cores v [] (k ∷ []) there) in
         let full : List (List McCopy) → State = λ l. record u { cores = l } in
         subst (λ x. AreCollected (after_event (full (set u.cores v (x ++ k ∷ []))) (Collect v))) (sym empty) (subst AreCollected (sym last) none)
     by_queue None at = subst AreCollected (sym (collect_still u v none)) none
@@ -137,14 +128,13 @@ dump_leads_on s c o mesh none = by_hand (slice_get s.hands (index_of s.setup.mac
   where
     room_at : (v : ℕ) → behind s.setup c o ≡ core v → has_room_behind s (behind s.setup c o) ≡ true
     room_at v is =
-        let below = core_there s.setup c o v is in
-        let lists = mesh.core_lists in
-        let there : slice_get s.cores v ≡ Some (get_or s.cores v []) = slice_get-get_or s.cores v [] (omega (arith, below, lists)) in
+        let there : slice_get s.cores v ≡ Some (get_or s.cores v []) = slice_get-get_or s.cores v [] (omega (arith, core_there s.setup c o v is, mesh.core_lists)) in
         let empty : get_or s.cores v [] ≡ [] = All-at (λ (l : List McCopy). l ≡ []) s.cores v (get_or s.cores v []) none there in
         ap (has_room_behind s) is ∙ (ap (has_room s.setup.capacity) (there ∙ ap Some empty) ∙ lt-ltb 0 s.setup.capacity mesh.room)
 
     by_room : (h : Hand) (served room : Bool) → has_room_behind s (behind s.setup c o) ≡ room →
-        DropsAtNoVertex s (unwrap_or (if served && not room then (let next = after_serving s c o h in Some (record next { dumped = next.dumped ++ record { chip = c; out = o; copy = h.copy } ∷ [] })) else None) s)
+        DropsAtNoVertex s (unwrap_or (if served && not room then (let next =
+        after_serving s c o h in Some (record next { dumped = next.dumped ++ record { chip = c; out = o; copy = h.copy } ∷ [] })) else None) s)
     by_room h true true full = drops_none s s refl
     by_room h true false full =
         let one : DumpRec = record { chip = c; out = o; copy = h.copy } in
@@ -205,8 +195,7 @@ quiet_still s t same none quiet = record {
 -- all vertices have taken what waited for them
 pub all_collected : (s : State) (n : ℕ) → IsMesh s → length s.setup.spots ≤ n → ((i : ℕ) → i < n → get_or s.cores i [] ≡ []) → AreCollected s
 all_collected s n mesh all before = λ i d below.
-    let long = mesh.core_lists in
-    get_or_default s.cores i d [] below ∙ before i (omega (arith, below, long, all))
+    get_or_default s.cores i d [] below ∙ before i (omega (arith, below, mesh.core_lists, all))
 
 -- one vertex has taken all that waited for it
 pub collected_there : (before now : List (List McCopy)) (v : ℕ) (q : List McCopy) → now ≡ set before v q → slice_get now v ≡ Some [] → now ≡ set before v []

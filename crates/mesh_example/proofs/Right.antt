@@ -1,31 +1,22 @@
 -- The tables of the example are right for its nets, and tables that lack a row are not.
 use Rattle.std.proofs.Common.{◌≡◌, ℕ, ◌==◌, List, [], ◌∷◌, map, Bool, true, false, Some, refl, sym, ap, ◌∙◌, subst, arith, inl, inr}
+use Rattle.std.proofs.lemmas.{Bool.false≢true, List.Elements.All-from_recursion}
 use Rattle.std.specs.List.{Contains}
-use Rattle.std.proofs.lemmas.Bool.{false≢true}
-use Rattle.std.proofs.lemmas.List.Elements.{All-from_recursion}
-use Rattle.spin_base.proofs.Members.{Among, Contains-only}
-use Rattle.spin_base.specs.declared.chips.Chip.{Chip}
-use Rattle.spin_base.specs.declared.chips.Port.{Port}
-use Rattle.spin_base.specs.declared.chips.Port.TheVariants.{Link as ByLink, Local}
-use Rattle.spin_base.specs.declared.chips.Dir.TheVariants.{East, NorthEast, North, West, SouthWest, South}
-use Rattle.spin_base.specs.declared.routes.Out.{Out}
-use Rattle.spin_base.specs.declared.routes.Out.TheVariants.{Link, Core}
-use Rattle.spin_base.specs.declared.routes.Route.{Route}
-use Rattle.spin_base.specs.declared.blocks.Entry.{Entry}
+use Rattle.spin_base.proofs.{Members.Among, Members.Contains-only, Equality.out_eq_true, Lookups.lookup_hit, Lookups.lookup_miss, Once.all_once}
+use Rattle.spin_base.specs.declared.chips.{Chip.Chip, Port.Port, Port.TheVariants.Link as ByLink, Port.TheVariants.Local}
+use Rattle.spin_base.specs.declared.chips.Dir.TheVariants.{East, West}
+use Rattle.spin_base.specs.declared.routes.{Out.Out, Out.TheVariants.Link, Route.Route}
 use Rattle.spin_base.specs.Equality.{out_eq}
 use Rattle.spin_base.specs.Outputs.{has, all_outs, link_outs, core_outs, IsOutput}
-use Rattle.spin_base.specs.Lookup.{lookup, matches}
-use Rattle.spin_base.specs.Links.{opposite_of}
-use Rattle.spin_base.proofs.Equality.{out_eq_true}
-use Rattle.spin_base.proofs.Lookups.{lookup_hit, lookup_miss}
-use Rattle.spin_base.proofs.Once.{all_once}
+use Rattle.spin_base.specs.{Lookup.lookup, Lookup.matches, Links.opposite_of}
 use Rattle.machine_desc.specs.declared.trees.Edge.{Edge}
 use Rattle.machine_desc.specs.RoutingTree.{end_of}
 use Rattle.machine_desc.specs.declared.nets.NetPlan.{NetPlan}
 use Rattle.machine_desc.specs.Outputs.{is_wanted}
 use Rattle.machine_desc.specs.RightTables.{IsKeyOf, RoutesByTree, AreRight, table_at}
 use Rattle.mesh_core.proofs.Counting.{counted}
-use Rattle.mesh_example.specs.Board.{two_chip_board, left_chip, right_chip, east, targets, device, net, other_net, nets, tables, wrong_tables, right_table, block, other_block, left_route, right_route, east_route, entry_of_key}
+use Rattle.mesh_example.specs.Board.{two_chip_board, left_chip, right_chip, east, targets, net, other_net, nets, tables, wrong_tables}
+use Rattle.mesh_example.specs.Board.{right_table, block, other_block, left_route, right_route, east_route, entry_of_key}
 
 is_first : (route : Route) (key : ℕ) → IsKeyOf block key → matches (entry_of_key 0 route) key ≡ true
 is_first route key k = ap (λ (n : ℕ). n == 0) k.matches
@@ -49,8 +40,7 @@ agree_on f g (y ∷ xs) x same (inr has) = agree_on f g xs x (cc same) has
 wanted_by : (route : Route) (n : NetPlan) (c : Chip) → map (has route) all_outs ≡ map (is_wanted (east ∷ []) n.targets c) all_outs → HasWanted route n c
 unfolding HasWanted
 wanted_by route n c same o valid =
-    let one = all_once o valid in
-    let found = counted (out_eq o) all_outs (omega (arith, one)) in
+    let found = counted (out_eq o) all_outs (omega (arith, all_once o valid)) in
     subst (λ p. has route p ≡ is_wanted (east ∷ []) n.targets c p) (sym (out_eq_true o found.0 found.2))
     (agree_on (has route) (is_wanted (east ∷ []) n.targets c) all_outs found.0 same found.1)
 
@@ -99,7 +89,8 @@ unfolding IsRightAt
 other_right c port key o (inl root) k valid =
     subst (IsRightAt other_net key port o) (sym root.0)
     (right_by other_net key port o left_chip east_route
-    (lookup_miss (entry_of_key 0 left_route) (entry_of_key 1 east_route ∷ []) key port (is_not_first left_route key k) ∙ lookup_hit (entry_of_key 1 east_route) [] key port (is_second east_route key k)) other_left_outs valid)
+    (lookup_miss (entry_of_key 0 left_route) (entry_of_key 1 east_route ∷ []) key port (is_not_first left_route key k)
+    ∙ lookup_hit (entry_of_key 1 east_route) [] key port (is_second east_route key k)) other_left_outs valid)
 other_right c port key o (inr h) k valid =
     let there = at_end c h.0 h.1 h.2 in
     let by_west : port ≡ ByLink West = h.3 ∙ ap (λ (e : Edge). ByLink (opposite_of e.dir)) (sym there.0) in

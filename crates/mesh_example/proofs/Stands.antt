@@ -1,24 +1,16 @@
 -- The nets of the example stand on its machine.
 use Rattle.std.proofs.Common.{◌≡◌, ◌≢◌, ℕ, ◌+◌, ◌*◌, suc, zero, List, [], ◌∷◌, map, Some, None, refl, sym, ap, ◌∙◌, subst, arith, inl, inr, ◌⊎◌}
+use Rattle.std.proofs.lemmas.{Option.none-some, List.Elements.All-from_recursion, List.Kept.AllPairs-cons}
 use Rattle.std.specs.List.{All, AllPairs, Any, Contains, slice_get}
-use Rattle.std.proofs.lemmas.Option.{none-some}
-use Rattle.std.proofs.lemmas.List.Elements.{All-from_recursion}
-use Rattle.std.proofs.lemmas.List.Kept.{AllPairs-cons}
 use Rattle.spin_base.proofs.Members.{Contains-only}
-use Rattle.spin_base.specs.declared.chips.Chip.{Chip}
-use Rattle.spin_base.specs.declared.chips.Spot.{Spot}
-use Rattle.spin_base.specs.declared.copies.Packet.{Packet}
+use Rattle.spin_base.specs.declared.{chips.Chip.Chip, chips.Spot.Spot, copies.Packet.Packet}
 use Rattle.machine_desc.specs.declared.trees.Edge.{Edge}
-use Rattle.machine_desc.specs.Description.{HasSize}
-use Rattle.machine_desc.specs.Live.{IsLiveLink, IsSite}
+use Rattle.machine_desc.specs.{Description.HasSize, Live.IsLiveLink, Live.IsSite}
 use Rattle.machine_desc.specs.RoutingTree.{IsRoutingTree, IsTreeChip, IsPath, end_of}
 use Rattle.machine_desc.specs.declared.nets.NetPlan.{NetPlan}
-use Rattle.machine_desc.specs.NetsOn.{AreNetsOn, HaveDisjointBlocks}
-use Rattle.machine_desc.specs.RightTables.{IsKeyOf}
-use Rattle.mesh_core.specs.State.{IsMesh}
-use Rattle.mesh_core.specs.Opened.{AreOfNets}
-use Rattle.mesh_core.proofs.Changes.{IsMesh-empty}
-use Rattle.mesh_core.proofs.OpenedLaw.{IsMesh-opened}
+use Rattle.machine_desc.specs.{NetsOn.AreNetsOn, NetsOn.HaveDisjointBlocks, RightTables.IsKeyOf}
+use Rattle.mesh_core.specs.{State.IsMesh, Opened.AreOfNets}
+use Rattle.mesh_core.proofs.{Changes.IsMesh-empty, OpenedLaw.IsMesh-opened}
 use Rattle.mesh_example.specs.Board.{two_chip_board, left_chip, right_chip, east, source, targets, device, spots, net, other_net, nets, packets, setup, opened, block, other_block}
 
 left_is_not_right : left_chip ≢ right_chip

@@ -4,10 +4,7 @@ use Rattle.std.specs.List.{slice_get}
 use Rattle.spin_base.specs.declared.copies.Packet.{Packet}
 use Rattle.machine_desc.specs.declared.nets.NetPlan.{NetPlan}
 use Rattle.machine_desc.specs.RightTables.{IsKeyOf}
-use Rattle.mesh_core.specs.State.{State}
-use Rattle.mesh_core.specs.Ledger.{Asked, label_of}
-use Rattle.mesh_core.specs.Opened.{asked_by, MeetsJobLedger}
-use Rattle.mesh_core.specs.Whereabouts.{IsTracked}
+use Rattle.mesh_core.specs.{State.State, Ledger.Asked, Ledger.label_of, Opened.asked_by, Opened.MeetsJobLedger, Whereabouts.IsTracked}
 use Rattle.mesh_core.proofs.AskedPackets.{asks, asked_from, net_in_list}
 
 pub job_tracked : (s : State) (nets : List NetPlan) (packets : List Packet) → MeetsJobLedger s nets packets →
@@ -17,8 +14,7 @@ job_tracked s nets packets job i p net at is =
     let k = job.ledger.each_asked i (asks net p) asked in
     let key : k.0.copy.key ≡ (asks net p).label.key =
     (job.ledger.ledger.labelled k.0 k.1).0
-    ∙ (ap (λ n. (label_of (asked_by nets packets n)).key) k.2 ∙ ap (λ (o : Option Asked). (label_of o).key) asked)
-    in
+    ∙ (ap (λ n. (label_of (asked_by nets packets n)).key) k.2 ∙ ap (λ (o : Option Asked). (label_of o).key) asked) in
     record {
       nets = nets;
       labels = λ n. label_of (asked_by nets packets n);

@@ -1,21 +1,14 @@
 -- What is left of a way for a copy on its trail, where some places of the way count: each move leaves at most as much, and less by
 -- what it takes.
 use Rattle.std.proofs.Common.{◌≡◌, ℕ, zero, suc, ◌+◌, ◌*◌, ◌-◌, ◌<◌, ◌≤◌, ◌==◌, cond, min, refl, ap, sym, ◌∙◌, subst, arith, inl, inr, List, [], ◌∷◌, length, Bool, true, false, count_by}
+use Rattle.std.proofs.lemmas.{Bool.and_parts, Bool.eqb-true, List.Sums.sum_by-cons, Option.slice_get_within}
 use Rattle.std.specs.List.{sum_by}
-use Rattle.std.proofs.lemmas.Bool.{and_parts, eqb-true}
-use Rattle.std.proofs.lemmas.List.Sums.{sum_by-cons}
-use Rattle.std.proofs.lemmas.Option.{slice_get_within}
 use Rattle.spin_base.proofs.Counts.{count_by-cons}
 use Rattle.spin_base.proofs.Members.{Among, among_map, among_only}
-use Rattle.spin_base.specs.declared.chips.Chip.{Chip}
-use Rattle.spin_base.specs.declared.chips.Port.TheVariants.{Link as ByLink, Local}
-use Rattle.spin_base.specs.declared.routes.Out.{Out}
-use Rattle.spin_base.specs.declared.copies.McCopy.{McCopy}
-use Rattle.spin_base.specs.Links.{opposite_of}
-use Rattle.spin_base.specs.Hops.{last_hop, onward}
+use Rattle.spin_base.specs.declared.{chips.Chip.Chip, chips.Port.TheVariants.Link as ByLink, chips.Port.TheVariants.Local, routes.Out.Out, copies.McCopy.McCopy}
+use Rattle.spin_base.specs.{Links.opposite_of, Hops.last_hop, Hops.onward}
 use Rattle.machine_desc.specs.Branch.{Exit}
-use Rattle.mesh_core.specs.State.{State}
-use Rattle.mesh_core.specs.Step.{outputs}
+use Rattle.mesh_core.specs.{State.State, Step.outputs}
 use Rattle.mesh_core.specs.Trail.{Station, unsent, in_queue, in_hand, at_core, delivered, dumped, Mark, is_on_trail, is_packet_on_trail, on_trail}
 use Rattle.mesh_core.proofs.Law.{comes_parts, leaves_parts}
 use Rattle.mesh_core.proofs.Moves.{mark, IsMove, IsMoveOf, Crosses}

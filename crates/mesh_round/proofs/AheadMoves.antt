@@ -1,18 +1,15 @@
 -- What is left of all ways of all packets: a bag of moves leaves less by what its moves take.
-use Rattle.std.proofs.Common.{◌≡◌, ℕ, zero, suc, ◌+◌, ◌*◌, ◌<◌, ◌≤◌, ◌==◌, ◌&&◌, cond, if◌then◌else◌, refl, ap, sym, ◌∙◌, subst, arith, inl, inr, ◌⊎◌, List, [], ◌∷◌, length, Bool, true, false, count_by}
+use Rattle.std.proofs.Common.{◌≡◌, ℕ, zero, suc, ◌+◌, ◌*◌, ◌<◌, ◌≤◌, ◌==◌, ◌&&◌, cond, if◌then◌else◌, refl, ap, sym}
+use Rattle.std.proofs.Common.{◌∙◌, subst, arith, inl, inr, ◌⊎◌, List, [], ◌∷◌, length, Bool, true, false, count_by}
+use Rattle.std.proofs.lemmas.{Bool.cases_order, Bool.eqb-true, List.Sums.sum_by-append, List.Sums.sum_by-cons}
 use Rattle.std.specs.List.{sum_by, Contains}
-use Rattle.std.proofs.lemmas.Bool.{cases_order, eqb-true}
-use Rattle.std.proofs.lemmas.List.Sums.{sum_by-append, sum_by-cons}
 use Rattle.spin_base.proofs.Members.{Among, among_contains, among_either}
 use Rattle.spin_base.specs.declared.chips.Spot.{Spot}
 use Rattle.machine_desc.specs.NetsOn.{IsWayOn}
 use Rattle.machine_desc.specs.declared.nets.NetPlan.{NetPlan}
 use Rattle.machine_desc.specs.RightTables.{AreRight, IsKeyOf}
-use Rattle.mesh_core.specs.State.{State, IsMesh}
-use Rattle.mesh_core.specs.Trail.{Mark}
-use Rattle.mesh_core.specs.Ledger.{Label, MeetsLedger, marks_of}
-use Rattle.mesh_core.proofs.Counting.{counted}
-use Rattle.mesh_core.proofs.Law.{move_comes, move_counts}
+use Rattle.mesh_core.specs.{State.State, State.IsMesh, Trail.Mark, Ledger.Label, Ledger.MeetsLedger, Ledger.marks_of}
+use Rattle.mesh_core.proofs.{Counting.counted, Law.move_comes, Law.move_counts}
 use Rattle.mesh_core.proofs.LedgerLaw.{Bag, IsRight, Moved, one_net, right_before, right_come, stands}
 use Rattle.mesh_core.proofs.MarkTests.{mark_eq, mark_eq_same, mark_eq_true, move_raises, rank}
 use Rattle.mesh_core.proofs.Ways.{short_branch}
@@ -46,7 +43,8 @@ module _ (s t : State) (nets : List NetPlan) (labels : ℕ → Label) (mesh : Is
 
   there_or_came : (k : Mark) → 1 ≤ count_by (mark_eq k) (marks_of s) + count_by (mark_eq k) (all_come bag.moves) → Among k (marks_of s) ⊎ Among k (all_come bag.moves)
   there_or_came k some = elim (cases_order (count_by (mark_eq k) (marks_of s)) 0) [
-    | inl none ↦ (let found = counted (mark_eq k) (all_come bag.moves) (omega (arith, some, none)) in inr (subst (λ (m : Mark). Among m (all_come bag.moves)) (sym (mark_eq_true k found.0 found.2)) found.1))
+    | inl none ↦ (let found = counted (mark_eq k) (all_come bag.moves)
+        (omega (arith, some, none)) in inr (subst (λ (m : Mark). Among m (all_come bag.moves)) (sym (mark_eq_true k found.0 found.2)) found.1))
     | inr (inl below) ↦ absurd (omega (arith, below))
     | inr (inr more) ↦ (let found = counted (mark_eq k) (marks_of s) (omega (arith, more)) in inl (subst (λ (m : Mark). Among m (marks_of s)) (sym (mark_eq_true k found.0 found.2)) found.1))
   ]
@@ -57,9 +55,7 @@ module _ (s t : State) (nets : List NetPlan) (labels : ℕ → Label) (mesh : Is
   leaves_below (suc n) v far a =
       let some = counts (mark_eq v.leaves) v.leaves (all_left bag.moves) (among_left_of bag.moves v a) (mark_eq_same v.leaves) in
       let even = bag.balance (mark_eq v.leaves) in
-      let left = left_counts (mark_eq v.leaves) bag.moves in
-      let come = come_counts (mark_eq v.leaves) bag.moves in
-      elim (there_or_came v.leaves (omega (arith, some, even, left, come))) [
+      elim (there_or_came v.leaves (omega (arith, some, even, left_counts (mark_eq v.leaves) bag.moves, come_counts (mark_eq v.leaves) bag.moves))) [
         | inl was ↦ right_before s t nets labels mesh right ledger v.leaves (among_contains v.leaves (marks_of s) was)
         | inr came ↦
             let of = among_come_of bag.moves v.leaves came in
@@ -88,28 +84,25 @@ module _ (s t : State) (nets : List NetPlan) (labels : ℕ → Label) (mesh : Is
 
         same_packet : (y : Mark) → Among y v.come → y.copy.packet ≡ v.leaves.copy.packet
         same_packet y b =
-            (move_comes s r.net (stands s t nets labels mesh right ledger r.net r.in_nets) r.trail.target r.trail.branch r.trail.from r.trail.to r.trail.way v.leaves v.come v.is_move r.is_key r.trail.on y b).packet
+            (move_comes s r.net (stands s t nets labels mesh right ledger r.net r.in_nets) r.trail.target r.trail.branch r.trail.from r.trail.to r.trail.way v.leaves v.come v.is_move
+            r.is_key r.trail.on y b).packet
 
         by_packet : (same : Bool) → (v.leaves.copy.packet == n) ≡ same → sum_by left_there v.come + taken_there v ≤ left_there v.leaves
         by_packet false other =
             let none : sum_by left_there v.come ≡ 0 =
-            sum_none left_there v.come (λ y b. ap (λ c. cond (c && is_on w y) (left_of w y) 0) (ap (λ i. i == n) (same_packet y b) ∙ other))
-            in
+            sum_none left_there v.come (λ y b. ap (λ c. cond (c && is_on w y) (left_of w y) 0) (ap (λ i. i == n) (same_packet y b) ∙ other)) in
             let untaken : taken_there v ≡ 0 = ap (λ c. cond (c && is_on w v.leaves) (taken_of w v.leaves) 0) other in
             omega (arith, none, untaken)
         by_packet true same =
             let number : v.leaves.copy.packet ≡ n = eqb-true v.leaves.copy.packet n same in
             let its_key : v.leaves.copy.key ≡ (labels n).key = r.key ∙ ap (λ i. (labels i).key) number in
             let one : r.net ≡ net =
-            one_net nets ledger.nets_stand.disjoint r.net net r.in_nets has v.leaves.copy.key r.is_key (subst (λ i. IsKeyOf net.block i) (sym its_key) key)
-            in
+            one_net nets ledger.nets_stand.disjoint r.net net r.in_nets has v.leaves.copy.key r.is_key (subst (λ i. IsKeyOf net.block i) (sym its_key) key) in
             let came : count_by (is_on w) v.come ≡ (if is_on w v.leaves then 1 else 0) =
             move_counts s r.net (stands s t nets labels mesh right ledger r.net r.in_nets) r.trail.target target r.trail.branch w.branch r.trail.from w.from r.trail.to w.to r.trail.way
-            (subst (λ (m : NetPlan). IsWayOn s.setup.machine s.setup.spots m target w.branch w.from w.to) (sym one) way) v.leaves v.come v.is_move r.is_key r.trail.on
-            in
+            (subst (λ (m : NetPlan). IsWayOn s.setup.machine s.setup.spots m target w.branch w.from w.to) (sym one) way) v.leaves v.come v.is_move r.is_key r.trail.on in
             let mine : sum_by left_there v.come ≡ sum_by (λ y. cond (is_on w y) (left_of w y) 0) v.come =
-            sum_agree left_there (λ y. cond (is_on w y) (left_of w y) 0) v.come (λ y b. ap (λ c. cond (c && is_on w y) (left_of w y) 0) (ap (λ i. i == n) (same_packet y b) ∙ same))
-            in
+            sum_agree left_there (λ y. cond (is_on w y) (left_of w y) 0) v.come (λ y b. ap (λ c. cond (c && is_on w y) (left_of w y) 0) (ap (λ i. i == n) (same_packet y b) ∙ same)) in
             let taken : taken_there v ≡ cond (is_on w v.leaves) (taken_of w v.leaves) 0 = ap (λ c. cond (c && is_on w v.leaves) (taken_of w v.leaves) 0) same in
             let left : left_there v.leaves ≡ cond (is_on w v.leaves) (left_of w v.leaves) 0 = ap (λ c. cond (c && is_on w v.leaves) (left_of w v.leaves) 0) same in
             by_trail (is_on w v.leaves) refl came mine taken left
@@ -130,8 +123,7 @@ module _ (s t : State) (nets : List NetPlan) (labels : ℕ → Label) (mesh : Is
                 let single : count_by (is_on w) v.come ≡ 1 = came ∙ ap (λ c. if c then 1 else 0) on in
                 let less = sum_of_passing (is_on w) (left_of w) (taken_of w v.leaves) (left_of w v.leaves) v.come (move_takes w s v.leaves v.come short v.is_move on) in
                 let both : sum_by (λ y. cond (is_on w y) (left_of w y) 0) v.come + 1 * taken_of w v.leaves ≤ 1 * left_of w v.leaves =
-                subst (λ c. sum_by (λ y. cond (is_on w y) (left_of w y) 0) v.come + c * taken_of w v.leaves ≤ c * left_of w v.leaves) single less
-                in
+                subst (λ c. sum_by (λ y. cond (is_on w y) (left_of w y) 0) v.come + c * taken_of w v.leaves ≤ c * left_of w v.leaves) single less in
                 let took : cond (is_on w v.leaves) (taken_of w v.leaves) 0 ≡ taken_of w v.leaves = ap (λ c. cond c (taken_of w v.leaves) 0) on in
                 let had : cond (is_on w v.leaves) (left_of w v.leaves) 0 ≡ left_of w v.leaves = ap (λ c. cond c (left_of w v.leaves) 0) on in
                 omega (arith, both, mine, taken, left, took, had)
@@ -142,13 +134,10 @@ module _ (s t : State) (nets : List NetPlan) (labels : ℕ → Label) (mesh : Is
         let rest = all_take vs (λ u a. within u (inr a)) in
         let first = one_takes v (within v (inl refl)) in
         let both = sum_by-append left_there v.come (all_come vs) in
-        let all = sum_by-cons left_there v.leaves (all_left vs) in
-        let took = sum_by-cons taken_there v vs in
-        omega (arith, rest, first, both, all, took)
+        omega (arith, rest, first, both, sum_by-cons left_there v.leaves (all_left vs), sum_by-cons taken_there v vs)
 
     -- what is left of the way for the mesh's marks
     pub way_takes : sum_by (left_for n w) (marks_of t) + sum_by (λ (v : Moved s). taken_for n w v.leaves) bag.moves ≤ sum_by (left_for n w) (marks_of s)
     way_takes =
-        let even = even_weights s t bag left_there in
         let less = all_take bag.moves (λ v a. a) in
-        omega (arith, even, less)
+        omega (arith, even_weights s t bag left_there, less)

@@ -1,54 +1,37 @@
 -- Where queues have room for a copy of each packet of a job, no round dumps a copy.
 use Rattle.std.proofs.Common.{◌≡◌, ◌≢◌, ℕ, ◌+◌, ◌-◌, ◌*◌, ◌/◌, ◌%◌, ◌<◌, ◌≤◌, ◌==◌, ◌&&◌, nat_lt, zero, suc, Bool, true, false, List, []}
-use Rattle.std.proofs.Common.{◌∷◌, ◌++◌, map, filter, Some, length, refl, ap, sym, ◌∙◌, subst, arith, inl, inr, count_by, append-nil}
-use Rattle.std.specs.List.{All, Contains, slice_get, sum_by, range_with_len}
+use Rattle.std.proofs.Common.{◌∷◌, ◌++◌, map, filter, get_or, Some, length, refl, ap, sym, ◌∙◌, subst, arith, inl, inr, count_by, append-nil}
 use Rattle.std.proofs.Math.Nat.{mul-le-mul_left}
 use Rattle.std.proofs.lemmas.Bool.{cases_Bool, cases_lt, and_parts, and_from, eqb-true, eq-eqb, lt-ltb}
-use Rattle.std.proofs.lemmas.List.{get_or_past, length-append}
-use Rattle.std.proofs.lemmas.List.Elements.{All-contains, All-head}
-use Rattle.std.proofs.lemmas.List.Sums.{sum_by-cons}
+use Rattle.std.proofs.lemmas.List.{get_or_past, length-append, Elements.All-contains, Elements.All-head, Sums.sum_by-cons}
 use Rattle.std.proofs.lemmas.Option.{slice_get_within, get_or_from_slice_get}
+use Rattle.std.specs.List.{All, Contains, slice_get, sum_by, range_with_len}
+use Rattle.spin_base.specs.Gathered.{gathered}
 use Rattle.spin_base.proofs.Counts.{count_by-append}
 use Rattle.spin_base.proofs.Members.{Among, among_contains, contains_among, map_among, among_left, among_right, among_either, Contains-filter}
 use Rattle.spin_base.proofs.Places.{slice_get_there}
-use Rattle.spin_base.specs.declared.chips.Chip.{Chip}
-use Rattle.spin_base.specs.declared.chips.Spot.{Spot}
-use Rattle.spin_base.specs.declared.routes.Out.{Out}
-use Rattle.spin_base.specs.declared.copies.McCopy.{McCopy}
-use Rattle.spin_base.specs.declared.copies.DumpRec.{DumpRec}
-use Rattle.spin_base.specs.declared.copies.Packet.{Packet}
-use Rattle.spin_base.specs.Equality.{chip_eq, out_eq}
-use Rattle.spin_base.specs.Outputs.{IsOutput}
 use Rattle.spin_base.proofs.Equality.{nat_eq_same, chip_eq_same, out_eq_same}
-use Rattle.spin_base.specs.Hops.{last_hop, onward}
-use Rattle.machine_desc.specs.Description.{Description}
-use Rattle.machine_desc.specs.Live.{chip_of, IsLiveChip}
-use Rattle.machine_desc.specs.Branch.{Exit}
+use Rattle.spin_base.specs.declared.{chips.Chip.Chip, chips.Spot.Spot, routes.Out.Out, copies.McCopy.McCopy, copies.DumpRec.DumpRec, copies.Packet.Packet}
+use Rattle.spin_base.specs.{Equality.chip_eq, Equality.out_eq, Outputs.IsOutput, Hops.last_hop, Hops.onward}
+use Rattle.machine_desc.specs.{Description.Description, Live.chip_of, Live.IsLiveChip, Branch.Exit}
 use Rattle.machine_desc.specs.declared.nets.NetPlan.{NetPlan}
 use Rattle.machine_desc.specs.NetsOn.{AreNetsOn, IsWayOn}
 use Rattle.machine_desc.specs.RightTables.{IsKeyOf, AreRight}
 use Rattle.mesh_core.specs.State.{Setup, State, IsMesh, Queue, input, core, nowhere, behind}
 use Rattle.mesh_core.specs.Trail.{Station, in_queue, in_hand, at_core, dumped, Mark, on_trail, is_on_trail}
-use Rattle.mesh_core.specs.Ledger.{marks_of, marks_at, port_of, unsent_marks, input_marks, all_hand_marks, core_marks, delivered_marks, dumped_marks, label_of, Label, MeetsLedger}
+use Rattle.mesh_core.specs.Ledger.{marks_of, marks_at, port_of, input_marks, core_marks, label_of, Label, MeetsLedger}
 use Rattle.mesh_core.specs.Opened.{asked_by, MeetsJobLedger}
-use Rattle.mesh_core.proofs.AskedPackets.{asked_parts}
-use Rattle.mesh_core.proofs.Law.{move_counts, comes_parts}
-use Rattle.mesh_core.proofs.LedgerLaw.{Bag, one_net, stands}
-use Rattle.mesh_core.proofs.Moves.{mark}
-use Rattle.mesh_core.proofs.Ways.{Stands, one_place, vertex_at_stands}
+use Rattle.mesh_core.proofs.{AskedPackets.asked_parts, Law.move_counts, Law.comes_parts, LedgerLaw.Bag, LedgerLaw.one_net, LedgerLaw.stands}
+use Rattle.mesh_core.proofs.{Moves.mark, Standing.dumped_mark, Ways.Stands, Ways.one_place, Ways.vertex_at_stands, Counting.counted}
 use Rattle.mesh_round.specs.RoundFlow.{Flow, Passes, IsRound, WasFullAt, HasRounds, none as no_rounds, more, held_in, capacity_of, dumped_at}
 use Rattle.mesh_round.specs.Work.{moves_left, to_go}
 use Rattle.mesh_round.proofs.Arrivals.{Right, held_right, arrived_right, crossing_right, on_behind, somewhere}
-use Rattle.mesh_core.proofs.Counting.{counted}
 use Rattle.mesh_round.proofs.CountSums.{one_if, sum_within, part_of_sum_at, counts}
-use Rattle.mesh_round.proofs.Entered.{station_of}
-use Rattle.mesh_round.proofs.Nearer.{move_nears}
+use Rattle.mesh_round.proofs.{Entered.station_of, Nearer.move_nears}
 use Rattle.mesh_round.proofs.PassedOnce.{here, before, passed_once}
 use Rattle.mesh_round.proofs.RoundBag.{bag_of_round, in_parts, crossing_comes}
 use Rattle.mesh_round.proofs.FlowLaw.{round_keeps, rounds_stand}
-use Rattle.mesh_round.proofs.Sources.{once_in_range, range_parts}
-use Rattle.mesh_round.proofs.Sums.{sum_agree, sum_swap, sum_gathered, sum_map}
-use Rattle.mesh_round.proofs.Weights.{back_onward}
+use Rattle.mesh_round.proofs.{Sources.once_in_range, Sources.range_parts, Sums.sum_agree, Sums.sum_swap, Sums.sum_gathered, Sums.sum_map, Weights.back_onward}
 
 -- two ways of a net to one target are one
 abbrev pub HasOneWay : Type 0
@@ -62,11 +45,11 @@ HasOneWay = (m : Description) (spots : List Spot) (nets : List NetPlan) (net : N
 few_numbers : {X : Type 0} (number : X → ℕ) (n : ℕ) (xs : List X) → ((x : X) → Among x xs → number x < n) → ((i : ℕ) → i < n → count_by (λ x. number x == i) xs ≤ 1) → length xs ≤ n
 few_numbers {X} number n xs below each =
     let all = ones xs in
-    let spread = sum_agree one (λ x. sum_by (λ i. one_if (number x == i)) (range_with_len 0 n)) xs (λ x a. sym (once_in_range (number x) 0 n (omega arith) (let low = below x a in omega (arith, low)))) in
+    let spread = sum_agree one (λ x. sum_by (λ i. one_if (number x == i)) (range_with_len 0 n)) xs
+    (λ x a. sym (once_in_range (number x) 0 n (omega arith) (let low = below x a in omega (arith, low)))) in
     let swapped = sum_swap (λ x i. one_if (number x == i)) xs (range_with_len 0 n) in
     let within = sum_within (λ i. sum_by (λ x. one_if (number x == i)) xs) (λ i. 1) (range_with_len 0 n) (λ i a. each i (let low = (range_parts 0 n i a).1 in omega (arith, low))) in
-    let long = many 0 n in
-    omega (arith, all, spread, swapped, within, long)
+    omega (arith, all, spread, swapped, within, many 0 n)
   where
     one : X → ℕ
     one x = 1
@@ -82,6 +65,24 @@ few_numbers {X} number n xs below each =
 to_go_same : (x y : McCopy) (at : Station) → y.hop ≡ x.hop → to_go (mark y at) ≡ to_go (mark x at)
 unfolding to_go
 to_go_same x y at same = ap (λ h. moves_left (last_hop - h) at) same
+
+-- marks of the list at a place are among those of all lists
+one_of_lists : (p : Mark → Bool) (at : ℕ → Station) (lists : List (List McCopy)) (i : ℕ) →
+    count_by p (marks_at (at i) (get_or lists i [])) ≤ count_by p (gathered (λ l copies. marks_at (at l) copies) 0 lists)
+one_of_lists p at lists i = elim (cases_lt i (length lists)) [
+  | inl below ↦
+      let q = slice_get_there lists i below in
+      let list : get_or lists i [] ≡ q.0 = get_or_from_slice_get lists i q.0 [] q.1 in
+      let all = sum_gathered (λ x. one_if (p x)) (λ l copies. marks_at (at l) copies) 0 lists in
+      let part = part_of_sum_at (λ l copies. sum_by (λ x. one_if (p x)) (marks_at (at l) copies)) 0 lists i q.0 q.1 in
+      let place : 0 + i ≡ i = omega arith in
+      let here_it : sum_by (λ x. one_if (p x)) (marks_at (at (0 + i)) q.0) ≡ count_by p (marks_at (at i) (get_or lists i [])) =
+      ap (λ l. sum_by (λ x. one_if (p x)) (marks_at (at l) q.0)) place ∙ ap (λ copies. count_by p (marks_at (at i) copies)) (sym list) in
+      omega (arith, all, part, here_it)
+  | inr past ↦
+      let none : count_by p (marks_at (at i) (get_or lists i [])) ≡ 0 = ap (λ copies. count_by p (marks_at (at i) copies)) (get_or_past lists i [] past) in
+      omega (arith, none)
+]
 
 module _ (m : State) (f : Flow) (n : State) (nets : List NetPlan) (packets : List Packet) (mesh : IsMesh m) (after : IsMesh n) (passes : Passes m f n)
     (right : AreRight m.setup.machine m.setup.tables nets) (job : MeetsJobLedger m nets packets) (one_way : HasOneWay) where
@@ -122,7 +123,8 @@ module _ (m : State) (f : Flow) (n : State) (nets : List NetPlan) (packets : Lis
       let both : Some s.trail.target ≡ Some r.trail.target = sym on_s ∙ (ap (slice_get u.spots) ends ∙ on_r) in
       let target : s.trail.target ≡ r.trail.target = cc in
       let its_way = subst (λ (t : Spot). IsWayOn u.machine u.spots r.net t s.trail.branch s.trail.from s.trail.to) target way in
-      let branch = (one_way u.machine u.spots nets r.net r.trail.target s.trail.branch r.trail.branch s.trail.from r.trail.from s.trail.to r.trail.to ledger.nets_stand r.in_nets its_way r.trail.way).0 in
+      let branch = (one_way u.machine u.spots nets r.net r.trail.target s.trail.branch r.trail.branch s.trail.from r.trail.from s.trail.to r.trail.to ledger.nets_stand r.in_nets its_way
+      r.trail.way).0 in
       eqb-true y.hop (length s.trail.branch) b.1 ∙ (ap length branch ∙ sym (eqb-true x.hop (length r.trail.branch) a.1))
 
   -- and so have two in one queue
@@ -132,7 +134,8 @@ module _ (m : State) (f : Flow) (n : State) (nets : List NetPlan) (packets : Lis
       let way = subst (λ (k : NetPlan). IsWayOn u.machine u.spots k s.trail.target s.trail.branch s.trail.from s.trail.to) net s.trail.way in
       let a = comes_parts r.trail.branch x.hop (chip_of u.machine (i / 7)) (port_of (i % 7)) r.trail.on in
       let b = comes_parts s.trail.branch y.hop (chip_of u.machine (i / 7)) (port_of (i % 7)) s.trail.on in
-      (one_place m r.net (stand r.net r.in_nets) s.trail.target r.trail.target s.trail.branch r.trail.branch way.is_branch r.trail.way.is_branch y.hop x.hop b.exit a.exit b.at a.at (b.chip ∙ sym a.chip)).0
+      (one_place m r.net (stand r.net r.in_nets) s.trail.target r.trail.target s.trail.branch r.trail.branch way.is_branch r.trail.way.is_branch y.hop x.hop b.exit a.exit b.at a.at
+      (b.chip ∙ sym a.chip)).0
   same_hop (core v) x y r s same = vertex_hop v x y r s same
   same_hop nowhere x y r s same = vertex_hop 0 x y r s same
 
@@ -140,38 +143,13 @@ module _ (m : State) (f : Flow) (n : State) (nets : List NetPlan) (packets : Lis
 
   -- marks of a queue are among all marks
   queue_counts : (p : Mark → Bool) (q : Queue) → count_by p (marks_at (station_of u q) (held_in m q)) ≤ count_by p (marks_of m)
-  queue_counts p (input i) = elim (cases_lt i (length m.inputs)) [
-    | inl below ↦
-        let q = slice_get_there m.inputs i below in
-        let list : held_in m (input i) ≡ q.0 = get_or_from_slice_get m.inputs i q.0 [] q.1 in
-        let at : ℕ → List McCopy → List Mark = λ l copies. marks_at (in_queue (chip_of u.machine (l / 7)) (port_of (l % 7))) copies in
-        let all = sum_gathered (λ x. one_if (p x)) at 0 m.inputs in
-        let part = part_of_sum_at (λ l copies. sum_by (λ x. one_if (p x)) (at l copies)) 0 m.inputs i q.0 q.1 in
-        let place : 0 + i ≡ i = omega arith in
-        let here_it : sum_by (λ x. one_if (p x)) (at (0 + i) q.0) ≡ count_by p (marks_at (station_of u (input i)) (held_in m (input i))) =
-        ap (λ l. sum_by (λ x. one_if (p x)) (at l q.0)) place ∙ ap (λ copies. count_by p (marks_at (station_of u (input i)) copies)) (sym list) in
-        let parts = in_parts m f n mesh after passes p m in
-        omega (arith, all, part, here_it, parts)
-    | inr past ↦
-        let none : count_by p (marks_at (station_of u (input i)) (held_in m (input i))) ≡ 0 = ap (λ copies. count_by p (marks_at (station_of u (input i)) copies)) (get_or_past m.inputs i [] past) in
-        omega (arith, none)
-  ]
-  queue_counts p (core v) = elim (cases_lt v (length m.cores)) [
-    | inl below ↦
-        let q = slice_get_there m.cores v below in
-        let list : held_in m (core v) ≡ q.0 = get_or_from_slice_get m.cores v q.0 [] q.1 in
-        let at : ℕ → List McCopy → List Mark = λ l copies. marks_at (at_core l) copies in
-        let all = sum_gathered (λ x. one_if (p x)) at 0 m.cores in
-        let part = part_of_sum_at (λ l copies. sum_by (λ x. one_if (p x)) (at l copies)) 0 m.cores v q.0 q.1 in
-        let place : 0 + v ≡ v = omega arith in
-        let here_it : sum_by (λ x. one_if (p x)) (at (0 + v) q.0) ≡ count_by p (marks_at (station_of u (core v)) (held_in m (core v))) =
-        ap (λ l. sum_by (λ x. one_if (p x)) (at l q.0)) place ∙ ap (λ copies. count_by p (marks_at (station_of u (core v)) copies)) (sym list) in
-        let parts = in_parts m f n mesh after passes p m in
-        omega (arith, all, part, here_it, parts)
-    | inr past ↦
-        let none : count_by p (marks_at (station_of u (core v)) (held_in m (core v))) ≡ 0 = ap (λ copies. count_by p (marks_at (station_of u (core v)) copies)) (get_or_past m.cores v [] past) in
-        omega (arith, none)
-  ]
+  queue_counts p (input i) =
+      let part : count_by p (marks_at (station_of u (input i)) (held_in m (input i))) ≤ count_by p (input_marks m) =
+      one_of_lists p (λ l. in_queue (chip_of u.machine (l / 7)) (port_of (l % 7))) m.inputs i in
+      omega (arith, part, in_parts m f n mesh after passes p m)
+  queue_counts p (core v) =
+      let part : count_by p (marks_at (station_of u (core v)) (held_in m (core v))) ≤ count_by p (core_marks m) = one_of_lists p at_core m.cores v in
+      omega (arith, part, in_parts m f n mesh after passes p m)
   queue_counts p nowhere = omega arith
 
   module _ (c : Chip) (o : Out) (live : IsLiveChip u.machine c) (is : IsOutput o) where
@@ -201,12 +179,10 @@ module _ (m : State) (f : Flow) (n : State) (nets : List NetPlan) (packets : Lis
       stands_here : (j : McCopy) → IsRight (mark j at) → j.packet ≡ x.packet → is_here (mark j at) ≡ true
       stands_here j s same =
           let hop = same_hop (behind u c o) x j r s same in
-          let key = (same_net (mark x at) (mark j at) r s same).1 in
           let on : on_trail r.trail.from r.trail.to r.trail.branch j.hop at ≡ true = ap (λ h. on_trail r.trail.from r.trail.to r.trail.branch h at) hop ∙ r.trail.on in
-          let place = to_go_same x j at hop in
-          and_from (j.key == x.key) _ (eq-eqb j.key x.key key)
+          and_from (j.key == x.key) _ (eq-eqb j.key x.key ((same_net (mark x at) (mark j at) r s same).1))
           (and_from _ (to_go (mark j at) == to_go (mark x at)) (and_from (j.packet == x.packet) (is_on_trail r.trail.from r.trail.to r.trail.branch (mark j at)) (eq-eqb j.packet x.packet same) on)
-          (eq-eqb (to_go (mark j at)) (to_go (mark x at)) place))
+          (eq-eqb (to_go (mark j at)) (to_go (mark x at)) (to_go_same x j at hop)))
 
       fewer : (ks : List McCopy) → ((j : McCopy) → Among j ks → IsRight (mark j at)) → count_by (λ (j : McCopy). j.packet == x.packet) ks ≤ count_by is_here (marks_at at ks)
       fewer ks each =
@@ -224,10 +200,8 @@ module _ (m : State) (f : Flow) (n : State) (nets : List NetPlan) (packets : Lis
           let both = count_by-append (λ (j : McCopy). j.packet == x.packet) (held_in m (behind u c o)) (f.entered (behind u c o)) in
           let held = fewer (held_in m (behind u c o)) (λ j a. right_in j (among_left j (held_in m (behind u c o)) (f.entered (behind u c o)) a)) in
           let entered = fewer (f.entered (behind u c o)) (λ j a. right_in j (among_right j (held_in m (behind u c o)) (f.entered (behind u c o)) a)) in
-          let was = queue_counts is_here (behind u c o) in
-          let came = crossing_comes m f n mesh after passes is_here c o live is in
           let once = passed_once m n nets labels mesh right ledger (round_keeps m n f nets mesh after passes right labels ledger) bag (mark x at) r in
-          omega (arith, both, held, entered, was, came, once)
+          omega (arith, both, held, entered, queue_counts is_here (behind u c o), crossing_comes m f n mesh after passes is_here c o live is, once)
 
     -- ---- a dump record of the output
 
@@ -244,8 +218,10 @@ module _ (m : State) (f : Flow) (n : State) (nets : List NetPlan) (packets : Lis
       dumped_here : Among k (dumped_at f c o)
       dumped_here =
           let r : DumpRec = record { chip = c; out = o; copy = k } in
-          let mine = Contains-filter (λ (e : DumpRec). chip_eq e.chip c && out_eq e.out o) f.dumped r (among_contains r f.dumped in_flow) (and_from (chip_eq c c) (out_eq o o) (chip_eq_same c) (out_eq_same o)) in
-          map_among (λ (e : DumpRec). e.copy) r (filter (λ (e : DumpRec). chip_eq e.chip c && out_eq e.out o) f.dumped) (contains_among r (filter (λ (e : DumpRec). chip_eq e.chip c && out_eq e.out o) f.dumped) mine)
+          let mine = Contains-filter (λ (e : DumpRec). chip_eq e.chip c && out_eq e.out o) f.dumped r (among_contains r f.dumped in_flow)
+          (and_from (chip_eq c c) (out_eq o o) (chip_eq_same c) (out_eq_same o)) in
+          map_among (λ (e : DumpRec). e.copy) r (filter (λ (e : DumpRec). chip_eq e.chip c && out_eq e.out o) f.dumped)
+          (contains_among r (filter (λ (e : DumpRec). chip_eq e.chip c && out_eq e.out o) f.dumped) mine)
 
       in_all : Among (onward k) (f.entered (behind u c o) ++ map onward (dumped_at f c o))
       in_all = among_right (onward k) (f.entered (behind u c o)) (map onward (dumped_at f c o)) (map_among onward k (dumped_at f c o) dumped_here)
@@ -271,7 +247,8 @@ module _ (m : State) (f : Flow) (n : State) (nets : List NetPlan) (packets : Lis
           on_it =
               let net = (same_net (mark k (in_hand c o)) (mark (onward k) at) hand ghost refl).0 in
               let way = subst (λ (e : NetPlan). IsWayOn u.machine u.spots e ghost.trail.target ghost.trail.branch ghost.trail.from ghost.trail.to) net ghost.trail.way in
-              let kept = move_counts m hand.net (stand hand.net hand.in_nets) hand.trail.target ghost.trail.target hand.trail.branch ghost.trail.branch hand.trail.from ghost.trail.from hand.trail.to ghost.trail.to hand.trail.way way
+              let kept = move_counts m hand.net (stand hand.net hand.in_nets) hand.trail.target ghost.trail.target hand.trail.branch ghost.trail.branch hand.trail.from ghost.trail.from
+              hand.trail.to ghost.trail.to hand.trail.way way
               (mark k (in_hand c o)) (mark (onward k) at ∷ []) (inr (on_behind m f n nets labels mesh passes right ledger c o live k hand)) hand.is_key hand.trail.on in
               let single = sum_by-cons (λ y. one_if (on y)) (mark (onward k) at) [] in
               let there : one_if (on (mark (onward k) at)) ≡ 1 = ap one_if ghost.trail.on in
@@ -284,13 +261,7 @@ module _ (m : State) (f : Flow) (n : State) (nets : List NetPlan) (packets : Lis
       still_there : Among (mark k (dumped c o)) (marks_of n)
       still_there =
           let r : DumpRec = record { chip = c; out = o; copy = k } in
-          let m' : Mark = mark k (dumped c o) in
-          let listed : Among r n.dumped = subst (λ rs. Among r rs) (sym passes.dumped) (among_right r m.dumped f.dumped in_flow) in
-          among_right m' (unsent_marks n) (input_marks n ++ (all_hand_marks n ++ (core_marks n ++ (delivered_marks n ++ dumped_marks n))))
-          (among_right m' (input_marks n) (all_hand_marks n ++ (core_marks n ++ (delivered_marks n ++ dumped_marks n)))
-          (among_right m' (all_hand_marks n) (core_marks n ++ (delivered_marks n ++ dumped_marks n))
-          (among_right m' (core_marks n) (delivered_marks n ++ dumped_marks n)
-          (among_right m' (delivered_marks n) (dumped_marks n) (map_among (λ (e : DumpRec). mark e.copy (dumped e.chip e.out)) r n.dumped listed)))))
+          dumped_mark n r (subst (λ rs. Among r rs) (sym passes.dumped) (among_right r m.dumped f.dumped in_flow))
 
       number_below : (j : McCopy) → IsRight (mark j at) → j.packet < length packets
       number_below j r =
@@ -305,15 +276,13 @@ module _ (m : State) (f : Flow) (n : State) (nets : List NetPlan) (packets : Lis
           elim (cases_Bool (k.packet == i)) [
             | inl same ↦
                 let number : k.packet ≡ i = eqb-true k.packet i same in
-                let none = copies_once (onward k) ghost in
                 let some = counts (is_before (onward k) ghost) (mark k (dumped c o)) (marks_of n) still_there before_it in
                 let its : count_by (λ (j : McCopy). j.packet == k.packet) all_in ≡ count_by (λ (j : McCopy). j.packet == i) all_in = ap (λ l. count_by (λ (j : McCopy). j.packet == l) all_in) number in
                 let one : one_if (k.packet == i) ≡ 1 = ap one_if same in
-                omega (arith, first, none, some, its, one)
+                omega (arith, first, copies_once (onward k) ghost, some, its, one)
             | inr other ↦
                 let zero_it : one_if (k.packet == i) ≡ 0 = ap one_if other in
-                let rest = of_queue in
-                omega (arith, first, zero_it, rest)
+                omega (arith, first, zero_it, of_queue)
           ]
         where
           of_queue : count_by (λ (j : McCopy). j.packet == i) all_in ≤ 1
@@ -321,9 +290,9 @@ module _ (m : State) (f : Flow) (n : State) (nets : List NetPlan) (packets : Lis
             | inl some ↦
                 let found = counted (λ (j : McCopy). j.packet == i) all_in (omega (arith, some)) in
                 let number : found.0.packet ≡ i = eqb-true found.0.packet i found.2 in
-                let once = copies_once found.0 (right_in found.0 found.1) in
-                let its : count_by (λ (j : McCopy). j.packet == found.0.packet) all_in ≡ count_by (λ (j : McCopy). j.packet == i) all_in = ap (λ l. count_by (λ (j : McCopy). j.packet == l) all_in) number in
-                omega (arith, once, its)
+                let its : count_by (λ (j : McCopy). j.packet == found.0.packet) all_in ≡ count_by (λ (j : McCopy). j.packet == i) all_in =
+                ap (λ l. count_by (λ (j : McCopy). j.packet == l) all_in) number in
+                omega (arith, copies_once found.0 (right_in found.0 found.1), its)
             | inr none ↦ omega (arith, none)
           ]
 
@@ -340,12 +309,8 @@ module _ (m : State) (f : Flow) (n : State) (nets : List NetPlan) (packets : Lis
       -- so the queue was never full, where it has room for them all
       never_full : length packets ≤ u.capacity → (e : ℕ × ℕ) → WasFullAt m f (behind u c o) e → ⊥
       never_full roomy e full =
-          let few = few_in in
-          let both = length-append (held_in m (behind u c o)) (f.entered (behind u c o)) in
           let room = room_of (behind u c o) (somewhere m f n nets labels mesh passes right ledger c o k hand) in
-          let come = full.0 in
-          let even = full.2 in
-          omega (arith, few, both, room, come, even, roomy)
+          omega (arith, few_in, length-append (held_in m (behind u c o)) (f.entered (behind u c o)), room, full.0, full.2, roomy)
         where
           room_of : (b : Queue) → b ≢ nowhere → capacity_of u b ≡ u.capacity
           room_of (input i) there = refl
@@ -368,8 +333,7 @@ no_dump patience turns m n f nets packets one_way patient mesh after round right
         some_fulls [] k none many enough = absurd none
         some_fulls (j ∷ ks) k there many enough =
             let some : 1 ≤ length (j ∷ ks) = omega arith in
-            let times = mul-le-mul_left patience some in
-            omega (arith, patient, times, enough)
+            omega (arith, patient, mul-le-mul_left patience some, enough)
 
         by_fulls : (es : List (ℕ × ℕ)) → All (WasFullAt m f (behind m.setup d.chip d.out)) es → 1 ≤ length es → ((e : ℕ × ℕ) → WasFullAt m f (behind m.setup d.chip d.out) e → ⊥) → ⊥
         by_fulls [] all some never = absurd (omega (arith, some))

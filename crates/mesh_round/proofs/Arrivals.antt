@@ -1,43 +1,29 @@
 -- Each copy that came into a queue in a round stands right there: on a trail of its net, with the key and payload of its packet.
 -- By induction on its hop number.
 use Rattle.std.proofs.Common.{◌≡◌, ◌≢◌, ℕ, ◌+◌, ◌<◌, ◌≤◌, zero, suc, true, List, [], ◌∷◌, ◌++◌, map, filter, Some, None, length, refl, ap, sym, ◌∙◌, subst, arith, inl, inr}
-use Rattle.std.specs.List.{slice_index_or, Contains}
 use Rattle.std.proofs.lemmas.Bool.{cases_Bool, cases_lt}
-use Rattle.std.proofs.lemmas.List.{get_or_past}
-use Rattle.std.proofs.lemmas.List.Elements.{All-contains}
-use Rattle.std.proofs.lemmas.List.Sorted.{All-permutation}
+use Rattle.std.proofs.lemmas.List.{get_or_past, Elements.All-contains, Sorted.All-permutation}
 use Rattle.std.proofs.lemmas.Option.{slice_get_within, get_or_from_slice_get, none-some}
+use Rattle.std.specs.List.{slice_index_or, Contains}
 use Rattle.spin_base.proofs.Gathering.{among_gathered, gathered_among}
 use Rattle.spin_base.proofs.Members.{Among, among_contains, contains_among, among_map, map_among, among_filter, any_among, among_left, among_either}
 use Rattle.spin_base.proofs.Places.{All-each, slice_get_there}
-use Rattle.spin_base.specs.declared.chips.Chip.{Chip}
-use Rattle.spin_base.specs.declared.chips.Dir.{Dir}
-use Rattle.spin_base.specs.declared.chips.Spot.{Spot}
-use Rattle.spin_base.specs.declared.chips.Port.{Port}
-use Rattle.spin_base.specs.declared.chips.Port.TheVariants.{Link as ByLink, Local}
-use Rattle.spin_base.specs.declared.routes.Out.{Out}
-use Rattle.spin_base.specs.declared.routes.Out.TheVariants.{Link}
-use Rattle.spin_base.specs.declared.copies.McCopy.{McCopy}
-use Rattle.spin_base.specs.Links.{opposite_of}
-use Rattle.spin_base.specs.Equality.{chip_eq, out_eq}
-use Rattle.spin_base.specs.Outputs.{IsOutput}
 use Rattle.spin_base.proofs.Equality.{chip_eq_true, out_eq_true}
-use Rattle.spin_base.specs.Hops.{last_hop, onward}
+use Rattle.spin_base.specs.declared.chips.{Chip.Chip, Dir.Dir, Spot.Spot, Port.Port, Port.TheVariants.Link as ByLink, Port.TheVariants.Local}
+use Rattle.spin_base.specs.declared.{routes.Out.Out, routes.Out.TheVariants.Link, copies.McCopy.McCopy}
+use Rattle.spin_base.specs.{Links.opposite_of, Equality.chip_eq, Equality.out_eq, Outputs.IsOutput, Hops.last_hop, Hops.onward}
 use Rattle.machine_desc.specs.Live.{far_of, is_live_chip, is_live_link, IsInside, IsLiveChip, IsLiveLink}
-use Rattle.machine_desc.proofs.Branches.{exit_leads, ExitLeads}
-use Rattle.machine_desc.proofs.Far.{live_inside, live_ends, live_back, far_back}
 use Rattle.machine_desc.specs.declared.nets.NetPlan.{NetPlan}
 use Rattle.machine_desc.specs.RightTables.{AreRight}
+use Rattle.machine_desc.proofs.Branches.{exit_leads, ExitLeads}
+use Rattle.machine_desc.proofs.Far.{live_inside, live_ends, live_back, far_back}
 use Rattle.mesh_core.specs.State.{Setup, State, IsMesh, Queue, input, core, nowhere, behind, behind_link, queue_at, vertex_behind}
 use Rattle.mesh_core.specs.Step.{outputs}
 use Rattle.mesh_core.specs.Trail.{unsent, in_queue, in_hand, Mark}
 use Rattle.mesh_core.specs.Ledger.{marks_of, marks_at, all_ports, unsent_marks, input_marks, all_hand_marks, core_marks, delivered_marks, dumped_marks, Label, MeetsLedger}
-use Rattle.mesh_core.proofs.Keeping.{input_is_somewhere, core_is_somewhere}
-use Rattle.mesh_core.proofs.Law.{leaves_parts}
+use Rattle.mesh_core.proofs.{Keeping.input_is_somewhere, Keeping.core_is_somewhere, Law.leaves_parts}
 use Rattle.mesh_core.proofs.LedgerLaw.{IsRight, right_before, right_come, stands}
-use Rattle.mesh_core.proofs.Moves.{mark, IsMove, Crosses}
-use Rattle.mesh_core.proofs.Queued.{waiting_mark}
-use Rattle.mesh_core.proofs.Ways.{Stands, vertex_behind_there, leads_to}
+use Rattle.mesh_core.proofs.{Moves.mark, Moves.IsMove, Moves.Crosses, Queued.waiting_mark, Ways.Stands, Ways.vertex_behind_there, Ways.leads_to}
 use Rattle.mesh_round.specs.RoundFlow.{Flow, Passes, at_port, held_in, leaves_by, taken_for, dumped_at, sent_on, of_chip}
 use Rattle.mesh_round.proofs.Ends.{by_link, to_vertex, to_none, leads, Leads}
 use Rattle.mesh_round.proofs.Entered.{station_of, station_is, crosses_behind, behind_far}
@@ -149,7 +135,8 @@ module _ (m : State) (f : Flow) (n : State) (nets : List NetPlan) (labels : ℕ 
             let found = any_among (out_eq o) (outputs u c port k) left.1 in
             let given : Among o (outputs u c port k) = subst (λ p. Among p (outputs u c port k)) (sym (out_eq_true o found.0 found.2)) found.1 in
             let was = before port k left.0 (omega (arith, small, less)) in
-            let held = come_right (mark k (in_queue c port)) was (map (λ p. mark k (in_hand c p)) (outputs u c port k)) refl (mark k (in_hand c o)) (map_among (λ p. mark k (in_hand c p)) o (outputs u c port k) given) in
+            let held = come_right (mark k (in_queue c port)) was (map (λ p. mark k (in_hand c p)) (outputs u c port k)) refl (mark k (in_hand c o))
+            (map_among (λ p. mark k (in_hand c p)) o (outputs u c port k) given) in
             let same : back (onward k) ≡ k = back_onward k less in
             (subst (λ d. Right (mark d (in_hand c o))) (sym same) held, ap onward same)
 
@@ -162,7 +149,8 @@ module _ (m : State) (f : Flow) (n : State) (nets : List NetPlan) (labels : ℕ 
     queue_right : IsLiveChip u.machine c → (j : McCopy) → Right (mark (back j) (in_hand c o)) × (onward (back j) ≡ j) → Right (mark j (station_of u (behind u c o)))
     queue_right live j (r, same) =
         subst (λ d. Right (mark d (station_of u (behind u c o)))) same
-        (come_right (mark (back j) (in_hand c o)) r (mark (onward (back j)) (station_of u (behind u c o)) ∷ []) (inr (on_behind live (back j) r)) (mark (onward (back j)) (station_of u (behind u c o))) (inl refl))
+        (come_right (mark (back j) (in_hand c o)) r (mark (onward (back j)) (station_of u (behind u c o)) ∷ []) (inr (on_behind live (back j) r))
+        (mark (onward (back j)) (station_of u (behind u c o))) (inl refl))
 
   -- ---- all input queues
 
@@ -202,8 +190,7 @@ module _ (m : State) (f : Flow) (n : State) (nets : List NetPlan) (labels : ℕ 
         let e : Chip = ends.0 in
         let o : Out = Link (opposite_of g) in
         let far : far_of u.machine e (opposite_of g) ≡ Some c = far_back u.machine c e g inside ends.1 in
-        let link = live_back u.machine c e g ends.1 live in
-        let is : behind u e o ≡ at_port u c (ByLink g) = behind_far (λ x. true) m f n mesh passes c e g link far in
+        let is : behind u e o ≡ at_port u c (ByLink g) = behind_far (λ x. true) m f n mesh passes c e g (live_back u.machine c e g ends.1 live) far in
         let in_all : Among k (f.entered (behind u e o) ++ map onward (dumped_at f e o)) =
         among_left k (f.entered (behind u e o)) (map onward (dumped_at f e o)) (subst (λ q. Among k (f.entered q)) (sym is) came) in
         let hand = hand_right e o b (λ p j left small. before e p (live_inside u.machine e ends.3) j (left_came (at_port u e p) j left) small) ends.3 tt k in_all low in
@@ -211,7 +198,8 @@ module _ (m : State) (f : Flow) (n : State) (nets : List NetPlan) (labels : ℕ 
     | inr dead ↦ absurd (nothing k (f.entered (at_port u c (ByLink g))) (passes.dead_ports c g inside dead) came)
   ]
 
-  port_right : (b : ℕ) (c : Chip) (port : Port) → IsInside u.machine c → (k : McCopy) → Among k (held_in m (at_port u c port) ++ f.entered (at_port u c port)) → k.hop < b → Right (mark k (in_queue c port))
+  port_right : (b : ℕ) (c : Chip) (port : Port) → IsInside u.machine c → (k : McCopy) → Among k (held_in m (at_port u c port) ++ f.entered (at_port u c port)) → k.hop < b →
+      Right (mark k (in_queue c port))
   port_right zero c port inside k a low = absurd (omega (arith, low))
   port_right (suc b) c port inside k a low = elim (among_either k (held_in m (at_port u c port)) (f.entered (at_port u c port)) a) [
     | inl held ↦ subst (λ st. Right (mark k st)) (station_is u c port inside) (held_right (at_port u c port) k held)

@@ -1,13 +1,11 @@
 -- What the queues of a list held, and what entered and left them, as marks.
 use Rattle.std.proofs.Common.{◌≡◌, ℕ, ◌+◌, ◌<◌, suc, List, [], ◌∷◌, ◌++◌, length, Bool, refl, ap, sym, ◌∙◌, subst, arith, count_by, add-one}
+use Rattle.std.proofs.lemmas.List.{map-append, Sums.sum_by-cons}
 use Rattle.std.specs.List.{sum_by, slice_index_or, range_with_len}
-use Rattle.std.proofs.lemmas.List.{map-append}
-use Rattle.std.proofs.lemmas.List.Sums.{sum_by-cons}
 use Rattle.spin_base.specs.Gathered.{gathered}
-use Rattle.spin_base.proofs.Counts.{count_by-append}
 use Rattle.spin_base.specs.declared.copies.McCopy.{McCopy}
-use Rattle.mesh_core.specs.Trail.{Station, Mark}
-use Rattle.mesh_core.specs.Ledger.{marks_at}
+use Rattle.spin_base.proofs.Counts.{count_by-append}
+use Rattle.mesh_core.specs.{Trail.Station, Trail.Mark, Ledger.marks_at}
 
 module _ (p : Mark → Bool) (station : ℕ → Station) (entered left : ℕ → List McCopy) where
   -- how many marks of a list of copies at a queue's station pass

@@ -1,8 +1,7 @@
 -- Sums and counts over lists: where all tests count as many, all sums are equal.
 use Rattle.std.proofs.Common.{◌≡◌, ℕ, ◌+◌, ◌-◌, ◌≤◌, zero, suc, Bool, true, cond, nat_lt, List, [], ◌∷◌, refl, ap, sym, ◌∙◌, arith, inl, inr, count_by, Some}
+use Rattle.std.proofs.lemmas.{Bool.lt-ltb, List.Sums.sum_by-cons}
 use Rattle.std.specs.List.{sum_by, slice_get}
-use Rattle.std.proofs.lemmas.Bool.{lt-ltb}
-use Rattle.std.proofs.lemmas.List.Sums.{sum_by-cons}
 use Rattle.spin_base.proofs.Members.{Among}
 use Rattle.mesh_round.proofs.Sums.{sum_agree, sum_none, sum_plus, sum_at}
 

@@ -1,39 +1,27 @@
 -- What one thing that was done tells of a chip's ports, its vertices and an output of it.
 use Rattle.std.proofs.Common.{◌≡◌, ℕ, ◌+◌, ◌*◌, ◌==◌, ◌&&◌, cond, Bool, true, false, List, [], ◌∷◌, ◌++◌, map, Option, Some, None, refl, sym, ap, ◌∙◌, subst, arith, inl, inr}
-use Rattle.std.specs.List.{slice_get, filter, flat_map}
 use Rattle.std.proofs.lemmas.Bool.{and_parts, and_from, cases_Bool, cases_eq, cond-true, cond-false, eq-eqb, false_from_ne_true, ne_eqb}
-use Rattle.std.proofs.lemmas.List.{append-nil}
-use Rattle.std.proofs.lemmas.Option.{slice_get_within, same_Some}
+use Rattle.std.proofs.lemmas.{List.append-nil, Option.slice_get_within, Option.same_Some}
+use Rattle.std.specs.List.{slice_get, filter, flat_map}
 use Rattle.spin_base.specs.Gathered.{gathered}
-use Rattle.spin_base.proofs.Tests.{answers_none}
-use Rattle.spin_base.specs.declared.chips.Chip.{Chip}
-use Rattle.spin_base.specs.declared.chips.Dir.{Dir}
+use Rattle.spin_base.specs.declared.chips.{Chip.Chip, Dir.Dir}
 use Rattle.spin_base.specs.declared.chips.Dir.TheVariants.{East, NorthEast, North, West, SouthWest, South}
-use Rattle.spin_base.specs.declared.chips.Port.{Port}
-use Rattle.spin_base.specs.declared.chips.Port.TheVariants.{Link as ByLink, Local}
-use Rattle.spin_base.specs.declared.routes.Out.{Out}
-use Rattle.spin_base.specs.declared.copies.McCopy.{McCopy}
-use Rattle.spin_base.specs.declared.copies.Delivery.{Delivery}
-use Rattle.spin_base.specs.declared.copies.DumpRec.{DumpRec}
-use Rattle.spin_base.specs.Equality.{chip_eq, out_eq}
-use Rattle.spin_base.specs.Links.{port_number}
+use Rattle.spin_base.specs.declared.chips.Port.{Port, TheVariants.Link as ByLink, TheVariants.Local}
+use Rattle.spin_base.specs.declared.{routes.Out.Out, copies.McCopy.McCopy, copies.Delivery.Delivery, copies.DumpRec.DumpRec}
+use Rattle.spin_base.specs.{Equality.chip_eq, Equality.out_eq, Links.port_number}
+use Rattle.spin_base.proofs.Tests.{answers_none}
 use Rattle.spin_base.proofs.Equality.{chip_eq_same, chip_eq_true, out_eq_same, out_eq_true}
 use Rattle.machine_desc.specs.Live.{chip_of, index_of, IsInside, IsLiveChip, IsLiveLink}
-use Rattle.machine_desc.proofs.Far.{live_inside}
-use Rattle.machine_desc.proofs.Live.{chip_of-index_of, index_of-chip_of}
-use Rattle.chip_node.specs.declared.ends.Served.{Served}
-use Rattle.chip_node.specs.declared.ends.Served.TheVariants.{Sent, Dumped}
-use Rattle.chip_node.specs.Items.{Item, Service, took, served, sent, got, brought, lost, recorded, where_same, where_there, port_place, injection_place, entered_by, left_by, lost_by, sent_in, delivered_of, dumped_of, taking_of, service_of, sending_of, getting_of}
-use Rattle.mesh_core.specs.State.{Setup, queue_at}
-use Rattle.mesh_core.specs.Ledger.{all_ports}
+use Rattle.machine_desc.proofs.{Far.live_inside, Live.chip_of-index_of, Live.index_of-chip_of}
+use Rattle.chip_node.specs.declared.ends.Served.{Served, TheVariants.Sent, TheVariants.Dumped}
+use Rattle.chip_node.specs.Items.{Item, Service, took, served, sent, got, brought, lost, recorded, where_same, where_there, port_place, injection_place}
+use Rattle.chip_node.specs.Items.{entered_by, left_by, lost_by, sent_in, delivered_of, dumped_of, taking_of, service_of, sending_of, getting_of}
+use Rattle.mesh_core.specs.{State.Setup, State.queue_at, Ledger.all_ports}
 use Rattle.mesh_core.proofs.Changes.{port_below}
 use Rattle.mesh_run.specs.Played.{IsDoneOn, IsLiveIndex, IsVertexOn, place_behind, vertex_place}
-use Rattle.mesh_round.specs.RoundFlow.{of_chip}
 use Rattle.mesh_run.proofs.Apart.{here, elsewhere, there, not_there, by_wire, no_injection, one_output, port_is_no_vertex}
-use Rattle.mesh_round.proofs.Ends.{one_port}
-use Rattle.mesh_round.proofs.Entered.{numbered_port}
-use Rattle.mesh_round.proofs.Joined.{gathered_none, gathered_one}
-use Rattle.mesh_round.proofs.Serving.{went_on, fell}
+use Rattle.mesh_round.specs.RoundFlow.{of_chip}
+use Rattle.mesh_round.proofs.{Ends.one_port, Entered.numbered_port, Joined.gathered_none, Joined.gathered_one, Serving.went_on, Serving.fell}
 
 -- ---- ports by their numbers
 
@@ -112,9 +100,7 @@ module _ (u : Setup) where
           ∙ (sym (append-nil (filter (leaves p) (k ∷ []))) ∙ sym (ap all (here j index ((p, k) ∷ []) same))))
       | other apart not ↦
           gathered_none at 0 all_ports (λ i port at_i. none port (λ e.
-          let a = port_below p in
-          let b = port_below port in
-          apart (omega (arith, e, a, b))))
+          apart (omega (arith, e, port_below p, port_below port))))
           ∙ sym (ap all (elsewhere j index ((p, k) ∷ []) apart))
     ]
       where

@@ -1,29 +1,17 @@
 -- What entered all queues, counted as marks, is what came from all sources: each queue has one, or nothing entered it.
-use Rattle.std.proofs.Common.{◌≡◌, ◌≢◌, ℕ, ◌*◌, ◌/◌, ◌%◌, ◌<◌, Bool, true, cond, ◌==◌, List, [], ◌∷◌, ◌++◌, map, Option, Some, None, length, refl, ap, ap₂, sym, ◌∙◌, subst, arith, inl, inr, ◌⊎◌, count_by, zero-add}
-use Rattle.std.specs.Cmp.{both_ways}
-use Rattle.std.specs.List.{slice_get, sum_by, range_with_len}
+use Rattle.std.proofs.Common.{◌≡◌, ◌≢◌, ℕ, ◌*◌, ◌/◌, ◌%◌, ◌<◌, Bool, true, cond, ◌==◌, List, [], ◌∷◌, ◌++◌, map, Option, Some}
+use Rattle.std.proofs.Common.{None, length, refl, ap, ap₂, sym, ◌∙◌, subst, arith, inl, inr, ◌⊎◌, count_by, zero-add}
 use Rattle.std.proofs.lemmas.Bool.{cases_Bool, and_from, and_parts, eqb-true, eq-eqb}
-use Rattle.std.proofs.lemmas.List.Sums.{sum_by-append}
-use Rattle.std.proofs.lemmas.Option.{slice_get_within}
+use Rattle.std.proofs.lemmas.{List.Sums.sum_by-append, Option.slice_get_within}
+use Rattle.std.specs.{Cmp.both_ways, List.slice_get, List.sum_by, List.range_with_len}
 use Rattle.spin_base.proofs.Members.{Among, among_map, among_either, among_at, among_contains}
-use Rattle.spin_base.proofs.Places.{All-at, slice_get_there}
-use Rattle.spin_base.proofs.Pairs.{AllPairs-apart}
-use Rattle.spin_base.proofs.Gathering.{among_gathered}
-use Rattle.spin_base.proofs.Tests.{answers_none}
-use Rattle.spin_base.specs.declared.chips.Chip.{Chip}
-use Rattle.spin_base.specs.declared.chips.Spot.{Spot}
-use Rattle.spin_base.specs.declared.chips.Dir.{Dir}
-use Rattle.spin_base.specs.declared.chips.Port.{Port}
-use Rattle.spin_base.specs.declared.chips.Port.TheVariants.{Link as ByLink, Local}
-use Rattle.spin_base.specs.declared.copies.McCopy.{McCopy}
-use Rattle.spin_base.specs.declared.routes.Out.{Out}
-use Rattle.spin_base.specs.declared.routes.Out.TheVariants.{Link}
-use Rattle.spin_base.specs.Links.{opposite_of, port_number, dir_at}
-use Rattle.spin_base.specs.Outputs.{out_of, IsOutput, all_outs}
-use Rattle.spin_base.specs.Equality.{chip_eq}
+use Rattle.spin_base.proofs.{Places.All-at, Places.slice_get_there, Pairs.AllPairs-apart, Gathering.among_gathered, Tests.answers_none}
 use Rattle.spin_base.proofs.Equality.{chip_eq_same, chip_eq_true, link_is_not_local}
 use Rattle.spin_base.proofs.Spots.{out_of-has_bit, dir_number-dir_at}
-use Rattle.spin_base.specs.Hops.{onward}
+use Rattle.spin_base.specs.declared.chips.{Chip.Chip, Spot.Spot, Dir.Dir, Port.Port, Port.TheVariants.Link as ByLink, Port.TheVariants.Local}
+use Rattle.spin_base.specs.declared.{copies.McCopy.McCopy, routes.Out.Out, routes.Out.TheVariants.Link}
+use Rattle.spin_base.specs.Links.{opposite_of, port_number, dir_at}
+use Rattle.spin_base.specs.{Outputs.out_of, Outputs.IsOutput, Outputs.all_outs, Equality.chip_eq, Hops.onward}
 use Rattle.machine_desc.specs.Description.{Description}
 use Rattle.machine_desc.specs.Live.{far_of, chip_of, is_live_link, is_live_chip, IsInside, IsLiveLink, IsLiveChip, IsSite}
 use Rattle.machine_desc.proofs.Far.{far_inside, far_back, live_ends, live_back, live_inside, opposite_of-opposite}
@@ -32,8 +20,7 @@ use Rattle.machine_desc.proofs.Sites.{site_parts, end_is_no_live_link, same_site
 use Rattle.mesh_core.specs.State.{Setup, State, IsMesh, Queue, input, core, nowhere, behind, behind_link, queue_at}
 use Rattle.mesh_core.specs.Trail.{Station, in_queue, at_core, Mark}
 use Rattle.mesh_core.specs.Ledger.{marks_at, port_of}
-use Rattle.mesh_core.proofs.Changes.{queue_at-below}
-use Rattle.mesh_core.proofs.Moves.{mark, Crosses, station_of_queue}
+use Rattle.mesh_core.proofs.{Changes.queue_at-below, Moves.mark, Moves.Crosses, Moves.station_of_queue}
 use Rattle.mesh_core.proofs.Keeping.{same_input, input_is_no_core, input_is_somewhere}
 use Rattle.mesh_core.proofs.Ways.{vertex_behind_stands, vertex_behind_there, leads_to}
 use Rattle.mesh_round.specs.RoundFlow.{Flow, Passes, at_port}
@@ -226,8 +213,7 @@ module _ (p : Mark → Bool) (m : State) (f : Flow) (n : State) (mesh : IsMesh m
         let ends = live_ends u.machine c g live in
         let e : Chip = ends.0 in
         let back : far_of u.machine e (opposite_of g) ≡ Some c = far_back u.machine c e g inside ends.1 in
-        let link = live_back u.machine c e g ends.1 live in
-        inr (only_source e (Some (Link (opposite_of g))) (at_port u c (ByLink g)) ends.3 tt (behind_far c e g link back)
+        inr (only_source e (Some (Link (opposite_of g))) (at_port u c (ByLink g)) ends.3 tt (behind_far c e g (live_back u.machine c e g ends.1 live) back)
         (only_far c e g inside (live_inside u.machine e ends.3) back))
     | inr dead ↦ inl (nothing_came (at_port u c (ByLink g)) (passes.dead_ports c g inside dead))
   ]

@@ -1,18 +1,12 @@
 -- Of each packet each way has so much left; each round in which a copy moves takes at least one. So there are few such rounds.
-use Rattle.std.proofs.Common.{◌≡◌, ℕ, zero, suc, ◌+◌, ◌*◌, ◌≤◌, ◌==◌, ◌&&◌, cond, refl, ap, sym, ◌∙◌, subst, arith, inl, inr, List, [], ◌∷◌, ◌++◌, length, map, Bool, true, Option, Some, None, count_by}
-use Rattle.std.specs.List.{All, Contains, slice_get, sum_by}
+use Rattle.std.proofs.Common.{◌≡◌, ℕ, zero, suc, ◌+◌, ◌*◌, ◌≤◌, ◌==◌, ◌&&◌, cond, refl, ap, sym, ◌∙◌, subst, arith}
+use Rattle.std.proofs.Common.{inl, inr, List, [], ◌∷◌, ◌++◌, length, map, Bool, true, Option, Some, None, count_by}
 use Rattle.std.proofs.lemmas.Bool.{and_from, eq-eqb, true≢false}
-use Rattle.std.proofs.lemmas.List.Elements.{All-contains}
-use Rattle.std.proofs.lemmas.List.Sums.{sum_by-append, sum_by-cons}
-use Rattle.std.proofs.lemmas.Option.{none-some, same_Some}
+use Rattle.std.proofs.lemmas.{List.Elements.All-contains, List.Sums.sum_by-append, List.Sums.sum_by-cons, Option.none-some, Option.same_Some}
+use Rattle.std.specs.List.{All, Contains, slice_get, sum_by}
 use Rattle.spin_base.proofs.Members.{Among, among_either, among_left, among_map, among_right, map_among}
-use Rattle.spin_base.specs.declared.chips.Spot.{Spot}
-use Rattle.spin_base.specs.declared.copies.McCopy.{McCopy}
-use Rattle.spin_base.specs.declared.copies.Packet.{Packet}
-use Rattle.machine_desc.specs.Branch.{Exit}
-use Rattle.machine_desc.specs.NetsOn.{AreNetsOn, IsWayOn}
-use Rattle.machine_desc.specs.RightTables.{AreRight, IsKeyOf}
-use Rattle.machine_desc.specs.RoutingTree.{IsRoutingTree}
+use Rattle.spin_base.specs.declared.{chips.Spot.Spot, copies.McCopy.McCopy, copies.Packet.Packet}
+use Rattle.machine_desc.specs.{Branch.Exit, NetsOn.AreNetsOn, NetsOn.IsWayOn, RightTables.AreRight, RightTables.IsKeyOf, RoutingTree.IsRoutingTree}
 use Rattle.machine_desc.specs.declared.nets.NetPlan.{NetPlan}
 use Rattle.mesh_core.specs.State.{Setup, State, IsMesh}
 use Rattle.mesh_core.specs.Ledger.{Asked, Label, MeetsLedger, label_of, marks_of}
@@ -24,14 +18,12 @@ use Rattle.mesh_core.proofs.LedgerLaw.{Bag, IsRight, Moved, one_net}
 use Rattle.mesh_round.specs.Bound.{MoveEach, most_moves, moves_of_packet, rounds_in}
 use Rattle.mesh_round.specs.RoundFlow.{Flow, HasMoved, HasRounds, Passes, none, more}
 use Rattle.mesh_round.proofs.Ahead.{Counted, counted_from, is_step, is_step_at, left_for, left_most, left_of, sum_of_passing, taken_at, taken_for}
-use Rattle.mesh_round.proofs.Ample.{HasOneWay}
-use Rattle.mesh_round.proofs.FlowLaw.{rounds_stand}
+use Rattle.mesh_round.proofs.{Ample.HasOneWay, FlowLaw.rounds_stand}
 use Rattle.mesh_round.proofs.AheadMoves.{leaves_right, left_among, way_takes}
 use Rattle.mesh_round.proofs.CountSums.{part_of_sum, sum_within}
 use Rattle.mesh_round.proofs.Lighter.{all_left, left_counts}
 use Rattle.mesh_round.proofs.NetWays.{each_way, few_places, many_ways, net_ways, one_sends, some_counts, some_sends, way_there}
-use Rattle.mesh_round.proofs.RoundBag.{bag_of_round, some_steps}
-use Rattle.mesh_round.proofs.Sums.{sum_map, sum_plus}
+use Rattle.mesh_round.proofs.{RoundBag.bag_of_round, RoundBag.some_steps, Sums.sum_map, Sums.sum_plus}
 
 -- a way of a packet, by the packet's number
 pub record PacketWay : Type 0 where
@@ -125,8 +117,7 @@ module _ (u : Setup) (nets : List NetPlan) (packets : List Packet) (stand : AreN
       let many = many_ways u.machine u.spots net (tree_of net has) (source_of net has) (targets_of net has) in
       let first = sum_plus (λ (w : Counted). w.sending + counted_from w.counted w.branch 0) (λ (w : Counted). 1) ws in
       let second = sum_plus (λ (w : Counted). w.sending) (λ (w : Counted). counted_from w.counted w.branch 0) ws in
-      let ones = sum_ones ws in
-      omega (arith, places, sends, many, first, second, ones)
+      omega (arith, places, sends, many, first, second, sum_ones ws)
     where
       sum_ones : (ws : List Counted) → sum_by (λ (w : Counted). 1) ws ≡ length ws
       sum_ones [] = refl
@@ -158,13 +149,11 @@ module _ (u : Setup) (nets : List NetPlan) (packets : List Packet) (stand : AreN
         let here : List PacketWay = map (of_packet i) (ways_of p) in
         let g : PacketWay → ℕ = λ x. sum_by (left_for x.packet x.way) marks in
         let h : PacketWay → ℕ = λ x. x.way.sending + counted_from x.way.counted x.way.branch 0 + 1 in
-        let both = sum_by-append g here (ways_from (suc i) ps) in
         let less = sum_within g h here (λ x a. one_left x (few x (among_left x here (ways_from (suc i) ps) a))) in
-        let plain = sum_map (of_packet i) h (ways_of p) in
         let most = most_of p (slice_get nets p.net) refl in
         let rest = most_from_packets (suc i) ps (λ x a. few x (among_right x here (ways_from (suc i) ps) a)) in
         let all = sum_by-cons (λ (q : Packet). moves_of_packet (slice_get nets q.net)) p ps in
-        omega (arith, both, less, plain, most, rest, all)
+        omega (arith, sum_by-append g here (ways_from (suc i) ps), less, sum_map (of_packet i) h (ways_of p), most, rest, all)
 
 -- ---- one round
 
@@ -240,7 +229,8 @@ module _ (m n : State) (f : Flow) (nets : List NetPlan) (packets : List Packet) 
           let found = some_sends u.machine u.spots net (tree_of u nets packets stand net has) (source_of u nets packets stand net has) (targets_of u nets packets stand net has) w in_ws in
           record { way = found.0; among = found.1; on = ap (λ i. (q == i) && (k.hop == 0)) found.3 ∙ on; one = found.2 }
       by_station w in_ws k (in_queue c port) steps on =
-          let found = some_counts u.machine u.spots net (tree_of u nets packets stand net has) (source_of u nets packets stand net has) (targets_of u nets packets stand net has) k.hop c port w in_ws on in
+          let found = some_counts u.machine u.spots net (tree_of u nets packets stand net has) (source_of u nets packets stand net has)
+          (targets_of u nets packets stand net has) k.hop c port w in_ws on in
           record { way = found.0; among = found.1; on = found.2; one = found.3 }
       by_station w in_ws k (in_hand c o) steps on = absurd (true≢false (sym steps))
       by_station w in_ws k (at_core q) steps on = record { way = w; among = in_ws; on = on; one = refl }
@@ -252,15 +242,14 @@ module _ (m n : State) (f : Flow) (nets : List NetPlan) (packets : List Packet) 
           let trail = r.trail in
           let own : IsWayOn u.machine u.spots net trail.target trail.branch trail.from trail.to =
           subst (λ (s : Setup). IsWayOn s.machine s.spots net trail.target trail.branch trail.from trail.to) same
-          (subst (λ (x : NetPlan). IsWayOn m.setup.machine m.setup.spots x trail.target trail.branch trail.from trail.to) is trail.way)
-          in
-          let w = way_there u.machine u.spots net (tree_of u nets packets stand net has) (source_of u nets packets stand net has) (targets_of u nets packets stand net has) trail.target own.is_target in
+          (subst (λ (x : NetPlan). IsWayOn m.setup.machine m.setup.spots x trail.target trail.branch trail.from trail.to) is trail.way) in
+          let w = way_there u.machine u.spots net (tree_of u nets packets stand net has) (source_of u nets packets stand net has) (targets_of u nets packets stand net has) trail.target
+          own.is_target in
           let one = one_way u.machine u.spots nets net trail.target trail.branch w.0.branch trail.from w.0.from trail.to w.0.to stand has own w.2 in
           let on : on_trail w.0.from w.0.to w.0.branch v.leaves.copy.hop v.leaves.station ≡ true =
           subst (λ i. on_trail i w.0.to w.0.branch v.leaves.copy.hop v.leaves.station ≡ true) one.1
           (subst (λ i. on_trail trail.from i w.0.branch v.leaves.copy.hop v.leaves.station ≡ true) one.2
-          (subst (λ (xs : List Exit). on_trail trail.from trail.to xs v.leaves.copy.hop v.leaves.station ≡ true) one.0 trail.on))
-          in
+          (subst (λ (xs : List Exit). on_trail trail.from trail.to xs v.leaves.copy.hop v.leaves.station ≡ true) one.0 trail.on)) in
           by_station w.0 w.1 v.leaves.copy v.leaves.station steps on
 
     net_is : r.net ≡ asked.net
@@ -268,8 +257,7 @@ module _ (m n : State) (f : Flow) (nets : List NetPlan) (packets : List Packet) 
         let of = asked_of_net nets packets job.of_nets number was.0 was.1 in
         let key : v.leaves.copy.key ≡ was.0.label.key = r.key ∙ ap (λ (o : Option Asked). (label_of o).key) was.1 in
         let first : r.net ≡ was.0.net =
-        one_net nets ledger.nets_stand.disjoint r.net was.0.net r.in_nets of.0 v.leaves.copy.key r.is_key (subst (IsKeyOf was.0.net.block) (sym key) of.1)
-        in
+        one_net nets ledger.nets_stand.disjoint r.net was.0.net r.in_nets of.0 v.leaves.copy.key r.is_key (subst (IsKeyOf was.0.net.block) (sym key) of.1) in
         first ∙ ap (λ (b : Asked). b.net) asked.is_asked
 
     by_net : (o : Option NetPlan) (at : slice_get nets asked.packet.net ≡ o) → is_step v.leaves ≡ true → IsTaken (ways_at u nets packets stand asked.packet o at) v.leaves.copy v.leaves.station
@@ -286,27 +274,20 @@ module _ (m n : State) (f : Flow) (nets : List NetPlan) (packets : List Packet) 
         let x : PacketWay = of_packet number found.way in
         let zero_more : 0 + number ≡ number = omega arith in
         let in_ways : Among x ways =
-        subst (λ i. Among (of_packet i found.way) ways) zero_more (to_packet u nets packets stand 0 packets number asked.packet asked.is_packet found.way found.among)
-        in
-        let part = part_of_sum moves_take x ways in_ways in
+        subst (λ i. Among (of_packet i found.way) ways) zero_more (to_packet u nets packets stand 0 packets number asked.packet asked.is_packet found.way found.among) in
         let one = part_of_sum (λ (w : Moved m). taken_for number found.way w.leaves) v bag.moves a in
         let packet : is_packet_on_trail number found.way.from found.way.to found.way.branch v.leaves ≡ true =
-        and_from (number == number) (is_on_trail found.way.from found.way.to found.way.branch v.leaves) (eq-eqb number number refl) found.on
-        in
+        and_from (number == number) (is_on_trail found.way.from found.way.to found.way.branch v.leaves) (eq-eqb number number refl) found.on in
         let took : taken_for number found.way v.leaves ≡ taken_at found.way v.leaves.copy.hop v.leaves.station = ap (λ b. cond b (taken_at found.way v.leaves.copy.hop v.leaves.station) 0) packet in
-        let some = found.one in
-        omega (arith, part, one, took, some)
+        omega (arith, part_of_sum moves_take x ways in_ways, one, took, found.one)
 
   -- A round in which a copy moves takes at least one.
   pub round_takes : HasMoved m f → suc (ahead ways (marks_of n)) ≤ ahead ways (marks_of m)
   round_takes moved =
-      let some = some_steps m f n mesh after passes moved in
-      let left = left_counts is_step bag.moves in
-      let found = counted is_step (all_left bag.moves) (omega (arith, some, left)) in
+      let found = counted is_step (all_left bag.moves) (omega (arith, some_steps m f n mesh after passes moved, left_counts is_step bag.moves)) in
       let of = left_among bag.moves found.0 found.1 in
       let one = takes_one of.0 of.1 (ap is_step of.2 ∙ found.2) in
-      let all = all_take in
-      omega (arith, one, all)
+      omega (arith, one, all_take)
 
 -- ---- all rounds
 
@@ -322,11 +303,9 @@ module _ (patience turns : ℕ) (m : State) (nets : List NetPlan) (packets : Lis
   so_far n none each = omega arith
   so_far n (more f k n' before after round) each =
       let was = rounds_stand patience turns m k nets packets mesh right job before in
-      let rest = so_far k before each.0 in
       let one =
-      round_takes k n' f nets packets was.mesh after round.passes (subst (λ (s : Setup). AreRight s.machine s.tables nets) (sym was.setup) right) was.job one_way m.setup was.setup stand each.1
-      in
-      omega (arith, rest, one)
+      round_takes k n' f nets packets was.mesh after round.passes (subst (λ (s : Setup). AreRight s.machine s.tables nets) (sym was.setup) right) was.job one_way m.setup was.setup stand each.1 in
+      omega (arith, so_far k before each.0, one)
 
   -- each way of a packet has one mark
   one_mark : (x : PacketWay) → Among x of_job → count_by (is_packet_on_trail x.packet x.way.from x.way.to x.way.branch) (marks_of m) ≤ 1
@@ -340,20 +319,16 @@ module _ (patience turns : ℕ) (m : State) (nets : List NetPlan) (packets : Lis
       let asked : asked_by nets packets x.packet ≡ Some (asks it.net p) = asked_from nets packets x.packet p it.net at it.at in
       let of = asked_of_net nets packets job.of_nets x.packet (asks it.net p) asked in
       let k = job.ledger.each_asked x.packet (asks it.net p) asked in
-      let label = job.ledger.ledger.labelled k.0 k.1 in
       let key : k.0.copy.key ≡ (asks it.net p).label.key =
-      label.0 ∙ (ap (λ i. (label_of (asked_by nets packets i)).key) k.2 ∙ ap (λ (o : Option Asked). (label_of o).key) asked)
-      in
+      (job.ledger.ledger.labelled k.0 k.1).0 ∙ (ap (λ i. (label_of (asked_by nets packets i)).key) k.2 ∙ ap (λ (o : Option Asked). (label_of o).key) asked) in
       let once = job.ledger.ledger.once_on_each k.0 k.1 it.net of.0 (subst (IsKeyOf it.net.block) (sym key) of.1) it.target x.way.branch x.way.from x.way.to it.is_way in
       let mine : count_by (is_packet_on_trail x.packet x.way.from x.way.to x.way.branch) (marks_of m) ≡ 1 =
-      ap (λ i. count_by (is_packet_on_trail i x.way.from x.way.to x.way.branch) (marks_of m)) (sym k.2) ∙ once
-      in
+      ap (λ i. count_by (is_packet_on_trail i x.way.from x.way.to x.way.branch) (marks_of m)) (sym k.2) ∙ once in
       omega (arith, mine)
 
   -- Rounds in which copies move are at most as many as copies can move.
   pub few_rounds : (n : State) (rounds : HasRounds patience turns m n) → MoveEach rounds → rounds_in rounds ≤ most_moves nets packets
   unfolding all_ways
   few_rounds n rounds each =
-      let all = so_far n rounds each in
       let most = most_from_packets m.setup nets packets stand (marks_of m) 0 packets one_mark in
-      omega (arith, all, most)
+      omega (arith, so_far n rounds each, most)

@@ -1,40 +1,23 @@
 -- In a mesh of a job at rest the first dumped copy can be put back: behind its output is a queue, and it is empty.
 use Rattle.std.proofs.Common.{◌≡◌, ◌≢◌, ℕ, ◌<◌, List, [], ◌∷◌, length, true, if◌then◌else◌, Option, Some, None, is_some, refl, ap, sym, ◌∙◌, subst, arith, inl, inr}
+use Rattle.std.proofs.lemmas.{Bool.lt-ltb, List.Elements.All-contains, Option.slice_get_within}
 use Rattle.std.specs.List.{All, Contains, slice_get}
-use Rattle.std.proofs.lemmas.Bool.{lt-ltb}
-use Rattle.std.proofs.lemmas.List.Elements.{All-contains}
-use Rattle.std.proofs.lemmas.Option.{slice_get_within}
-use Rattle.spin_base.proofs.Members.{Among, among_contains}
-use Rattle.spin_base.proofs.Places.{All-at, slice_get_there}
-use Rattle.spin_base.specs.declared.chips.Chip.{Chip}
-use Rattle.spin_base.specs.declared.chips.Spot.{Spot}
-use Rattle.spin_base.specs.declared.chips.Port.TheVariants.{Link as ByLink}
-use Rattle.spin_base.specs.declared.routes.Out.{Out}
-use Rattle.spin_base.specs.declared.routes.Out.TheVariants.{Link}
-use Rattle.spin_base.specs.declared.copies.McCopy.{McCopy}
-use Rattle.spin_base.specs.declared.copies.DumpRec.{DumpRec}
+use Rattle.spin_base.proofs.{Members.Among, Members.among_contains, Places.All-at, Places.slice_get_there}
+use Rattle.spin_base.specs.declared.chips.{Chip.Chip, Spot.Spot, Port.TheVariants.Link as ByLink}
+use Rattle.spin_base.specs.declared.{routes.Out.Out, routes.Out.TheVariants.Link, copies.McCopy.McCopy, copies.DumpRec.DumpRec}
 use Rattle.spin_base.specs.Links.{opposite_of}
-use Rattle.machine_desc.specs.Description.{Description}
-use Rattle.machine_desc.specs.Live.{far_of, IsLiveLink}
-use Rattle.machine_desc.specs.Branch.{Exit}
-use Rattle.machine_desc.specs.RoutingTree.{IsRoutingTree}
+use Rattle.machine_desc.specs.{Description.Description, Live.far_of, Live.IsLiveLink, Branch.Exit, RoutingTree.IsRoutingTree}
+use Rattle.machine_desc.specs.declared.nets.NetPlan.{NetPlan}
 use Rattle.machine_desc.proofs.Branches.{exit_leads, ExitLeads}
 use Rattle.machine_desc.proofs.Far.{live_inside, live_ends, far_inside}
-use Rattle.machine_desc.specs.declared.nets.NetPlan.{NetPlan}
 use Rattle.mesh_core.specs.declared.places.Did.TheVariants.{Moved, Idle}
 use Rattle.mesh_core.specs.State.{State, IsMesh, input, nowhere, behind, behind_link, queue_at, vertex_behind}
-use Rattle.mesh_core.specs.Step.{has_room, has_room_behind}
-use Rattle.mesh_core.specs.Trail.{Mark, dumped}
-use Rattle.mesh_core.specs.Ledger.{marks_of, Label, MeetsLedger}
-use Rattle.mesh_core.specs.Expected.{IsAtRest}
-use Rattle.mesh_core.proofs.Changes.{queue_at-below}
-use Rattle.mesh_core.proofs.Law.{leaves_parts}
-use Rattle.mesh_core.proofs.Moves.{mark}
-use Rattle.mesh_core.proofs.Standing.{dumped_mark}
+use Rattle.mesh_core.specs.{Step.has_room, Step.has_room_behind, Trail.Mark, Trail.dumped, Ledger.marks_of, Ledger.Label, Ledger.MeetsLedger, Expected.IsAtRest}
+use Rattle.mesh_core.proofs.{Changes.queue_at-below, Law.leaves_parts, Moves.mark, Standing.dumped_mark}
 use Rattle.mesh_core.proofs.Ways.{leads_to, vertex_behind_stands, vertex_behind_there}
 use Rattle.mesh_round.proofs.Ends.{Leads, leads, by_link, to_vertex, to_none}
-use Rattle.mesh_round.specs.Reinjecting.{put_back_answer}
 use Rattle.mesh_round.proofs.PutBackParts.{back_some}
+use Rattle.mesh_round.specs.Reinjecting.{put_back_answer}
 
 module _ (s : State) (mesh : IsMesh s) (nets : List NetPlan) (labels : ℕ → Label) (ledger : MeetsLedger s nets labels) where
   abbrev m : Description
@@ -44,8 +27,7 @@ module _ (s : State) (mesh : IsMesh s) (nets : List NetPlan) (labels : ℕ → L
   some_queue : (c : Chip) (o : Out) (e : Chip) (d : _) → o ≡ Link d → IsLiveLink m c d → far_of m c d ≡ Some e → behind s.setup c o ≡ nowhere → ⊥
   some_queue c o e d out live far gone =
       let is : behind s.setup c o ≡ input (queue_at m e (ByLink (opposite_of d))) =
-      ap (behind s.setup c) out ∙ (ap (λ b. behind_link s.setup c d b (far_of m c d)) live ∙ ap (behind_link s.setup c d true) far)
-      in
+      ap (behind s.setup c) out ∙ (ap (λ b. behind_link s.setup c d b (far_of m c d)) live ∙ ap (behind_link s.setup c d true) far) in
       cc
 
   -- where a copy was dumped there is a queue behind the output, or a vertex
@@ -64,8 +46,7 @@ module _ (s : State) (mesh : IsMesh s) (nets : List NetPlan) (labels : ℕ → L
           some_queue c o far.0 d out live far.1 gone
       by_end net in_nets target branch is_target (inr (chip, out, last)) =
           let on_spot : Contains s.setup.spots target =
-          All-contains (Contains s.setup.spots) net.targets target (All-contains (λ n. All (Contains s.setup.spots) n.targets) nets net ledger.nets_stand.targets in_nets) is_target
-          in
+          All-contains (Contains s.setup.spots) net.targets target (All-contains (λ n. All (Contains s.setup.spots) n.targets) nets net ledger.nets_stand.targets in_nets) is_target in
           let vertex = vertex_behind_there s.setup.spots c o target on_spot (leads_to c o target chip out) in
           let there = vertex.1 in
           cc
@@ -76,20 +57,15 @@ module _ (s : State) (mesh : IsMesh s) (nets : List NetPlan) (labels : ℕ → L
     empty_room lists empty i below =
         let there = slice_get_there lists i below in
         let none : there.0 ≡ [] = All-at (λ q. q ≡ []) lists i there.0 empty there.1 in
-        let room = mesh.room in
-        ap (has_room s.setup.capacity) (there.1 ∙ ap Some none) ∙ lt-ltb 0 s.setup.capacity (omega (arith, room))
+        ap (has_room s.setup.capacity) (there.1 ∙ ap Some none) ∙ lt-ltb 0 s.setup.capacity (omega (arith, mesh.room))
 
     room_behind : (c : Chip) (o : Out) → (behind s.setup c o ≡ nowhere → vertex_behind s.setup.spots c o ≡ None → ⊥) → Leads s.setup c o → has_room_behind s (behind s.setup c o) ≡ true
     room_behind c o on (by_link d e out live far is) =
-        let inside = far_inside m c e d (live_inside m c (live_ends m c d live).2) far in
-        let below = queue_at-below m e (ByLink (opposite_of d)) inside in
-        let long = mesh.input_lists in
-        ap (has_room_behind s) is ∙ empty_room s.inputs rest.waits.inputs_empty (queue_at m e (ByLink (opposite_of d))) (omega (arith, below, long))
+        let below = queue_at-below m e (ByLink (opposite_of d)) (far_inside m c e d (live_inside m c (live_ends m c d live).2) far) in
+        ap (has_room_behind s) is ∙ empty_room s.inputs rest.waits.inputs_empty (queue_at m e (ByLink (opposite_of d))) (omega (arith, below, mesh.input_lists))
     room_behind c o on (to_vertex v dead vertex is) =
         let spot = vertex_behind_stands s.setup.spots c o v vertex in
-        let below = slice_get_within s.setup.spots v spot.0 spot.1 in
-        let long = mesh.core_lists in
-        ap (has_room_behind s) is ∙ empty_room s.cores rest.waits.cores_empty v (omega (arith, below, long))
+        ap (has_room_behind s) is ∙ empty_room s.cores rest.waits.cores_empty v (omega (arith, slice_get_within s.setup.spots v spot.0 spot.1, mesh.core_lists))
     room_behind c o on (to_none no_vertex is) = absurd (on is no_vertex)
 
     by_records : (records : List DumpRec) → s.dumped ≡ records → s.dumped ≢ [] → put_back_answer s ≡ Moved

@@ -56,8 +56,7 @@ rounds_stand patience turns m n nets packets mesh right job (more f k n' before 
 pub rounds_keep_mesh : (patience turns : ℕ) (m n : State) → IsMesh m → HasRounds patience turns m n → IsMesh n × (n.setup ≡ m.setup)
 rounds_keep_mesh patience turns m n mesh none = (mesh, refl)
 rounds_keep_mesh patience turns m n mesh (more f k n' before after round) =
-    let was = rounds_keep_mesh patience turns m k mesh before in
-    (after, round.passes.setup ∙ was.1)
+    (after, round.passes.setup ∙ (rounds_keep_mesh patience turns m k mesh before).1)
 
 pub rounds_keep_job : (patience turns : ℕ) (m n : State) (nets : List NetPlan) (packets : List Packet) → IsMesh m → AreRight m.setup.machine m.setup.tables nets →
     MeetsJobLedger m nets packets → HasRounds patience turns m n → MeetsJobLedger n nets packets

@@ -1,12 +1,11 @@
 -- Lists joined of lists: what passes of them, and the same lists joined in another order.
 use Rattle.std.proofs.Common.{◌≡◌, ◌≢◌, ℕ, ◌+◌, zero, suc, Bool, true, List, [], ◌∷◌, ◌++◌, map, length, Some, refl, sym, ap, ap₂, ◌∙◌, subst, arith, inl, inr}
-use Rattle.std.specs.List.{All, Contains, slice_get, filter, flat_map, sum_by}
-use Rattle.std.specs.List.Sorted.{IsPermutation}
 use Rattle.std.proofs.lemmas.Grind.{flat_map-append}
 use Rattle.std.proofs.lemmas.List.{append-nil, append_assoc, length-append, map-append}
 use Rattle.std.proofs.lemmas.List.Elements.{All-head, All-tail, filter-append}
 use Rattle.std.proofs.lemmas.List.Sorted.{IsPermutation-refl, IsPermutation-trans, IsPermutation-append_comm, IsPermutation-append_left, IsPermutation-append_right}
 use Rattle.std.proofs.lemmas.List.Sums.{sum_by-cons}
+use Rattle.std.specs.List.{All, Contains, slice_get, filter, flat_map, sum_by, Sorted.IsPermutation}
 use Rattle.spin_base.specs.Gathered.{gathered}
 use Rattle.spin_base.proofs.Members.{Among, among_either, among_left, among_right, contains_among}
 
@@ -124,7 +123,5 @@ pub sum_lengths : {X Y : Type 0} (f : X → List Y) (a : ℕ) (xs : List X) → 
 sum_lengths f a [] = refl
 sum_lengths f a (x ∷ xs) =
     let sum = sum_by-cons (λ y. length (f y)) x xs in
-    let rest = sum_lengths f (a + 1) xs in
     let both = length-append (filter (λ y. true) (f x)) (gathered (λ i y. filter (λ z. true) (f y)) (a + 1) xs) in
-    let first = ap length (all_pass (f x)) in
-    omega (arith, sum, rest, both, first)
+    omega (arith, sum, sum_lengths f (a + 1) xs, both, ap length (all_pass (f x)))

@@ -1,24 +1,18 @@
 -- A round leaves less to be done: each of its moves makes the marks lighter.
 use Rattle.std.proofs.Common.{◌≡◌, ℕ, zero, suc, ◌+◌, ◌*◌, ◌-◌, ◌<◌, ◌≤◌, refl, ap, arith, List, [], ◌∷◌, ◌++◌, length, Bool, count_by}
-use Rattle.std.specs.List.{sum_by}
 use Rattle.std.proofs.Math.Nat.{mul-le-mul_left}
 use Rattle.std.proofs.lemmas.List.Sums.{sum_by-append, sum_by-cons}
-use Rattle.spin_base.proofs.Counts.{count_by-append}
-use Rattle.spin_base.proofs.Members.{Among}
+use Rattle.std.specs.List.{sum_by}
+use Rattle.spin_base.proofs.{Counts.count_by-append, Members.Among}
 use Rattle.spin_base.specs.declared.copies.McCopy.{McCopy}
 use Rattle.mesh_core.specs.State.{State, IsMesh}
 use Rattle.mesh_core.specs.Trail.{Station, unsent, in_queue, in_hand, at_core, delivered, dumped, Mark}
-use Rattle.mesh_core.specs.Ledger.{marks_of}
-use Rattle.mesh_core.specs.Heavy.{heavy}
-use Rattle.mesh_core.proofs.Moves.{IsMoveOf}
-use Rattle.mesh_core.proofs.LedgerLaw.{Bag, Moved, count_left, count_come}
+use Rattle.mesh_core.specs.{Ledger.marks_of, Heavy.heavy}
+use Rattle.mesh_core.proofs.{Moves.IsMoveOf, LedgerLaw.Bag, LedgerLaw.Moved, LedgerLaw.count_left, LedgerLaw.count_come, FewMoves.few_come}
+use Rattle.mesh_core.proofs.Heavy.{one_heavy, heavy_grows, light}
 use Rattle.mesh_round.specs.RoundFlow.{Flow, Passes, HasMoved}
 use Rattle.mesh_round.specs.Work.{moves_left, to_go, work_weight_of, work_in}
-use Rattle.mesh_round.proofs.CountSums.{one_if, same_sums}
-use Rattle.mesh_core.proofs.FewMoves.{few_come}
-use Rattle.mesh_core.proofs.Heavy.{one_heavy, heavy_grows, light}
-use Rattle.mesh_round.proofs.Nearer.{move_nears}
-use Rattle.mesh_round.proofs.RoundBag.{bag_of_round, some_moves}
+use Rattle.mesh_round.proofs.{CountSums.one_if, CountSums.same_sums, Nearer.move_nears, RoundBag.bag_of_round, RoundBag.some_moves}
 
 -- ---- one move
 
@@ -46,13 +40,8 @@ come_lighter {s} v = by_far (to_go v.leaves) refl (some_to_go v)
         let mine : work_weight_of v.leaves ≡ 25 * heavy n = ap heavy is in
         let each : (y : Mark) → Among y v.come → work_weight_of y ≤ heavy n =
         λ y a.
-        let nearer = move_nears s v.leaves v.come v.small v.is_move y a in
-        heavy_grows (to_go y) n (omega (arith, nearer, is))
-        in
-        let all = light work_weight_of v.come (heavy n) each in
-        let few = mul-le-mul_left (heavy n) (few_come s v.leaves v.come v.is_move) in
-        let one = one_heavy n in
-        omega (arith, mine, all, few, one)
+        heavy_grows (to_go y) n (omega (arith, move_nears s v.leaves v.come v.small v.is_move y a, is)) in
+        omega (arith, mine, light work_weight_of v.come (heavy n) each, mul-le-mul_left (heavy n) (few_come s v.leaves v.come v.is_move), one_heavy n)
 
 -- ---- all moves of a bag
 
@@ -93,31 +82,19 @@ even_weights s t bag w =
     let out = all_left bag.moves in
     let put = all_come bag.moves in
     let even = same_sums (marks_of t ++ out) (marks_of s ++ put) (λ p.
-    let balance = bag.balance p in
-    let left = left_counts p bag.moves in
-    let come = come_counts p bag.moves in
     let after = count_by-append p (marks_of t) out in
-    let before = count_by-append p (marks_of s) put in
-    omega (arith, balance, left, come, after, before)) w in
-    let after = sum_by-append w (marks_of t) out in
-    let before = sum_by-append w (marks_of s) put in
-    omega (arith, even, after, before)
+    omega (arith, bag.balance p, left_counts p bag.moves, come_counts p bag.moves, after, count_by-append p (marks_of s) put)) w in
+    omega (arith, even, sum_by-append w (marks_of t) out, sum_by-append w (marks_of s) put)
 
 -- A bag of moves takes at least one a move from what is to be done.
 bag_lighter : (s t : State) (bag : Bag s t) → work_in t + length bag.moves ≤ work_in s
 unfolding work_in
-bag_lighter s t bag =
-    let even = even_weights s t bag work_weight_of in
-    let less = lighter bag.moves in
-    omega (arith, even, less)
+bag_lighter s t bag = omega (arith, even_weights s t bag work_weight_of, lighter bag.moves)
 
 pub round_lighter : (m n : State) (f : Flow) → IsMesh m → IsMesh n → Passes m f n → work_in n ≤ work_in m
 round_lighter m n f mesh after passes =
-    let less = bag_lighter m n (bag_of_round m f n mesh after passes) in
-    omega (arith, less)
+    omega (arith, bag_lighter m n (bag_of_round m f n mesh after passes))
 
 pub moved_lighter : (m n : State) (f : Flow) → IsMesh m → IsMesh n → Passes m f n → HasMoved m f → work_in n < work_in m
 moved_lighter m n f mesh after passes moved =
-    let less = bag_lighter m n (bag_of_round m f n mesh after passes) in
-    let some = some_moves m f n mesh after passes moved in
-    omega (arith, less, some)
+    omega (arith, bag_lighter m n (bag_of_round m f n mesh after passes), some_moves m f n mesh after passes moved)

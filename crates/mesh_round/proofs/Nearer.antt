@@ -1,17 +1,10 @@
 -- Each move leaves marks that have less far to go, and few of them.
 use Rattle.std.proofs.Common.{◌≡◌, ℕ, ◌+◌, ◌*◌, ◌-◌, ◌<◌, ◌≤◌, ◌==◌, min, refl, sym, subst, arith, inl, inr, List, [], ◌∷◌, map, Bool, true, false, if◌then◌else◌}
 use Rattle.std.proofs.lemmas.Bool.{eq-eqb}
-use Rattle.spin_base.proofs.Members.{Among, among_only}
-use Rattle.spin_base.proofs.Tests.{answers_none}
-use Rattle.spin_base.specs.declared.chips.Chip.{Chip}
-use Rattle.spin_base.specs.declared.chips.Port.{Port}
-use Rattle.spin_base.specs.declared.chips.Port.TheVariants.{Link as ByLink, Local}
-use Rattle.spin_base.specs.declared.routes.Out.{Out}
-use Rattle.spin_base.specs.declared.copies.McCopy.{McCopy}
-use Rattle.spin_base.specs.Links.{opposite_of}
-use Rattle.spin_base.specs.Lookup.{lookup}
-use Rattle.spin_base.specs.Outputs.{outs_of}
-use Rattle.spin_base.specs.Hops.{last_hop, onward}
+use Rattle.spin_base.proofs.{Members.Among, Members.among_only, Tests.answers_none}
+use Rattle.spin_base.specs.declared.chips.{Chip.Chip, Port.Port, Port.TheVariants.Link as ByLink, Port.TheVariants.Local}
+use Rattle.spin_base.specs.declared.{routes.Out.Out, copies.McCopy.McCopy}
+use Rattle.spin_base.specs.{Links.opposite_of, Lookup.lookup, Outputs.outs_of, Hops.last_hop, Hops.onward}
 use Rattle.machine_desc.specs.RightTables.{table_at}
 use Rattle.mesh_core.specs.State.{State}
 use Rattle.mesh_core.specs.Trail.{Station, unsent, in_queue, in_hand, at_core, delivered, dumped, Mark}

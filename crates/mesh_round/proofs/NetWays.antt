@@ -1,29 +1,21 @@
 -- The ways of a net, one for each target. A place counts where no way before it comes in there: so each chip of the tree counts once.
-use Rattle.std.proofs.Common.{◌≡◌, ◌≢◌, ℕ, zero, suc, ◌+◌, ◌-◌, ◌<◌, ◌≤◌, cond, refl, ap, sym, ◌∙◌, subst, arith, inl, inr, ◌⊎◌, List, [], ◌∷◌, ◌++◌, length, map, get_or, Bool, true, false, Option, Some, None}
-use Rattle.std.specs.List.{All, Contains, list_any, slice_get, sum_by}
+use Rattle.std.proofs.Common.{◌≡◌, ◌≢◌, ℕ, zero, suc, ◌+◌, ◌-◌, ◌<◌, ◌≤◌, cond, refl, ap, sym, ◌∙◌, subst, arith, inl, inr}
+use Rattle.std.proofs.Common.{◌⊎◌, List, [], ◌∷◌, ◌++◌, length, map, get_or, Bool, true, false, Option, Some, None}
 use Rattle.std.proofs.lemmas.Bool.{and_from, true≢false}
-use Rattle.std.proofs.lemmas.List.{get_or_default, length-append}
-use Rattle.std.proofs.lemmas.List.Elements.{All-contains}
-use Rattle.std.proofs.lemmas.List.Sums.{sum_by-cons}
+use Rattle.std.proofs.lemmas.List.{get_or_default, length-append, Elements.All-contains, Sums.sum_by-cons}
+use Rattle.std.specs.List.{All, Contains, list_any, slice_get, sum_by}
 use Rattle.spin_base.proofs.Equality.{chip_eq_same, port_eq_same}
 use Rattle.spin_base.proofs.Members.{Among, Contains-map, among_any, among_contains, among_either, any_among, contains_among}
 use Rattle.spin_base.proofs.Tests.{answers_none}
 use Rattle.spin_base.specs.Equality.{chip_eq, port_eq}
-use Rattle.spin_base.specs.declared.chips.Chip.{Chip}
-use Rattle.spin_base.specs.declared.chips.Port.{Port}
-use Rattle.spin_base.specs.declared.chips.Port.TheVariants.{Local}
-use Rattle.spin_base.specs.declared.chips.Spot.{Spot}
-use Rattle.machine_desc.specs.Branch.{Exit, IsBranch, arrival_at}
-use Rattle.machine_desc.specs.Description.{Description}
-use Rattle.machine_desc.specs.NetsOn.{IsWayOn}
+use Rattle.spin_base.specs.declared.chips.{Chip.Chip, Port.Port, Port.TheVariants.Local, Spot.Spot}
+use Rattle.machine_desc.specs.{Branch.Exit, Branch.IsBranch, Branch.arrival_at, Description.Description, NetsOn.IsWayOn}
 use Rattle.machine_desc.specs.RoutingTree.{IsRoutingTree, IsTreeChip, end_of}
-use Rattle.machine_desc.specs.declared.nets.NetPlan.{NetPlan}
-use Rattle.machine_desc.specs.declared.trees.Edge.{Edge}
+use Rattle.machine_desc.specs.declared.{nets.NetPlan.NetPlan, trees.Edge.Edge}
 use Rattle.machine_desc.proofs.Branches.{ComesBy, comes_by, length_le_from_apart, same_place, target_on_branch, way_first}
 use Rattle.machine_desc.proofs.TreeLemmas.{tree_end}
 use Rattle.mesh_core.specs.Trail.{comes_in_there}
-use Rattle.mesh_core.proofs.Law.{comes_parts}
-use Rattle.mesh_core.proofs.Ways.{vertex_there}
+use Rattle.mesh_core.proofs.{Law.comes_parts, Ways.vertex_there}
 use Rattle.mesh_round.proofs.Ahead.{Counted, counted_from, counted_in}
 
 -- ---- which places count
@@ -71,9 +63,7 @@ many_new : (earlier : List Counted) (branch : List Exit) (n j : ℕ) → length 
 many_new earlier branch zero j = refl
 many_new earlier branch (suc n) j =
     let both = length-append (new_chip earlier branch j (slice_get branch j)) (new_chips earlier branch n (suc j)) in
-    let rest = many_new earlier branch n (suc j) in
-    let here = one (slice_get branch j) in
-    omega (arith, both, rest, here)
+    omega (arith, both, many_new earlier branch n (suc j), one (slice_get branch j))
   where
     by_test : (x : Exit) (b : Bool) → length (cond b [] (x.chip ∷ [])) ≡ cond b 0 1
     by_test x true = refl
@@ -179,8 +169,7 @@ module _ (m : Description) (root : Chip) (edges : List Edge) where
   few_chips : (cs : List Chip) → ((c : Chip) → Among c cs → IsTreeChip m root edges c) → IsApart cs → length cs ≤ 1 + length edges
   few_chips cs on apart =
       let few = length_le_from_apart (numbers cs on) (1 + length edges) (numbers_apart cs on apart) (numbers_below cs on) in
-      let many = many_numbers cs on in
-      omega (arith, few, many)
+      omega (arith, few, many_numbers cs on)
 
 -- ---- the ways of a net
 
@@ -200,7 +189,8 @@ module _ (m : Description) (spots : List Spot) (net : NetPlan) (tree : IsRouting
     pub target : Spot
     pub is_way : IsWayOn m spots net target w.branch w.from w.to
 
-  way_to : (earlier : List Counted) (t : Spot) → Contains net.targets t → (w : Counted) × IsWayOn m spots net t w.branch w.from w.to × ((w.counted ≡ is_new earlier w.branch) × (w.sending ≡ first_of earlier))
+  way_to : (earlier : List Counted) (t : Spot) → Contains net.targets t →
+      (w : Counted) × IsWayOn m spots net t w.branch w.from w.to × ((w.counted ≡ is_new earlier w.branch) × (w.sending ≡ first_of earlier))
   way_to earlier t has =
       let branch = target_on_branch m root edges chips tree t (Contains-map (λ (s : Spot). s.chip) net.targets t has) in
       let from = vertex_there spots net.source source in
@@ -243,10 +233,8 @@ module _ (m : Description) (spots : List Spot) (net : NetPlan) (tree : IsRouting
       let both = length-append (new_chips earlier w.branch (length w.branch) 0) (all_chips (w ∷ earlier) ts (λ u a. within u (inr a))) in
       let whole : length w.branch - 0 ≡ length w.branch = omega arith in
       let mine : counted_from w.counted w.branch 0 ≡ counted_in (is_new earlier w.branch) (length w.branch) 0 =
-      ap (λ f. counted_in f (length w.branch - 0) 0) it.2.0 ∙ ap (λ n. counted_in (is_new earlier w.branch) n 0) whole
-      in
-      let here = many_new earlier w.branch (length w.branch) 0 in
-      omega (arith, rest, all, both, mine, here)
+      ap (λ f. counted_in f (length w.branch - 0) 0) it.2.0 ∙ ap (λ n. counted_in (is_new earlier w.branch) n 0) whole in
+      omega (arith, rest, all, both, mine, many_new earlier w.branch (length w.branch) 0)
 
   -- no chip that counts is on a way before
   none_before : (earlier : List Counted) (t : Spot) (branch : List Exit) → IsBranch m root edges t branch → (c : Chip) (from : ℕ) → IsNewAt earlier branch c from →
@@ -257,12 +245,10 @@ module _ (m : Description) (spots : List Spot) (net : NetPlan) (tree : IsRouting
       let chip : chip_eq y.chip new.exit.chip ≡ true = subst (λ (d : Chip). chip_eq y.chip d ≡ true) (same ∙ sym new.chip) (chip_eq_same y.chip) in
       let arrives : arrival_at e.branch new.place ≡ arrival_at branch new.place = ap (arrival_at e.branch) (sym one.0) ∙ one.1 in
       let port : port_eq (arrival_at e.branch new.place) (arrival_at branch new.place) ≡ true =
-      subst (λ (q : Port). port_eq (arrival_at e.branch new.place) q ≡ true) arrives (port_eq_same (arrival_at e.branch new.place))
-      in
+      subst (λ (q : Port). port_eq (arrival_at e.branch new.place) q ≡ true) arrives (port_eq_same (arrival_at e.branch new.place)) in
       let comes : comes_in_there e.branch new.place new.exit.chip (arrival_at branch new.place) (slice_get e.branch new.place) ≡ true =
       ap (comes_in_there e.branch new.place new.exit.chip (arrival_at branch new.place)) here
-      ∙ and_from (chip_eq y.chip new.exit.chip) (port_eq (arrival_at e.branch new.place) (arrival_at branch new.place)) chip port
-      in
+      ∙ and_from (chip_eq y.chip new.exit.chip) (port_eq (arrival_at e.branch new.place) (arrival_at branch new.place)) chip port in
       answers_none (come_in earlier new.place new.exit.chip (arrival_at branch new.place))
       (among_any (λ (v : Counted). comes_in_there v.branch new.place new.exit.chip (arrival_at branch new.place) (slice_get v.branch new.place)) e earlier a comes) new.new
 
@@ -301,9 +287,7 @@ module _ (m : Description) (spots : List Spot) (net : NetPlan) (tree : IsRouting
       here (Some x) at c a later =
           let chip : c ≡ x.chip = only x c (come_in earlier j x.chip (arrival_at branch j)) a in
           let one = same_place m root edges chips tree t t branch branch is is j later.place x later.exit at later.at (sym chip ∙ sym later.chip) in
-          let place = one.0 in
-          let behind = later.behind in
-          omega (arith, place, behind)
+          omega (arith, one.0, later.behind)
       here None at c a later = absurd a
 
   all_apart : (earlier : List Counted) (ts : List Spot) (within : (t : Spot) → Among t ts → Contains net.targets t) → AreBefore earlier → IsApart (all_chips earlier ts within)
@@ -346,9 +330,8 @@ module _ (m : Description) (spots : List Spot) (net : NetPlan) (tree : IsRouting
   pub few_places : sum_by (λ (w : Counted). counted_from w.counted w.branch 0) net_ways ≤ 1 + length net.tree.edges
   unfolding net_ways
   few_places =
-      let many = many_chips [] net.targets own in
       let few = few_chips m root edges (all_chips [] net.targets own) (all_on_tree [] net.targets own) (all_apart [] net.targets own (λ e a. absurd a)) in
-      omega (arith, many, few)
+      omega (arith, many_chips [] net.targets own, few)
 
   -- ---- which ways there are
 
@@ -389,15 +372,15 @@ module _ (m : Description) (spots : List Spot) (net : NetPlan) (tree : IsRouting
 
   -- ---- what counts once
 
-  none_sends : (e : Counted) (earlier : List Counted) (ts : List Spot) (within : (t : Spot) → Among t ts → Contains net.targets t) → sum_by (λ (w : Counted). w.sending) (ways_to (e ∷ earlier) ts within) ≡ 0
+  none_sends : (e : Counted) (earlier : List Counted) (ts : List Spot) (within : (t : Spot) → Among t ts → Contains net.targets t) →
+      sum_by (λ (w : Counted). w.sending) (ways_to (e ∷ earlier) ts within) ≡ 0
   unfolding ways_to
   none_sends e earlier [] within = refl
   none_sends e earlier (t ∷ ts) within =
       let it = way_to (e ∷ earlier) t (within t (inl refl)) in
       let rest = none_sends it.0 (e ∷ earlier) ts (λ u a. within u (inr a)) in
       let all = sum_by-cons (λ (w : Counted). w.sending) it.0 (ways_to (it.0 ∷ e ∷ earlier) ts (λ u a. within u (inr a))) in
-      let mine = it.2.1 in
-      omega (arith, rest, all, mine)
+      omega (arith, rest, all, it.2.1)
 
   sends_once : (ts : List Spot) (within : (t : Spot) → Among t ts → Contains net.targets t) → sum_by (λ (w : Counted). w.sending) (ways_to [] ts within) ≤ 1
   unfolding ways_to
@@ -406,8 +389,7 @@ module _ (m : Description) (spots : List Spot) (net : NetPlan) (tree : IsRouting
       let it = way_to [] t (within t (inl refl)) in
       let rest = none_sends it.0 [] ts (λ u a. within u (inr a)) in
       let all = sum_by-cons (λ (w : Counted). w.sending) it.0 (ways_to (it.0 ∷ []) ts (λ u a. within u (inr a))) in
-      let mine = it.2.1 in
-      omega (arith, rest, all, mine)
+      omega (arith, rest, all, it.2.1)
 
   pub one_sends : sum_by (λ (w : Counted). w.sending) net_ways ≤ 1
   unfolding net_ways
@@ -437,7 +419,8 @@ module _ (m : Description) (spots : List Spot) (net : NetPlan) (tree : IsRouting
   unfolding ways_to
   first_at hop c port earlier [] within none w a comes = absurd a
   first_at hop c port earlier (t ∷ ts) within none w a comes =
-      by_test (comes_at hop c port first) refl (λ off found. first_at hop c port (first ∷ earlier) ts (λ u b. within u (inr b)) (none_of_both (comes_at hop c port) first earlier off none) w found comes) a
+      by_test (comes_at hop c port first) refl (λ off found. first_at hop c port (first ∷ earlier) ts (λ u b. within u (inr b)) (none_of_both (comes_at hop c port) first earlier off none)
+      w found comes) a
     where
       it : (w : Counted) × IsWayOn m spots net t w.branch w.from w.to × ((w.counted ≡ is_new earlier w.branch) × (w.sending ≡ first_of earlier))
       it = way_to earlier t (within t (inl refl))
@@ -453,13 +436,11 @@ module _ (m : Description) (spots : List Spot) (net : NetPlan) (tree : IsRouting
       by_test true on later found =
           let there = comes_parts first.branch hop c port on in
           let same : come_in earlier hop there.exit.chip (arrival_at first.branch hop) ≡ come_in earlier hop c port =
-          ap (λ d. come_in earlier hop d (arrival_at first.branch hop)) there.chip ∙ ap (come_in earlier hop c) there.port_is
-          in
+          ap (λ d. come_in earlier hop d (arrival_at first.branch hop)) there.chip ∙ ap (come_in earlier hop c) there.port_is in
           let mine : first.counted hop ≡ 1 =
           ap (λ f. f hop) it.2.0
           ∙ (ap (new_place earlier first.branch hop) there.at
-          ∙ ap (λ b. cond b 0 1) (same ∙ none))
-          in
+          ∙ ap (λ b. cond b 0 1) (same ∙ none)) in
           (first, inl refl, on, mine)
       by_test false off later (inl here) = absurd (true≢false (sym comes ∙ (ap (comes_at hop c port) here ∙ off)))
       by_test false off later (inr found) = let rest = later off found in (rest.0, inr rest.1, rest.2, rest.3)

@@ -1,13 +1,11 @@
 -- Bags of moves put together from parts, of which each says how many marks leave and come.
 use Rattle.std.proofs.Common.{◌≡◌, ℕ, ◌+◌, ◌≤◌, Bool, cond, if◌then◌else◌, List, [], ◌∷◌, ◌++◌, Some, refl, ap, sym, ◌∙◌, subst, arith, inl, inr, count_by, suc}
-use Rattle.std.specs.List.{sum_by, slice_get}
 use Rattle.std.proofs.lemmas.List.Sums.{sum_by-cons}
+use Rattle.std.specs.List.{sum_by, slice_get}
 use Rattle.spin_base.proofs.Members.{Among}
 use Rattle.spin_base.specs.declared.copies.McCopy.{McCopy}
 use Rattle.spin_base.specs.Hops.{last_hop}
-use Rattle.mesh_core.specs.State.{State}
-use Rattle.mesh_core.specs.Trail.{Station, Mark}
-use Rattle.mesh_core.specs.Ledger.{marks_at}
+use Rattle.mesh_core.specs.{State.State, Trail.Station, Trail.Mark, Ledger.marks_at}
 use Rattle.mesh_core.proofs.Moves.{mark, IsMoveOf}
 use Rattle.mesh_core.proofs.LedgerLaw.{Moved, count_left, count_come}
 use Rattle.mesh_round.proofs.Sums.{sum_at}

@@ -2,19 +2,15 @@
 use Rattle.std.proofs.Common.{◌≡◌, ℕ, ◌+◌, ◌≤◌, ◌==◌, ◌&&◌, not, nat_lt, Bool, true, false, List, [], ◌∷◌, refl, ap, sym, ◌∙◌, subst, arith, inl, inr, count_by}
 use Rattle.std.proofs.lemmas.Bool.{cases_Bool, not-true, and_parts, and_from, eqb-true, eq-eqb, ltb-true, ltb-false}
 use Rattle.machine_desc.specs.declared.nets.NetPlan.{NetPlan}
-use Rattle.machine_desc.specs.NetsOn.{IsWayOn}
-use Rattle.machine_desc.specs.RightTables.{IsKeyOf, AreRight}
+use Rattle.machine_desc.specs.{NetsOn.IsWayOn, RightTables.IsKeyOf, RightTables.AreRight}
 use Rattle.mesh_core.specs.State.{Setup, State, IsMesh}
 use Rattle.mesh_core.specs.Trail.{Mark, is_on_trail, is_packet_on_trail}
 use Rattle.mesh_core.specs.Ledger.{marks_of, Label, MeetsLedger}
 use Rattle.mesh_core.proofs.Law.{move_comes, move_counts}
 use Rattle.mesh_core.proofs.LedgerLaw.{Bag, Moved, count_left, count_come, IsRight, stands, bag_keeps_packets}
-use Rattle.mesh_core.proofs.Ways.{Stands}
+use Rattle.mesh_core.proofs.{Ways.Stands, Counting.counted}
 use Rattle.mesh_round.specs.Work.{to_go}
-use Rattle.mesh_round.proofs.Sums.{sum_none, sum_plus}
-use Rattle.mesh_core.proofs.Counting.{counted}
-use Rattle.mesh_round.proofs.CountSums.{one_if, sum_within, counts}
-use Rattle.mesh_round.proofs.Nearer.{move_nears}
+use Rattle.mesh_round.proofs.{Sums.sum_none, Sums.sum_plus, CountSums.one_if, CountSums.sum_within, CountSums.counts, Nearer.move_nears}
 
 -- a test that fails or passes, as numbers
 no_more : (a b : Bool) → (a ≡ true → b ≡ true) → one_if a ≤ one_if b
@@ -112,16 +108,13 @@ module _ (m n : State) (nets : List NetPlan) (labels : ℕ → Label) (mesh : Is
         let nearer = move_nears m v.leaves v.come v.small v.is_move y found.1 in
         let near = p.near in
         let is_past = past_from y (record { key = comes.key ∙ p.key; packet = comes.packet ∙ p.packet; is_on = found.2; near = omega (arith, nearer, near) }) in
-        let some = counts past y v.come found.1 is_past in
         let none : count_by here v.come ≡ 0 = sum_none (λ z. one_if (here z)) v.come (λ z a. elim (cases_Bool (here z)) [
           | inl there ↦
-              let less = move_nears m v.leaves v.come v.small v.is_move z a in
-              let same = (here_parts z there).1 in
-              absurd (omega (arith, less, same, near))
+              absurd (omega (arith, move_nears m v.leaves v.come v.small v.is_move z a, (here_parts z there).1, near))
           | inr other ↦ ap one_if other
         ]) in
         let first : one_if (past v.leaves) ≡ 1 = ap one_if is in
-        omega (arith, first, some, none)
+        omega (arith, first, counts past y v.come found.1 is_past, none)
     | inr other ↦
         let within = sum_within (λ z. one_if (here z)) (λ z. one_if (past z)) v.come (λ z a. no_more (here z) (past z) (λ there. past_from z (here_parts z there).0)) in
         let first : one_if (past v.leaves) ≡ 0 = ap one_if other in
@@ -130,10 +123,7 @@ module _ (m n : State) (nets : List NetPlan) (labels : ℕ → Label) (mesh : Is
 
   all_moves : (vs : List (Moved m)) → count_left past vs + count_come here vs ≤ count_come past vs
   all_moves [] = omega arith
-  all_moves (v ∷ vs) =
-      let first = one_move v in
-      let rest = all_moves vs in
-      omega (arith, first, rest)
+  all_moves (v ∷ vs) = omega (arith, one_move v, all_moves vs)
 
   -- the packet has one mark on the trail afterwards
   once : count_by beside (marks_of n) ≡ 1
@@ -150,15 +140,11 @@ module _ (m n : State) (nets : List NetPlan) (labels : ℕ → Label) (mesh : Is
   pub passed_once : count_by here (marks_of m) + count_come here bag.moves + count_by before (marks_of n) ≤ 1
   passed_once =
       let was = sum_within (λ z. one_if (here z)) (λ z. one_if (past z)) (marks_of m) (λ z a. no_more (here z) (past z) (λ there. past_from z (here_parts z there).0)) in
-      let moved = all_moves bag.moves in
-      let even = bag.balance past in
       let both = sum_plus (λ z. one_if (past z)) (λ z. one_if (before z)) (marks_of n) in
       let within = sum_within (λ z. one_if (past z) + one_if (before z)) (λ z. one_if (beside z)) (marks_of n) (λ z a. apart_within (past z) (before z) (beside z)
       (λ is. let p = past_parts z is in and_from (z.copy.packet == x.copy.packet) (on z) (eq-eqb z.copy.packet x.copy.packet p.packet) p.is_on)
       (λ is. (and_parts (beside z) (nat_lt (to_go x) (to_go z)) is).0)
       (λ is is'.
-      let near = (past_parts z is).near in
       let far = ltb-true (to_go x) (to_go z) ((and_parts (beside z) (nat_lt (to_go x) (to_go z)) is').1) in
-      absurd (omega (arith, near, far)))) in
-      let one = once in
-      omega (arith, was, moved, even, both, within, one)
+      absurd (omega (arith, (past_parts z is).near, far)))) in
+      omega (arith, was, all_moves bag.moves, bag.balance past, both, within, once)

@@ -4,9 +4,7 @@ use Rattle.spin_base.specs.declared.copies.Packet.{Packet}
 use Rattle.machine_desc.specs.declared.nets.NetPlan.{NetPlan}
 use Rattle.machine_desc.specs.RightTables.{AreRight}
 use Rattle.mesh_core.specs.State.{Setup, State, IsMesh}
-use Rattle.mesh_core.specs.PutBack.{put_back_of, after_put_back}
-use Rattle.mesh_core.specs.Ledger.{Label, MeetsLedger}
-use Rattle.mesh_core.specs.Opened.{MeetsJobLedger}
+use Rattle.mesh_core.specs.{PutBack.put_back_of, PutBack.after_put_back, Ledger.Label, Ledger.MeetsLedger, Opened.MeetsJobLedger}
 use Rattle.mesh_core.proofs.EventsLaw.{put_back_is, IsMesh-after_put_back, put_back_keeps, put_back_keeps_job}
 use Rattle.mesh_round.specs.RoundFlow.{Flow, Passes, HasRounds, none as no_round, more}
 use Rattle.mesh_round.specs.Work.{work_in}
@@ -22,8 +20,7 @@ put_back_setup s = by_answer (put_back_of s s.dumped) refl
 pub passes_keep_mesh : (patience turns : ℕ) (m n : State) → IsMesh m → HasPasses patience turns m n → IsMesh n × (n.setup ≡ m.setup)
 passes_keep_mesh patience turns m n mesh none = (mesh, refl)
 passes_keep_mesh patience turns m n mesh (round f k n' before after is) =
-    let was = passes_keep_mesh patience turns m k mesh before in
-    (after, is.passes.setup ∙ was.1)
+    (after, is.passes.setup ∙ (passes_keep_mesh patience turns m k mesh before).1)
 passes_keep_mesh patience turns m n mesh (put_back k before) =
     let was = passes_keep_mesh patience turns m k mesh before in
     (IsMesh-after_put_back k was.0, put_back_setup k ∙ was.1)
@@ -78,7 +75,5 @@ pub rounds_no_more : ((m n : State) (f : Flow) → IsMesh m → IsMesh n → Pas
     (patience turns : ℕ) (m n : State) → IsMesh m → HasRounds patience turns m n → work_in n ≤ work_in m
 rounds_no_more no_more patience turns m n mesh no_round = omega arith
 rounds_no_more no_more patience turns m n mesh (more f k n' before after is) =
-    let first = rounds_no_more no_more patience turns m k mesh before in
     let was = passes_keep_mesh patience turns m k mesh (rounds_pass patience turns m k before) in
-    let last = no_more k n' f was.0 after is.passes in
-    omega (arith, first, last)
+    omega (arith, rounds_no_more no_more patience turns m k mesh before, no_more k n' f was.0 after is.passes)

@@ -1,20 +1,16 @@
 -- Rounds on threads that were played one after the other lead on.
 use Rattle.std.proofs.Common.{◌≡◌, ◌∙◌, ℕ, Bool, true, false, List, [], sym, subst, inl, inr}
-use Rattle.std.specs.Prelude.{IfErr, IfOk, Result, Ok, Err}
 use Rattle.std.proofs.lemmas.Result.{IfErr-weaker, IfOk-weaker}
+use Rattle.std.specs.Prelude.{IfErr, IfOk, Result, Ok, Err}
 use Rattle.spin_base.specs.declared.wants.Memory.{Memory}
 use Rattle.chip_node.specs.Items.{Item}
-use Rattle.mesh_core.specs.State.{State, IsMesh}
-use Rattle.mesh_core.specs.Expected.{IsAtRest}
-use Rattle.mesh_run.specs.declared.paces.Pace.{Pace}
-use Rattle.mesh_run.specs.declared.raised.RaisedMesh.{RaisedMesh}
-use Rattle.mesh_run.specs.Played.{IsPlayedBy}
-use Rattle.mesh_run.specs.Raised.{IsRaisedFrom, PlaysTo}
-use Rattle.mesh_run.specs.Shares.{IsNoted}
+use Rattle.mesh_core.specs.{State.State, State.IsMesh, Expected.IsAtRest}
+use Rattle.mesh_run.specs.declared.{paces.Pace.Pace, raised.RaisedMesh.RaisedMesh}
+use Rattle.mesh_run.specs.{Played.IsPlayedBy, Raised.IsRaisedFrom, Raised.PlaysTo, Shares.IsNoted}
 use Rattle.mesh_round.specs.RoundFlow.{HasNoHand, IsRound, none, more}
 use Rattle.mesh_round.specs.Bound.{HasMovingRounds}
-use Rattle.mesh_round.proofs.Resting.{none_left, rests}
 use Rattle.mesh_round.specs.OnThreads.{LeadsByFlow, LeadsByRound, MayGoOn, has_none}
+use Rattle.mesh_round.proofs.Resting.{none_left, rests}
 
 -- what the law of rounds on threads tells of one of them
 pub record IsLaw : Type 0 where

@@ -1,27 +1,22 @@
 -- A round on threads leads to a mesh. It moves a copy where anything was done, and else changes nothing.
 use Rattle.std.proofs.Common.{◌≡◌, ◌≢◌, ℕ, ◌+◌, ◌<◌, List, [], ◌∷◌, ◌++◌, length, take, drop, Option, Some, refl, sym, ap, ap₂, ◌∙◌, subst, arith, inl, inr}
-use Rattle.std.specs.Prelude.{IfSome}
-use Rattle.std.specs.List.{All, Contains, slice_get, slice_index_or}
 use Rattle.std.proofs.Math.Seq.{drop-append_seam, take-append_seam}
 use Rattle.std.proofs.lemmas.List.{append-nil, get_or_append_left, get_or-append-add, get_or_default, length-append, same_lists}
 use Rattle.std.proofs.lemmas.Option.{get_or_from_slice_get, slice_get_within, slice_get-get_or}
-use Rattle.spin_base.proofs.Members.{Among, among_contains}
-use Rattle.spin_base.proofs.Pairs.{All-right}
-use Rattle.spin_base.proofs.Places.{both_none}
-use Rattle.spin_base.specs.declared.chips.Chip.{Chip}
-use Rattle.spin_base.specs.declared.chips.Port.{Port}
-use Rattle.spin_base.specs.declared.chips.Port.TheVariants.{Link as ByLink, Local}
+use Rattle.std.specs.Prelude.{IfSome}
+use Rattle.std.specs.List.{All, Contains, slice_get, slice_index_or}
+use Rattle.spin_base.proofs.{Members.Among, Members.among_contains, Pairs.All-right, Places.both_none}
+use Rattle.spin_base.specs.declared.chips.{Chip.Chip, Port.Port, Port.TheVariants.Link as ByLink, Port.TheVariants.Local}
 use Rattle.spin_base.specs.declared.copies.McCopy.{McCopy}
 use Rattle.machine_desc.specs.Live.{chip_of, index_of, IsInside}
 use Rattle.chip_node.specs.Items.{Item, took, served, sent, got, port_place, entered, left, left_by, sent_by, sent_in, taking_of}
 use Rattle.mesh_core.specs.State.{Setup, State, Hand, FitsQueue, FitsHand, IsMesh, core, queue_at}
 use Rattle.mesh_core.proofs.Changes.{queue_at-below}
 use Rattle.mesh_run.specs.Played.{held_at, vertex_place, IsPlayedBy}
+use Rattle.mesh_run.proofs.Apart.{first_here}
 use Rattle.mesh_round.specs.RoundFlow.{HasMoved, at_port, held_in}
 use Rattle.mesh_round.specs.OnThreads.{LeadsByFlow}
-use Rattle.mesh_run.proofs.Apart.{first_here}
-use Rattle.mesh_round.proofs.Done.{inside_of, place_is}
-use Rattle.mesh_round.proofs.Joined.{among_flat, among_into}
+use Rattle.mesh_round.proofs.{Done.inside_of, Done.place_is, Joined.among_flat, Joined.among_into}
 use Rattle.mesh_round.proofs.PlayedQueues.{done_of, fits_after, from_taken, in_order}
 use Rattle.mesh_round.proofs.PlayedRound.{dead_chips, dead_ports, is_input, is_round, left_port}
 use Rattle.mesh_round.proofs.TheFlow.{Round, flow_of, stands, told_at}
@@ -53,8 +48,7 @@ module _ (r : Round) where
   -- what is not sent yet has passed no router
   at_start : All (λ (q : List McCopy). All (λ k. k.hop ≡ 0) q) r.n.unsent
   at_start v d below =
-      let long = r.played.unsent_long in
-      let was : All (λ (k : McCopy). k.hop ≡ 0) (slice_index_or r.m.unsent v []) = r.mesh.unsent_at_start v [] (omega (arith, below, long)) in
+      let was : All (λ (k : McCopy). k.hop ≡ 0) (slice_index_or r.m.unsent v []) = r.mesh.unsent_at_start v [] (omega (arith, below, r.played.unsent_long)) in
       let rest = All-right (λ (k : McCopy). k.hop ≡ 0) (sent_by v r.items) (slice_index_or r.n.unsent v []) (subst (All (λ (k : McCopy). k.hop ≡ 0)) (r.played.unsent v) was) in
       subst (All (λ (k : McCopy). k.hop ≡ 0)) (get_or_default r.n.unsent v [] d below) rest
 
@@ -63,10 +57,9 @@ module _ (r : Round) where
       slice_get r.n.inputs (queue_at u.machine c port) ≡ Some []
   still_empty c port inside was entered =
       let long = r.played.inputs_long ∙ r.mesh.input_lists in
-      let below = queue_at-below u.machine c port inside in
       let held : held_in r.m (at_port u c port) ≡ [] = get_or_from_slice_get r.m.inputs (queue_at u.machine c port) [] [] was in
       let none = both_none ((flow_of r).left (at_port u c port)) (held_in r.n (at_port u c port)) (sym (in_order r (at_port u c port)) ∙ ap₂ (λ (a b : List McCopy). a ++ b) held entered) in
-      slice_get-get_or r.n.inputs (queue_at u.machine c port) [] (omega (arith, below, long)) ∙ ap Some none.1
+      slice_get-get_or r.n.inputs (queue_at u.machine c port) [] (omega (arith, queue_at-below u.machine c port inside, long)) ∙ ap Some none.1
 
   still_mesh : IsMesh (record r.n { setup = r.m.setup })
   still_mesh = record {
@@ -96,8 +89,7 @@ module _ (r : Round) where
   took_one : (j : ℕ) (p : Port) (k : McCopy) → Contains r.items (took j p k) → HasMoved r.m (flow_of r)
   took_one j p k has =
       let c : Chip = chip_of u.machine j in
-      let live = done_of r (took j p k) has in
-      let inside = inside_of u j c live refl in
+      let inside = inside_of u j c (done_of r (took j p k) has) refl in
       let q = queue_at u.machine c p in
       let among = among_into (left_by q) (took j p k) k r.items has (first_here (port_place j p) q k (place_is u j p)) in
       inl (at_port u c p, is_input r c p inside, λ none. not_empty k (left q r.items) among (sym (left_port r c p inside) ∙ none))
@@ -120,11 +112,9 @@ module _ (r : Round) where
       inr (v, slice_get_within u.spots v on.spot on.stands, not_empty k (sent_by v r.items) among)
   moved_by (got j v place k) has =
       let done = done_of r (got j v place k) has in
-      let below = slice_get_within u.spots v done.1.spot done.1.stands in
-      let long = r.mesh.core_lists in
       let q = vertex_place u v in
       let among = among_into (left_by q) (got j v place k) k r.items has (first_here place q k done.2) in
-      let there : v < length r.m.cores = omega (arith, below, long) in
+      let there : v < length r.m.cores = omega (arith, slice_get_within u.spots v done.1.spot done.1.stands, r.mesh.core_lists) in
       let is = told_at r (λ i. left i r.items) (core v) q refl there (stands r (core v)) in
       inl (core v, there, λ none. not_empty k (left q r.items) among (sym is ∙ none))
 

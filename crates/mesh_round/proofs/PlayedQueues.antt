@@ -1,32 +1,24 @@
 -- What a round on threads does with each queue.
 use Rattle.std.proofs.Common.{◌≡◌, ℕ, ◌+◌, ◌*◌, ◌<◌, ◌≤◌, ◌==◌, min, List, [], ◌∷◌, ◌++◌, length, Option, Some, None, refl, sym, ap, ◌∙◌, subst, arith, inl, inr}
-use Rattle.std.specs.List.{All, Contains, slice_index_or}
-use Rattle.std.proofs.lemmas.Bool.{cases_lt, cond_both}
-use Rattle.std.proofs.lemmas.List.{get_or_past, length-append}
+use Rattle.std.proofs.lemmas.{Bool.cases_lt, Bool.cond_both, List.get_or_past, List.length-append}
 use Rattle.std.proofs.lemmas.List.Elements.{All-nil, All-append, All-cons, All-contains, All-head, All-replicate}
 use Rattle.std.proofs.lemmas.Option.{slice_get_within}
+use Rattle.std.specs.List.{All, Contains, slice_index_or}
 use Rattle.spin_base.proofs.Members.{Among, among_contains}
 use Rattle.spin_base.proofs.Pairs.{All-flat_map, All-from_flat_map, All-left, All-right}
 use Rattle.spin_base.proofs.Places.{All-each}
-use Rattle.spin_base.specs.declared.chips.Chip.{Chip}
-use Rattle.spin_base.specs.declared.chips.Port.{Port}
-use Rattle.spin_base.specs.declared.copies.McCopy.{McCopy}
-use Rattle.spin_base.specs.declared.copies.Delivery.{Delivery}
-use Rattle.spin_base.specs.declared.copies.DumpRec.{DumpRec}
-use Rattle.spin_base.specs.Hops.{last_hop, onward}
-use Rattle.spin_base.specs.Outputs.{IsOutput}
+use Rattle.spin_base.specs.declared.{chips.Chip.Chip, chips.Port.Port, copies.McCopy.McCopy, copies.Delivery.Delivery, copies.DumpRec.DumpRec}
+use Rattle.spin_base.specs.{Hops.last_hop, Hops.onward, Outputs.IsOutput}
 use Rattle.machine_desc.specs.Live.{chip_of, IsLiveChip}
-use Rattle.chip_node.specs.declared.ends.Served.{Served}
-use Rattle.chip_node.specs.declared.ends.Served.TheVariants.{Sent, Dumped}
-use Rattle.chip_node.specs.Items.{Item, Service, took, served, sent, got, brought, recorded, where_same, where_there, port_place, entered, left, entered_by, left_by, sent_in, taking_of, service_of, delivered_of, dumped_of, records, sent_by, services, takings}
+use Rattle.chip_node.specs.declared.ends.Served.{Served, TheVariants.Sent, TheVariants.Dumped}
+use Rattle.chip_node.specs.Items.{Item, Service, took, served, sent, got, brought, recorded, where_same, where_there, port_place, entered, left, entered_by}
+use Rattle.chip_node.specs.Items.{left_by, sent_in, taking_of, service_of, delivered_of, dumped_of, records, sent_by, services, takings}
 use Rattle.mesh_core.specs.State.{Setup, FitsQueue, Queue}
 use Rattle.mesh_core.proofs.Changes.{queue_at-below}
 use Rattle.mesh_run.specs.Played.{held_at, port_count, IsDoneOn, IsLiveIndex}
-use Rattle.mesh_round.specs.RoundFlow.{WasFullAt, capacity_of, held_in}
 use Rattle.mesh_run.proofs.Apart.{first_here, here}
-use Rattle.mesh_round.proofs.Done.{inside_of, place_is}
-use Rattle.mesh_round.proofs.Joined.{among_into}
-use Rattle.mesh_round.proofs.Serving.{served_fits}
+use Rattle.mesh_round.specs.RoundFlow.{WasFullAt, capacity_of, held_in}
+use Rattle.mesh_round.proofs.{Done.inside_of, Done.place_is, Joined.among_into, Serving.served_fits}
 use Rattle.mesh_round.proofs.TheFlow.{Round, Stands, found, beyond, dark, stands, by_place, goes, flow_of, nowhere_fulls}
 
 abbrev IsSmall : McCopy → Type 0
@@ -75,10 +67,7 @@ module _ (r : Round) where
       by : (x : Stands r q) → All (IsMoment (by_place r q (λ p. entered p.at r.items) [] x) (by_place r q (λ p. left p.at r.items) [] x)) (by_place r q (λ p. (goes r q p).fulls) (nowhere_fulls r) x)
       by (found p) = λ i d below.
           let moment = (goes r q p).full i d below in
-          let held = ap length p.before in
-          let room = p.room in
-          let is = moment.full in
-          (moment.entered_by_then, moment.left_by_then, omega (arith, is, held, room))
+          (moment.entered_by_then, moment.left_by_then, omega (arith, moment.full, ap length p.before, p.room))
       by (beyond out some before after) = All-nil (IsMoment [] [])
       by (dark is) =
           let none = ap length (ap (held_in r.m) is) in
@@ -117,10 +106,7 @@ module _ (r : Round) where
   small_held : (q : ℕ) → q < port_count u + length u.spots → All IsSmall (held_at r.m q)
   small_held q below =
       let fits = All-append (FitsQueue u.capacity) r.m.inputs r.m.cores r.mesh.inputs_within r.mesh.cores_within in
-      let long = length-append r.m.inputs r.m.cores in
-      let inputs = r.mesh.input_lists in
-      let cores = r.mesh.core_lists in
-      let queue = fits q [] (omega (arith, below, long, inputs, cores)) in
+      let queue = fits q [] (omega (arith, below, length-append r.m.inputs r.m.cores, r.mesh.input_lists, r.mesh.core_lists)) in
       λ i d within. let hop = queue.hops i d within in omega (arith, hop)
 
   small_at : (q : ℕ) → q < port_count u + length u.spots → All IsSmall (left q r.items ++ held_at r.n q)
@@ -133,10 +119,9 @@ module _ (r : Round) where
   -- what a queue holds afterwards fits into it
   pub fits_after : (q : ℕ) → q < port_count u + length u.spots → FitsQueue u.capacity (held_at r.n q)
   fits_after q below =
-      let all = All-right IsSmall (left q r.items) (held_at r.n q) (small_at q below) in
       record {
         within = (r.played.queues q below).within;
-        hops = λ i d within. let hop = all i d within in omega (arith, hop);
+        hops = λ i d within. let hop = (All-right IsSmall (left q r.items) (held_at r.n q) (small_at q below)) i d within in omega (arith, hop);
       }
 
   pub hops_left : (q : Queue) → All (λ (k : McCopy). k.hop ≤ last_hop) ((flow_of r).left q)
@@ -161,7 +146,8 @@ module _ (r : Round) where
           let place = place_is u j p in
           let low = queue_at-below u.machine (chip_of u.machine j) p (inside_of u j (chip_of u.machine j) live refl) in
           let q = port_place j p in
-          let small : k.hop ≤ last_hop = one_here IsSmall q k (All-contains (λ x. All IsSmall (left_by q x)) r.items (took j p k) (All-from_flat_map IsSmall (left_by q) r.items (small_left q (omega (arith, place, low)))) has) in
+          let small : k.hop ≤ last_hop = one_here IsSmall q k
+          (All-contains (λ x. All IsSmall (left_by q x)) r.items (took j p k) (All-from_flat_map IsSmall (left_by q) r.items (small_left q (omega (arith, place, low)))) has) in
           fits_same P j i ((p, k) ∷ []) (All-cons P (p, k) [] small (All-nil P))
       by (served j c place s) has = All-nil P
       by (sent j v k) has = All-nil P

@@ -1,35 +1,21 @@
 -- A round on threads is a round.
 use Rattle.std.proofs.Common.{◌≡◌, ℕ, ◌*◌, ◌<◌, ◌≤◌, ◌==◌, ◌&&◌, Bool, true, false, List, [], ◌∷◌, ◌++◌, map, length, Option, Some, None, refl, sym, ap, ap₂, ◌∙◌, subst, arith, inl, inr, ◌⊎◌}
-use Rattle.std.specs.List.{All, filter, flat_map, sum_by}
-use Rattle.std.specs.List.Sorted.{IsPermutation}
-use Rattle.std.proofs.Math.Nat.{mul-le-mul_left}
-use Rattle.std.proofs.lemmas.List.{length-map, length-replicate}
-use Rattle.std.proofs.lemmas.List.Concat.{flat_map_single}
+use Rattle.std.proofs.{Math.Nat.mul-le-mul_left, lemmas.List.length-map, lemmas.List.length-replicate, lemmas.List.Concat.flat_map_single}
 use Rattle.std.proofs.lemmas.List.Sorted.{IsPermutation-map, IsPermutation-trans, length_permutation}
-use Rattle.std.proofs.lemmas.List.Sums.{count_by-le-length, length-filter}
-use Rattle.std.proofs.lemmas.Option.{slice_get_within}
+use Rattle.std.proofs.lemmas.{List.Sums.count_by-le-length, List.Sums.length-filter, Option.slice_get_within}
+use Rattle.std.specs.List.{All, filter, flat_map, sum_by, Sorted.IsPermutation}
 use Rattle.spin_base.specs.Gathered.{gathered}
-use Rattle.spin_base.specs.declared.chips.Chip.{Chip}
-use Rattle.spin_base.specs.declared.chips.Dir.{Dir}
-use Rattle.spin_base.specs.declared.chips.Port.{Port}
-use Rattle.spin_base.specs.declared.chips.Port.TheVariants.{Link as ByLink, Local}
-use Rattle.spin_base.specs.declared.routes.Out.{Out}
-use Rattle.spin_base.specs.declared.copies.McCopy.{McCopy}
-use Rattle.spin_base.specs.declared.copies.Delivery.{Delivery}
-use Rattle.spin_base.specs.declared.copies.DumpRec.{DumpRec}
-use Rattle.spin_base.specs.Equality.{chip_eq, out_eq}
-use Rattle.spin_base.specs.Hops.{onward}
-use Rattle.spin_base.specs.Links.{opposite_of}
-use Rattle.spin_base.specs.Outputs.{IsOutput}
+use Rattle.spin_base.specs.declared.chips.{Chip.Chip, Dir.Dir, Port.Port, Port.TheVariants.Link as ByLink, Port.TheVariants.Local}
+use Rattle.spin_base.specs.declared.{routes.Out.Out, copies.McCopy.McCopy, copies.Delivery.Delivery, copies.DumpRec.DumpRec}
+use Rattle.spin_base.specs.{Equality.chip_eq, Equality.out_eq, Hops.onward, Links.opposite_of, Outputs.IsOutput}
 use Rattle.spin_base.proofs.Tests.{answers_none}
 use Rattle.machine_desc.specs.Live.{chip_of, index_of, is_live_chip, is_live_link, IsInside, IsLiveChip}
-use Rattle.machine_desc.proofs.Far.{far_inside, live_inside}
-use Rattle.machine_desc.proofs.Live.{chip_of-index_of}
-use Rattle.chip_node.specs.Items.{Item, Service, brought, delivered_of, dumped_of, entered, entered_by, getting_of, gettings, left, left_by, lost, lost_at, lost_by, records, sending_of, sendings, sent_by, sent_in, service_of, services, taking_of, takings}
+use Rattle.machine_desc.proofs.{Far.far_inside, Far.live_inside, Live.chip_of-index_of}
+use Rattle.chip_node.specs.Items.{Item, Service, brought, delivered_of, dumped_of, entered, entered_by, getting_of, gettings, left, left_by, lost}
+use Rattle.chip_node.specs.Items.{lost_at, lost_by, records, sending_of, sendings, sent_by, sent_in, service_of, services, taking_of, takings}
 use Rattle.mesh_core.specs.State.{Setup, Hand, core, nowhere, behind, queue_at}
 use Rattle.mesh_core.specs.Ledger.{all_ports}
-use Rattle.mesh_core.proofs.Changes.{queue_at-below}
-use Rattle.mesh_core.proofs.Ways.{vertex_behind_stands}
+use Rattle.mesh_core.proofs.{Changes.queue_at-below, Ways.vertex_behind_stands}
 use Rattle.mesh_run.specs.Played.{queue_place_of, vertex_place, owed_on, IsDoneOn}
 use Rattle.mesh_round.specs.RoundFlow.{Passes, IsRound, IsQueueOf, at_port, delivered_to, dumped_at, got_on, leaves_by, of_chip, sent_on, taken_for}
 use Rattle.mesh_round.proofs.Done.{copies_at, copies_to, collected_by, entered_behind, got_by_bank, injected_by, lost_behind, none_went, not_entered, recorded_at, sent_by_bank, service_at, taken_by}
@@ -73,7 +59,8 @@ module _ (r : Round) where
   pub dead_chips : (c : Chip) → IsInside u.machine c → is_live_chip u.machine c ≡ false → (flow_of r).entered (at_port u c Local) ≡ []
   dead_chips c inside dead =
       entered_port c Local inside
-      ∙ flat_none (IsDoneOn u) (entered_by (queue_at u.machine c Local)) (not_entered u c inside Local (λ d same live. no_wire d same) (λ same live. answers_none (is_live_chip u.machine c) live dead)) r.items r.played.turns_are.each
+      ∙ flat_none (IsDoneOn u) (entered_by (queue_at u.machine c Local))
+      (not_entered u c inside Local (λ d same live. no_wire d same) (λ same live. answers_none (is_live_chip u.machine c) live dead)) r.items r.played.turns_are.each
     where
       no_wire : (d : Dir) → Local ≡ ByLink d → ⊥
       no_wire d same = cc
@@ -95,11 +82,11 @@ module _ (r : Round) where
       let every : Port → McCopy → Bool = λ port k. true in
       let ts = takings (index_of u.machine c) r.items in
       let sum = sum_lengths (λ port. (flow_of r).left (at_port u c port)) 0 all_ports in
-      let same = length_permutation (gathered (λ i port. filter (λ k. true) ((flow_of r).left (at_port u c port))) 0 all_ports) (flat_map (λ t. t.1 ∷ []) ts) (taken_at_ports every c (live_inside u.machine c live)) in
+      let same = length_permutation (gathered (λ i port. filter (λ k. true) ((flow_of r).left (at_port u c port))) 0 all_ports) (flat_map (λ t. t.1 ∷ []) ts)
+      (taken_at_ports every c (live_inside u.machine c live)) in
       let all = ap length (flat_map_single (λ (t : Port × McCopy). t.1) ts) in
       let long = length-map ts (λ (t : Port × McCopy). t.1) in
-      let few = r.played.turns_are.takes (index_of u.machine c) in
-      omega (arith, sum, same, all, long, few)
+      omega (arith, sum, same, all, long, r.played.turns_are.takes (index_of u.machine c))
 
   -- ---- vertices
 
@@ -122,14 +109,12 @@ module _ (r : Round) where
   few_got : (c : Chip) → IsLiveChip u.machine c → length (got_on u (flow_of r) c) ≤ r.turns
   few_got c live =
       let same = length_permutation (got_on u (flow_of r) c) (gettings (index_of u.machine c) r.items) (got_spread c (live_inside u.machine c live)) in
-      let few = r.played.turns_are.gets (index_of u.machine c) in
-      omega (arith, same, few)
+      omega (arith, same, r.played.turns_are.gets (index_of u.machine c))
 
   few_sent : (c : Chip) → IsLiveChip u.machine c → length (sent_on u (flow_of r) c) ≤ r.turns
   few_sent c live =
       let same = length_permutation (sent_on u (flow_of r) c) (sendings (index_of u.machine c) r.items) (sent_spread c (live_inside u.machine c live)) in
-      let few = r.played.turns_are.sends (index_of u.machine c) in
-      omega (arith, same, few)
+      omega (arith, same, r.played.turns_are.sends (index_of u.machine c))
 
   injected : (c : Chip) → IsLiveChip u.machine c → IsPermutation (sent_on u (flow_of r) c) ((flow_of r).entered (at_port u c Local))
   injected c live =
@@ -140,10 +125,9 @@ module _ (r : Round) where
 
   collected : (v : ℕ) → v < length u.spots → delivered_to (flow_of r) v ≡ (flow_of r).left (core v)
   collected v below =
-      let long = r.mesh.core_lists in
       delivered_is v
       ∙ (sym (all_agree (left_by (vertex_place u v)) (λ x. copies_to v (delivered_of x)) (collected_by u v))
-      ∙ sym (told_at r (λ q. left q r.items) (core v) (vertex_place u v) refl (omega (arith, below, long)) (stands r (core v))))
+      ∙ sym (told_at r (λ q. left q r.items) (core v) (vertex_place u v) refl (omega (arith, below, r.mesh.core_lists)) (stands r (core v))))
 
   -- ---- outputs
 
@@ -169,9 +153,7 @@ module _ (r : Round) where
       | by_link d e out lives far at ↦ inr (subst (IsQueueOf r.m) (sym at) (is_input e (ByLink (opposite_of d)) (far_inside u.machine c e d inside far)))
       | to_vertex v dead stands at ↦
           let spot = vertex_behind_stands u.spots c o v stands in
-          let below = slice_get_within u.spots v spot.0 spot.1 in
-          let long = r.mesh.core_lists in
-          let there : IsQueueOf r.m (core v) = omega (arith, below, long) in
+          let there : IsQueueOf r.m (core v) = omega (arith, slice_get_within u.spots v spot.0 spot.1, r.mesh.core_lists) in
           inr (subst (IsQueueOf r.m) (sym at) there)
       | to_none none at ↦ inl at
     ]
@@ -201,7 +183,8 @@ module _ (r : Round) where
       where
         by : (x : Stands r (behind u c o)) → r.patience * length (dumped_at (flow_of r) c o) ≤ length (by_place r (behind u c o) (λ p. (goes r (behind u c o) p).fulls) (nowhere_fulls r) x)
         by (found p) =
-            let lost_is : lost_at p.at r.items ≡ dumped_at (flow_of r) c o = all_agree (lost_by p.at) (λ x. fell (service_at u c inside o x)) (lost_behind u c inside o p.at p.is) ∙ (fell_is ∙ sym dumped_is) in
+            let lost_is : lost_at p.at r.items ≡ dumped_at (flow_of r) c o =
+            all_agree (lost_by p.at) (λ x. fell (service_at u c inside o x)) (lost_behind u c inside o p.at p.is) ∙ (fell_is ∙ sym dumped_is) in
             subst (λ (l : List McCopy). r.patience * length l ≤ length (goes r (behind u c o) p).fulls) lost_is (goes r (behind u c o) p).patient
         by (beyond out some before after) = absurd (not_beyond out some)
         by (dark is) =
@@ -211,8 +194,7 @@ module _ (r : Round) where
             let passing = length-filter of (records r.items) in
             let few = count_by-le-length of (records r.items) in
             let fewer : length (dumped_at (flow_of r) c o) ≤ length (records r.items) = omega (arith, dumped, passing, few) in
-            let times = mul-le-mul_left r.patience fewer in
-            omega (arith, many, times)
+            omega (arith, many, mul-le-mul_left r.patience fewer)
 
     -- what was taken for the output was served there
     taken_is : IsOutput o → IsPermutation (taken_for u (flow_of r) c o) (copies_of at_output)
@@ -224,8 +206,7 @@ module _ (r : Round) where
         let same : flat_map (λ t. filter (leaves_by u c o t.0) (t.1 ∷ [])) (takings i r.items) ≡ copies_of (flat_map (service_at u c inside o) r.items) =
         sym (owed_at o is u c (takings i r.items))
         ∙ (ap (λ (e : Chip). at_out o (owed_on u e (takings i r.items))) (sym chip)
-        ∙ (sym (ap (at_out o) (r.played.turns_are.each_once i)) ∙ (served_at o (services i r.items) ∙ ap copies_of (filter-flat own (service_of i) r.items))))
-        in
+        ∙ (sym (ap (at_out o) (r.played.turns_are.each_once i)) ∙ (served_at o (services i r.items) ∙ ap copies_of (filter-flat own (service_of i) r.items)))) in
         subst (IsPermutation (taken_for u (flow_of r) c o)) same (taken_at_ports (leaves_by u c o) c inside)
 
     routed : IsOutput o → IsPermutation (map onward (taken_for u (flow_of r) c o)) ((flow_of r).entered (behind u c o) ++ map onward (dumped_at (flow_of r) c o))

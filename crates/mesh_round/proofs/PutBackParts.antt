@@ -1,15 +1,12 @@
 -- What putting the first dumped copy back does to a mesh, and when it does nothing.
 use Rattle.std.proofs.Common.{◌≡◌, List, [], ◌∷◌, Bool, true, false, if◌then◌else◌, Option, Some, None, refl, ap, sym, ◌∙◌, subst, unwrap_or}
 use Rattle.std.specs.List.{All}
-use Rattle.spin_base.specs.declared.copies.McCopy.{McCopy}
-use Rattle.spin_base.specs.declared.copies.DumpRec.{DumpRec}
-use Rattle.mesh_core.specs.State.{State, Hand, IsMesh, Queue, input, core, nowhere, behind}
+use Rattle.spin_base.specs.declared.copies.{McCopy.McCopy, DumpRec.DumpRec}
 use Rattle.spin_base.specs.Hops.{onward}
-use Rattle.mesh_core.specs.Step.{has_room_behind, push_behind}
-use Rattle.mesh_core.specs.PutBack.{put_back_of, after_put_back}
+use Rattle.mesh_core.specs.State.{State, Hand, IsMesh, Queue, input, core, nowhere, behind}
+use Rattle.mesh_core.specs.{Step.has_room_behind, Step.push_behind, PutBack.put_back_of, PutBack.after_put_back}
 use Rattle.mesh_core.proofs.EventsLaw.{IsMesh-after_put_back}
-use Rattle.mesh_round.specs.RoundFlow.{HasNoHand}
-use Rattle.mesh_round.specs.OnThreads.{MayGoOn}
+use Rattle.mesh_round.specs.{RoundFlow.HasNoHand, OnThreads.MayGoOn}
 
 -- the mesh with the first record's copy put back
 abbrev pub with_back : State → DumpRec → List DumpRec → State

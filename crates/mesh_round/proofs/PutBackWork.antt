@@ -1,28 +1,15 @@
 -- Putting a copy back leaves less to be done: the copy has less far to go.
 use Rattle.std.proofs.Common.{◌≡◌, ◌⊎◌, ℕ, zero, suc, ◌+◌, ◌<◌, List, [], ◌∷◌, ◌++◌, if◌then◌else◌, Option, Some, None, is_some, refl, ap, ◌∙◌, subst, unwrap_or, arith, inl, inr}
-use Rattle.std.specs.List.{sum_by}
 use Rattle.std.proofs.lemmas.List.Sums.{sum_by-append, sum_by-cons}
+use Rattle.std.specs.List.{sum_by}
 use Rattle.spin_base.proofs.Exchange.{TakenOut, PutIn}
-use Rattle.spin_base.specs.declared.chips.Chip.{Chip}
-use Rattle.spin_base.specs.declared.chips.Port.TheVariants.{Link as ByLink}
-use Rattle.spin_base.specs.declared.routes.Out.{Out}
-use Rattle.spin_base.specs.declared.copies.McCopy.{McCopy}
-use Rattle.spin_base.specs.declared.copies.DumpRec.{DumpRec}
-use Rattle.spin_base.specs.Links.{opposite_of}
-use Rattle.spin_base.specs.Hops.{onward}
+use Rattle.spin_base.specs.declared.{chips.Chip.Chip, chips.Port.TheVariants.Link as ByLink, routes.Out.Out, copies.McCopy.McCopy, copies.DumpRec.DumpRec}
+use Rattle.spin_base.specs.{Links.opposite_of, Hops.onward}
 use Rattle.mesh_core.specs.declared.places.Did.TheVariants.{Moved, Idle}
-use Rattle.mesh_core.proofs.EventsLaw.{same_room}
-use Rattle.mesh_core.specs.State.{State, Queue, behind}
-use Rattle.mesh_core.specs.Step.{push_behind}
-use Rattle.mesh_core.specs.PutBack.{put_back_of, after_put_back}
-use Rattle.mesh_core.specs.Trail.{in_queue, at_core, dumped, Mark}
-use Rattle.mesh_core.specs.Ledger.{marks_of}
-use Rattle.mesh_core.specs.Heavy.{heavy}
-use Rattle.mesh_core.proofs.Events.{arrives}
-use Rattle.mesh_core.proofs.Heavy.{one_heavy, heavy_grows}
-use Rattle.mesh_core.proofs.Moves.{mark, Crosses, dumped_out}
-use Rattle.mesh_round.specs.Work.{to_go, work_weight_of, work_in}
-use Rattle.mesh_round.specs.Reinjecting.{put_back_answer}
+use Rattle.mesh_core.specs.{State.State, State.Queue, State.behind, Step.push_behind}
+use Rattle.mesh_core.specs.{PutBack.put_back_of, PutBack.after_put_back, Trail.in_queue, Trail.at_core, Trail.dumped, Trail.Mark, Ledger.marks_of, Heavy.heavy}
+use Rattle.mesh_core.proofs.{EventsLaw.same_room, Events.arrives, Heavy.one_heavy, Heavy.heavy_grows, Moves.mark, Moves.Crosses, Moves.dumped_out}
+use Rattle.mesh_round.specs.{Work.to_go, Work.work_weight_of, Work.work_in, Reinjecting.put_back_answer}
 use Rattle.mesh_round.proofs.PutBackParts.{IsBack, is_back}
 
 -- ---- weights
@@ -32,8 +19,7 @@ unfolding heavy
 heavier m zero below = absurd (omega (arith, below))
 heavier m (suc n) below =
     let grows = heavy_grows m n (omega (arith, below)) in
-    let one = one_heavy n in
-    omega (arith, grows, one)
+    omega (arith, grows, one_heavy n)
 
 -- a dumped copy that crosses its output is lighter than it was
 lighter_mark : (s : State) (k : McCopy) (c : Chip) (o : Out) (come : List Mark) → Crosses s k c o come →
@@ -82,8 +68,7 @@ back_lighter s t back =
     let x : Mark = mark r.copy (dumped r.chip r.out) in
     let put : PutIn (one.0 ∷ []) (marks_of between) (marks_of next) = subst (λ (ys : List Mark). PutIn ys (marks_of between) (marks_of next)) one.1 arrival.1 in
     let sums = sum_exchanged work_weight_of x one.0 (marks_of s) (marks_of between) (marks_of next) (dumped_out s r back.rest back.records) put in
-    let less = one.2 in
-    let lower : sum_by work_weight_of (marks_of next) < sum_by work_weight_of (marks_of s) = omega (arith, sums, less) in
+    let lower : sum_by work_weight_of (marks_of next) < sum_by work_weight_of (marks_of s) = omega (arith, sums, one.2) in
     subst (λ (u : State). sum_by work_weight_of (marks_of u) < sum_by work_weight_of (marks_of s)) back.is lower
 
 -- A copy that is put back leaves less to be done.

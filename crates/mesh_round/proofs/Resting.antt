@@ -1,9 +1,7 @@
 -- A mesh without a copy in a queue or unsent is at rest.
 use Rattle.std.proofs.Common.{◌≡◌, ℕ, true, ◌&&◌, List, [], ◌∷◌, length, refl, arith, inl, inr}
+use Rattle.std.proofs.lemmas.{Bool.and_parts, Bool.cases_lt, Bool.eqb-true, List.get_or_past, List.Elements.All-nil, List.Elements.All-cons}
 use Rattle.std.specs.List.{All, list_all, slice_index_or}
-use Rattle.std.proofs.lemmas.Bool.{and_parts, cases_lt, eqb-true}
-use Rattle.std.proofs.lemmas.List.{get_or_past}
-use Rattle.std.proofs.lemmas.List.Elements.{All-nil, All-cons}
 use Rattle.spin_base.specs.declared.copies.McCopy.{McCopy}
 use Rattle.mesh_core.specs.State.{State, input, core, nowhere}
 use Rattle.mesh_core.specs.Expected.{IsAtRest}

@@ -1,41 +1,25 @@
 -- What passes the queues of a mesh in a round is a bag of moves.
 use Rattle.std.proofs.Common.{◌≡◌, ◌≢◌, ℕ, ◌+◌, ◌*◌, ◌/◌, ◌%◌, ◌<◌, ◌≤◌, Bool, true, false, cond, ◌==◌, List, [], ◌∷◌, ◌++◌, map, filter, Some, None, length, suc}
 use Rattle.std.proofs.Common.{refl, ap, ap₂, sym, ◌∙◌, subst, arith, inl, inr, count_by, if◌then◌else◌, append-nil, zero-add}
-use Rattle.std.specs.List.{All, sum_by, range_with_len, slice_get, slice_index_or}
-use Rattle.std.proofs.lemmas.Bool.{cases_Bool, eqb-true}
-use Rattle.std.proofs.lemmas.List.{map-append, length-map}
-use Rattle.std.proofs.lemmas.List.Elements.{All-contains}
+use Rattle.std.proofs.lemmas.{Bool.cases_Bool, Bool.eqb-true, List.map-append, List.length-map, List.Elements.All-contains}
 use Rattle.std.proofs.lemmas.List.Sums.{sum_by-cons, sum_by-append, length-filter, count_by-le-length}
-use Rattle.std.proofs.lemmas.List.Sorted.{sum_by-IsPermutation}
-use Rattle.std.proofs.lemmas.Option.{slice_get_within}
+use Rattle.std.proofs.lemmas.{List.Sorted.sum_by-IsPermutation, Option.slice_get_within}
+use Rattle.std.specs.List.{All, sum_by, range_with_len, slice_get, slice_index_or}
 use Rattle.spin_base.specs.Gathered.{gathered}
-use Rattle.spin_base.proofs.Counts.{count_by-append}
-use Rattle.spin_base.proofs.Gathering.{gathered_of_none}
+use Rattle.spin_base.specs.declared.chips.{Chip.Chip, Spot.Spot, Port.TheVariants.Local}
+use Rattle.spin_base.specs.declared.{routes.Out.Out, copies.McCopy.McCopy, copies.Delivery.Delivery, copies.DumpRec.DumpRec}
+use Rattle.spin_base.specs.{Equality.chip_eq, Equality.out_eq, Outputs.all_outs, Outputs.IsOutput, Hops.last_hop, Hops.onward}
+use Rattle.spin_base.proofs.{Counts.count_by-append, Gathering.gathered_of_none}
 use Rattle.spin_base.proofs.Members.{Among, among_contains, among_map, among_left, Contains-filter, map_among, contains_among}
-use Rattle.spin_base.proofs.Places.{All-at, slice_get_there}
-use Rattle.spin_base.specs.declared.chips.Chip.{Chip}
-use Rattle.spin_base.specs.declared.chips.Spot.{Spot}
-use Rattle.spin_base.specs.declared.chips.Port.TheVariants.{Local}
-use Rattle.spin_base.specs.declared.routes.Out.{Out}
-use Rattle.spin_base.specs.declared.copies.McCopy.{McCopy}
-use Rattle.spin_base.specs.declared.copies.Delivery.{Delivery}
-use Rattle.spin_base.specs.declared.copies.DumpRec.{DumpRec}
-use Rattle.spin_base.specs.Equality.{chip_eq, out_eq}
-use Rattle.spin_base.specs.Outputs.{all_outs, IsOutput}
-use Rattle.spin_base.proofs.Equality.{nat_eq_same, chip_eq_true, out_eq_true}
-use Rattle.spin_base.proofs.Once.{all_once}
-use Rattle.spin_base.specs.Hops.{last_hop, onward}
+use Rattle.spin_base.proofs.{Places.All-at, Places.slice_get_there, Equality.nat_eq_same, Equality.chip_eq_true, Equality.out_eq_true, Once.all_once}
 use Rattle.machine_desc.specs.Live.{chip_of, IsLiveChip, IsSite}
-use Rattle.machine_desc.proofs.Far.{live_inside}
-use Rattle.machine_desc.proofs.Sites.{site_parts}
+use Rattle.machine_desc.proofs.{Far.live_inside, Sites.site_parts}
 use Rattle.mesh_core.specs.State.{Setup, State, IsMesh, Queue, input, core, nowhere, behind}
 use Rattle.mesh_core.specs.Step.{outputs}
 use Rattle.mesh_core.specs.Trail.{Station, unsent, in_queue, in_hand, at_core, delivered, dumped, Mark}
 use Rattle.mesh_core.specs.Ledger.{marks_of, marks_at, hand_marks, port_of, unsent_marks, input_marks, all_hand_marks, core_marks, delivered_marks, dumped_marks}
-use Rattle.mesh_core.proofs.Moves.{mark, IsMoveOf}
-use Rattle.mesh_core.proofs.LedgerLaw.{Bag, Moved, count_left, count_come}
+use Rattle.mesh_core.proofs.{Moves.mark, Moves.IsMoveOf, LedgerLaw.Bag, LedgerLaw.Moved, LedgerLaw.count_left, LedgerLaw.count_come, Counting.counted}
 use Rattle.mesh_round.specs.RoundFlow.{Flow, Passes, at_port, sent_on, of_chip, delivered_to, HasNoHand, HasMoved}
-use Rattle.mesh_core.proofs.Counting.{counted}
 use Rattle.mesh_round.proofs.CountSums.{part_of_sum, part_of_sum_at}
 use Rattle.mesh_round.proofs.Sums.{sum_agree, sum_none, sum_map, sum_filter, sum_swap, sum_plus, sum_gathered, sum_at, sum_at-swap, one_passes}
 use Rattle.mesh_round.proofs.Balance.{queues_balance, passing, passing_in}
@@ -52,8 +36,7 @@ sum_at-range g a [] = refl
 sum_at-range g a (x ∷ xs) =
     let long : length (x ∷ xs) ≡ suc (length xs) = omega arith in
     let rest = sum_at-range g (a + 1) xs in
-    let first = sum_by-cons g a (range_with_len (a + 1) (length xs)) in
-    ap (λ k. g a + k) rest ∙ (sym first ∙ sym (ap (λ n. sum_by g (range_with_len a n)) long))
+    ap (λ k. g a + k) rest ∙ (sym (sum_by-cons g a (range_with_len (a + 1) (length xs))) ∙ sym (ap (λ n. sum_by g (range_with_len a n)) long))
 
 sum_at-agree : {X : Type 0} (h k : ℕ → X → ℕ) (a : ℕ) (xs : List X) → ((i : ℕ) (x : X) → slice_get xs i ≡ Some x → h (a + i) x ≡ k (a + i) x) → sum_at h a xs ≡ sum_at k a xs
 sum_at-agree h k a [] same = refl
@@ -67,22 +50,40 @@ sum_at-agree h k a (x ∷ xs) same =
 
 sum_single : {X : Type 0} (g : X → ℕ) (x : X) → sum_by g (x ∷ []) ≡ g x
 sum_single g x =
-    let first = sum_by-cons g x [] in
     let none : sum_by g [] ≡ 0 = refl in
-    omega (arith, first, none)
+    omega (arith, sum_by-cons g x [], none)
 
 module _ (m : State) (f : Flow) (n : State) (mesh : IsMesh m) (after : IsMesh n) (passes : Passes m f n) where
   abbrev u : Setup
   u = m.setup
+
+  abbrev places : List ℕ
+  places = range_with_len 0 (7 * (u.machine.width * u.machine.height))
+
+  -- the marks in a hand of a copy of a port's queue, and how many of all that are taken pass a test
+  abbrev taken_marks : ℕ → McCopy → List Mark
+  taken_marks i k = map (λ o. mark k (in_hand (chip_of u.machine (i / 7)) o)) (outputs u (chip_of u.machine (i / 7)) (port_of (i % 7)) k)
+
+  abbrev taken_come : (Mark → Bool) → ℕ → ℕ
+  taken_come p i = sum_by (λ k. count_by p (taken_marks i k)) (f.left (input i))
+
+  -- the copies that cross an output, as they were before, and how many of their marks pass a test before and afterwards
+  abbrev crossing : Chip → Out → List McCopy
+  crossing c o = map back (f.entered (behind u c o))
+
+  abbrev crossed_left : (Mark → Bool) → Chip → Out → ℕ
+  crossed_left p c o = count_by p (marks_at (in_hand c o) (crossing c o))
+
+  abbrev crossed_come : (Mark → Bool) → Chip → Out → ℕ
+  crossed_come p c o = sum_by (λ k. count_by p (mark (onward k) (station_of u (behind u c o)) ∷ [])) (crossing c o)
 
   -- ---- the moves
 
   sent_small : (v : ℕ) → v < length u.spots → (k : McCopy) → Among k (f.sent v) → k.hop ≤ last_hop
   sent_small v below k a =
       let there : v < length m.unsent = omega (arith, below, mesh.unsent_lists) in
-      let all = mesh.unsent_at_start v [] there in
       let zero : k.hop ≡ 0 = All-contains (λ (j : McCopy). j.hop ≡ 0) (f.sent v ++ slice_index_or n.unsent v []) k
-      (subst (All (λ (j : McCopy). j.hop ≡ 0)) (passes.unsent v below) all)
+      (subst (All (λ (j : McCopy). j.hop ≡ 0)) (passes.unsent v below) (mesh.unsent_at_start v [] there))
       (among_contains k (f.sent v ++ slice_index_or n.unsent v []) (among_left k (f.sent v) (slice_index_or n.unsent v []) a)) in
       omega (arith, zero)
 
@@ -98,34 +99,28 @@ module _ (m : State) (f : Flow) (n : State) (mesh : IsMesh m) (after : IsMesh n)
   left_small : (q : Queue) (k : McCopy) → Among k (f.left q) → k.hop ≤ last_hop
   left_small q k a = All-contains (λ (j : McCopy). j.hop ≤ last_hop) (f.left q) k (passes.hops q) (among_contains k (f.left q) a)
 
-  taken_part : Part m (λ p. sum_by (λ i. count_by p (marks_at (station_of u (input i)) (f.left (input i)))) (range_with_len 0 (7 * (u.machine.width * u.machine.height))))
-      (λ p. sum_by (λ i. sum_by (λ k. count_by p (map (λ o. mark k (in_hand (chip_of u.machine (i / 7)) o)) (outputs u (chip_of u.machine (i / 7)) (port_of (i % 7)) k))) (f.left (input i)))
-      (range_with_len 0 (7 * (u.machine.width * u.machine.height))))
+  taken_part : Part m (λ p. sum_by (λ i. count_by p (marks_at (station_of u (input i)) (f.left (input i)))) places) (λ p. sum_by (λ i. taken_come p i) places)
   taken_part =
-      part_each (λ i p. count_by p (marks_at (station_of u (input i)) (f.left (input i))))
-      (λ i p. sum_by (λ k. count_by p (map (λ o. mark k (in_hand (chip_of u.machine (i / 7)) o)) (outputs u (chip_of u.machine (i / 7)) (port_of (i % 7)) k))) (f.left (input i)))
-      (range_with_len 0 (7 * (u.machine.width * u.machine.height)))
-      (λ i a. part_of (station_of u (input i)) (λ k. map (λ o. mark k (in_hand (chip_of u.machine (i / 7)) o)) (outputs u (chip_of u.machine (i / 7)) (port_of (i % 7)) k)) (f.left (input i))
-      (λ k b. (refl, left_small (input i) k b)))
+      part_each (λ i p. count_by p (marks_at (station_of u (input i)) (f.left (input i)))) (λ i p. taken_come p i) places
+      (λ i a. part_of (station_of u (input i)) (λ k. taken_marks i k) (f.left (input i)) (λ k b. (refl, left_small (input i) k b)))
 
-  crossed_part : Part m (λ p. sum_by (λ c. sum_by (λ o. count_by p (marks_at (in_hand c o) (map back (f.entered (behind u c o))))) all_outs) (live_chips u.machine))
-      (λ p. sum_by (λ c. sum_by (λ o. sum_by (λ k. count_by p (mark (onward k) (station_of u (behind u c o)) ∷ [])) (map back (f.entered (behind u c o)))) all_outs) (live_chips u.machine))
+  crossed_part : Part m (λ p. sum_by (λ c. sum_by (λ o. crossed_left p c o) all_outs) (live_chips u.machine))
+      (λ p. sum_by (λ c. sum_by (λ o. crossed_come p c o) all_outs) (live_chips u.machine))
   crossed_part =
-      part_each (λ c p. sum_by (λ o. count_by p (marks_at (in_hand c o) (map back (f.entered (behind u c o))))) all_outs)
-      (λ c p. sum_by (λ o. sum_by (λ k. count_by p (mark (onward k) (station_of u (behind u c o)) ∷ [])) (map back (f.entered (behind u c o)))) all_outs) (live_chips u.machine)
-      (λ c a. part_each (λ o p. count_by p (marks_at (in_hand c o) (map back (f.entered (behind u c o)))))
-      (λ o p. sum_by (λ k. count_by p (mark (onward k) (station_of u (behind u c o)) ∷ [])) (map back (f.entered (behind u c o)))) all_outs
-      (λ o b. part_of (in_hand c o) (λ k. mark (onward k) (station_of u (behind u c o)) ∷ []) (map back (f.entered (behind u c o))) (λ k d. crosses c o (live_of_live_chips u.machine c a) (has_bit o b) k d)))
+      part_each (λ c p. sum_by (λ o. crossed_left p c o) all_outs) (λ c p. sum_by (λ o. crossed_come p c o) all_outs) (live_chips u.machine)
+      (λ c a. part_each (λ o p. crossed_left p c o) (λ o p. crossed_come p c o) all_outs
+      (λ o b. part_of (in_hand c o) (λ k. mark (onward k) (station_of u (behind u c o)) ∷ []) (crossing c o)
+      (λ k d. crosses c o (live_of_live_chips u.machine c a) (has_bit o b) k d)))
     where
-      crosses : (c : Chip) (o : Out) → IsLiveChip u.machine c → IsOutput o → (k : McCopy) → Among k (map back (f.entered (behind u c o))) →
+      crosses : (c : Chip) (o : Out) → IsLiveChip u.machine c → IsOutput o → (k : McCopy) → Among k (crossing c o) →
           IsMoveOf m k (in_hand c o) (mark (onward k) (station_of u (behind u c o)) ∷ []) × (k.hop ≤ last_hop)
       crosses c o live is k a =
           let of = among_map back k (f.entered (behind u c o)) a in
-          let fits = entered_is m f n passes c o live is of.0 of.1 in
-          let small : k.hop ≤ last_hop = subst (λ (j : McCopy). j.hop ≤ last_hop) (sym of.2) (omega (arith, fits.1)) in
+          let small : k.hop ≤ last_hop = subst (λ (j : McCopy). j.hop ≤ last_hop) (sym of.2) (omega (arith, (entered_is m f n passes c o live is of.0 of.1).1)) in
           (inr (crosses_behind m k c o live (λ none. subst (λ xs. Among of.0 xs) (ap f.entered none ∙ passes.nowhere_empty) of.1)), small)
 
-  dumped_part : Part m (λ p. sum_by (λ (r : DumpRec). count_by p (mark r.copy (in_hand r.chip r.out) ∷ [])) f.dumped) (λ p. sum_by (λ (r : DumpRec). count_by p (mark r.copy (dumped r.chip r.out) ∷ [])) f.dumped)
+  dumped_part : Part m (λ p. sum_by (λ (r : DumpRec). count_by p (mark r.copy (in_hand r.chip r.out) ∷ [])) f.dumped)
+      (λ p. sum_by (λ (r : DumpRec). count_by p (mark r.copy (dumped r.chip r.out) ∷ [])) f.dumped)
   dumped_part =
       part_each (λ (r : DumpRec) p. count_by p (mark r.copy (in_hand r.chip r.out) ∷ [])) (λ (r : DumpRec) p. count_by p (mark r.copy (dumped r.chip r.out) ∷ [])) f.dumped
       (λ r a.
@@ -149,7 +144,8 @@ module _ (m : State) (f : Flow) (n : State) (mesh : IsMesh m) (after : IsMesh n)
       (contains_among d (filter (λ (e : Delivery). e.vertex == d.vertex) f.delivered) mine) in
       left_small (core d.vertex) d.copy (subst (λ xs. Among d.copy xs) (passes.collected d.vertex below) there)
 
-  delivered_part : Part m (λ p. sum_by (λ (d : Delivery). count_by p (mark d.copy (at_core d.vertex) ∷ [])) f.delivered) (λ p. sum_by (λ (d : Delivery). count_by p (mark d.copy (delivered d.vertex) ∷ [])) f.delivered)
+  delivered_part : Part m (λ p. sum_by (λ (d : Delivery). count_by p (mark d.copy (at_core d.vertex) ∷ [])) f.delivered)
+      (λ p. sum_by (λ (d : Delivery). count_by p (mark d.copy (delivered d.vertex) ∷ [])) f.delivered)
   delivered_part =
       part_each (λ (d : Delivery) p. count_by p (mark d.copy (at_core d.vertex) ∷ [])) (λ (d : Delivery) p. count_by p (mark d.copy (delivered d.vertex) ∷ [])) f.delivered
       (λ d a.
@@ -168,9 +164,6 @@ module _ (m : State) (f : Flow) (n : State) (mesh : IsMesh m) (after : IsMesh n)
     abbrev came_in : Queue → ℕ
     came_in q = came p m f n mesh passes q
 
-    abbrev places : List ℕ
-    places = range_with_len 0 (7 * (u.machine.width * u.machine.height))
-
     abbrev vertices : List ℕ
     vertices = range_with_len 0 (length u.spots)
 
@@ -183,7 +176,8 @@ module _ (m : State) (f : Flow) (n : State) (mesh : IsMesh m) (after : IsMesh n)
         ≡ sum_by (λ i. came_in (input i)) places + sum_by (λ v. came_in (core v)) vertices
     came_by_parts =
         sym (sum_plus (λ c. came_in (at_port u c Local)) (λ c. sum_by (λ o. came_in (behind u c o)) all_outs) (live_chips u.machine))
-        ∙ (sum_agree (λ c. came_in (at_port u c Local) + sum_by (λ o. came_in (behind u c o)) all_outs) (λ c. sum_by (λ x. came_in (from u (c, x))) choices) (live_chips u.machine) (λ c a. sym (at_chip c))
+        ∙ (sum_agree (λ c. came_in (at_port u c Local) + sum_by (λ o. came_in (behind u c o)) all_outs) (λ c. sum_by (λ x. came_in (from u (c, x))) choices) (live_chips u.machine)
+        (λ c a. sym (at_chip c))
         ∙ (sym (sum_sources u.machine (λ s. came_in (from u s)))
         ∙ (all_came p m f n mesh passes
         ∙ (sum_by-append came_in (map input places) (map core vertices)
@@ -199,7 +193,8 @@ module _ (m : State) (f : Flow) (n : State) (mesh : IsMesh m) (after : IsMesh n)
     injected_is =
         sum_agree (λ c. came_in (at_port u c Local)) (λ c. sum_at (λ v (spot : Spot). share c v spot) 0 u.spots) (live_chips u.machine) (λ c a. at_chip c (live_of_live_chips u.machine c a))
         ∙ (sum_at-swap share 0 u.spots (live_chips u.machine)
-        ∙ sum_at-agree (λ v (spot : Spot). sum_by (λ c. share c v spot) (live_chips u.machine)) (λ v (spot : Spot). sum_by (λ k. count_by p (mark k (in_queue spot.chip Local) ∷ [])) (f.sent v)) 0 u.spots
+        ∙ sum_at-agree (λ v (spot : Spot). sum_by (λ c. share c v spot) (live_chips u.machine))
+        (λ v (spot : Spot). sum_by (λ k. count_by p (mark k (in_queue spot.chip Local) ∷ [])) (f.sent v)) 0 u.spots
         (λ v spot at. of_vertex (0 + v) spot (site_parts u.machine spot (All-at (IsSite u.machine) u.spots v spot mesh.sites at)).0))
       where
         into : Chip → McCopy → ℕ
@@ -217,15 +212,15 @@ module _ (m : State) (f : Flow) (n : State) (mesh : IsMesh m) (after : IsMesh n)
 
         at_chip : (c : Chip) → IsLiveChip u.machine c → came_in (at_port u c Local) ≡ sum_at (λ v (spot : Spot). share c v spot) 0 u.spots
         at_chip c live =
-            let station : station_of u (at_port u c Local) ≡ in_queue c Local =
-            station_is u c Local (live_inside u.machine c live) in
+            let station : station_of u (at_port u c Local) ≡ in_queue c Local = station_is u c Local (live_inside u.machine c live) in
             ap (λ st. count_by p (marks_at st (f.entered (at_port u c Local)))) station
             ∙ (sum_map (λ k. mark k (in_queue c Local)) (λ x. one_where (p x)) (f.entered (at_port u c Local))
             ∙ (sum_by-IsPermutation (into c) (sent_on u f c) (f.entered (at_port u c Local)) (passes.injected c live)
             ∙ (sum_gathered (into c) (λ v spot. of_chip c spot (f.sent v)) 0 u.spots
             ∙ sum_at-agree (λ v spot. sum_by (into c) (of_chip c spot (f.sent v))) (λ v (spot : Spot). share c v spot) 0 u.spots (λ v spot at. of_copies c spot (f.sent (0 + v))))))
 
-        of_vertex : (v : ℕ) (spot : Spot) → IsLiveChip u.machine spot.chip → sum_by (λ c. share c v spot) (live_chips u.machine) ≡ sum_by (λ k. count_by p (mark k (in_queue spot.chip Local) ∷ [])) (f.sent v)
+        of_vertex : (v : ℕ) (spot : Spot) → IsLiveChip u.machine spot.chip →
+            sum_by (λ c. share c v spot) (live_chips u.machine) ≡ sum_by (λ k. count_by p (mark k (in_queue spot.chip Local) ∷ [])) (f.sent v)
         of_vertex v spot live =
             sum_agree (λ c. share c v spot) (λ c. cond (chip_eq spot.chip c) (sum_by (into spot.chip) (f.sent v)) 0) (live_chips u.machine) (λ c a. same c)
             ∙ (one_passes (chip_eq spot.chip) (sum_by (into spot.chip) (f.sent v)) (live_chips u.machine) (live_chip_once u.machine spot.chip live)
@@ -238,15 +233,13 @@ module _ (m : State) (f : Flow) (n : State) (mesh : IsMesh m) (after : IsMesh n)
             ]
 
     -- what came across outputs is what entered the queues behind them
-    crossed_is : sum_by (λ c. sum_by (λ o. sum_by (λ k. count_by p (mark (onward k) (station_of u (behind u c o)) ∷ [])) (map back (f.entered (behind u c o)))) all_outs) (live_chips u.machine)
+    crossed_is : sum_by (λ c. sum_by (λ o. crossed_come p c o) all_outs) (live_chips u.machine)
         ≡ sum_by (λ c. sum_by (λ o. came_in (behind u c o)) all_outs) (live_chips u.machine)
     crossed_is =
-        sum_agree (λ c. sum_by (λ o. sum_by (λ k. count_by p (mark (onward k) (station_of u (behind u c o)) ∷ [])) (map back (f.entered (behind u c o)))) all_outs) (λ c. sum_by (λ o. came_in (behind u c o)) all_outs) (live_chips u.machine)
-        (λ c a. sum_agree (λ o. sum_by (λ k. count_by p (mark (onward k) (station_of u (behind u c o)) ∷ [])) (map back (f.entered (behind u c o)))) (λ o. came_in (behind u c o)) all_outs
-        (λ o b. at_output c o (live_of_live_chips u.machine c a) (has_bit o b)))
+        sum_agree (λ c. sum_by (λ o. crossed_come p c o) all_outs) (λ c. sum_by (λ o. came_in (behind u c o)) all_outs) (live_chips u.machine)
+        (λ c a. sum_agree (λ o. crossed_come p c o) (λ o. came_in (behind u c o)) all_outs (λ o b. at_output c o (live_of_live_chips u.machine c a) (has_bit o b)))
       where
-        at_output : (c : Chip) (o : Out) → IsLiveChip u.machine c → IsOutput o →
-            sum_by (λ k. count_by p (mark (onward k) (station_of u (behind u c o)) ∷ [])) (map back (f.entered (behind u c o))) ≡ came_in (behind u c o)
+        at_output : (c : Chip) (o : Out) → IsLiveChip u.machine c → IsOutput o → crossed_come p c o ≡ came_in (behind u c o)
         at_output c o live is =
             let st = station_of u (behind u c o) in
             let entered = f.entered (behind u c o) in
@@ -257,19 +250,19 @@ module _ (m : State) (f : Flow) (n : State) (mesh : IsMesh m) (after : IsMesh n)
 
     -- ---- hands
 
-    hands_even : sum_by (λ c. sum_by (λ o. count_by p (marks_at (in_hand c o) (map back (f.entered (behind u c o))))) all_outs) (live_chips u.machine)
-        + sum_by (λ (r : DumpRec). count_by p (mark r.copy (in_hand r.chip r.out) ∷ [])) f.dumped
-        ≡ sum_by (λ i. sum_by (λ k. count_by p (map (λ o. mark k (in_hand (chip_of u.machine (i / 7)) o)) (outputs u (chip_of u.machine (i / 7)) (port_of (i % 7)) k))) (f.left (input i))) places
+    hands_even : sum_by (λ c. sum_by (λ o. crossed_left p c o) all_outs) (live_chips u.machine)
+        + sum_by (λ (r : DumpRec). count_by p (mark r.copy (in_hand r.chip r.out) ∷ [])) f.dumped ≡ sum_by (λ i. taken_come p i) places
     hands_even =
         ap₂ (λ (a b : ℕ). a + b)
-        (sum_agree (λ c. sum_by (λ o. count_by p (marks_at (in_hand c o) (map back (f.entered (behind u c o))))) all_outs) (λ c. sum_by (λ o. sum_by (weight p m f n mesh passes c o) (map back (f.entered (behind u c o)))) all_outs) (live_chips u.machine)
-        (λ c a. sum_agree (λ o. count_by p (marks_at (in_hand c o) (map back (f.entered (behind u c o))))) (λ o. sum_by (weight p m f n mesh passes c o) (map back (f.entered (behind u c o)))) all_outs
-        (λ o b. sum_map (λ k. mark k (in_hand c o)) (λ x. one_where (p x)) (map back (f.entered (behind u c o))))))
-        (sum_agree (λ (r : DumpRec). count_by p (mark r.copy (in_hand r.chip r.out) ∷ [])) (λ (r : DumpRec). weight p m f n mesh passes r.chip r.out r.copy) f.dumped (λ r a. single (mark r.copy (in_hand r.chip r.out))))
+        (sum_agree (λ c. sum_by (λ o. crossed_left p c o) all_outs) (λ c. sum_by (λ o. sum_by (weight p m f n mesh passes c o) (crossing c o)) all_outs) (live_chips u.machine)
+        (λ c a. sum_agree (λ o. crossed_left p c o) (λ o. sum_by (weight p m f n mesh passes c o) (crossing c o)) all_outs
+        (λ o b. sum_map (λ k. mark k (in_hand c o)) (λ x. one_where (p x)) (crossing c o))))
+        (sum_agree (λ (r : DumpRec). count_by p (mark r.copy (in_hand r.chip r.out) ∷ [])) (λ (r : DumpRec). weight p m f n mesh passes r.chip r.out r.copy) f.dumped
+        (λ r a. single (mark r.copy (in_hand r.chip r.out))))
         ∙ (sym (hands_balance p m f n mesh passes)
-        ∙ sum_agree (taken_from p m f n mesh passes) (λ i. sum_by (λ k. count_by p (map (λ o. mark k (in_hand (chip_of u.machine (i / 7)) o)) (outputs u (chip_of u.machine (i / 7)) (port_of (i % 7)) k))) (f.left (input i))) places
+        ∙ sum_agree (taken_from p m f n mesh passes) (λ i. taken_come p i) places
         (λ i a. sum_agree (λ k. sum_by (λ o. weight p m f n mesh passes (chip_of u.machine (i / 7)) o k) (outputs u (chip_of u.machine (i / 7)) (port_of (i % 7)) k))
-        (λ k. count_by p (map (λ o. mark k (in_hand (chip_of u.machine (i / 7)) o)) (outputs u (chip_of u.machine (i / 7)) (port_of (i % 7)) k))) (f.left (input i))
+        (λ k. count_by p (taken_marks i k)) (f.left (input i))
         (λ k b. sym (sum_map (λ o. mark k (in_hand (chip_of u.machine (i / 7)) o)) (λ x. one_where (p x)) (outputs u (chip_of u.machine (i / 7)) (port_of (i % 7)) k)))))
 
     -- ---- deliveries
@@ -325,13 +318,16 @@ module _ (m : State) (f : Flow) (n : State) (mesh : IsMesh m) (after : IsMesh n)
         length_is : length n.unsent ≡ length m.unsent
         length_is = after.unsent_lists ∙ (ap (λ (s : Setup). length s.spots) passes.setup ∙ sym mesh.unsent_lists)
 
-    inputs_even : count_by p (input_marks m) + sum_by (λ i. came_in (input i)) places ≡ sum_by (λ i. count_by p (marks_at (station_of u (input i)) (f.left (input i)))) places + count_by p (input_marks n)
+    inputs_even : count_by p (input_marks m) + sum_by (λ i. came_in (input i)) places
+        ≡ sum_by (λ i. count_by p (marks_at (station_of u (input i)) (f.left (input i)))) places + count_by p (input_marks n)
     inputs_even =
         let long : length n.inputs ≡ length m.inputs = after.input_lists ∙ (ap (λ (s : Setup). 7 * (s.machine.width * s.machine.height)) passes.setup ∙ sym mesh.input_lists) in
         let same = queues_balance p (λ i. station_of u (input i)) (λ i. f.entered (input i)) (λ i. f.left (input i)) 0 m.inputs n.inputs long (λ i low.
         subst (λ j. slice_index_or m.inputs i [] ++ f.entered (input j) ≡ f.left (input j) ++ slice_index_or n.inputs i []) (sym (zero-add i)) (passes.in_order (input i))) in
-        let came_sum : sum_by (λ i. came_in (input i)) (range_with_len 0 (length m.inputs)) ≡ sum_by (λ i. came_in (input i)) places = ap (λ k. sum_by (λ i. came_in (input i)) (range_with_len 0 k)) mesh.input_lists in
-        let left_sum : sum_by (λ i. count_by p (marks_at (station_of u (input i)) (f.left (input i)))) (range_with_len 0 (length m.inputs)) ≡ sum_by (λ i. count_by p (marks_at (station_of u (input i)) (f.left (input i)))) places =
+        let came_sum : sum_by (λ i. came_in (input i)) (range_with_len 0 (length m.inputs)) ≡ sum_by (λ i. came_in (input i)) places =
+        ap (λ k. sum_by (λ i. came_in (input i)) (range_with_len 0 k)) mesh.input_lists in
+        let left_sum : sum_by (λ i. count_by p (marks_at (station_of u (input i)) (f.left (input i)))) (range_with_len 0 (length m.inputs))
+        ≡ sum_by (λ i. count_by p (marks_at (station_of u (input i)) (f.left (input i)))) places =
         ap (λ k. sum_by (λ i. count_by p (marks_at (station_of u (input i)) (f.left (input i)))) (range_with_len 0 k)) mesh.input_lists in
         let marks_n : count_by p (input_marks n) ≡ passing_in p (λ i. station_of u (input i)) (λ i. f.entered (input i)) (λ i. f.left (input i)) 0 n.inputs =
         ap (λ (s : Setup). count_by p (gathered (λ i copies. marks_at (in_queue (chip_of s.machine (i / 7)) (port_of (i % 7))) copies) 0 n.inputs)) passes.setup in
@@ -342,8 +338,10 @@ module _ (m : State) (f : Flow) (n : State) (mesh : IsMesh m) (after : IsMesh n)
         let long : length n.cores ≡ length m.cores = after.core_lists ∙ (ap (λ (s : Setup). length s.spots) passes.setup ∙ sym mesh.core_lists) in
         let same = queues_balance p (λ v. at_core v) (λ v. f.entered (core v)) (λ v. f.left (core v)) 0 m.cores n.cores long (λ v low.
         subst (λ j. slice_index_or m.cores v [] ++ f.entered (core j) ≡ f.left (core j) ++ slice_index_or n.cores v []) (sym (zero-add v)) (passes.in_order (core v))) in
-        let came_sum : sum_by (λ v. came_in (core v)) (range_with_len 0 (length m.cores)) ≡ sum_by (λ v. came_in (core v)) vertices = ap (λ k. sum_by (λ v. came_in (core v)) (range_with_len 0 k)) mesh.core_lists in
-        let left_sum : sum_by (λ v. count_by p (marks_at (at_core v) (f.left (core v)))) (range_with_len 0 (length m.cores)) ≡ sum_by (λ v. count_by p (marks_at (at_core v) (f.left (core v)))) vertices =
+        let came_sum : sum_by (λ v. came_in (core v)) (range_with_len 0 (length m.cores)) ≡ sum_by (λ v. came_in (core v)) vertices =
+        ap (λ k. sum_by (λ v. came_in (core v)) (range_with_len 0 k)) mesh.core_lists in
+        let left_sum : sum_by (λ v. count_by p (marks_at (at_core v) (f.left (core v)))) (range_with_len 0 (length m.cores))
+        ≡ sum_by (λ v. count_by p (marks_at (at_core v) (f.left (core v)))) vertices =
         ap (λ k. sum_by (λ v. count_by p (marks_at (at_core v) (f.left (core v)))) (range_with_len 0 k)) mesh.core_lists in
         omega (arith, same, came_sum, left_sum)
 
@@ -357,7 +355,8 @@ module _ (m : State) (f : Flow) (n : State) (mesh : IsMesh m) (after : IsMesh n)
         ∙ (count_by-append p (delivered_marks m) (map (λ (d : Delivery). mark d.copy (delivered d.vertex)) f.delivered)
         ∙ ap (λ k. count_by p (delivered_marks m) + k)
         (sum_map (λ (d : Delivery). mark d.copy (delivered d.vertex)) (λ x. one_where (p x)) f.delivered
-        ∙ sum_agree (λ (d : Delivery). one_where (p (mark d.copy (delivered d.vertex)))) (λ (d : Delivery). count_by p (mark d.copy (delivered d.vertex) ∷ [])) f.delivered (λ d a. sym (single (mark d.copy (delivered d.vertex)))))))
+        ∙ sum_agree (λ (d : Delivery). one_where (p (mark d.copy (delivered d.vertex)))) (λ (d : Delivery). count_by p (mark d.copy (delivered d.vertex) ∷ [])) f.delivered
+        (λ d a. sym (single (mark d.copy (delivered d.vertex)))))))
 
     dumped_even : count_by p (dumped_marks n) ≡ count_by p (dumped_marks m) + sum_by (λ (r : DumpRec). count_by p (mark r.copy (dumped r.chip r.out) ∷ [])) f.dumped
     dumped_even =
@@ -366,16 +365,17 @@ module _ (m : State) (f : Flow) (n : State) (mesh : IsMesh m) (after : IsMesh n)
         ∙ (count_by-append p (dumped_marks m) (map (λ (r : DumpRec). mark r.copy (dumped r.chip r.out)) f.dumped)
         ∙ ap (λ k. count_by p (dumped_marks m) + k)
         (sum_map (λ (r : DumpRec). mark r.copy (dumped r.chip r.out)) (λ x. one_where (p x)) f.dumped
-        ∙ sum_agree (λ (r : DumpRec). one_where (p (mark r.copy (dumped r.chip r.out)))) (λ (r : DumpRec). count_by p (mark r.copy (dumped r.chip r.out) ∷ [])) f.dumped (λ r a. sym (single (mark r.copy (dumped r.chip r.out)))))))
+        ∙ sum_agree (λ (r : DumpRec). one_where (p (mark r.copy (dumped r.chip r.out)))) (λ (r : DumpRec). count_by p (mark r.copy (dumped r.chip r.out) ∷ [])) f.dumped
+        (λ r a. sym (single (mark r.copy (dumped r.chip r.out)))))))
 
-    pub in_parts : (s : State) → count_by p (marks_of s) ≡ count_by p (unsent_marks s) + (count_by p (input_marks s) + (count_by p (all_hand_marks s) + (count_by p (core_marks s) + (count_by p (delivered_marks s) + count_by p (dumped_marks s)))))
+    pub in_parts : (s : State) → count_by p (marks_of s)
+        ≡ count_by p (unsent_marks s) + (count_by p (input_marks s) + (count_by p (all_hand_marks s) + (count_by p (core_marks s) + (count_by p (delivered_marks s) + count_by p (dumped_marks s)))))
     in_parts s =
         let a = count_by-append p (unsent_marks s) (input_marks s ++ (all_hand_marks s ++ (core_marks s ++ (delivered_marks s ++ dumped_marks s)))) in
         let b = count_by-append p (input_marks s) (all_hand_marks s ++ (core_marks s ++ (delivered_marks s ++ dumped_marks s))) in
         let c = count_by-append p (all_hand_marks s) (core_marks s ++ (delivered_marks s ++ dumped_marks s)) in
         let d = count_by-append p (core_marks s) (delivered_marks s ++ dumped_marks s) in
-        let e = count_by-append p (delivered_marks s) (dumped_marks s) in
-        omega (arith, a, b, c, d, e)
+        omega (arith, a, b, c, d, count_by-append p (delivered_marks s) (dumped_marks s))
 
   -- The moves of a round.
   pub bag_of_round : Bag m n
@@ -395,12 +395,7 @@ module _ (m : State) (f : Flow) (n : State) (mesh : IsMesh m) (after : IsMesh n)
             let c = cores_even p in
             let d = delivered_even p in
             let e = dumped_even p in
-            let came_all = came_by_parts p in
-            let injected = injected_is p in
-            let crossed = crossed_is p in
-            let hands = hands_even p in
-            let collected = collected_is p in
-            omega (arith, leaving, coming, before, later, hands_m, hands_n, a, b, c, d, e, came_all, injected, crossed, hands, collected);
+            omega (arith, leaving, coming, before, later, hands_m, hands_n, a, b, c, d, e, came_by_parts p, injected_is p, crossed_is p, hands_even p, collected_is p);
         setup = passes.setup;
       }
 
@@ -409,25 +404,24 @@ module _ (m : State) (f : Flow) (n : State) (mesh : IsMesh m) (after : IsMesh n)
   all_copies : (at : Station) (ks : List McCopy) → is_step_at at ≡ true → count_by is_step (marks_at at ks) ≡ length ks
   all_copies at [] is = refl
   all_copies at (k ∷ ks) is =
-      let rest = all_copies at ks is in
       let first = sum_by-cons (λ x. one_where (is_step x)) (mark k at) (marks_at at ks) in
       let one : one_where (is_step_at at) ≡ 1 = ap one_where is in
-      omega (arith, rest, first, one)
+      omega (arith, all_copies at ks is, first, one)
 
   some_items : {X : Type 0} (xs : List X) → xs ≢ [] → 1 ≤ length xs
   some_items [] none = absurd (none refl)
   some_items (x ∷ xs) some = omega arith
 
   steps : count_left is_step bag_of_round.moves
-      ≡ count_left is_step sent_part.moves + (count_left is_step taken_part.moves + (count_left is_step crossed_part.moves + (count_left is_step dumped_part.moves + count_left is_step delivered_part.moves)))
+      ≡ count_left is_step sent_part.moves
+      + (count_left is_step taken_part.moves + (count_left is_step crossed_part.moves + (count_left is_step dumped_part.moves + count_left is_step delivered_part.moves)))
   unfolding bag_of_round both_parts
   steps =
       let a = count_left-append is_step sent_part.moves (taken_part.moves ++ (crossed_part.moves ++ (dumped_part.moves ++ delivered_part.moves))) in
       let b = count_left-append is_step taken_part.moves (crossed_part.moves ++ (dumped_part.moves ++ delivered_part.moves)) in
       let c = count_left-append is_step crossed_part.moves (dumped_part.moves ++ delivered_part.moves) in
-      let d = count_left-append is_step dumped_part.moves delivered_part.moves in
       let whole : count_left is_step bag_of_round.moves ≡ count_left is_step (sent_part.moves ++ (taken_part.moves ++ (crossed_part.moves ++ (dumped_part.moves ++ delivered_part.moves)))) = refl in
-      omega (arith, a, b, c, d, whole)
+      omega (arith, a, b, c, count_left-append is_step dumped_part.moves delivered_part.moves, whole)
 
   by_part : (moves sum part : ℕ) → moves ≡ sum → part ≤ sum → 1 ≤ part → 1 ≤ moves
   by_part moves sum part left within some = omega (arith, left, within, some)
@@ -437,14 +431,13 @@ module _ (m : State) (f : Flow) (n : State) (mesh : IsMesh m) (after : IsMesh n)
   some_steps (inl (input i, is, left)) =
       let below : i < 7 * (u.machine.width * u.machine.height) = omega (arith, is, mesh.input_lists) in
       let one = once_in_range i 0 (7 * (u.machine.width * u.machine.height)) (omega arith) (omega (arith, below)) in
-      let found = counted (λ j. i == j) (range_with_len 0 (7 * (u.machine.width * u.machine.height))) (omega (arith, one)) in
-      let there : Among i (range_with_len 0 (7 * (u.machine.width * u.machine.height))) = subst (λ j. Among j (range_with_len 0 (7 * (u.machine.width * u.machine.height)))) (sym (eqb-true i found.0 found.2)) found.1 in
+      let found = counted (λ j. i == j) places (omega (arith, one)) in
+      let there : Among i places = subst (λ j. Among j places) (sym (eqb-true i found.0 found.2)) found.1 in
       let some = some_items (f.left (input i)) left in
       let all = all_copies (station_of u (input i)) (f.left (input i)) refl in
       let part = by_part (count_left is_step taken_part.moves) _ (count_by is_step (marks_at (station_of u (input i)) (f.left (input i)))) (taken_part.leaving is_step)
-      (part_of_sum (λ j. count_by is_step (marks_at (station_of u (input j)) (f.left (input j)))) i (range_with_len 0 (7 * (u.machine.width * u.machine.height))) there) (omega (arith, all, some)) in
-      let long = steps in
-      omega (arith, long, part)
+      (part_of_sum (λ j. count_by is_step (marks_at (station_of u (input j)) (f.left (input j)))) i places there) (omega (arith, all, some)) in
+      omega (arith, steps, part)
   some_steps (inl (core v, is, left)) =
       let below : v < length u.spots = omega (arith, is, mesh.core_lists) in
       let some = some_items (f.left (core v)) left in
@@ -454,8 +447,7 @@ module _ (m : State) (f : Flow) (n : State) (mesh : IsMesh m) (after : IsMesh n)
       let few = count_by-le-length (λ (d : Delivery). d.vertex == v) f.delivered in
       let all = sum_ones f.delivered in
       let part = by_part (count_left is_step delivered_part.moves) _ (length f.delivered) (delivered_part.leaving is_step) (omega (arith, all)) (omega (arith, some, same, mapped, filtered, few)) in
-      let long = steps in
-      omega (arith, long, part)
+      omega (arith, steps, part)
     where
       sum_ones : (ds : List Delivery) → sum_by (λ (d : Delivery). count_by is_step (mark d.copy (at_core d.vertex) ∷ [])) ds ≡ length ds
       sum_ones [] = refl
@@ -467,8 +459,7 @@ module _ (m : State) (f : Flow) (n : State) (mesh : IsMesh m) (after : IsMesh n)
       let spot = slice_get_there u.spots v below in
       let part = by_part (count_left is_step sent_part.moves) _ (count_by is_step (marks_at (unsent (0 + v)) (f.sent (0 + v)))) (sent_part.leaving is_step)
       (part_of_sum_at (λ w (spot : Spot). count_by is_step (marks_at (unsent w) (f.sent w))) 0 u.spots v spot.0 spot.1) (omega (arith, all, some, zero_plus v)) in
-      let long = steps in
-      omega (arith, long, part)
+      omega (arith, steps, part)
     where
       zero_plus : (w : ℕ) → count_by is_step (marks_at (unsent (0 + w)) (f.sent (0 + w))) ≡ count_by is_step (marks_at (unsent w) (f.sent w))
       zero_plus w = let same : 0 + w ≡ w = omega arith in ap (λ n. count_by is_step (marks_at (unsent n) (f.sent n))) same
@@ -489,14 +480,12 @@ module _ (m : State) (f : Flow) (n : State) (mesh : IsMesh m) (after : IsMesh n)
 
   there : (c : Chip) → IsLiveChip u.machine c → Among c (live_chips u.machine)
   there c live =
-      let one = live_chip_once u.machine c live in
-      let found = counted (chip_eq c) (live_chips u.machine) (omega (arith, one)) in
+      let found = counted (chip_eq c) (live_chips u.machine) (omega (arith, live_chip_once u.machine c live)) in
       subst (λ e. Among e (live_chips u.machine)) (sym (chip_eq_true c found.0 found.2)) found.1
 
   among_outs : (o : Out) → IsOutput o → Among o all_outs
   among_outs o is =
-      let one = all_once o is in
-      let found = counted (out_eq o) all_outs (omega (arith, one)) in
+      let found = counted (out_eq o) all_outs (omega (arith, all_once o is)) in
       subst (λ p. Among p all_outs) (sym (out_eq_true o found.0 found.2)) found.1
 
   -- what entered the queue behind an output is among what came
@@ -508,8 +497,6 @@ module _ (m : State) (f : Flow) (n : State) (mesh : IsMesh m) (after : IsMesh n)
       let b = count_come-append p taken_part.moves (crossed_part.moves ++ (dumped_part.moves ++ delivered_part.moves)) in
       let d = count_come-append p crossed_part.moves (dumped_part.moves ++ delivered_part.moves) in
       let whole : count_come p bag_of_round.moves ≡ count_come p (sent_part.moves ++ (taken_part.moves ++ (crossed_part.moves ++ (dumped_part.moves ++ delivered_part.moves)))) = refl in
-      let coming = crossed_part.coming p in
-      let crossed = crossed_is p in
       let of_chip = part_of_sum (λ e. sum_by (λ q. came_in p (behind u e q)) all_outs) c (live_chips u.machine) (there c live) in
       let of_out = part_of_sum (λ q. came_in p (behind u c q)) o all_outs (among_outs o is) in
-      omega (arith, a, b, d, whole, coming, crossed, of_chip, of_out)
+      omega (arith, a, b, d, whole, crossed_part.coming p, crossed_is p, of_chip, of_out)

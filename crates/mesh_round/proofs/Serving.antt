@@ -1,26 +1,15 @@
 -- What was served at an output of a chip: each copy went on or was dumped.
 use Rattle.std.proofs.Common.{◌≡◌, ℕ, ◌+◌, ◌<◌, ◌≤◌, Bool, true, false, cond, if◌then◌else◌, ◌||◌, ◌==◌, List, [], ◌∷◌, ◌++◌, map, refl, sym, ap, ◌∙◌, subst, arith, inl, inr, count_by}
-use Rattle.std.specs.List.{filter, flat_map, list_any}
-use Rattle.std.specs.List.Sorted.{IsPermutation}
 use Rattle.std.proofs.lemmas.Bool.{cases_Bool}
 use Rattle.std.proofs.lemmas.List.Sorted.{IsPermutation-refl, IsPermutation-sym, IsPermutation-cons, IsPermutation-trans, IsPermutation-middle}
-use Rattle.spin_base.proofs.Counts.{count_by-cons}
-use Rattle.spin_base.proofs.Members.{Among, among_map, map_among}
-use Rattle.spin_base.specs.declared.chips.Chip.{Chip}
-use Rattle.spin_base.specs.declared.chips.Port.{Port}
-use Rattle.spin_base.specs.declared.routes.Out.{Out}
-use Rattle.spin_base.specs.declared.copies.McCopy.{McCopy}
-use Rattle.spin_base.specs.Equality.{out_eq}
-use Rattle.spin_base.specs.Hops.{last_hop, onward}
-use Rattle.spin_base.specs.Lookup.{lookup}
-use Rattle.spin_base.specs.Outputs.{IsOutput, has, outs_of}
-use Rattle.spin_base.proofs.Once.{outs_once}
+use Rattle.std.specs.List.{filter, flat_map, list_any, Sorted.IsPermutation}
+use Rattle.spin_base.proofs.{Counts.count_by-cons, Members.Among, Members.among_map, Members.map_among, Once.outs_once}
+use Rattle.spin_base.specs.declared.{chips.Chip.Chip, chips.Port.Port, routes.Out.Out, copies.McCopy.McCopy}
+use Rattle.spin_base.specs.{Equality.out_eq, Hops.last_hop, Hops.onward, Lookup.lookup, Outputs.IsOutput, Outputs.has, Outputs.outs_of}
 use Rattle.machine_desc.specs.RightTables.{table_at}
-use Rattle.chip_node.specs.declared.ends.Served.{Served}
-use Rattle.chip_node.specs.declared.ends.Served.TheVariants.{Sent, Dumped}
+use Rattle.chip_node.specs.declared.ends.Served.{Served, TheVariants.Sent, TheVariants.Dumped}
 use Rattle.chip_node.specs.Items.{Service, brought, lost}
-use Rattle.mesh_core.specs.State.{Setup}
-use Rattle.mesh_core.specs.Step.{outputs}
+use Rattle.mesh_core.specs.{State.Setup, Step.outputs}
 use Rattle.mesh_core.proofs.MarkTests.{below_last}
 use Rattle.mesh_run.specs.Played.{owed_on}
 use Rattle.mesh_round.specs.RoundFlow.{leaves_by}
@@ -141,7 +130,8 @@ pub served_fits : (u : Setup) (c : Chip) (taken : List (Port × McCopy)) (ss : L
     (s : Service) → Among s ss → (t : Port × McCopy) × Among t taken × (s.copy ≡ t.1) × (t.1.hop ≤ last_hop → s.copy.hop < last_hop)
 served_fits u c taken ss each s a =
     let owes : Port × McCopy → List (Out × McCopy) = λ t. map {B = Out × McCopy} (λ o. (o, t.1)) (outputs u c t.0 t.1) in
-    let there : Among (s.out, s.copy) (owed_on u c taken) = subst (λ (l : List (Out × McCopy)). Among (s.out, s.copy) l) each (map_among {Y = Out × McCopy} (λ (x : Service). (x.out, x.copy)) s ss a) in
+    let there : Among (s.out, s.copy) (owed_on u c taken) = subst (λ (l : List (Out × McCopy)). Among (s.out, s.copy) l) each
+    (map_among {Y = Out × McCopy} (λ (x : Service). (x.out, x.copy)) s ss a) in
     let of = among_flat owes (s.out, s.copy) taken there in
     let out = among_map {Y = Out × McCopy} (λ (o : Out). (o, of.0.1)) (s.out, s.copy) (outputs u c of.0.0 of.0.1) of.2 in
     let same : s.copy ≡ of.0.1 = ap (λ (x : Out × McCopy). x.1) out.2 in

@@ -1,22 +1,18 @@
 -- Each queue into which copies come has one source: an output of a live chip, or the cores of one. So what entered the queues
 -- behind all sources is what entered all queues.
 use Rattle.std.proofs.Common.{◌≡◌, ℕ, ◌+◌, ◌*◌, ◌<◌, ◌≤◌, suc, zero, Bool, true, false, cond, ◌==◌, ◌&&◌, List, ◌∷◌, map, Option, Some, None, refl, ap, sym, ◌∙◌, arith, inl, inr, count_by}
+use Rattle.std.proofs.lemmas.{Bool.cases_Bool, Bool.eqb-true, List.Sums.sum_by-cons}
 use Rattle.std.specs.List.{sum_by, filter, range_with_len}
-use Rattle.std.proofs.lemmas.Bool.{cases_Bool, eqb-true}
-use Rattle.std.proofs.lemmas.List.Sums.{sum_by-cons}
 use Rattle.spin_base.specs.Gathered.{gathered}
-use Rattle.spin_base.proofs.Members.{Among, among_filter}
-use Rattle.spin_base.proofs.Tests.{answers_none}
-use Rattle.spin_base.specs.declared.chips.Chip.{Chip}
-use Rattle.spin_base.specs.declared.routes.Out.{Out}
+use Rattle.spin_base.specs.declared.{chips.Chip.Chip, routes.Out.Out}
 use Rattle.spin_base.specs.Equality.{chip_eq, out_eq}
 use Rattle.spin_base.specs.Outputs.{all_outs, IsOutput}
+use Rattle.spin_base.proofs.{Members.Among, Members.among_filter, Tests.answers_none}
 use Rattle.spin_base.proofs.Equality.{nat_eq_same, chip_eq_same, chip_eq_true, out_eq_same, out_eq_true}
 use Rattle.spin_base.proofs.Once.{all_once}
 use Rattle.machine_desc.specs.Description.{Description}
 use Rattle.machine_desc.specs.Live.{index_of, chip_of, grid_chips, is_live_chip, IsLiveChip}
-use Rattle.machine_desc.proofs.Far.{live_inside, index_below}
-use Rattle.machine_desc.proofs.Live.{index_of-chip_of, chip_of-index_of}
+use Rattle.machine_desc.proofs.{Far.live_inside, Far.index_below, Live.index_of-chip_of, Live.chip_of-index_of}
 use Rattle.mesh_round.proofs.Sums.{sum_agree, sum_none, sum_filter, sum_map, sum_gathered, sum_at-plain}
 pub use Rattle.mesh_run.proofs.OutputBits.{range_parts}
 
@@ -47,8 +43,7 @@ once_in_range i a (suc n) from below =
           omega (arith, all, one, rest)
       | inr other ↦
           let none : first (i == a) ≡ 0 = ap first other in
-          let apart = differ i a other in
-          let rest = once_in_range i (a + 1) n (omega (arith, from, apart)) (omega (arith, below)) in
+          let rest = once_in_range i (a + 1) n (omega (arith, from, differ i a other)) (omega (arith, below)) in
           omega (arith, all, none, rest)
     ]
   where
@@ -137,8 +132,7 @@ choice_once None is =
 choice_once (Some o) is =
     let all = sum_by-cons (λ y. one_where (choice_eq (Some o) y)) None (map Some all_outs) in
     let rest = sum_map Some (λ y. one_where (choice_eq (Some o) y)) all_outs in
-    let one = all_once o is in
-    omega (arith, all, rest, one)
+    omega (arith, all, rest, all_once o is)
 
 -- each chip with each of its sources
 abbrev pub sources : Description → List (Chip × Option Out)

@@ -1,37 +1,23 @@
 -- What all routers took, output by output: it crossed an output or was dumped there.
 use Rattle.std.proofs.Common.{◌≡◌, ℕ, ◌+◌, ◌*◌, ◌/◌, ◌%◌, ◌<◌, Bool, true, false, cond, ◌==◌, ◌&&◌, List, [], ◌∷◌, ◌++◌, map, filter, refl, ap, ap₂, sym, ◌∙◌, subst, arith, inl, inr, ◌⊎◌, count_by}
-use Rattle.std.specs.Cmp.{both_ways}
-use Rattle.std.specs.List.{sum_by, range_with_len}
 use Rattle.std.proofs.lemmas.Bool.{cases_Bool, and_from, and_parts, eqb-true}
-use Rattle.std.proofs.lemmas.Option.{get_or_from_slice_get}
-use Rattle.std.proofs.lemmas.List.Elements.{All-contains}
+use Rattle.std.proofs.lemmas.{Option.get_or_from_slice_get, List.Elements.All-contains}
+use Rattle.std.specs.{Cmp.both_ways, List.sum_by, List.range_with_len}
 use Rattle.spin_base.specs.Gathered.{gathered}
-use Rattle.spin_base.proofs.Members.{Among, among_contains, among_map, among_at}
-use Rattle.spin_base.proofs.Gathering.{among_gathered}
-use Rattle.spin_base.proofs.Tests.{answers_none}
-use Rattle.spin_base.specs.declared.chips.Chip.{Chip}
-use Rattle.spin_base.specs.declared.chips.Dir.{Dir}
+use Rattle.spin_base.specs.declared.chips.{Chip.Chip, Dir.Dir}
 use Rattle.spin_base.specs.declared.chips.Dir.TheVariants.{East, NorthEast, North, West, SouthWest, South}
-use Rattle.spin_base.specs.declared.chips.Port.{Port}
-use Rattle.spin_base.specs.declared.chips.Port.TheVariants.{Link as ByLink, Local}
-use Rattle.spin_base.specs.declared.routes.Out.{Out}
-use Rattle.spin_base.specs.declared.copies.McCopy.{McCopy}
-use Rattle.spin_base.specs.declared.copies.DumpRec.{DumpRec}
-use Rattle.spin_base.specs.Links.{port_number}
-use Rattle.spin_base.specs.Equality.{chip_eq, port_eq, out_eq}
-use Rattle.spin_base.specs.Outputs.{all_outs, IsOutput}
+use Rattle.spin_base.specs.declared.chips.Port.{Port, TheVariants.Link as ByLink, TheVariants.Local}
+use Rattle.spin_base.specs.declared.{routes.Out.Out, copies.McCopy.McCopy, copies.DumpRec.DumpRec}
+use Rattle.spin_base.specs.{Links.port_number, Equality.chip_eq, Equality.port_eq, Equality.out_eq, Outputs.all_outs, Outputs.IsOutput, Hops.last_hop}
+use Rattle.spin_base.proofs.Members.{Among, among_contains, among_map, among_at}
+use Rattle.spin_base.proofs.{Gathering.among_gathered, Tests.answers_none}
 use Rattle.spin_base.proofs.Equality.{nat_eq_same, chip_eq_same, chip_eq_true, port_eq_same, port_eq_true, out_eq_true}
 use Rattle.spin_base.proofs.Once.{all_once}
-use Rattle.spin_base.specs.Hops.{last_hop}
 use Rattle.machine_desc.specs.Live.{index_of, chip_of, is_live_chip, is_live_link, IsInside, IsLiveChip}
-use Rattle.machine_desc.proofs.Far.{live_inside, live_ends}
-use Rattle.machine_desc.proofs.Live.{chip_of-inside, index_of-chip_of, chip_of-index_of}
+use Rattle.machine_desc.proofs.{Far.live_inside, Far.live_ends, Live.chip_of-inside, Live.index_of-chip_of, Live.chip_of-index_of}
 use Rattle.mesh_core.specs.State.{Setup, State, IsMesh, Queue, input, behind, queue_at}
-use Rattle.mesh_core.specs.Step.{outputs}
-use Rattle.mesh_core.specs.Trail.{in_hand, Mark}
-use Rattle.mesh_core.specs.Ledger.{all_ports, port_of}
-use Rattle.mesh_core.proofs.Changes.{port_below, queue_at-below}
-use Rattle.mesh_core.proofs.Moves.{mark, port_of-port_number}
+use Rattle.mesh_core.specs.{Step.outputs, Trail.in_hand, Trail.Mark, Ledger.all_ports, Ledger.port_of}
+use Rattle.mesh_core.proofs.{Changes.port_below, Changes.queue_at-below, Moves.mark, Moves.port_of-port_number}
 use Rattle.mesh_round.specs.RoundFlow.{Flow, Passes, at_port, leaves_by, taken_for, dumped_at, held_in}
 use Rattle.mesh_round.proofs.Sums.{sum_agree, sum_none, sum_map, sum_filter, sum_swap, sum_plus, sum_gathered, sum_at-plain, one_passes, carried}
 use Rattle.mesh_round.proofs.Ends.{one_port}
@@ -135,8 +121,7 @@ module _ (p : Mark → Bool) (m : State) (f : Flow) (n : State) (mesh : IsMesh m
   dead_link : (c : Chip) (d : Dir) → is_live_chip u.machine c ≡ false → is_live_link u.machine c d ≡ false
   dead_link c d dead = elim (cases_Bool (is_live_link u.machine c d)) [
     | inl live ↦
-        let ends = live_ends u.machine c d live in
-        absurd (answers_none (is_live_chip u.machine c) ends.2 dead)
+        absurd (answers_none (is_live_chip u.machine c) (live_ends u.machine c d live).2 dead)
     | inr none ↦ none
   ]
 

@@ -1,8 +1,6 @@
 -- The flow of a round on threads, as what was done tells it.
 use Rattle.std.proofs.Common.{◌≡◌, ℕ, ◌+◌, ◌*◌, ◌<◌, List, [], length, replicate, Some, None, refl, sym, ap, ◌∙◌, arith, inl, inr}
-use Rattle.std.proofs.lemmas.Bool.{cases_lt}
-use Rattle.std.proofs.lemmas.List.{get_or_append_left, get_or-append-add, get_or_past}
-use Rattle.std.proofs.lemmas.Option.{same_Some}
+use Rattle.std.proofs.lemmas.{Bool.cases_lt, List.get_or_append_left, List.get_or-append-add, List.get_or_past, Option.same_Some}
 use Rattle.chip_node.specs.Items.{Item, deliveries, entered, left, records, sent_by}
 use Rattle.mesh_core.specs.State.{Setup, State, IsMesh, Queue, input, core, nowhere}
 use Rattle.mesh_core.proofs.Keeping.{core_is_somewhere, input_is_somewhere}

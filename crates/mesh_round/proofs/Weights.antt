@@ -1,29 +1,14 @@
 -- What a router took, by output: each copy that lookup gives an output crosses it or is dumped there.
 use Rattle.std.proofs.Common.{◌≡◌, ℕ, ◌+◌, ◌-◌, ◌<◌, ◌≤◌, Bool, true, false, cond, ◌==◌, ◌&&◌, if◌then◌else◌, List, [], ◌++◌, map, filter, min, refl, ap, sym, ◌∙◌, subst, arith}
-use Rattle.std.specs.Cmp.{both_ways}
-use Rattle.std.specs.List.{All, sum_by, list_any}
-use Rattle.std.proofs.lemmas.List.Elements.{All-contains}
-use Rattle.std.proofs.lemmas.List.Sums.{sum_by-append}
-use Rattle.std.proofs.lemmas.List.Sorted.{sum_by-IsPermutation, All-permutation}
+use Rattle.std.proofs.lemmas.List.{Elements.All-contains, Sums.sum_by-append, Sorted.sum_by-IsPermutation, Sorted.All-permutation}
+use Rattle.std.specs.{Cmp.both_ways, List.All, List.sum_by, List.list_any}
 use Rattle.spin_base.proofs.Members.{Among, among_contains, contains_among, among_map, among_filter, among_any, any_among, among_left, Contains-filter}
-use Rattle.spin_base.proofs.Places.{All-each}
-use Rattle.spin_base.proofs.Gathering.{among_gathered}
-use Rattle.spin_base.proofs.Tests.{answers_none}
-use Rattle.spin_base.specs.declared.chips.Chip.{Chip}
-use Rattle.spin_base.specs.declared.chips.Port.{Port}
-use Rattle.spin_base.specs.declared.routes.Out.{Out}
-use Rattle.spin_base.specs.declared.copies.McCopy.{McCopy}
-use Rattle.spin_base.specs.declared.copies.DumpRec.{DumpRec}
+use Rattle.spin_base.proofs.{Places.All-each, Gathering.among_gathered, Tests.answers_none, Equality.out_eq_same, Equality.out_eq_true}
+use Rattle.spin_base.specs.declared.{chips.Chip.Chip, chips.Port.Port, routes.Out.Out, copies.McCopy.McCopy, copies.DumpRec.DumpRec}
 use Rattle.spin_base.specs.Equality.{chip_eq, out_eq}
-use Rattle.spin_base.specs.Lookup.{lookup}
-use Rattle.spin_base.specs.Outputs.{has, outs_of, all_outs, IsOutput}
-use Rattle.spin_base.proofs.Equality.{out_eq_same, out_eq_true}
-use Rattle.spin_base.specs.Hops.{last_hop, onward}
-use Rattle.machine_desc.specs.Live.{IsLiveChip}
-use Rattle.machine_desc.specs.RightTables.{table_at}
-use Rattle.mesh_core.specs.State.{Setup, State, behind}
-use Rattle.mesh_core.specs.Step.{outputs}
-use Rattle.mesh_core.specs.Ledger.{all_ports}
+use Rattle.spin_base.specs.{Lookup.lookup, Outputs.has, Outputs.outs_of, Outputs.all_outs, Outputs.IsOutput, Hops.last_hop, Hops.onward}
+use Rattle.machine_desc.specs.{Live.IsLiveChip, RightTables.table_at}
+use Rattle.mesh_core.specs.{State.Setup, State.State, State.behind, Step.outputs, Ledger.all_ports}
 use Rattle.mesh_round.specs.RoundFlow.{Flow, Passes, at_port, leaves_by, taken_for, dumped_at}
 use Rattle.mesh_round.proofs.Sums.{sum_agree, sum_none, sum_map, sum_filter}
 
@@ -53,8 +38,7 @@ sum_outputs u c port k w = by_hop (k.hop == last_hop) refl
     among_outs r o a =
         both_ways (list_any (out_eq o) (filter (has r) all_outs)) (has r o)
         (λ any. let found = any_among (out_eq o) (filter (has r) all_outs) any in
-        let same = out_eq_true o found.0 found.2 in
-        ap (has r) same ∙ (among_filter (has r) found.0 all_outs found.1).1)
+        ap (has r) (out_eq_true o found.0 found.2) ∙ (among_filter (has r) found.0 all_outs found.1).1)
         (λ it. among_any (out_eq o) o (filter (has r) all_outs) (contains_among o (filter (has r) all_outs) (Contains-filter (has r) all_outs o (among_contains o all_outs a) it)) (out_eq_same o))
 
     by_hop : (b : Bool) → (k.hop == last_hop) ≡ b → sum_by w (outputs u c port k) ≡ sum_by (λ o. cond (leaves_by u c o port k) (w o) 0) all_outs
@@ -91,13 +75,15 @@ module _ (m : State) (f : Flow) (n : State) (passes : Passes m f n) (c : Chip) (
   taken_low k a =
       let at = among_gathered (λ i port. filter (leaves_by m.setup c o port) (f.left (at_port m.setup c port))) k all_ports a in
       let passing = among_filter (leaves_by m.setup c o at.1) k (f.left (at_port m.setup c at.1)) at.3 in
-      not_last m.setup c o at.1 k passing.1 (All-contains (λ (j : McCopy). j.hop ≤ last_hop) (f.left (at_port m.setup c at.1)) k (passes.hops (at_port m.setup c at.1)) (among_contains k (f.left (at_port m.setup c at.1)) passing.0))
+      not_last m.setup c o at.1 k passing.1 (All-contains (λ (j : McCopy). j.hop ≤ last_hop) (f.left (at_port m.setup c at.1)) k (passes.hops (at_port m.setup c at.1))
+      (among_contains k (f.left (at_port m.setup c at.1)) passing.0))
 
   dumped_low : (k : McCopy) → Among k (dumped_at f c o) → k.hop < last_hop
   dumped_low k a =
       let of = among_map (λ (r : DumpRec). r.copy) k (filter (λ (r : DumpRec). chip_eq r.chip c && out_eq r.out o) f.dumped) a in
       let there = among_filter (λ (r : DumpRec). chip_eq r.chip c && out_eq r.out o) of.0 f.dumped of.1 in
-      let low = (All-contains (λ (r : DumpRec). IsLiveChip m.setup.machine r.chip × IsOutput r.out × (r.copy.hop < last_hop)) f.dumped of.0 passes.at_outputs (among_contains of.0 f.dumped there.0)).2 in
+      let low = (All-contains (λ (r : DumpRec). IsLiveChip m.setup.machine r.chip × IsOutput r.out × (r.copy.hop < last_hop)) f.dumped of.0 passes.at_outputs
+      (among_contains of.0 f.dumped there.0)).2 in
       subst (λ (j : McCopy). j.hop < last_hop) (sym of.2) low
 
   -- what the router took for the output is what crossed it and what was dumped there, by any weight on copies
@@ -106,13 +92,10 @@ module _ (m : State) (f : Flow) (n : State) (passes : Passes m f n) (c : Chip) (
       let h : McCopy → ℕ = λ k. w (back k) in
       let entered = f.entered (behind m.setup c o) in
       let all = sum_by-IsPermutation h (map onward (taken_for m.setup f c o)) (entered ++ map onward (dumped_at f c o)) (passes.routed c o live is) in
-      let before = sum_map onward h (taken_for m.setup f c o) in
       let took = sum_agree (λ k. h (onward k)) w (taken_for m.setup f c o) (λ k a. ap w (back_onward k (taken_low k a))) in
       let parts = sum_by-append h entered (map onward (dumped_at f c o)) in
-      let cross = sum_map back w entered in
-      let drop = sum_map onward h (dumped_at f c o) in
       let dropped = sum_agree (λ k. h (onward k)) w (dumped_at f c o) (λ k a. ap w (back_onward k (dumped_low k a))) in
-      omega (arith, all, before, took, parts, cross, drop, dropped)
+      omega (arith, all, sum_map onward h (taken_for m.setup f c o), took, parts, sum_map back w entered, sum_map onward h (dumped_at f c o), dropped)
 
   -- what entered the queue behind the output has a hop number of at least 1
   pub entered_is : (k : McCopy) → Among k (f.entered (behind m.setup c o)) → (onward (back k) ≡ k) × (k.hop ≤ last_hop)

@@ -1,30 +1,22 @@
 -- What one turn of the actor at a place does to a share, and turns one after the other.
 use Rattle.std.proofs.Common.{◌≡◌, ◌≢◌, ◌⊎◌, ℕ, zero, suc, ◌+◌, ◌*◌, ◌/◌, ◌%◌, ◌<◌, ◌≤◌, Bool, true, false, List, [], ◌∷◌}
 use Rattle.std.proofs.Common.{◌++◌, length, take, drop, Option, None, Some, refl, sym, ap, ◌∙◌, subst, arith, inl, inr}
+use Rattle.std.proofs.lemmas.List.{length-take, length-drop, Elements.All-append, Elements.All-nil, Elements.All-weaker}
+use Rattle.std.proofs.lemmas.{Bool.cases_eq, Nat.div-add-mod', Nat.mod_below, Option.slice_get_within}
 use Rattle.std.specs.List.{All, slice_get, slice_index_or}
-use Rattle.std.proofs.lemmas.List.{length-take, length-drop}
-use Rattle.std.proofs.lemmas.List.Elements.{All-append, All-nil, All-weaker}
-use Rattle.std.proofs.lemmas.Bool.{cases_eq}
-use Rattle.std.proofs.lemmas.Nat.{div-add-mod', mod_below}
-use Rattle.std.proofs.lemmas.Option.{slice_get_within}
-use Rattle.spin_base.proofs.Outputs.{out_number_below}
-use Rattle.spin_base.proofs.Places.{All-each, both_none}
-use Rattle.spin_base.specs.declared.routes.Out.{Out}
-use Rattle.spin_base.specs.declared.routes.Out.TheVariants.{Link, Core}
-use Rattle.spin_base.specs.Links.{port_number}
-use Rattle.spin_base.specs.Outputs.{out_number, IsOutput}
+use Rattle.spin_base.proofs.{Outputs.out_number_below, Places.All-each, Places.both_none}
+use Rattle.spin_base.specs.declared.routes.Out.{Out, TheVariants.Link, TheVariants.Core}
+use Rattle.spin_base.specs.{Links.port_number, Outputs.out_number, Outputs.IsOutput}
 use Rattle.machine_desc.specs.Live.{chip_of, index_of, is_live_chip}
 use Rattle.machine_desc.proofs.{Far.live_inside, Live.index_of-chip_of}
 use Rattle.link_queue.specs.declared.links.Link.{Link as QueueLink}
 use Rattle.chip_node.specs.declared.holdings.{Holdings.Holdings, Turn.Turn}
 use Rattle.chip_node.specs.declared.holdings.Turn.TheVariants.{Moved, Nothing, Waits}
 use Rattle.chip_node.specs.declared.nodes.{Behind.Behind, CoreBank.CoreBank, RouterNode.RouterNode}
-use Rattle.chip_node.specs.Acting.{place_in, BankActs, IsReadyBank, IsReadyRouter, RouterActs}
-use Rattle.chip_node.specs.Acting.{place_at_router}
+use Rattle.chip_node.specs.Acting.{place_in, BankActs, IsReadyBank, IsReadyRouter, RouterActs, place_at_router}
 use Rattle.chip_node.specs.Going.{AreEndsOf, Goes, HoldsSender, Stays}
 use Rattle.chip_node.specs.Items.{Item, injection_place, port_place}
-use Rattle.chip_node.proofs.Flows.{goes_none, goes_on, holds_sender_on}
-use Rattle.chip_node.proofs.Stays.{stays_same}
+use Rattle.chip_node.proofs.{Flows.goes_none, Flows.goes_on, Flows.holds_sender_on, Stays.stays_same}
 use Rattle.mesh_core.specs.State.{Setup}
 use Rattle.mesh_run.specs.declared.{floors.Floor.Floor, shares.Share.Share}
 use Rattle.mesh_run.specs.Floors.{grid_size, IsBankOf, IsFloorOf}

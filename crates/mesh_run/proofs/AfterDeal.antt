@@ -1,31 +1,26 @@
 -- The shares of a split mesh, with the ends of the links between them dealt: each share holds what its actors need.
 use Rattle.std.proofs.Common.{◌≡◌, ◌≢◌, ℕ, ◌*◌, ◌^◌, ◌<◌, ◌≤◌, List, [], ◌++◌, length, map, get_or, Option, Some, refl, sym, ap, ◌∙◌, subst, arith, inl, inr, zero, suc}
-use Rattle.std.specs.List.{All, slice_get, slice_index_or}
 use Rattle.std.proofs.lemmas.{Bool.cases_eq, List.length-map}
 use Rattle.std.proofs.lemmas.Option.{get_or_from_slice_get, slice_get_within, slice_get-get_or, same_Some}
+use Rattle.std.specs.List.{All, slice_get, slice_index_or}
 use Rattle.spin_base.proofs.Places.{one_item_at, slice_get-mapped, slice_get_there}
 use Rattle.spin_base.proofs.Spots.{out_of-has_bit}
 use Rattle.spin_base.specs.{Outputs.IsOutput, WithRoom.WithRoom}
-use Rattle.spin_base.specs.declared.{copies.McCopy.McCopy, routes.Out.Out}
-use Rattle.spin_base.specs.declared.routes.Out.TheVariants.{Link as ByLink}
+use Rattle.spin_base.specs.declared.{copies.McCopy.McCopy, routes.Out.Out, routes.Out.TheVariants.Link as ByLink}
 use Rattle.machine_desc.specs.Live.{chip_of}
 use Rattle.machine_desc.proofs.Far.{live_inside}
 use Rattle.link_queue.specs.declared.links.{Link.Link, LinkEnds.LinkEnds}
 use Rattle.chip_node.specs.declared.ends.End.{End}
 use Rattle.chip_node.specs.declared.ends.End.TheVariants.{Away, Own, Sends, Takes}
-use Rattle.chip_node.specs.Going.{HoldsSender, IsEndOf}
-use Rattle.chip_node.specs.Items.{injection_place}
+use Rattle.chip_node.specs.{Going.HoldsSender, Going.IsEndOf, Items.injection_place}
 use Rattle.mesh_core.specs.State.{IsMesh, Setup, State}
 use Rattle.mesh_run.specs.declared.{homes.Cut.Cut, homes.Home.Home, raised.RaisedMesh.RaisedMesh, shares.Share.Share}
 use Rattle.mesh_run.specs.Crossing.{AreCuts, Deals, IsUncut}
-use Rattle.mesh_run.specs.Floors.{grid_size}
-use Rattle.mesh_run.specs.Homes.{AreShareRuns, run_start}
-use Rattle.mesh_run.specs.{Queues.WasUp, Raised.IsRaisedFrom}
+use Rattle.mesh_run.specs.{Floors.grid_size, Homes.AreShareRuns, Homes.run_start, Queues.WasUp, Raised.IsRaisedFrom}
 use Rattle.mesh_run.specs.Shares.{bank_place, router_place, IsInRun, IsShareOf}
 use Rattle.mesh_run.specs.Split.{end_at, end_in}
 use Rattle.mesh_run.proofs.Feeding.{LeadsTo, by_link, leads, place_below, to_vertex}
-use Rattle.mesh_run.proofs.HomeLaws.{live_below}
-use Rattle.mesh_run.proofs.PlanLaws.{few_cuts, few_homes}
+use Rattle.mesh_run.proofs.{HomeLaws.live_below, PlanLaws.few_cuts, PlanLaws.few_homes}
 
 -- an output that leads somewhere has a bit
 has_bit : (u : Setup) (i : ℕ) (o : Out) (q : ℕ) → LeadsTo u (chip_of u.machine i) o q → IsOutput o

@@ -7,8 +7,7 @@ use Rattle.spin_base.specs.declared.copies.McCopy.{McCopy}
 use Rattle.mesh_run.specs.declared.homes.Cut.{Cut}
 use Rattle.mesh_run.specs.Queues.{queue_of_link, AreUp, IsUp}
 use Rattle.mesh_run.specs.Split.{cut_queues, HaveNoLogs}
-use Rattle.mesh_run.proofs.AfterMesh.{mesh, queue_there}
-use Rattle.mesh_run.proofs.{Resting.fewer, WholeRound.Whole}
+use Rattle.mesh_run.proofs.{AfterMesh.mesh, AfterMesh.queue_there, Resting.fewer, WholeRound.Whole}
 
 module _ (w : Whole) where
   pub whole_no_logs : HaveNoLogs w.cleared

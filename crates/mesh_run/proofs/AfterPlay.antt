@@ -1,16 +1,13 @@
 -- The shares after the turns of a round: the ends that they hold can be collected, and there is room for what they logged.
 use Rattle.std.proofs.Common.{◌≡◌, ℕ, ◌<◌, ◌≤◌, List, [], ◌∷◌, length, map, get_or, Some, sym, ap, ◌∙◌, subst, arith, suc}
-use Rattle.std.specs.List.{All, slice_get, sum_by}
 use Rattle.std.proofs.lemmas.List.{get_or_default, Sums.sum_by-cons}
 use Rattle.std.proofs.lemmas.Option.{get_or_from_slice_get, slice_get_within, slice_get-get_or, same_Some}
+use Rattle.std.specs.List.{All, slice_get, sum_by}
 use Rattle.spin_base.proofs.Places.{All-at, slice_get-mapped, slice_get_there}
 use Rattle.link_queue.specs.declared.links.{Link.Link, LinkEnds.LinkEnds}
 use Rattle.link_queue.specs.Ends.{cap_of, IsRx, IsTx}
-use Rattle.chip_node.specs.declared.ends.End.{End}
-use Rattle.chip_node.specs.declared.ends.End.TheVariants.{Sends, Takes}
-use Rattle.chip_node.specs.declared.ends.{InEnd.InEnd, OutEnd.OutEnd}
-use Rattle.chip_node.specs.Going.{Goes, IsEndOf}
-use Rattle.chip_node.specs.Items.{Item}
+use Rattle.chip_node.specs.declared.ends.{End.End, End.TheVariants.Sends, End.TheVariants.Takes, InEnd.InEnd, OutEnd.OutEnd}
+use Rattle.chip_node.specs.{Going.Goes, Going.IsEndOf, Items.Item}
 use Rattle.mesh_core.specs.State.{IsMesh, State}
 use Rattle.mesh_run.specs.declared.{gathering.MeshLogs.MeshLogs, raised.RaisedMesh.RaisedMesh, shares.Share.Share, standing.Standing.Standing}
 use Rattle.mesh_run.specs.Crossing.{AreLaid, Deals, HoldsCollected}

@@ -1,21 +1,14 @@
 -- What a whole round logged is what its items tell, and the mesh to which it leads is split as it was.
 use Rattle.std.proofs.Common.{◌≡◌, ℕ, ◌<◌, Bool, false, ◌||◌, List, [], ◌∷◌, ◌++◌, length, get_or, refl, sym, ap, ap₂, ◌∙◌, subst, arith, suc}
-use Rattle.std.specs.List.{flat_map, list_any}
-use Rattle.std.specs.Global.{Vec}
 use Rattle.std.proofs.lemmas.{List.get_or_default, Option.slice_get-get_or}
+use Rattle.std.specs.{List.flat_map, List.list_any, Global.Vec}
 use Rattle.chip_node.specs.Going.{Goes}
 use Rattle.chip_node.specs.Items.{Item, deliveries, delivered_of, dumped_of, records}
 use Rattle.mesh_run.specs.declared.{gathering.MeshLogs.MeshLogs, raised.RaisedMesh.RaisedMesh, shares.Share.Share}
-use Rattle.mesh_run.specs.Gathering.{IsAnyMoved}
-use Rattle.mesh_run.specs.Raised.{IsRaisedFrom, PlaysTo}
-use Rattle.mesh_run.specs.Shares.{IsNoted}
+use Rattle.mesh_run.specs.{Gathering.IsAnyMoved, Raised.IsRaisedFrom, Raised.PlaysTo, Shares.IsNoted}
 use Rattle.mesh_run.specs.Split.{AreShared, HaveNoLogs, HoldLanes, HoldUnsent}
-use Rattle.mesh_run.proofs.AfterLinks.{whole_no_logs, whole_up}
-use Rattle.mesh_run.proofs.AfterLogs.{flat_same}
-use Rattle.mesh_run.proofs.AfterMesh.{mesh, whole_played}
-use Rattle.mesh_run.proofs.AfterRuns.{whole_shared}
-use Rattle.mesh_run.proofs.AfterSplit.{whole_lanes, whole_unsent}
-use Rattle.mesh_run.proofs.Together.{flat_map_joined, joined}
+use Rattle.mesh_run.proofs.{AfterLinks.whole_no_logs, AfterLinks.whole_up, AfterLogs.flat_same, AfterMesh.mesh, AfterMesh.whole_played}
+use Rattle.mesh_run.proofs.{AfterRuns.whole_shared, AfterSplit.whole_lanes, AfterSplit.whole_unsent, Together.flat_map_joined, Together.joined}
 use Rattle.mesh_run.proofs.WholeRound.{Whole, dealt_long, parts, played_parts, whole_noted}
 
 -- a test that is the same at each place has the same answer

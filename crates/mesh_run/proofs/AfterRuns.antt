@@ -1,7 +1,7 @@
 -- After a whole round the shares have the runs that they had, and lists as long.
 use Rattle.std.proofs.Common.{◌≡◌, ℕ, length, get_or, Some, ◌∙◌, subst, arith}
-use Rattle.std.specs.List.{slice_get}
 use Rattle.std.proofs.lemmas.Option.{get_or_from_slice_get, slice_get_within}
+use Rattle.std.specs.List.{slice_get}
 use Rattle.spin_base.proofs.Places.{slice_get_there}
 use Rattle.mesh_run.specs.declared.shares.Share.{Share}
 use Rattle.mesh_run.specs.{Shares.PlaysRound, Split.AreShared}

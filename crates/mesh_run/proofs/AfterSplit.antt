@@ -1,15 +1,12 @@
 -- The mesh to which a whole round leads is split as it was: lanes, and what is unsent, stand in the shares of their homes.
 use Rattle.std.proofs.Common.{◌≡◌, ◌≢◌, ◌⊎◌, ℕ, zero, suc, ◌<◌, ◌≤◌, List, [], ◌∷◌, ◌++◌, length, Option, None, Some, refl, sym, ap, ◌∙◌, subst, arith, inl, inr}
+use Rattle.std.proofs.lemmas.{Bool.cases_eq, Bool.cases_lt, Option.slice_get_within}
 use Rattle.std.specs.List.{slice_get}
-use Rattle.std.proofs.lemmas.Bool.{cases_eq, cases_lt}
-use Rattle.std.proofs.lemmas.Option.{slice_get_within}
 use Rattle.chip_node.specs.declared.ends.End.TheVariants.{Away}
 use Rattle.mesh_run.specs.declared.{homes.Cut.Cut, homes.Home.Home, shares.Share.Share}
 use Rattle.mesh_run.specs.{Crossing.IsUncut, Played.vertex_place}
 use Rattle.mesh_run.specs.Split.{end_at, unsent_in, HoldLanes, HoldUnsent}
-use Rattle.mesh_run.proofs.AfterMesh.{after_unsent, mesh, queue_there}
-use Rattle.mesh_run.proofs.EachQueue.{cleared_end, elsewhere}
-use Rattle.mesh_run.proofs.Together.{none_passes}
+use Rattle.mesh_run.proofs.{AfterMesh.after_unsent, AfterMesh.mesh, AfterMesh.queue_there, EachQueue.cleared_end, EachQueue.elsewhere, Together.none_passes}
 use Rattle.mesh_run.proofs.WholeRound.{Whole, dealt_long, parts, played_parts, uncut}
 
 past_none : (xs : List Share) (i : ℕ) → length xs ≤ i → slice_get xs i ≡ None

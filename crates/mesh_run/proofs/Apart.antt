@@ -1,15 +1,12 @@
 -- Places of queues: behind an output of a chip stands a queue that no other output leads to, and that no chip injects into.
 use Rattle.std.proofs.Common.{◌≡◌, ℕ, ◌<◌, true, false, List, [], length, Option, Some, None, refl, sym, ap, ◌∙◌, subst, arith, ◌∷◌, inl}
 use Rattle.std.proofs.lemmas.Option.{slice_get_within, same_Some}
-use Rattle.spin_base.proofs.Members.{Among}
-use Rattle.spin_base.specs.declared.chips.{Chip.Chip, Dir.Dir, Port.Port}
-use Rattle.spin_base.specs.declared.chips.Port.TheVariants.{Link as ByLink, Local}
+use Rattle.spin_base.proofs.{Members.Among, Equality.chip_eq_same}
+use Rattle.spin_base.specs.declared.chips.{Chip.Chip, Dir.Dir, Port.Port, Port.TheVariants.Link as ByLink, Port.TheVariants.Local}
 use Rattle.spin_base.specs.declared.routes.Out.{Out, TheVariants.Link}
-use Rattle.spin_base.specs.{Links.opposite_of, Outputs.out_of}
+use Rattle.spin_base.specs.{Links.opposite_of, Outputs.out_of, Equality.chip_eq}
 use Rattle.machine_desc.specs.Live.{far_of, IsInside, IsLiveLink}
 use Rattle.machine_desc.proofs.Far.{far_inside, far_parts, live_back}
-use Rattle.spin_base.proofs.Equality.{chip_eq_same}
-use Rattle.spin_base.specs.Equality.{chip_eq}
 use Rattle.chip_node.specs.Items.{where_same, where_there}
 use Rattle.mesh_core.specs.State.{Setup, input, core, behind, queue_at}
 use Rattle.mesh_core.proofs.Ways.{vertex_behind_stands}

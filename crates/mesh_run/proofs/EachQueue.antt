@@ -1,26 +1,19 @@
 -- What a whole round makes of each queue: a lane goes on in its share, and a link rests with what is left of its queue.
 use Rattle.std.proofs.Common.{◌≡◌, ◌≢◌, ℕ, ◌+◌, ◌<◌, ◌≤◌, min, List, [], ◌++◌, length, map, get_or, Option, Some, refl, sym, ap, ◌∙◌, subst, arith, inl, inr}
-use Rattle.std.specs.List.{slice_get}
 use Rattle.std.proofs.lemmas.{Bool.cases_eq, List.length-map, List.Elements.All-append}
 use Rattle.std.proofs.lemmas.Option.{get_or_from_slice_get, slice_get_within, same_Some}
+use Rattle.std.specs.List.{slice_get}
 use Rattle.spin_base.proofs.Places.{slice_get-mapped, slice_get_there}
 use Rattle.spin_base.specs.declared.copies.McCopy.{McCopy}
 use Rattle.spin_base.specs.WithRoom.{WithRoom}
 use Rattle.link_queue.specs.declared.links.{Link.Link, LinkEnds.LinkEnds}
 use Rattle.link_queue.specs.Ends.{cap_of}
-use Rattle.chip_node.specs.declared.ends.End.{End}
-use Rattle.chip_node.specs.declared.ends.End.TheVariants.{Own, Sends, Takes}
-use Rattle.chip_node.specs.declared.ends.{InEnd.InEnd, OutEnd.OutEnd}
+use Rattle.chip_node.specs.declared.ends.{End.End, End.TheVariants.Own, End.TheVariants.Sends, End.TheVariants.Takes, InEnd.InEnd, OutEnd.OutEnd}
 use Rattle.mesh_core.specs.State.{FitsQueue}
 use Rattle.mesh_run.specs.declared.{homes.Cut.Cut, homes.Home.Home, shares.Share.Share}
-use Rattle.mesh_run.specs.Crossing.{IsUncut}
-use Rattle.mesh_run.specs.Played.{held_at, QueueGoes}
-use Rattle.mesh_run.specs.Queues.{queue_of_link, IsDown, IsUp}
+use Rattle.mesh_run.specs.{Crossing.IsUncut, Played.held_at, Played.QueueGoes, Queues.queue_of_link, Queues.IsDown, Queues.IsUp}
 use Rattle.mesh_run.specs.Split.{cut_queues, end_at, end_in}
-use Rattle.mesh_run.proofs.AfterDeal.{homes_below, no_end_of_cut}
-use Rattle.mesh_run.proofs.Filling.{few_entered}
-use Rattle.mesh_run.proofs.Passing.{lane_queue, link_queue}
-use Rattle.mesh_run.proofs.PlanLaws.{fits_at}
+use Rattle.mesh_run.proofs.{AfterDeal.homes_below, AfterDeal.no_end_of_cut, Filling.few_entered, Passing.lane_queue, Passing.link_queue, PlanLaws.fits_at}
 use Rattle.mesh_run.proofs.Together.{joined, lane_passes, sender_passes, stood, taker_passes}
 use Rattle.mesh_run.proofs.WholeRound.{Whole, collected_same, dealt_long, dealt_same, parts, played_parts, uncut, whole_turns}
 

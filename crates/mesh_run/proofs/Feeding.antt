@@ -1,11 +1,9 @@
 -- Which queue is at which place: each place is fed by one output, or by the vertices of one chip, and emptied at one port or by one vertex.
 use Rattle.std.proofs.Common.{◌≡◌, ℕ, ◌<◌, Bool, true, false, length, Option, Some, None, refl, ap, sym, ◌∙◌, arith}
-use Rattle.std.specs.List.{slice_get}
 use Rattle.std.proofs.lemmas.Option.{slice_get_within, none-some, same_Some}
-use Rattle.spin_base.specs.declared.chips.{Chip.Chip, Spot.Spot, Dir.Dir, Port.Port}
-use Rattle.spin_base.specs.declared.chips.Port.TheVariants.{Link as ByLink, Local}
-use Rattle.spin_base.specs.declared.routes.Out.{Out}
-use Rattle.spin_base.specs.declared.routes.Out.TheVariants.{Link, Core}
+use Rattle.std.specs.List.{slice_get}
+use Rattle.spin_base.specs.declared.chips.{Chip.Chip, Spot.Spot, Dir.Dir, Port.Port, Port.TheVariants.Link as ByLink, Port.TheVariants.Local}
+use Rattle.spin_base.specs.declared.routes.Out.{Out, TheVariants.Link, TheVariants.Core}
 use Rattle.spin_base.specs.{Links.opposite_of, Outputs.out_of}
 use Rattle.spin_base.proofs.Equality.{link_is_not_local}
 use Rattle.machine_desc.specs.Live.{far_of, is_live_link, IsInside}

@@ -1,19 +1,14 @@
 -- How many copies enter a queue in a round: at most one for each turn of the one actor that sends to it.
 use Rattle.std.proofs.Common.{◌≡◌, ℕ, ◌+◌, ◌*◌, ◌≤◌, ◌==◌, Bool, true, false, List, [], ◌∷◌, ◌++◌, length, map, None, Some, refl, sym, ap, ◌∙◌, subst, arith, inl, inr, count_by, if◌then◌else◌}
+use Rattle.std.proofs.lemmas.{Bool.cases_eq, Bool.cond_both, List.length-append, List.map-append, List.Elements.All-head, List.Elements.All-tail}
 use Rattle.std.specs.List.{All, flat_map}
-use Rattle.std.proofs.lemmas.Bool.{cases_eq, cond_both}
-use Rattle.std.proofs.lemmas.List.{length-append, map-append}
-use Rattle.std.proofs.lemmas.List.Elements.{All-head, All-tail}
-use Rattle.spin_base.proofs.Counts.{count_by-append, count_by-map}
-use Rattle.spin_base.proofs.{Equality.out_eq_same, Once.outs_once}
+use Rattle.spin_base.proofs.{Counts.count_by-append, Counts.count_by-map, Equality.out_eq_same, Once.outs_once}
 use Rattle.spin_base.specs.declared.{chips.Chip.Chip, chips.Port.Port, routes.Out.Out, copies.McCopy.McCopy}
 use Rattle.spin_base.specs.{Equality.out_eq, Hops.last_hop, Lookup.lookup}
 use Rattle.spin_base.specs.Outputs.{has, outs_of, IsOutput}
-use Rattle.machine_desc.specs.Live.{chip_of, index_of}
-use Rattle.machine_desc.specs.RightTables.{table_at}
+use Rattle.machine_desc.specs.{Live.chip_of, Live.index_of, RightTables.table_at}
 use Rattle.machine_desc.proofs.Far.{live_inside}
-use Rattle.chip_node.specs.declared.ends.Served.{Served}
-use Rattle.chip_node.specs.declared.ends.Served.TheVariants.{Sent, Dumped}
+use Rattle.chip_node.specs.declared.ends.Served.{Served, TheVariants.Sent, TheVariants.Dumped}
 use Rattle.chip_node.specs.Items.{Item, Service, took, served, sent, got, brought, entered, entered_by, injection_place, sending_of, service_of, services, takings}
 use Rattle.mesh_core.specs.{State.Setup, Step.outputs}
 use Rattle.mesh_run.specs.Played.{owed_on, place_behind, AreTurns, IsDoneOn, IsLiveIndex}

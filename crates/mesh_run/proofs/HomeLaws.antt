@@ -1,18 +1,17 @@
 -- Runs of actors, the numbers of their shares, homes of queues, and cuts.
 use Rattle.std.proofs.Common.{◌≡◌, ◌≢◌, ◌⊎◌, ℕ, ◌+◌, ◌*◌, ◌<◌, ◌≤◌, List, [], ◌∷◌, ◌++◌, replicate, length, get_or, set}
 use Rattle.std.proofs.Common.{Option, Some, None, refl, sym, ap, ◌∙◌, subst, arith, suc, zero, length-append, inl, inr}
-use Rattle.std.specs.List.{All, slice_get}
 use Rattle.std.proofs.lemmas.Bool.{cases_eq, cases_lt}
 use Rattle.std.proofs.lemmas.Option.{none-some, same_Some, slice_get_within, slice_get-get_or}
 use Rattle.std.proofs.lemmas.List.{get_or_append_left, get_or_push, length_push, length-set}
 use Rattle.std.proofs.lemmas.List.Elements.{All-append, All-nil, All-push}
+use Rattle.std.specs.List.{All, slice_get}
 use Rattle.spin_base.specs.declared.routes.Out.{Out}
 use Rattle.spin_base.specs.Outputs.{out_number, IsOutput}
 use Rattle.spin_base.proofs.Places.{All-at, slice_get-append_left, slice_get-push_cases, slice_get-pushed, slice_get-set_same, slice_get-set_other}
 use Rattle.spin_base.proofs.Outputs.{out_number_below, out_number_injective}
 use Rattle.machine_desc.specs.Live.{chip_of, index_of}
-use Rattle.machine_desc.proofs.Far.{live_inside, index_below}
-use Rattle.machine_desc.proofs.Live.{chip_of-inside, index_of-chip_of}
+use Rattle.machine_desc.proofs.{Far.live_inside, Far.index_below, Live.chip_of-inside, Live.index_of-chip_of}
 use Rattle.mesh_core.specs.State.{Setup}
 use Rattle.chip_node.specs.Items.{injection_place}
 use Rattle.mesh_run.specs.declared.homes.{Cut.Cut, Home.Home}

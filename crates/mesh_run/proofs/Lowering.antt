@@ -1,9 +1,9 @@
 -- A split mesh put together again.
 use Rattle.std.proofs.Common.{◌≡◌, ◌≢◌, ℕ, ◌+◌, ◌<◌, ◌≤◌, List, [], ◌∷◌, ◌++◌, length, get_or, set, Some, refl, sym, ap, ◌∙◌, subst, arith, inl, inr, length-append}
-use Rattle.std.specs.List.{All, slice_get}
 use Rattle.std.proofs.lemmas.Bool.{cases_eq}
 use Rattle.std.proofs.lemmas.Option.{get_or_from_slice_get, same_Some, slice_get_within, slice_get-get_or}
 use Rattle.std.proofs.lemmas.List.{get_or-map, get_or-set_other, get_or-set_same, length-map, length-set, same_lists}
+use Rattle.std.specs.List.{All, slice_get}
 use Rattle.spin_base.proofs.Places.{slice_get_there}
 use Rattle.spin_base.specs.declared.copies.McCopy.{McCopy}
 use Rattle.link_queue.specs.declared.links.LinkEnds.{LinkEnds}

@@ -1,15 +1,11 @@
 -- What a whole round does with one queue: a lane of one share, or a link between two.
 use Rattle.std.proofs.Common.{◌≡◌, ◌≢◌, ℕ, ◌+◌, ◌-◌, ◌*◌, ◌<◌, ◌≤◌, min, List, [], ◌++◌, length, map, get_or, Some, sym, ap, ap₂, ◌∙◌, subst, arith, inl, inr}
+use Rattle.std.proofs.lemmas.{Bool.cases_eq, List.length-append, List.length-map, List.Elements.All-map, List.Elements.All-weaker}
 use Rattle.std.specs.List.{All}
-use Rattle.std.proofs.lemmas.Bool.{cases_eq}
-use Rattle.std.proofs.lemmas.List.{length-append, length-map}
-use Rattle.std.proofs.lemmas.List.Elements.{All-map, All-weaker}
 use Rattle.spin_base.specs.declared.copies.McCopy.{McCopy}
 use Rattle.spin_base.specs.WithRoom.{WithRoom}
 use Rattle.link_queue.specs.declared.links.LinkEnds.{LinkEnds}
-use Rattle.link_queue.specs.Ends.{cap_of, sending, taking}
-use Rattle.link_queue.specs.TheRule.{put_of, IsFullNote}
-use Rattle.link_queue.specs.Ups.{NoNotes}
+use Rattle.link_queue.specs.{Ends.cap_of, Ends.sending, Ends.taking, TheRule.put_of, TheRule.IsFullNote, Ups.NoNotes}
 use Rattle.chip_node.specs.declared.ends.{End.TheVariants.Away, InEnd.InEnd, OutEnd.OutEnd}
 use Rattle.chip_node.specs.Going.{IsFullMoment}
 use Rattle.chip_node.specs.Items.{Item, entered, entered_by, left, left_by, lost_at, lost_by}

@@ -1,19 +1,15 @@
 -- A mesh that is split, and a split mesh with more room.
 use Rattle.std.proofs.Common.{◌≡◌, ℕ, ◌<◌, ◌≤◌, List, [], ◌++◌, map, length, get_or, Option, None, Some, refl, sym, ap, ◌∙◌, subst, arith, inl, inr}
-use Rattle.std.specs.List.{slice_get}
-use Rattle.std.proofs.lemmas.Bool.{cases_lt}
-use Rattle.std.proofs.lemmas.List.{length-map, same_lists, get_or-map}
+use Rattle.std.proofs.lemmas.{Bool.cases_lt, List.length-map, List.same_lists, List.get_or-map}
 use Rattle.std.proofs.lemmas.Option.{get_or_from_slice_get, none-some, same_Some, slice_get_within, slice_get-get_or}
+use Rattle.std.specs.List.{slice_get}
 use Rattle.spin_base.proofs.Places.{All-at, slice_get_there}
 use Rattle.spin_base.specs.declared.copies.McCopy.{McCopy}
 use Rattle.link_queue.specs.declared.links.LinkEnds.{LinkEnds}
-use Rattle.chip_node.specs.declared.ends.End.{End}
-use Rattle.chip_node.specs.declared.ends.End.TheVariants.{Away, Own}
+use Rattle.chip_node.specs.declared.ends.End.{End, TheVariants.Away, TheVariants.Own}
 use Rattle.mesh_core.specs.State.{IsMesh, Setup, State}
 use Rattle.mesh_run.specs.declared.{homes.Cut.Cut, homes.Home.Home, layout.Layout.Layout, raised.RaisedMesh.RaisedMesh, shares.Share.Share}
-use Rattle.mesh_run.specs.{Floors.IsFloorOf, Played.port_count}
-use Rattle.mesh_run.specs.Queues.{AreUp, StayUp, queue_of_link}
-use Rattle.mesh_run.specs.Raised.{IsRaisedFrom}
+use Rattle.mesh_run.specs.{Floors.IsFloorOf, Played.port_count, Queues.AreUp, Queues.StayUp, Queues.queue_of_link, Raised.IsRaisedFrom}
 use Rattle.mesh_run.specs.Rooms.{AreSameCopies, SameCopies, SameEnd}
 use Rattle.mesh_run.specs.Split.{AreShared, HaveNoLogs, HoldLanes, HoldUnsent, cut_queues, end_at, end_in, unsent_at, unsent_in}
 use Rattle.mesh_run.specs.Splitting.{AreSameRuns, HoldVertices, MovesIn}

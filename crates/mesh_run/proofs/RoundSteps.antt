@@ -1,16 +1,12 @@
 -- The steps of a round, each as far as what its call promises: ends dealt, turns played, ends collected, links at rest, logs gathered.
 use Rattle.std.proofs.Common.{◌≡◌, ℕ, ◌+◌, ◌<◌, Bool, List, ◌++◌, length, get_or, refl, sym, ap, ◌∙◌, subst}
-use Rattle.std.specs.Global.{Vec}
-use Rattle.std.specs.List.{All, flat_map}
+use Rattle.std.specs.{Global.Vec, List.All, List.flat_map}
 use Rattle.link_queue.specs.declared.links.{Link.Link, LinkEnds.LinkEnds}
 use Rattle.mesh_core.specs.State.{IsMesh, Setup, State}
 use Rattle.mesh_run.specs.declared.{gathering.MeshLogs.MeshLogs, homes.Cut.Cut, queues.Rested.Rested, raised.RaisedMesh.RaisedMesh, shares.Share.Share, standing.Standing.Standing}
 use Rattle.mesh_run.specs.Crossing.{AreCuts, AreLaid, Deals, HoldsCollected, HoldsNoEnds}
 use Rattle.mesh_run.specs.Gathering.{AreEmptied, FitsLogs, IsAnyMoved}
-use Rattle.mesh_run.specs.Queues.{RestAll, WasUp}
-use Rattle.mesh_run.specs.Raised.{IsRoomyFrom, PlaysTo}
-use Rattle.mesh_run.specs.Shares.{IsShareOf, PlaysAndStays}
-use Rattle.mesh_run.specs.Standing.{HoldsAll}
+use Rattle.mesh_run.specs.{Queues.RestAll, Queues.WasUp, Raised.IsRoomyFrom, Raised.PlaysTo, Shares.IsShareOf, Shares.PlaysAndStays, Standing.HoldsAll}
 use Rattle.mesh_run.proofs.AfterDeal.{cuts_apart, dealt_shares, links_many}
 use Rattle.mesh_run.proofs.AfterPlay.{ends_laid, links_were_up, logs_fit}
 use Rattle.mesh_run.proofs.{AfterRound.whole_plays, WholeRound.Whole}

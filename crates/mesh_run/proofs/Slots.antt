@@ -1,8 +1,8 @@
 -- Links with all their ends, of which one is set.
 use Rattle.std.proofs.Common.{◌≡◌, ℕ, ◌<◌, List, length, map, get_or, set, Option, None, Some, refl, sym, ap, ◌∙◌, subst, arith}
-use Rattle.std.specs.List.{slice_get}
 use Rattle.std.proofs.lemmas.List.{length-map, map-set, set-set}
 use Rattle.std.proofs.lemmas.Option.{get_or_from_slice_get, same_Some}
+use Rattle.std.specs.List.{slice_get}
 use Rattle.spin_base.proofs.Places.{slice_get-mapped, set-slice_get}
 use Rattle.link_queue.specs.declared.links.{LinkEnds.LinkEnds, Tx.Tx, Rx.Rx}
 use Rattle.mesh_run.specs.declared.standing.Standing.{Standing}

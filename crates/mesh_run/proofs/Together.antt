@@ -1,12 +1,11 @@
 -- What all shares did in a round, one share after the other.
 use Rattle.std.proofs.Common.{◌≡◌, ◌≢◌, ◌⊎◌, ℕ, zero, suc, ◌+◌, ◌<◌, ◌≤◌, Bool, true, false, ◌||◌, List, [], ◌∷◌, ◌++◌, length}
 use Rattle.std.proofs.Common.{take, get_or, Option, None, Some, refl, sym, ap, ◌∙◌, subst, arith, inl, inr, append-nil}
-use Rattle.std.specs.List.{All, flat_map, list_any, slice_get, slice_index_or}
-use Rattle.std.proofs.lemmas.Bool.{cases_lt}
-use Rattle.std.proofs.lemmas.List.{get_or_default, take_all, take_more}
+use Rattle.std.proofs.lemmas.{Bool.cases_lt, List.get_or_default, List.take_all, List.take_more}
 use Rattle.std.proofs.lemmas.List.Elements.{All-append, All-nil, All-weaker}
 use Rattle.std.proofs.lemmas.Grind.{flat_map-append}
 use Rattle.std.proofs.lemmas.Option.{get_or_from_slice_get, slice_get_within, slice_get-get_or}
+use Rattle.std.specs.List.{All, flat_map, list_any, slice_get, slice_index_or}
 use Rattle.spin_base.proofs.Places.{both_none}
 use Rattle.spin_base.specs.declared.copies.McCopy.{McCopy}
 use Rattle.spin_base.specs.WithRoom.{WithRoom}
@@ -19,9 +18,7 @@ use Rattle.chip_node.proofs.Stays.{end_before}
 use Rattle.mesh_core.specs.State.{Setup}
 use Rattle.mesh_run.specs.declared.shares.Share.{Share}
 use Rattle.mesh_run.specs.Homes.{run_start, AreShareRuns}
-use Rattle.mesh_run.specs.Played.{AreTurns}
-use Rattle.mesh_run.specs.Shares.{actor_of, AreOf, IsInRun, IsNoted}
-use Rattle.mesh_run.specs.Split.{end_at, end_in}
+use Rattle.mesh_run.specs.{Played.AreTurns, Shares.actor_of, Shares.AreOf, Shares.IsInRun, Shares.IsNoted, Split.end_at, Split.end_in}
 use Rattle.mesh_run.proofs.Turns.{IsNotOf, flat_map_none, turns_beside, turns_none}
 
 -- ---- lists of all shares

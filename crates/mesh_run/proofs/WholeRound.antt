@@ -1,7 +1,7 @@
 -- A whole round of all shares: the ends of links dealt, turns played, ends collected, links at rest and logs gathered.
 use Rattle.std.proofs.Common.{◌≡◌, ℕ, ◌+◌, ◌*◌, ◌<◌, false, List, [], length, get_or, Some, ◌∙◌, subst, arith}
-use Rattle.std.specs.List.{list_any, slice_get, slice_index_or}
 use Rattle.std.proofs.lemmas.{List.get_or_default, Option.slice_get-get_or}
+use Rattle.std.specs.List.{list_any, slice_get, slice_index_or}
 use Rattle.spin_base.proofs.Places.{slice_get_there}
 use Rattle.chip_node.specs.Items.{Item}
 use Rattle.mesh_core.specs.State.{Setup, State, IsMesh}

@@ -1,27 +1,17 @@
 -- The image of final tables is valid, has the entries of each chip, and loads them.
-use Rattle.std.proofs.Common.{◌≡◌, ℕ, zero, suc, ◌+◌, ◌*◌, ◌/◌, ◌%◌, ◌<◌, ◌≤◌, ◌==◌, false, List, [], ◌∷◌, ◌++◌, length, get_or, take, map, Some, Result, Ok, refl, sym, ap, ◌∙◌, subst, arith, inl, inr}
-use Rattle.std.specs.List.{All, AllPairs, slice_get}
-use Rattle.std.specs.Prelude.{MatchResult}
+use Rattle.std.proofs.Common.{◌≡◌, ℕ, zero, suc, ◌+◌, ◌*◌, ◌/◌, ◌%◌, ◌<◌, ◌≤◌, ◌==◌, false, List, [], ◌∷◌, ◌++◌, length, get_or, take, map, Some, Result, Ok, refl, sym}
+use Rattle.std.proofs.Common.{ap, ◌∙◌, subst, arith, inl, inr}
 use Rattle.std.proofs.lemmas.Bool.{cases_order, eqb-true, eq-eqb, false_from_ne_true, cond-true, cond-false}
 use Rattle.std.proofs.lemmas.List.{append-nil, length-append, length-map, take_all}
 use Rattle.std.proofs.lemmas.List.Elements.{All-nil, All-cons, All-append, All-head, All-tail}
-use Rattle.std.proofs.lemmas.List.Kept.{AllPairs-cons}
-use Rattle.std.proofs.lemmas.Nat.{mul-le, mod_below}
-use Rattle.std.proofs.lemmas.Option.{slice_get_within, slice_get-get_or}
-use Rattle.spin_base.proofs.Gathering.{gathered_more}
-use Rattle.spin_base.proofs.Pairs.{AllPairs-nil}
-use Rattle.spin_base.proofs.Places.{slice_get_there, slice_get-mapped}
-use Rattle.spin_base.specs.declared.blocks.ChipTable.{ChipTable}
-use Rattle.spin_base.specs.declared.blocks.Entry.{Entry}
-use Rattle.spin_base.specs.declared.chips.Chip.{Chip}
-use Rattle.machine_desc.specs.Description.{Description, HasSize}
-use Rattle.machine_desc.specs.Live.{chip_of, index_of}
-use Rattle.machine_desc.proofs.Far.{inside_parts}
-use Rattle.machine_desc.proofs.Live.{chip_of-inside, index_of-chip_of}
+use Rattle.std.proofs.lemmas.{List.Kept.AllPairs-cons, Nat.mul-le, Nat.mod_below, Option.slice_get_within, Option.slice_get-get_or}
+use Rattle.std.specs.{List.All, List.AllPairs, List.slice_get, Prelude.MatchResult}
+use Rattle.spin_base.proofs.{Gathering.gathered_more, Pairs.AllPairs-nil, Places.slice_get_there, Places.slice_get-mapped}
+use Rattle.spin_base.specs.declared.{blocks.ChipTable.ChipTable, blocks.Entry.Entry, chips.Chip.Chip}
+use Rattle.machine_desc.specs.{Description.Description, Description.HasSize, Live.chip_of, Live.index_of}
+use Rattle.machine_desc.proofs.{Far.inside_parts, Live.chip_of-inside, Live.index_of-chip_of}
 use Rattle.default_routes.specs.declared.stripping.Final.{Final}
-use Rattle.table_load.specs.declared.tables.Image.{Image}
-use Rattle.table_load.specs.declared.faults.ImageErr.{ImageErr}
-use Rattle.table_load.specs.declared.faults.ImageErr.TheVariants.{Memory as NoMemory}
+use Rattle.table_load.specs.declared.{tables.Image.Image, faults.ImageErr.ImageErr, faults.ImageErr.TheVariants.Memory as NoMemory}
 use Rattle.table_load.specs.Images.{IsRow, IsChipBefore, IsTable, IsValid, Spells}
 use Rattle.table_load.specs.Memories.{IsLoaded, loaded, rows_of_index}
 use Rattle.par_compile.specs.Finals.{KeepsRows, loaded_of}
@@ -118,7 +108,8 @@ module _ (m : Description) (some : 0 < m.height) where
       by [] rest = rest
       by (e ∷ es) rest =
           let at : index_of m (chip_of m n) ≡ n = index_of-chip_of m n in
-          let other : (index_of m (chip_of m n) == i) ≡ false = false_from_ne_true (index_of m (chip_of m n) == i) (λ hit. let is : index_of m (chip_of m n) ≡ i = eqb-true (index_of m (chip_of m n)) i hit in omega (arith, at, is, less)) in
+          let other : (index_of m (chip_of m n) == i) ≡ false =
+          false_from_ne_true (index_of m (chip_of m n) == i) (λ hit. let is : index_of m (chip_of m n) ≡ i = eqb-true (index_of m (chip_of m n)) i hit in omega (arith, at, is, less)) in
           cond-false (index_of m (chip_of m n) == i) (e ∷ es) (rows_of_index m.height (tables_from m (n + 1) fs) i) other ∙ rest
 
   -- the rows of a chip are the entries of its final table
@@ -140,7 +131,8 @@ module _ (m : Description) (some : 0 < m.height) where
       by [] rest = rest
       by (e ∷ es) rest =
           let place : index_of m (chip_of m n) ≡ n = index_of-chip_of m n in
-          let other : (index_of m (chip_of m n) == i) ≡ false = false_from_ne_true (index_of m (chip_of m n) == i) (λ hit. let is_i : index_of m (chip_of m n) ≡ i = eqb-true (index_of m (chip_of m n)) i hit in omega (arith, place, is_i, at)) in
+          let other : (index_of m (chip_of m n) == i) ≡ false =
+          false_from_ne_true (index_of m (chip_of m n) == i) (λ hit. let is_i : index_of m (chip_of m n) ≡ i = eqb-true (index_of m (chip_of m n)) i hit in omega (arith, place, is_i, at)) in
           cond-false (index_of m (chip_of m n) == i) (e ∷ es) (rows_of_index m.height (tables_from m (n + 1) fs) i) other ∙ rest
 
 -- ---- the image

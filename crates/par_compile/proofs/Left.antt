@@ -1,21 +1,18 @@
 -- Original blocks that go straight on may be left out where no table is covered.
 use Rattle.std.proofs.Common.{◌≡◌, ℕ, ◌+◌, ◌≤◌, Bool, true, List, [], ◌∷◌, ◌++◌, length, get_or, map, filter, refl, sym, ap, ◌∙◌, subst, arith, inl, inr, ◌⊎◌}
-use Rattle.std.specs.Prelude.{if◌then◌else◌}
-use Rattle.std.specs.List.{All, AllPairs}
-use Rattle.std.specs.List.Sorted.{IsPermutation}
 use Rattle.std.proofs.lemmas.Bool.{cases_lt}
 use Rattle.std.proofs.lemmas.List.Elements.{All-cons, All-head, All-tail, All-nil, Contains-get_or}
-use Rattle.std.proofs.lemmas.List.Filters.{length-filter_both}
-use Rattle.std.proofs.lemmas.List.Kept.{AllPairs-cons, AllPairs-filter}
+use Rattle.std.proofs.lemmas.List.{Filters.length-filter_both, Kept.AllPairs-cons, Kept.AllPairs-filter}
 use Rattle.std.proofs.lemmas.List.Sorted.{All-permutation, IsPermutation-append_right, IsPermutation-cons, IsPermutation-filter_both, IsPermutation-insert, IsPermutation-refl, IsPermutation-trans}
+use Rattle.std.specs.Prelude.{if◌then◌else◌}
+use Rattle.std.specs.{List.All, List.AllPairs, List.Sorted.IsPermutation}
 use Rattle.spin_base.proofs.Members.{Contains-from_filter}
 use Rattle.spin_base.proofs.Pairs.{AllPairs-from_map, AllPairs-head, AllPairs-map, AllPairs-nil, AllPairs-tail}
 use Rattle.spin_base.specs.declared.blocks.Entry.{Entry}
 use Rattle.machine_desc.specs.Description.{Description}
 use Rattle.machine_desc.specs.declared.nets.NetPlan.{NetPlan}
 use Rattle.tern_word.specs.declared.tables.Row.{Row}
-use Rattle.tern_word.specs.Entries.{entry_of}
-use Rattle.tern_word.specs.Ternary.{Intersects, generality}
+use Rattle.tern_word.specs.{Entries.entry_of, Ternary.Intersects, Ternary.generality}
 use Rattle.default_routes.specs.declared.stripping.Final.{Final}
 use Rattle.default_routes.specs.FinalTable.{IsFinalOf}
 use Rattle.default_routes.proofs.Determined.{one_table}
@@ -23,8 +20,7 @@ use Rattle.net_tables.specs.declared.marks.Mark.{Mark}
 use Rattle.net_tables.specs.PlainTable.{AreRoutedApart, IsRowNotAfter}
 use Rattle.net_tables.specs.Marks.{AreApart, AreBlocksOf, AreTurningBlocksOf, IsTableOf, goes_straight, row_of_mark, table_of_sorted, turns}
 use Rattle.net_tables.proofs.Whole.{few_marks, marks_apart}
-use Rattle.par_compile.specs.Finals.{AreBlocksFor, IsFinalFor}
-use Rattle.par_compile.specs.ShortTables.{kept_entries}
+use Rattle.par_compile.specs.{Finals.AreBlocksFor, Finals.IsFinalFor, ShortTables.kept_entries}
 use Rattle.par_compile.proofs.ShortTables.{final_for, short_for}
 
 abbrev straight : Mark → Bool

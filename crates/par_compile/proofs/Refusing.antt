@@ -1,22 +1,18 @@
 -- A graph has one cause of refusal, or a plan.
 use Rattle.std.proofs.Common.{◌≡◌, ℕ, List, refl, ap, subst, arith, inl, inr, Some, Result, Ok, Err, IfOk, IfErr}
-use Rattle.std.specs.List.{slice_get}
 use Rattle.std.proofs.lemmas.Option.{slice_get_within}
-use Rattle.spin_base.specs.declared.chips.Chip.{Chip}
-use Rattle.spin_base.specs.declared.chips.Spot.{Spot}
-use Rattle.machine_desc.specs.Description.{Description}
-use Rattle.machine_desc.specs.RoutingTree.{IsRoutingTree}
-use Rattle.app_graph.specs.declared.graphs.Graph.{Graph}
-use Rattle.app_graph.specs.declared.graphs.Net.{Net}
+use Rattle.std.specs.List.{slice_get}
+use Rattle.spin_base.specs.declared.chips.{Chip.Chip, Spot.Spot}
+use Rattle.machine_desc.specs.{Description.Description, RoutingTree.IsRoutingTree}
 use Rattle.machine_desc.specs.declared.nets.NetPlan.{NetPlan}
+use Rattle.app_graph.specs.declared.graphs.{Graph.Graph, Net.Net}
 use Rattle.place_fit.specs.declared.placing.Placement.{Placement}
 use Rattle.place_fit.proofs.Determined as places
 use Rattle.key_alloc.proofs.Determined as blocks
 use Rattle.spin_base.proofs.Places.{All-at, slice_get_there}
 use Rattle.net_plans.specs.CutOffTargets.{HasNoneCutOff, IsFirstNetCutOff}
 use Rattle.net_plans.proofs.CutOffLaws.{none_cut_off, one_first_net}
-use Rattle.par_compile.specs.declared.compiling.Plan.{Plan}
-use Rattle.par_compile.specs.declared.compiling.CompileErr.{CompileErr}
+use Rattle.par_compile.specs.declared.compiling.{Plan.Plan, CompileErr.CompileErr}
 use Rattle.par_compile.specs.declared.compiling.CompileErr.TheVariants.{NoRoom, KeysOut, CutOff, TableLong, Memory}
 use Rattle.par_compile.specs.Compiled.{blocks_of, HasCutOff, IsCompileCause, IsPlanOf, IsRefusedWhere, IsRoutingOf}
 use Rattle.par_compile.proofs.Unique.{long_not_planned, one_long}
@@ -26,10 +22,8 @@ module _ (m : Description) (graph : Graph) where
   none_routed : (p : Placement) (ns : List NetPlan) → IsRoutingOf m graph p ns → (i : ℕ) (net : Net) → slice_get graph.nets i ≡ Some net → HasNoneCutOff m p.spots net
   none_routed p ns is i net at =
       let within = slice_get_within graph.nets i net at in
-      let plans_long = is.planned.one_plan_each in
-      let blocks_long = is.blocks.all in
-      let b = slice_get_there (blocks_of ns) i (omega (arith, within, blocks_long)) in
-      let n = slice_get_there ns i (omega (arith, within, plans_long)) in
+      let b = slice_get_there (blocks_of ns) i (omega (arith, within, is.blocks.all)) in
+      let n = slice_get_there ns i (omega (arith, within, is.planned.one_plan_each)) in
       let planned = is.planned.each i net b.0 n.0 at b.1 n.1 in
       let tree : IsRoutingTree m n.0.tree.root n.0.tree.edges n.0.targets = All-at (λ (x : NetPlan). IsRoutingTree m x.tree.root x.tree.edges x.targets) ns i n.0 is.stand.trees n.1 in
       none_cut_off m p.spots net n.0.source n.0.targets n.0.tree.edges planned.source planned.targets

@@ -1,31 +1,18 @@
 -- Final tables that are loaded route every net's packets by its tree.
 use Rattle.std.proofs.Common.{◌≡◌, Bool, ℕ, zero, suc, ◌-◌, ◌*◌, ◌^◌, ◌<◌, ◌≤◌, bit_and, List, [], ◌∷◌, length, get_or, map, replicate, take, Some, sym, ap, ◌∙◌, subst, arith}
-use Rattle.std.specs.List.{All, AllZip, Contains, slice_get, slice_index_or}
 use Rattle.std.proofs.lemmas.List.Elements.{All-nil, All-cons, All-contains, All-map}
-use Rattle.std.proofs.lemmas.List.Sorted.{Contains-permutation}
-use Rattle.std.proofs.lemmas.Nat.{mul-le}
-use Rattle.std.proofs.lemmas.Option.{get_or_from_slice_get, slice_get-get_or}
-use Rattle.std.proofs.lemmas.Slice.Zip.{AllZip-long}
+use Rattle.std.proofs.lemmas.{List.Sorted.Contains-permutation, Nat.mul-le, Option.get_or_from_slice_get, Option.slice_get-get_or, Slice.Zip.AllZip-long}
+use Rattle.std.specs.List.{All, AllZip, Contains, slice_get, slice_index_or}
 use Rattle.spin_base.proofs.Places.{AllZip-at_second, slice_get_there, slice_get-mapped}
-use Rattle.spin_base.specs.declared.blocks.Block.{Block}
-use Rattle.spin_base.specs.declared.blocks.Entry.{Entry}
-use Rattle.spin_base.specs.declared.chips.Chip.{Chip}
-use Rattle.spin_base.specs.declared.chips.Port.{Port}
-use Rattle.spin_base.specs.declared.routes.Out.{Out}
-use Rattle.spin_base.specs.declared.routes.Route.{Route}
-use Rattle.spin_base.specs.Lookup.{lookup}
-use Rattle.spin_base.specs.Outputs.{has}
+use Rattle.spin_base.specs.declared.{blocks.Block.Block, blocks.Entry.Entry, chips.Chip.Chip, chips.Port.Port, routes.Out.Out, routes.Route.Route}
+use Rattle.spin_base.specs.{Lookup.lookup, Outputs.has}
 use Rattle.machine_desc.specs.Description.{Description, HasSize}
 use Rattle.machine_desc.specs.Live.{IsInside, index_of, chip_of}
-use Rattle.machine_desc.proofs.Far.{index_below}
-use Rattle.machine_desc.proofs.Live.{chip_of-inside, index_of-chip_of}
 use Rattle.machine_desc.specs.declared.nets.NetPlan.{NetPlan}
-use Rattle.machine_desc.specs.Outputs.{is_wanted}
-use Rattle.machine_desc.specs.RightTables.{AreRight}
+use Rattle.machine_desc.specs.{Outputs.is_wanted, RightTables.AreRight}
+use Rattle.machine_desc.proofs.{Far.index_below, Live.chip_of-inside, Live.index_of-chip_of}
 use Rattle.tern_word.specs.declared.tables.Row.{Row}
-use Rattle.tern_word.specs.Entries.{entry_of}
-use Rattle.tern_word.specs.SoundTable.{Original, served}
-use Rattle.tern_word.specs.Ternary.{Matches}
+use Rattle.tern_word.specs.{Entries.entry_of, SoundTable.Original, SoundTable.served, Ternary.Matches}
 use Rattle.tcam_find.specs.Memory.{unused}
 use Rattle.tcam_find.proofs.MemoryLemmas.{unused_matches}
 use Rattle.cover_merge.specs.Merge.{rows_at}
@@ -90,9 +77,7 @@ module _ (m : Description) (nets : List NetPlan) (target : ℕ) (lists : List (L
   pub finals_within : length finals ≤ m.width * m.height
   finals_within =
       let long : length finals ≡ length (take (length finals) lists) = AllZip-long (IsFinalFor target) (take (length finals) lists) finals each in
-      let within = taken_within (length finals) lists in
-      let all = are.long in
-      omega (arith, long, within, all)
+      omega (arith, long, taken_within (length finals) lists, are.long)
 
   -- what holds of the final table of a chip's original blocks holds of each final table
   each_final : (P : Final → Type 0) → ((c : Chip) (f : Final) (marks : List Mark) → AreOriginals m c nets (map original_of marks) → IsFinalFor target marks f → P f) → All P finals
@@ -111,10 +96,7 @@ module _ (m : Description) (nets : List NetPlan) (target : ℕ) (lists : List (L
   pub few_entries : All (λ (f : Final). length f.entries ≤ length nets) finals
   few_entries = each_final (λ f. length f.entries ≤ length nets) (λ c f marks originals is.
       let plain : length is.table.rows ≤ length nets = few_rows m nets c marks is.table originals is.plain in
-      let covered = is.stands.shortened.no_more in
-      let kept = is.stands.shortened.places.few in
-      let one_each = is.stands.shortened.one_each in
-      omega (arith, plain, covered, kept, one_each))
+      omega (arith, plain, is.stands.shortened.no_more, is.stands.shortened.places.few, is.stands.shortened.one_each))
 
   -- the entries have outputs, since the rows of the plain table have
   pub all_keep : AreRoutedApart m nets → All KeepsRows finals
@@ -132,7 +114,8 @@ module _ (m : Description) (nets : List NetPlan) (target : ℕ) (lists : List (L
       keeps c f marks originals is = record {
         rows = λ k d below.
             let final = is.stands.shortened.final in
-            let block = subst (λ (es : List Entry). All (λ (e : Entry). (bit_and e.key e.mask ≡ e.key) × (e.mask < 2 ^ 32)) es) (sym final.entries) (of_block (rows_at final.rows final.kept)) k d below in
+            let block = subst (λ (es : List Entry). All (λ (e : Entry). (bit_and e.key e.mask ≡ e.key) × (e.mask < 2 ^ 32)) es)
+            (sym final.entries) (of_block (rows_at final.rows final.kept)) k d below in
             let leads = rows_lead m nets routed c is.table.rows (is_plain m nets c marks is.table originals is.plain) in
             (block.0, block.1, lead is.table.rows leads (get_or f.entries k d).route (is.stands.routes k d below));
       }
@@ -152,7 +135,8 @@ module _ (m : Description) (nets : List NetPlan) (target : ℕ) (lists : List (L
       let there = Contains-permutation serves.originals (served here.2.table.rows) x serves.served mine.1 in
       let matching : Matches x.block key = ap (λ (b : Block). bit_and key b.mask) mine.2.keys ∙ (k.matches ∙ sym (ap (λ (b : Block). b.key) mine.2.keys)) in
       let ports : port ≡ x.port = one_port m net.tree.root net.tree.edges net.targets tree c port x.port comes mine.2.port in
-      let table : slice_index_or (map loaded_of finals) (index_of m c) [] ≡ loaded_of f = get_or_from_slice_get (map loaded_of finals) (index_of m c) (loaded_of f) [] (slice_get-mapped loaded_of finals (index_of m c) f placed.1) in
+      let table : slice_index_or (map loaded_of finals) (index_of m c) [] ≡ loaded_of f =
+      get_or_from_slice_get (map loaded_of finals) (index_of m c) (loaded_of f) [] (slice_get-mapped loaded_of finals (index_of m c) f placed.1) in
       same_output (slice_index_or (map loaded_of finals) (index_of m c) []) (loaded_of f) port x.port key x.route o (is_wanted net.tree.edges net.targets c o) table ports
       (gives_route here.2.table.rows f x here.2.stands.serves there key k.fits matching) (mine.2.outputs o valid)
 

@@ -1,25 +1,15 @@
 -- The final table of a short plain table has the entries of the original blocks that do not go straight on.
 use Rattle.std.proofs.Common.{◌≡◌, ℕ, zero, suc, ◌≤◌, Bool, true, false, Some, List, [], ◌∷◌, ◌++◌, length, get_or, drop, map, refl, sym, ap, ◌∙◌, subst, arith, inl, inr}
-use Rattle.std.specs.Prelude.{All, slice_get, if◌then◌else◌}
-use Rattle.std.specs.List.{cons_option}
-use Rattle.std.specs.List.Sorted.{IsPermutation}
-use Rattle.std.proofs.lemmas.Bool.{cases_Bool, eqb-true, eq-eqb, false≢true}
-use Rattle.std.proofs.lemmas.List.{length-map}
+use Rattle.std.proofs.lemmas.{Bool.cases_Bool, Bool.eqb-true, Bool.eq-eqb, Bool.false≢true, List.length-map}
 use Rattle.std.proofs.lemmas.List.Elements.{All-nil, All-cons, All-head, All-tail}
-use Rattle.std.proofs.lemmas.List.Sorted.{length_permutation}
-use Rattle.std.proofs.lemmas.Option.{slice_get_within}
-use Rattle.spin_base.proofs.Pairs.{AllPairs-head, AllPairs-tail, AllPairs-permutation}
-use Rattle.spin_base.proofs.RouteBits.{same_route}
-use Rattle.spin_base.specs.declared.chips.Dir.{Dir}
-use Rattle.spin_base.specs.declared.chips.Port.{Port}
-use Rattle.spin_base.specs.declared.chips.Port.TheVariants.{Link, Local}
-use Rattle.spin_base.specs.declared.routes.Route.{Route}
+use Rattle.std.proofs.lemmas.{List.Sorted.length_permutation, Option.slice_get_within}
+use Rattle.std.specs.Prelude.{All, slice_get, if◌then◌else◌}
+use Rattle.std.specs.{List.cons_option, List.Sorted.IsPermutation}
+use Rattle.spin_base.proofs.{Pairs.AllPairs-head, Pairs.AllPairs-tail, Pairs.AllPairs-permutation, RouteBits.same_route}
+use Rattle.spin_base.specs.declared.{chips.Dir.Dir, chips.Port.Port, chips.Port.TheVariants.Link, chips.Port.TheVariants.Local, routes.Route.Route}
 use Rattle.spin_base.specs.Lookup.{straight_on}
-use Rattle.tern_word.specs.declared.tables.Alias.{Alias}
-use Rattle.tern_word.specs.declared.tables.Row.{Row}
-use Rattle.tern_word.specs.Entries.{entry_of}
-use Rattle.tern_word.specs.Ternary.{Intersects}
-use Rattle.tern_word.specs.SoundTable.{IsSound, Misses}
+use Rattle.tern_word.specs.declared.tables.{Alias.Alias, Row.Row}
+use Rattle.tern_word.specs.{Entries.entry_of, Ternary.Intersects, SoundTable.IsSound, SoundTable.Misses}
 use Rattle.tern_word.proofs.BlockLaws.{Intersects-sym}
 use Rattle.cover_merge.specs.Merge.{rows_at}
 use Rattle.default_routes.specs.declared.stripping.Final.{Final}
@@ -27,11 +17,9 @@ use Rattle.default_routes.specs.FinalTable.{IsShortened}
 use Rattle.default_routes.specs.KeptRows.{IsStrippable, KeptFrom, ends, goes, stays, AreKept}
 use Rattle.default_routes.proofs.ShortTables.{short_final, short_routes, short_serves}
 use Rattle.net_tables.specs.declared.marks.Mark.{Mark}
-use Rattle.net_tables.specs.Marks.{AreApart, IsTableOf, row_of_mark, table_of_sorted}
+use Rattle.net_tables.specs.Marks.{AreApart, IsTableOf, row_of_mark, table_of_sorted, goes_straight}
 use Rattle.net_tables.proofs.Whole.{sound_table}
-use Rattle.par_compile.specs.Finals.{IsFinalFor}
-use Rattle.net_tables.specs.Marks.{goes_straight}
-use Rattle.par_compile.specs.ShortTables.{kept_entries}
+use Rattle.par_compile.specs.{Finals.IsFinalFor, ShortTables.kept_entries}
 
 -- ---- one original block
 
@@ -138,38 +126,38 @@ module _ (rows : List Row) where
 
 -- ---- the whole table
 
--- the entries of those that do not go straight on are the only final ones
-pub short_for : (target : ℕ) (marks sorted : List Mark) (f : Final) → length marks ≤ target → AreApart marks → IsPermutation marks sorted →
-    IsTableOf marks (table_of_sorted sorted) → f.entries ≡ kept_entries sorted → IsShortened target (map row_of_mark sorted) f
-short_for target marks sorted f few apart same table entries =
-    let rows : List Row = map row_of_mark sorted in
-    let kept : List ℕ = places_from 0 sorted in
-    let many : length rows ≡ length marks = length-map sorted row_of_mark ∙ length_permutation marks sorted same in
-    let short : length rows ≤ target = omega (arith, many, few) in
-    let sound : IsSound rows = sound_table marks (table_of_sorted sorted) table apart in
-    let on_sorted : AreApart sorted =
-    AllPairs-permutation (λ (a b : Mark). ¬ (Intersects a.block b.block)) (λ a b none meet. none (Intersects-sym b.block a.block meet)) marks sorted same apart in
-    let are : AreKept rows kept = kept_at rows 0 sorted (omega arith) refl on_sorted in
-    short_final target rows kept f short sound are (entries ∙ entries_at rows 0 sorted refl)
+module _ (target : ℕ) (marks sorted : List Mark) (f : Final) (few : length marks ≤ target) (apart : AreApart marks) (same : IsPermutation marks sorted)
+    (table : IsTableOf marks (table_of_sorted sorted)) (entries : f.entries ≡ kept_entries sorted) where
+  abbrev sorted_rows : List Row
+  sorted_rows = map row_of_mark sorted
 
-pub final_for : (target : ℕ) (marks sorted : List Mark) (f : Final) → length marks ≤ target → AreApart marks → IsPermutation marks sorted →
-    IsTableOf marks (table_of_sorted sorted) → f.entries ≡ kept_entries sorted → IsFinalFor target marks f
-final_for target marks sorted f few apart same table entries =
-    let rows : List Row = map row_of_mark sorted in
-    let kept : List ℕ = places_from 0 sorted in
-    let many : length rows ≡ length marks = length-map sorted row_of_mark ∙ length_permutation marks sorted same in
-    let short : length rows ≤ target = omega (arith, many, few) in
-    let sound : IsSound rows = sound_table marks (table_of_sorted sorted) table apart in
-    let on_sorted : AreApart sorted =
-    AllPairs-permutation (λ (a b : Mark). ¬ (Intersects a.block b.block)) (λ a b none meet. none (Intersects-sym b.block a.block meet)) marks sorted same apart in
-    let are : AreKept rows kept = kept_at rows 0 sorted (omega arith) refl on_sorted in
-    let is : f.entries ≡ map entry_of (rows_at rows kept) = entries ∙ entries_at rows 0 sorted refl in
-    record {
-      table = table_of_sorted sorted;
-      plain = table;
-      stands = record {
-        shortened = short_final target rows kept f short sound are is;
-        routes = short_routes target rows kept f short sound are is;
-        serves = short_serves target rows kept f short sound are is;
-      };
-    }
+  abbrev sorted_places : List ℕ
+  sorted_places = places_from 0 sorted
+
+  few_rows : length sorted_rows ≤ target
+  few_rows = let many : length sorted_rows ≡ length marks = length-map sorted row_of_mark ∙ length_permutation marks sorted same in omega (arith, many, few)
+
+  sound_rows : IsSound sorted_rows
+  sound_rows = sound_table marks (table_of_sorted sorted) table apart
+
+  kept_rows : AreKept sorted_rows sorted_places
+  kept_rows = kept_at sorted_rows 0 sorted (omega arith) refl
+      (AllPairs-permutation (λ (a b : Mark). ¬ (Intersects a.block b.block)) (λ a b none meet. none (Intersects-sym b.block a.block meet)) marks sorted same apart)
+
+  entries_are : f.entries ≡ map entry_of (rows_at sorted_rows sorted_places)
+  entries_are = entries ∙ entries_at sorted_rows 0 sorted refl
+
+  -- the entries of those that do not go straight on are the only final ones
+  pub short_for : IsShortened target (map row_of_mark sorted) f
+  short_for = short_final target sorted_rows sorted_places f few_rows sound_rows kept_rows entries_are
+
+  pub final_for : IsFinalFor target marks f
+  final_for = record {
+    table = table_of_sorted sorted;
+    plain = table;
+    stands = record {
+      shortened = short_for;
+      routes = short_routes target sorted_rows sorted_places f few_rows sound_rows kept_rows entries_are;
+      serves = short_serves target sorted_rows sorted_places f few_rows sound_rows kept_rows entries_are;
+    };
+  }

@@ -1,29 +1,18 @@
 -- The nets of a plan stand on the machine.
 use Rattle.std.proofs.Common.{◌≡◌, ◌≢◌, ◌<◌, suc, None, List, [], ◌∷◌, length, refl, sym, ap, ◌∙◌, subst, arith}
-use Rattle.std.specs.List.{All, AllPairs, AllZip, Contains, slice_index_or}
 use Rattle.std.proofs.lemmas.Option.{slice_get-get_or}
-use Rattle.spin_base.specs.declared.chips.Spot.{Spot}
-use Rattle.spin_base.specs.declared.blocks.Block.{Block}
-use Rattle.machine_desc.specs.Description.{Description}
-use Rattle.machine_desc.specs.Live.{IsInside, IsSite}
-use Rattle.machine_desc.specs.RoutingTree.{IsRoutingTree}
-use Rattle.machine_desc.proofs.Far.{live_inside}
-use Rattle.machine_desc.proofs.Sites.{site_parts}
-use Rattle.app_graph.specs.declared.graphs.Net.{Net}
+use Rattle.std.specs.List.{All, AllPairs, AllZip, Contains, slice_index_or}
+use Rattle.spin_base.specs.declared.{chips.Spot.Spot, blocks.Block.Block}
+use Rattle.spin_base.proofs.{Members.Contains-at, Pairs.AllPairs-from_map, Places.All-at, Places.All-each, Places.slice_get_there}
+use Rattle.machine_desc.specs.{Description.Description, Live.IsInside, Live.IsSite, Live.IsUsable, RoutingTree.IsRoutingTree}
 use Rattle.machine_desc.specs.declared.nets.NetPlan.{NetPlan}
 use Rattle.machine_desc.specs.NetsOn.{HaveDisjointBlocks, AreNetsOn}
+use Rattle.machine_desc.proofs.{Far.live_inside, Sites.site_parts}
+use Rattle.app_graph.specs.declared.graphs.{Net.Net, Graph.Graph, Vertex.Vertex}
 use Rattle.tern_word.specs.Ternary.{Intersects}
-use Rattle.spin_base.proofs.Members.{Contains-at}
-use Rattle.spin_base.proofs.Pairs.{AllPairs-from_map}
-use Rattle.spin_base.proofs.Places.{All-at, All-each, slice_get_there}
-use Rattle.net_plans.specs.NetPlans.{IsPlannedNet, IsEachPlanned, ArePlanned}
-use Rattle.net_plans.specs.Order.{IsBelow}
-use Rattle.net_plans.specs.Targets.{spot_key}
+use Rattle.net_plans.specs.{NetPlans.IsPlannedNet, NetPlans.IsEachPlanned, NetPlans.ArePlanned, Order.IsBelow, Targets.spot_key}
 use Rattle.net_plans.proofs.Ordering.{not_both}
 use Rattle.net_tables.specs.PlainTable.{AreRoutedApart}
-use Rattle.app_graph.specs.declared.graphs.Graph.{Graph}
-use Rattle.app_graph.specs.declared.graphs.Vertex.{Vertex}
-use Rattle.machine_desc.specs.Live.{IsUsable}
 use Rattle.place_fit.specs.declared.placing.Placement.{Placement}
 use Rattle.place_fit.specs.Placement.{IsPlacement}
 use Rattle.key_alloc.specs.KeyBlocks.{AreRightBlocks, HasKeys}
@@ -59,8 +48,7 @@ module _ (m : Description) (spots : List Spot) where
   differ : (n : Net) (b : Block) (p : NetPlan) → IsPlannedNet m spots n b p → AllPairs (λ a b. a ≢ b) p.targets
   differ n b p plan i j d before within = λ same.
       let below : IsBelow (spot_key (slice_index_or p.targets j d)) (spot_key (slice_index_or p.targets j d)) =
-      subst (λ (s : Spot). IsBelow (spot_key s) (spot_key (slice_index_or p.targets j d))) same (plan.targets.ascending i j d before within)
-      in
+      subst (λ (s : Spot). IsBelow (spot_key s) (spot_key (slice_index_or p.targets j d))) same (plan.targets.ascending i j d before within) in
       not_both (spot_key (slice_index_or p.targets j d)) (spot_key (slice_index_or p.targets j d)) below below
 
   module _ (ns : List Net) (bs : List Block) (ps : List NetPlan) (long : length bs ≡ length ns) (are : ArePlanned m spots ns bs ps) where

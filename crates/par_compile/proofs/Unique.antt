@@ -1,23 +1,15 @@
 -- A graph has one routing and one list of final tables: so one plan, or one long table.
 use Rattle.std.proofs.Common.{◌≡◌, ℕ, ◌<◌, ◌≤◌, List, length, get_or, nat_lt, true, false, Some, None, inl, inr, sym, ap, ◌∙◌, subst, arith}
+use Rattle.std.proofs.lemmas.{Bool.cases_order, Bool.lt-ltb, Bool.ltb-true, Bool.true≢false, List.Elements.All-contains, List.Quantifiers.position-Some}
+use Rattle.std.proofs.lemmas.{List.Sums.fails_before_first, Grind.common_steps, Option.get_or_from_slice_get, Option.slice_get_within}
 use Rattle.std.specs.List.{All, Contains, position, position_or_len, slice_get}
-use Rattle.std.proofs.lemmas.Bool.{cases_order, lt-ltb, ltb-true, true≢false}
-use Rattle.std.proofs.lemmas.List.Elements.{All-contains}
-use Rattle.std.proofs.lemmas.List.Quantifiers.{position-Some}
-use Rattle.std.proofs.lemmas.List.Sums.{fails_before_first}
-use Rattle.std.proofs.lemmas.Grind.{common_steps}
-use Rattle.std.proofs.lemmas.Option.{get_or_from_slice_get, slice_get_within}
-use Rattle.spin_base.specs.declared.chips.Chip.{Chip}
-use Rattle.spin_base.specs.declared.chips.Spot.{Spot}
-use Rattle.machine_desc.specs.Description.{Description}
-use Rattle.machine_desc.specs.Live.{IsInside, IsSite, chip_of, index_of}
-use Rattle.machine_desc.proofs.Far.{index_below, live_inside, same_index}
-use Rattle.machine_desc.proofs.Live.{chip_of-inside, index_of-chip_of}
-use Rattle.machine_desc.proofs.Sites.{site_parts}
-use Rattle.app_graph.specs.declared.graphs.Graph.{Graph}
+use Rattle.spin_base.specs.declared.chips.{Chip.Chip, Spot.Spot}
+use Rattle.spin_base.proofs.Places.{All-at, All-each, slice_get_there}
+use Rattle.machine_desc.specs.{Description.Description, Live.IsInside, Live.IsSite, Live.chip_of, Live.index_of}
 use Rattle.machine_desc.specs.declared.nets.NetPlan.{NetPlan}
 use Rattle.machine_desc.specs.NetsOn.{AreNetsOn}
-use Rattle.spin_base.proofs.Places.{All-at, All-each, slice_get_there}
+use Rattle.machine_desc.proofs.{Far.index_below, Far.live_inside, Far.same_index, Live.chip_of-inside, Live.index_of-chip_of, Sites.site_parts}
+use Rattle.app_graph.specs.declared.graphs.Graph.{Graph}
 use Rattle.place_fit.specs.declared.placing.Placement.{Placement}
 use Rattle.place_fit.proofs.Determined as places
 use Rattle.key_alloc.proofs.Determined as keys
@@ -32,8 +24,8 @@ use Rattle.default_routes.proofs.FinalLemmas.{ended_where_long}
 use Rattle.tern_word.specs.declared.tables.Row.{Row}
 use Rattle.par_compile.specs.declared.compiling.Plan.{Plan}
 use Rattle.par_compile.specs.Compiled.{blocks_of, HasLongTable, IsPlanOf, IsRoutingOf}
-use Rattle.cover_merge.specs.Covering.{HasNoLegalPair}
 use Rattle.par_compile.specs.Finals.{AreFinals, HasFinal, is_long}
+use Rattle.cover_merge.specs.Covering.{HasNoLegalPair}
 
 -- nets that stand on sites of a machine are what plain tables ask for
 pub routed_of : (m : Description) (spots : List Spot) (nets : List NetPlan) → All (IsSite m) spots → AreNetsOn m spots nets → AreRoutedApart m nets
@@ -90,9 +82,8 @@ is_more fs i t first at = ltb-true 1024 (length t.entries) (long_at fs i t first
 pub long_has_many : (nets fits : ℕ) (fs : List Final) (i : ℕ) (t : Final) → nets ≡ fits → All (λ (f : Final). length f.entries ≤ nets) fs → position is_long fs ≡ Some i → slice_get fs i ≡ Some t →
     1024 < fits
 long_has_many nets fits fs i t same few first at =
-    let more = is_more fs i t first at in
     let fewer : length t.entries ≤ nets = All-at (λ (f : Final). length f.entries ≤ nets) fs i t few at in
-    omega (arith, more, fewer, same)
+    omega (arith, is_more fs i t first at, fewer, same)
 
 -- so covering has come to its end there
 pub long_has_no_pair : (target : ℕ) (table : List Row) (fs : List Final) (i : ℕ) (t : Final) → target ≤ 1024 → position is_long fs ≡ Some i → slice_get fs i ≡ Some t →
@@ -105,8 +96,7 @@ module _ (m : Description) (graph : Graph) where
       let placed = places.one_placement m graph.vertices p.spots q.spots p.memory q.memory a.placed b.placed in
       let blocks : blocks_of ns ≡ blocks_of os = keys.one_list graph.nets (blocks_of ns) (blocks_of os) a.blocks b.blocks in
       let its : ArePlanned m p.spots graph.nets (blocks_of ns) os =
-      subst (λ spots. ArePlanned m spots graph.nets (blocks_of ns) os) (sym placed.0) (subst (λ bs. ArePlanned m q.spots graph.nets bs os) (sym blocks) b.planned)
-      in
+      subst (λ spots. ArePlanned m spots graph.nets (blocks_of ns) os) (sym placed.0) (subst (λ bs. ArePlanned m q.spots graph.nets bs os) (sym blocks) b.planned) in
       (same_placement p q placed.0 placed.1, one_list_of_plans m p.spots a.sites graph.nets (blocks_of ns) a.blocks.all ns os a.planned its)
 
   module _ (target : ℕ) where
@@ -133,22 +123,18 @@ module _ (m : Description) (graph : Graph) where
     long_not_planned chip table plan has is =
         let there = slice_get_there plan.tables (index_of m chip) (subst (λ n. index_of m chip < n) (sym is.one_table_each) (index_below m chip has.inside)) in
         let same : there.0 ≡ table =
-        same_final plan.placement has.placement plan.nets has.nets plan.tables has.finals is.routing has.routing is.tables has.are chip there.0 table has.inside there.1 has.at
-        in
+        same_final plan.placement has.placement plan.nets has.nets plan.tables has.finals is.routing has.routing is.tables has.are chip there.0 table has.inside there.1 has.at in
         let short : length there.0.entries ≤ 1024 = All-at (λ (f : Final). length f.entries ≤ 1024) plan.tables (index_of m chip) there.0 is.short there.1 in
         let few : length table.entries ≤ 1024 = subst (λ (f : Final). length f.entries ≤ 1024) same short in
-        let more = is_more has.finals (index_of m chip) table has.first has.at in
-        omega (arith, few, more)
+        omega (arith, few, is_more has.finals (index_of m chip) table has.first has.at)
 
     -- no chip before the first that is long is long
     not_before : (c d : Chip) (t u : Final) → HasLongTable m graph target c t → HasLongTable m graph target d u → index_of m c < index_of m d → ⊥
     not_before c d t u a b less =
         let first = position-Some is_long b.finals (index_of m d) u b.first in
-        let inside = first.0 in
-        let there = slice_get_there b.finals (index_of m c) (omega (arith, less, inside)) in
+        let there = slice_get_there b.finals (index_of m c) (omega (arith, less, first.0)) in
         let same : t ≡ there.0 =
-        same_final a.placement b.placement a.nets b.nets a.finals b.finals a.routing b.routing a.are b.are c t there.0 a.inside a.at there.1
-        in
+        same_final a.placement b.placement a.nets b.nets a.finals b.finals a.routing b.routing a.are b.are c t there.0 a.inside a.at there.1 in
         let it : get_or b.finals (index_of m c) u ≡ there.0 = get_or_from_slice_get b.finals (index_of m c) there.0 u there.1 in
         let long : is_long there.0 ≡ true = subst (λ (f : Final). is_long f ≡ true) same (long_at a.finals (index_of m c) t a.first a.at) in
         true≢false (sym long ∙ (ap is_long (sym it) ∙ first.2 (index_of m c) less))

@@ -1,15 +1,13 @@
 -- Runs of chips whose tables workers cover, chip by chip.
 use Rattle.std.proofs.Common.{◌≡◌, ℕ, suc, ◌+◌, ◌<◌, ◌≤◌, true, None, List, [], ◌∷◌, ◌++◌, length, get_or, map, take, refl, sym, ap, ◌∙◌, subst, arith}
-use Rattle.std.specs.List.{All, AllZip, position}
-use Rattle.std.proofs.Math.Seq.{take-append_seam}
-use Rattle.std.proofs.lemmas.Bool.{ltb-true}
+use Rattle.std.proofs.{Math.Seq.take-append_seam, lemmas.Bool.ltb-true}
 use Rattle.std.proofs.lemmas.List.{append_assoc, get_or_push, length-append, length-map}
 use Rattle.std.proofs.lemmas.List.Elements.{All-head, All-map, All-tail}
 use Rattle.std.proofs.lemmas.Slice.Zip.{AllZip-long, all_zipped_more}
+use Rattle.std.specs.List.{All, AllZip, position}
 use Rattle.default_routes.specs.declared.stripping.Final.{Final}
 use Rattle.net_tables.specs.declared.marks.Mark.{Mark}
-use Rattle.par_compile.specs.declared.workers.Work.{Work}
-use Rattle.par_compile.specs.declared.workers.Work.TheVariants.{Plain, Done, Refused}
+use Rattle.par_compile.specs.declared.workers.Work.{Work, TheVariants.Plain, TheVariants.Done, TheVariants.Refused}
 use Rattle.par_compile.specs.Finals.{AreCoverable, GivesFinal, IsFinalFor, IsLeft, IsPlainWork, IsWorked, is_long}
 use Rattle.par_compile.proofs.Unique.{none_long}
 
@@ -72,7 +70,8 @@ pub record AreGiven (target : ℕ) (works rest : List Work) (finals : List Final
   pub left : All IsLeft rest
 
 -- one more
-pub given_more : (target : ℕ) (works rest : List Work) (finals : List Final) (w : Work) (f : Final) → AreGiven target works (w ∷ rest) finals → GivesFinal target w f → AreGiven target works rest (finals ++ f ∷ [])
+pub given_more : (target : ℕ) (works rest : List Work) (finals : List Final) (w : Work) (f : Final) → AreGiven target works (w ∷ rest) finals →
+    GivesFinal target w f → AreGiven target works rest (finals ++ f ∷ [])
 given_more target works rest finals w f so_far more = record {
   front = so_far.front ++ w ∷ [];
   whole = append_assoc so_far.front (w ∷ []) rest ∙ so_far.whole;
@@ -87,8 +86,7 @@ pub all_given : (target : ℕ) (works rest : List Work) (finals : List Final) �
 all_given target works rest finals so_far =
     let long : length finals ≡ length so_far.front = AllZip-long (GivesFinal target) so_far.front finals so_far.gives in
     let mine : take (length finals) works ≡ so_far.front =
-    ap (λ n. take n works) long ∙ (ap (take (length so_far.front)) (sym so_far.whole) ∙ take-append_seam so_far.front rest)
-    in
+    ap (λ n. take n works) long ∙ (ap (take (length so_far.front)) (sym so_far.whole) ∙ take-append_seam so_far.front rest) in
     subst (λ (ws : List Work). AllZip (GivesFinal target) ws finals) (sym mine) so_far.gives
 
 pub given_at_end : (target : ℕ) (works rest : List Work) (finals : List Final) → length rest ≡ 0 → AreGiven target works rest finals → length finals ≡ length works

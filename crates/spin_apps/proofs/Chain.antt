@@ -1,25 +1,20 @@
 -- Steps answered one after the other.
 use Rattle.std.proofs.Common.{◌≡◌, ℕ, zero, suc, ◌+◌, ◌≤◌, refl, sym, ap, ◌∙◌, subst, arith, List, [], ◌∷◌, ◌++◌, length, drop, ◌||◌, Option, Some, None, Result, Ok, Err, IfOk, IfSome, OnOk}
-use Rattle.std.specs.List.{list_any, slice_get}
-use Rattle.std.specs.Prelude.{is_some, option_map, true}
 use Rattle.std.proofs.lemmas.Bool.{false≢true}
 use Rattle.std.proofs.Math.Bool.{or_assoc, or-false, or-true}
-use Rattle.std.proofs.lemmas.List.{append-nil, append_assoc, drop_all}
-use Rattle.std.proofs.lemmas.Option.{same_Some}
+use Rattle.std.proofs.lemmas.{List.append-nil, List.append_assoc, List.drop_all, Option.same_Some}
+use Rattle.std.specs.List.{list_any, slice_get}
+use Rattle.std.specs.Prelude.{is_some, option_map, true}
 use Rattle.machine_desc.specs.Description.{Description}
-use Rattle.job_requests.specs.declared.steps.Step.{Step}
-use Rattle.job_requests.specs.declared.steps.Step.TheVariants.{Load, Unload, Run}
-use Rattle.job_requests.specs.Steps.{is_load}
-use Rattle.job_requests.specs.Valid.{HasFirstMachine, IsValidJob, IsValidStep}
+use Rattle.job_requests.specs.declared.steps.Step.{Step, TheVariants.Load, TheVariants.Unload, TheVariants.Run}
+use Rattle.job_requests.specs.{Steps.is_load, Valid.HasFirstMachine, Valid.IsValidJob, Valid.IsValidStep}
 use Rattle.job_requests.specs.declared.steps.AppJob.{AppJob}
-use Rattle.app_loads.specs.Applications.{AreApps}
-use Rattle.app_loads.specs.Host.{Host}
+use Rattle.app_loads.specs.{Applications.AreApps, Host.Host}
 use Rattle.app_loads.specs.declared.answers.LoadRefusal.TheVariants.{Loaded, MemoryOut, KeysOut, RowsOut}
 use Rattle.app_loads.specs.Opening.{bare_host}
 use Rattle.spin_apps.specs.declared.hosts.LoadAnswer.{LoadAnswer}
 use Rattle.spin_apps.specs.declared.hosts.LoadAnswer.TheVariants.{Done, NoRoom, CutOff, Refused}
-use Rattle.spin_apps.specs.declared.hosts.UnloadAnswer.{UnloadAnswer}
-use Rattle.spin_apps.specs.declared.hosts.UnloadAnswer.TheVariants.{Got, NotLoaded, Waiting}
+use Rattle.spin_apps.specs.declared.hosts.UnloadAnswer.{UnloadAnswer, TheVariants.Got, TheVariants.NotLoaded, TheVariants.Waiting}
 use Rattle.spin_apps.specs.Answers.{Answers, AreAnswered, AreAnsweredFrom, IsLoadAnswer, IsUnloadAnswer, host_at}
 use Rattle.spin_apps.specs.Hosting.{IsAnsweredBy, HasAddedLine, FindHosts, FindsHost, packet_count_of}
 use Rattle.spin_apps.specs.Lines.{load_line}
@@ -140,10 +135,8 @@ at_load (Some g) job h on = ap (λ (x : Host). x.packets) (sym (same_Some g h on
 
 load_packets : (h : Host) (number : ℕ) (job : AppJob) (answer : LoadAnswer) (new : Host) → IsValidJob job → IsLoadAnswer h number job answer new → new.packets ≤ h.packets + 65536
 load_packets h number job Done new valid is =
-    let more = is.loaded.packets in
     let same : length is.plan.packets ≡ length job.run.packets = ap length is.is.packets in
-    let few = valid.run.few_packets in
-    omega (arith, more, same, few)
+    omega (arith, is.loaded.packets, same, valid.run.few_packets)
 load_packets h number job (Refused Loaded) new valid is = let same = ap (λ (x : Host). x.packets) is.1 in omega (arith, same)
 load_packets h number job (NoRoom vertex) new valid is = let same = ap (λ (x : Host). x.packets) is.2 in omega (arith, same)
 load_packets h number job (CutOff net target) new valid is = let same = ap (λ (x : Host). x.packets) is.2 in omega (arith, same)
@@ -161,22 +154,16 @@ pub packets_more : (step : Step) (before : Option Host) (old new : List ℕ) (af
     packet_count_of after ≤ packet_count_of before + 65536
 packets_more (Load number job) before old new after valid told =
     let is = told.answers in
-    let left = ap packet_count_of is.left in
-    let more = load_packets is.host number job is.answer is.new valid is.is in
-    let first = at_load before job is.host is.on in
-    omega (arith, left, more, first)
+    omega (arith, ap packet_count_of is.left, load_packets is.host number job is.answer is.new valid is.is, at_load before job is.host is.on)
 packets_more (Unload number) None old new after valid told = let left = ap packet_count_of told.answers.1 in omega (arith, left)
 packets_more (Unload number) (Some h) old new after valid told =
     let is = told.answers in
-    let left = ap packet_count_of is.left in
-    let same = unload_packets h number is.answer is.new is.is in
-    omega (arith, left, same)
+    omega (arith, ap packet_count_of is.left, unload_packets h number is.answer is.new is.is)
 packets_more Run None old new after valid told = let left = ap packet_count_of told.answers.1 in omega (arith, left)
 packets_more Run (Some h) old new after valid told =
     let is = told.answers.1 in
-    let left = ap packet_count_of is.1 in
     let same = ap (λ (x : Host). x.packets) is.2.moved.others in
-    omega (arith, left, same)
+    omega (arith, ap packet_count_of is.1, same)
 
 -- ---- one step told
 

@@ -1,25 +1,19 @@
 -- The cores that are free, as a machine.
-use Rattle.std.proofs.Common.{◌≡◌, ℕ, ◌+◌, ◌-◌, ◌*◌, ◌/◌, ◌%◌, ◌<◌, ◌≤◌, refl, sym, ap, ◌∙◌, subst, arith, inl, inr, List, [], ◌∷◌, ◌++◌, map, take, Bool, true, false, not, ◌||◌, cond, Option, Some, None}
-use Rattle.std.specs.Prelude.{MatchOption}
-use Rattle.std.specs.List.{All, Contains, filter, list_any, range_with_len, slice_get}
+use Rattle.std.proofs.Common.{◌≡◌, ℕ, ◌+◌, ◌-◌, ◌*◌, ◌/◌, ◌%◌, ◌<◌, ◌≤◌, refl, sym, ap, ◌∙◌, subst, arith, inl, inr, List, [], ◌∷◌, ◌++◌, map, take, Bool, true, false}
+use Rattle.std.proofs.Common.{not, ◌||◌, cond, Option, Some, None}
 use Rattle.std.proofs.lemmas.Bool.{and_from, and_parts, cases_Bool, leb-true, ltb-true, not-true, or_parts}
 use Rattle.std.proofs.lemmas.List.FromFn.{filter_of_map_range_with_len_more, get_or-map-range_with_len, length-map-range_with_len}
-use Rattle.std.proofs.lemmas.List.Elements.{All-append, All-weaker}
-use Rattle.std.proofs.lemmas.List.Folds.{list_any-append}
-use Rattle.std.proofs.lemmas.Option.{slice_get-get_or}
+use Rattle.std.proofs.lemmas.{List.Elements.All-append, List.Elements.All-weaker, List.Folds.list_any-append, Option.slice_get-get_or}
+use Rattle.std.specs.Prelude.{MatchOption}
+use Rattle.std.specs.List.{All, Contains, filter, list_any, range_with_len, slice_get}
 use Rattle.spin_base.proofs.Members.{Contains-at, Contains-filter, Contains-from_filter, among_any, contains_among}
-use Rattle.spin_base.proofs.Places.{All-at, All-each, slice_get_there}
-use Rattle.spin_base.proofs.Ranges.{slice_get-map_range}
+use Rattle.spin_base.proofs.{Places.All-at, Places.All-each, Places.slice_get_there, Ranges.slice_get-map_range, Equality.spot_eq_same}
 use Rattle.spin_base.specs.declared.chips.Spot.{Spot}
 use Rattle.spin_base.specs.Equality.{spot_eq}
-use Rattle.spin_base.proofs.Equality.{spot_eq_same}
 use Rattle.machine_desc.specs.declared.trees.Edge.{Edge}
 use Rattle.machine_desc.specs.Description.{Description}
 use Rattle.machine_desc.specs.Live.{index_of, chip_of, is_usable, IsInside, IsSite, IsUsable}
-use Rattle.machine_desc.proofs.Far.{index_below}
-use Rattle.machine_desc.proofs.Live.{chip_of-inside}
-use Rattle.machine_desc.proofs.Same.{same_spot}
-use Rattle.machine_desc.proofs.Sites.{usable_site}
+use Rattle.machine_desc.proofs.{Far.index_below, Live.chip_of-inside, Same.same_spot, Sites.usable_site}
 use Rattle.app_graph.specs.declared.graphs.Vertex.{Vertex}
 use Rattle.mesh_core.proofs.Moves.{chip_of-index_of}
 use Rattle.place_fit.specs.Placement.{HasDeviceRoom, IsCoreFor, IsPlacement, device_spot}
@@ -126,9 +120,9 @@ placed_free h vertices spots memory placed none =
     let at : slice_get spots has.0 ≡ Some s = slice_get-get_or spots has.0 s has.1 ∙ ap Some has.2 in
     let of = slice_get_there vertices has.0 (subst (λ n. has.0 < n) placed.all has.1) in
     let core : IsCoreFor (free_machine h) placed.order (take has.0 vertices) (take has.0 spots) of.0 s =
-    subst (λ (o : Option Edge). MatchOption o (IsCoreFor (free_machine h) placed.order (take has.0 vertices) (take has.0 spots) of.0 s) (λ device. HasDeviceRoom (free_machine h) device × (s ≡ device_spot device)))
-    (All-at (λ (v : Vertex). v.device ≡ None) vertices has.0 of.0 none of.1) (placed.first.each has.0 of.0 s of.1 at)
-    in
+    subst (λ (o : Option Edge). MatchOption o (IsCoreFor (free_machine h) placed.order (take has.0 vertices) (take has.0 spots) of.0 s)
+    (λ device. HasDeviceRoom (free_machine h) device × (s ≡ device_spot device)))
+    (All-at (λ (v : Vertex). v.device ≡ None) vertices has.0 of.0 none of.1) (placed.first.each has.0 of.0 s of.1 at) in
     usable_free h s (and_parts _ _ core.free).0)
 
 -- so they are usable on the host's machine, and no loaded application's

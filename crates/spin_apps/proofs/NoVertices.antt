@@ -1,20 +1,14 @@
 -- No vertex is placed on any machine.
 use Rattle.std.proofs.Common.{◌≡◌, ℕ, zero, suc, ◌^◌, ◌<◌, ◌≤◌, refl, sym, arith, inl, inr, subst, Some, List, []}
+use Rattle.std.proofs.{Math.Pow.pow_mono, lemmas.Bool.cases_lt, lemmas.Option.slice_get_within}
 use Rattle.std.specs.List.{filter, slice_get}
-use Rattle.std.proofs.Math.Pow.{pow_mono}
-use Rattle.std.proofs.lemmas.Bool.{cases_lt}
-use Rattle.std.proofs.lemmas.Option.{slice_get_within}
 use Rattle.spin_base.specs.declared.chips.Chip.{Chip}
-use Rattle.machine_desc.specs.Description.{Description, HasSize}
-use Rattle.machine_desc.specs.Live.{is_live_chip}
+use Rattle.machine_desc.specs.{Description.Description, Description.HasSize, Live.is_live_chip}
 use Rattle.app_graph.specs.declared.graphs.Vertex.{Vertex}
-use Rattle.place_fit.specs.Curve.{IsChipOrder, hilbert}
-use Rattle.place_fit.specs.Placement.{IsPlacement}
+use Rattle.place_fit.specs.{Curve.IsChipOrder, Curve.hilbert, Placement.IsPlacement}
 use Rattle.job_requests.specs.declared.steps.AppJob.{AppJob}
-use Rattle.app_loads.specs.Applications.{AreApps}
-use Rattle.app_loads.specs.Host.{Host}
-use Rattle.spin_apps.specs.Free.{free_machine}
-use Rattle.spin_apps.specs.Making.{IsPlaced}
+use Rattle.app_loads.specs.{Applications.AreApps, Host.Host}
+use Rattle.spin_apps.specs.{Free.free_machine, Making.IsPlaced}
 
 between : (a b n : ℕ) → a < n → n ≤ b → b ≤ a → ⊥
 between a b n more most less = absurd (omega (arith, more, most, less))
@@ -45,9 +39,7 @@ least_level wide high (suc k) is_wide is_high = elim (cases_lt (2 ^ k) wide) [
 
 some_order : (m : Description) → HasSize m → (order : List Chip) × IsChipOrder m order
 some_order m size =
-    let wide = size.width_to_64 in
-    let high = size.height_to_64 in
-    let found = least_level m.width m.height 6 (omega (arith, wide)) (omega (arith, high)) in (
+    let found = least_level m.width m.height 6 (omega (arith, size.width_to_64)) (omega (arith, size.height_to_64)) in (
       filter (is_live_chip m) (hilbert found.level),
       record {
         level = found.level;

@@ -1,19 +1,14 @@
 -- On machines with the same applications a load or an unload has one answer.
 use Rattle.std.proofs.Common.{◌≡◌, ℕ, ◌≤◌, ◌==◌, ◌++◌, refl, sym, ap, ◌∙◌, subst, arith, inl, inr, List, [], length, get_or, true, false, Some}
-use Rattle.std.specs.List.{All, AllZip, Contains, filter, slice_get}
 use Rattle.std.proofs.lemmas.Bool.{cases_Bool, cases_order, eq-eqb, true≢false}
-use Rattle.std.proofs.lemmas.List.{get_or_default}
-use Rattle.std.proofs.lemmas.Option.{slice_get-get_or}
-use Rattle.std.proofs.lemmas.Slice.Zip.{AllZip-long}
+use Rattle.std.proofs.lemmas.{List.get_or_default, Option.slice_get-get_or, Slice.Zip.AllZip-long}
+use Rattle.std.specs.List.{All, AllZip, Contains, filter, slice_get}
 use Rattle.spin_base.proofs.Members.{among_any, contains_among}
 use Rattle.spin_base.proofs.Places.{AllZip-at_first, AllZip-at_second, one_item_at}
-use Rattle.spin_base.specs.declared.blocks.Block.{Block}
-use Rattle.spin_base.specs.declared.chips.Chip.{Chip}
-use Rattle.spin_base.specs.declared.chips.Spot.{Spot}
-use Rattle.machine_desc.specs.Description.{Description}
-use Rattle.machine_desc.specs.Live.{IsSite}
-use Rattle.app_graph.specs.declared.graphs.Net.{Net}
+use Rattle.spin_base.specs.declared.{blocks.Block.Block, chips.Chip.Chip, chips.Spot.Spot}
+use Rattle.machine_desc.specs.{Description.Description, Live.IsSite}
 use Rattle.machine_desc.specs.declared.nets.NetPlan.{NetPlan}
+use Rattle.app_graph.specs.declared.graphs.Net.{Net}
 use Rattle.net_plans.proofs.CutOffLaws.{one_first_net}
 use Rattle.net_plans.proofs.Determined as plans
 use Rattle.net_plans.specs.CutOffTargets.{IsFirstNetCutOff}
@@ -21,29 +16,19 @@ use Rattle.place_fit.proofs.Determined as places
 use Rattle.place_fit.specs.Placement.{HasNoRoom, IsPlacement}
 use Rattle.job_requests.specs.declared.steps.AppJob.{AppJob}
 use Rattle.job_requests.specs.Valid.{IsValidJob}
-use Rattle.app_loads.specs.declared.answers.LoadRefusal.{LoadRefusal}
-use Rattle.app_loads.specs.declared.answers.LoadRefusal.TheVariants.{Loaded, MemoryOut, KeysOut, RowsOut}
-use Rattle.app_loads.specs.declared.loaded.LoadedApp.{LoadedApp}
-use Rattle.app_loads.specs.declared.loaded.Range.{Range}
-use Rattle.app_loads.specs.declared.plans.AppNet.{AppNet}
-use Rattle.app_loads.specs.declared.plans.AppPlan.{AppPlan}
-use Rattle.app_loads.specs.Alike.{AreAlike}
-use Rattle.app_loads.specs.Applications.{AreApps}
-use Rattle.app_loads.specs.Claims.{AreServed, IsRefusalDue, claims_of}
+use Rattle.app_loads.specs.declared.answers.LoadRefusal.{LoadRefusal, TheVariants.Loaded, TheVariants.MemoryOut, TheVariants.KeysOut, TheVariants.RowsOut}
+use Rattle.app_loads.specs.declared.{loaded.LoadedApp.LoadedApp, loaded.Range.Range, plans.AppNet.AppNet, plans.AppPlan.AppPlan}
+use Rattle.app_loads.specs.{Alike.AreAlike, Applications.AreApps, Claims.AreServed, Claims.IsRefusalDue, Claims.claims_of}
 use Rattle.app_loads.specs.Host.{Host, all_ranges, all_spots, is_loaded, net_with}
 use Rattle.app_loads.specs.Leaving.{is_delivery_of, is_record_of, NoneUnderWay}
 use Rattle.app_loads.specs.Unloading.{WaitsFor}
 use Rattle.app_loads.proofs.Alike.{alike_too, waits_too}
 use Rattle.spin_apps.specs.declared.hosts.LoadAnswer.{LoadAnswer}
 use Rattle.spin_apps.specs.declared.hosts.LoadAnswer.TheVariants.{Done, NoRoom, CutOff, Refused}
-use Rattle.spin_apps.specs.declared.hosts.UnloadAnswer.{UnloadAnswer}
-use Rattle.spin_apps.specs.declared.hosts.UnloadAnswer.TheVariants.{Got, NotLoaded, Waiting}
-use Rattle.spin_apps.specs.Answers.{IsLoadAnswer, IsUnloadAnswer}
-use Rattle.spin_apps.specs.Free.{free_machine, unusable_spots}
+use Rattle.spin_apps.specs.declared.hosts.UnloadAnswer.{UnloadAnswer, TheVariants.Got, TheVariants.NotLoaded, TheVariants.Waiting}
+use Rattle.spin_apps.specs.{Answers.IsLoadAnswer, Answers.IsUnloadAnswer, Free.free_machine, Free.unusable_spots}
 use Rattle.spin_apps.specs.Plans.{HasCutOffOnHost, IsNetFor, IsPlanFor}
-use Rattle.spin_apps.proofs.FreeSpots.{free_sites, placed_free}
-use Rattle.spin_apps.proofs.Joined.{planned_joined}
-use Rattle.spin_apps.proofs.OneRefusal.{one_refusal, served_not_refused}
+use Rattle.spin_apps.proofs.{FreeSpots.free_sites, FreeSpots.placed_free, Joined.planned_joined, OneRefusal.one_refusal, OneRefusal.served_not_refused}
 
 same_net : (a b : AppNet) → a.source ≡ b.source → a.targets ≡ b.targets → a.tree ≡ b.tree → a.keys ≡ b.keys → a.fixed ≡ b.fixed → a ≡ b
 same_net a b source targets tree keys fixed = λ i. record { source = source i; targets = targets i; tree = tree i; keys = keys i; fixed = fixed i }
@@ -64,8 +49,7 @@ module _ (h : Host) (job : AppJob) (valid : IsValidJob job) where
   one_net : (spots : List Spot) → All (IsSite grid) spots → (net : Net) (a b : AppNet) → IsNetFor grid spots net a → IsNetFor grid spots net b → a ≡ b
   one_net spots sites net a b x y =
       let same : net_with a any_block ≡ net_with b any_block =
-      plans.one_plan grid spots sites net any_block (net_with a any_block) (net_with b any_block) (x.planned any_block) (y.planned any_block)
-      in
+      plans.one_plan grid spots sites net any_block (net_with a any_block) (net_with b any_block) (x.planned any_block) (y.planned any_block) in
       same_net a b (ap (λ (p : NetPlan). p.source) same) (ap (λ (p : NetPlan). p.targets) same) (ap (λ (p : NetPlan). p.tree) same) (x.keys ∙ sym y.keys) (x.fixed ∙ sym y.fixed)
 
   one_list : (spots : List Spot) → All (IsSite grid) spots → (nets : List Net) (xs ys : List AppNet) → AllZip (IsNetFor grid spots) nets xs → AllZip (IsNetFor grid spots) nets ys → xs ≡ ys
@@ -274,13 +258,11 @@ module _ (counted : HaveAsManyDeliveries) (h g : Host) (apps : AreApps h) (also 
       x.deliveries
       ∙ (ap length x.unloaded.delivered
       ∙ (counted h g x.unloaded.app apps also alike none
-      ∙ (ap (λ (p : LoadedApp). length (filter (is_delivery_of p) g.mesh.delivered)) app ∙ (ap length (sym y.unloaded.delivered) ∙ sym y.deliveries))))
-      in
+      ∙ (ap (λ (p : LoadedApp). length (filter (is_delivery_of p) g.mesh.delivered)) app ∙ (ap length (sym y.unloaded.delivered) ∙ sym y.deliveries)))) in
       let dumped : r ≡ s =
       x.records
       ∙ (ap length (x.unloaded.dumped ∙ ap (filter (is_record_of x.unloaded.app)) alike.quiet.no_record)
-      ∙ (ap length (sym (y.unloaded.dumped ∙ ap (filter (is_record_of y.unloaded.app)) alike.other_quiet.no_record)) ∙ sym y.records))
-      in
+      ∙ (ap length (sym (y.unloaded.dumped ∙ ap (filter (is_record_of y.unloaded.app)) alike.other_quiet.no_record)) ∙ sym y.records)) in
       λ i. Got (delivered i) (dumped i)
   one_unload (Got d r) NotLoaded new other x y = absurd (true≢false (sym (there h apps n x.unloaded.app x.unloaded.is x.unloaded.number_is) ∙ (loaded_too ∙ y.0)))
   one_unload (Got d r) (Waiting p) new other x y = absurd (x.none_waits y.0.app (here_too y.0.app y.0.is) y.0.number_is p (waits_here y.0.app p y.0.waits))

@@ -1,22 +1,16 @@
 -- Claims get one list of ranges, or one refusal.
 use Rattle.std.proofs.Common.{◌≡◌, ℕ, zero, suc, ◌+◌, ◌<◌, ◌≤◌, refl, sym, ap, ◌∙◌, subst, arith, inl, inr, List, ◌∷◌, [], ◌++◌, length, take}
-use Rattle.std.proofs.lemmas.Bool.{cases_order}
-use Rattle.std.proofs.lemmas.List.{take_all}
-use Rattle.std.proofs.lemmas.Option.{slice_get_within}
+use Rattle.std.proofs.lemmas.{Bool.cases_order, List.take_all, Option.slice_get_within}
 use Rattle.spin_base.proofs.Places.{one_item_at, slice_get_there, take_more_at}
 use Rattle.machine_desc.specs.Description.{Description}
-use Rattle.app_loads.specs.declared.answers.LoadRefusal.{LoadRefusal}
-use Rattle.app_loads.specs.declared.loaded.Claim.{Claim}
-use Rattle.app_loads.specs.declared.loaded.Range.{Range}
+use Rattle.app_loads.specs.declared.{answers.LoadRefusal.LoadRefusal, loaded.Claim.Claim, loaded.Range.Range}
 use Rattle.app_loads.specs.Claims.{AreFirstServed, AreServed, IsLeastOpenRange, IsOpenRange, IsRefusalDue}
 
 module _ (m : Description) (taken : List Range) (claims : List Claim) where
   one_least : (before : List Range) (claim : Claim) (r s : Range) → IsLeastOpenRange m before claim r → IsLeastOpenRange m before claim s → r ≡ s
   one_least before claim r s a b =
-      let up = a.least s.place b.may in
-      let down = b.least r.place a.may in
       let region : r.region ≡ s.region = a.region ∙ sym b.region in
-      let place : r.place ≡ s.place = omega (arith, up, down) in
+      let place : r.place ≡ s.place = omega (arith, a.least s.place b.may, b.least r.place a.may) in
       let size : r.size ≡ s.size = a.size ∙ sym b.size in
       λ i. record { region = region i; place = place i; size = size i }
 
@@ -50,15 +44,12 @@ module _ (m : Description) (taken : List Range) (claims : List Claim) where
       let s = slice_get_there ss n longer in
       let got = served.each n due.claim s.0 due.is s.1 in
       let before : take n ss ≡ due.ranges =
-      same_ranges ss due.ranges served due.before n (omega (arith, longer)) (omega arith) ∙ take_all n due.ranges (omega arith)
-      in
+      same_ranges ss due.ranges served due.before n (omega (arith, longer)) (omega arith) ∙ take_all n due.ranges (omega arith) in
       due.refused s.0.place (subst (λ l. IsOpenRange m (taken ++ l) due.claim s.0.place) before got.may)
 
   pub served_not_refused : (refusal : LoadRefusal) (rs : List Range) → AreServed m taken claims rs → IsRefusalDue m taken claims refusal → ⊥
   served_not_refused refusal rs served due =
-      let within = slice_get_within claims (length due.ranges) due.claim due.is in
-      let all = served.all in
-      refused_not_served refusal due rs served.first (omega (arith, within, all))
+      refused_not_served refusal due rs served.first (omega (arith, slice_get_within claims (length due.ranges) due.claim due.is, served.all))
 
   pub one_refusal : (e f : LoadRefusal) → IsRefusalDue m taken claims e → IsRefusalDue m taken claims f → e ≡ f
   one_refusal e f a b = elim (cases_order (length a.ranges) (length b.ranges)) [

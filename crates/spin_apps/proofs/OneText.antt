@@ -1,38 +1,25 @@
 -- Steps have one text: whatever states they lead through, these are states of machines with the same applications.
 use Rattle.std.proofs.Common.{◌≡◌, ℕ, zero, suc, ◌<◌, refl, sym, ap, ◌∙◌, subst, arith, inl, List, [], ◌∷◌, ◌++◌, length, true, false, Bool, Option, Some, None, IfSome}
-use Rattle.std.specs.Prelude.{option_map, replicate}
-use Rattle.std.specs.List.{All, Contains, slice_get}
-use Rattle.std.proofs.lemmas.Bool.{true≢false}
-use Rattle.std.proofs.lemmas.List.{length-replicate}
+use Rattle.std.proofs.lemmas.{Bool.true≢false, List.length-replicate}
 use Rattle.std.proofs.lemmas.List.Elements.{All-contains, All-cons, All-head, All-nil, All-tail}
 use Rattle.std.proofs.lemmas.Option.{same_Some, slice_get_within}
-use Rattle.spin_base.proofs.Members.{among_contains, among_right}
-use Rattle.spin_base.proofs.Places.{slice_get_there}
-use Rattle.spin_base.specs.declared.chips.Spot.{Spot}
-use Rattle.spin_base.specs.declared.copies.McCopy.{McCopy}
+use Rattle.std.specs.Prelude.{option_map, replicate}
+use Rattle.std.specs.List.{All, Contains, slice_get}
+use Rattle.spin_base.proofs.{Members.among_contains, Members.among_right, Places.slice_get_there}
+use Rattle.spin_base.specs.declared.{chips.Spot.Spot, copies.McCopy.McCopy}
 use Rattle.machine_desc.specs.Description.{Description}
 use Rattle.mesh_core.specs.State.{Hand, State}
 use Rattle.net_plans.proofs.Determined.{same_places}
-use Rattle.job_requests.specs.declared.steps.AppJob.{AppJob}
-use Rattle.job_requests.specs.declared.steps.Step.{Step}
-use Rattle.job_requests.specs.declared.steps.Step.TheVariants.{Load, Unload, Run}
+use Rattle.job_requests.specs.declared.steps.{AppJob.AppJob, Step.Step, Step.TheVariants.Load, Step.TheVariants.Unload, Step.TheVariants.Run}
 use Rattle.job_requests.specs.Valid.{IsValidJob, IsValidStep}
-use Rattle.app_loads.specs.declared.loaded.LoadedApp.{LoadedApp}
-use Rattle.app_loads.specs.declared.loaded.Range.{Range}
-use Rattle.app_loads.specs.declared.plans.AppPlan.{AppPlan}
-use Rattle.app_loads.specs.Alike.{AreAlike, IsQuiet}
-use Rattle.app_loads.specs.Applications.{AreApps, IsLoadedOn}
-use Rattle.app_loads.specs.Claims.{AreBlocks, AreServed, claims_of}
-use Rattle.app_loads.specs.Host.{Host, all_ranges}
-use Rattle.app_loads.specs.Loading.{sent_by_vertex}
-use Rattle.app_loads.specs.Opening.{bare_host}
-use Rattle.app_loads.proofs.Alike.{alike_moved, alike_unloaded, same_spots}
-use Rattle.app_loads.proofs.OneClaim.{one_block}
+use Rattle.app_loads.specs.declared.{loaded.LoadedApp.LoadedApp, loaded.Range.Range, plans.AppPlan.AppPlan}
+use Rattle.app_loads.specs.{Alike.AreAlike, Alike.IsQuiet, Applications.AreApps, Applications.IsLoadedOn, Claims.AreBlocks, Claims.AreServed, Claims.claims_of}
+use Rattle.app_loads.specs.{Host.Host, Host.all_ranges, Loading.sent_by_vertex, Opening.bare_host}
 use Rattle.app_loads.specs.declared.answers.LoadRefusal.TheVariants.{Loaded, MemoryOut, KeysOut, RowsOut}
+use Rattle.app_loads.proofs.{Alike.alike_moved, Alike.alike_unloaded, Alike.same_spots, OneClaim.one_block}
 use Rattle.spin_apps.specs.declared.hosts.LoadAnswer.{LoadAnswer}
 use Rattle.spin_apps.specs.declared.hosts.LoadAnswer.TheVariants.{Done, NoRoom, CutOff, Refused}
-use Rattle.spin_apps.specs.declared.hosts.UnloadAnswer.{UnloadAnswer}
-use Rattle.spin_apps.specs.declared.hosts.UnloadAnswer.TheVariants.{Got, NotLoaded, Waiting}
+use Rattle.spin_apps.specs.declared.hosts.UnloadAnswer.{UnloadAnswer, TheVariants.Got, TheVariants.NotLoaded, TheVariants.Waiting}
 use Rattle.spin_apps.specs.Answers.{Answers, AreAnsweredFrom, AreAnswered, HasGot, IsDone, IsLoadAnswer, IsUnloadAnswer, host_at}
 use Rattle.spin_apps.specs.Lines.{load_line, unload_line}
 use Rattle.spin_apps.proofs.OneLine.{HaveAsManyDeliveries, one_load, one_plan, one_unload, plan_there, served_there}
@@ -88,7 +75,8 @@ module _ (h g new other : Host) (n : ℕ) (job : AppJob) (valid : IsValidJob job
   same_ranges : one.ranges ≡ two.ranges
   same_ranges =
       one_served h.mesh.setup.machine (all_ranges h.apps) (claims_of h.mesh.setup.machine a.plan) one.ranges two.ranges a.loaded.served
-      (subst (λ (p : AppPlan). AreServed h.mesh.setup.machine (all_ranges h.apps) (claims_of h.mesh.setup.machine p) two.ranges) (sym same_job_plan) (served_there h g alike.machine alike.apps job valid b.plan two.ranges b.loaded.served))
+      (subst (λ (p : AppPlan). AreServed h.mesh.setup.machine (all_ranges h.apps) (claims_of h.mesh.setup.machine p) two.ranges) (sym same_job_plan)
+      (served_there h g alike.machine alike.apps job valid b.plan two.ranges b.loaded.served))
 
   new_machine : new.mesh.setup.machine ≡ other.mesh.setup.machine
   new_machine = ap (λ (m : State). m.setup.machine) a.loaded.mesh ∙ (alike.machine ∙ sym (ap (λ (m : State). m.setup.machine) b.loaded.mesh))
@@ -129,19 +117,15 @@ module _ (h g new other : Host) (n : ℕ) (job : AppJob) (valid : IsValidJob job
   same_unsent =
       same_places new.mesh.unsent other.mesh.unsent
       (apps.mesh.unsent_lists ∙ (ap length (same_spots new other apps also new_machine) ∙ sym also.mesh.unsent_lists)) (λ v x y at there.
-      let below : v < length h.mesh.unsent =
-      (let within = slice_get_within new.mesh.unsent v x at in
+      let below : v < length h.mesh.unsent = (let within = slice_get_within new.mesh.unsent v x at in
       let long = apps.mesh.unsent_lists ∙ (ap length spots_of_new ∙ sym lists) in
-      subst (λ k. v < k) long within)
-      in
+      subst (λ k. v < k) long within) in
       let q = slice_get_there h.mesh.unsent v below in
       let first : slice_get new.mesh.unsent v ≡ Some (q.0 ++ sent_by_vertex h.mesh.setup.spots one v) = a.loaded.unsent v q.0 q.1 in
       let second : slice_get other.mesh.unsent v ≡ Some (q.0 ++ sent_by_vertex g.mesh.setup.spots two v) =
-      b.loaded.unsent v q.0 (ap (λ (l : List (List McCopy)). slice_get l v) (sym alike.unsent) ∙ q.1)
-      in
+      b.loaded.unsent v q.0 (ap (λ (l : List (List McCopy)). slice_get l v) (sym alike.unsent) ∙ q.1) in
       let sent : sent_by_vertex h.mesh.setup.spots one v ≡ sent_by_vertex g.mesh.setup.spots two v =
-      ap (λ (l : List Spot). sent_by_vertex l one v) spots_before ∙ ap (λ (app : LoadedApp). sent_by_vertex g.mesh.setup.spots app v) same_app
-      in
+      ap (λ (l : List Spot). sent_by_vertex l one v) spots_before ∙ ap (λ (app : LoadedApp). sent_by_vertex g.mesh.setup.spots app v) same_app in
       same_Some x (q.0 ++ sent_by_vertex h.mesh.setup.spots one v) (sym at ∙ first)
       ∙ (ap (λ (l : List McCopy). q.0 ++ l) sent ∙ sym (same_Some y (q.0 ++ sent_by_vertex g.mesh.setup.spots two v) (sym there ∙ second))))
 
@@ -151,14 +135,13 @@ module _ (h g new other : Host) (n : ℕ) (job : AppJob) (valid : IsValidJob job
     apps = a.loaded.apps
         ∙ (ap (λ (l : List LoadedApp). l ++ one ∷ []) alike.apps ∙ (ap (λ (x : LoadedApp). g.apps ++ x ∷ []) same_app ∙ sym b.loaded.apps));
     packets =
-        let first = a.loaded.packets in
-        let second = b.loaded.packets in
-        let before = alike.packets in
         let more : length a.plan.packets ≡ length b.plan.packets = ap (λ (p : AppPlan). length p.packets) same_job_plan in
-        omega (arith, first, second, before, more);
+        omega (arith, a.loaded.packets, b.loaded.packets, alike.packets, more);
     unsent = same_unsent;
-    quiet = same_quiet h.mesh new.mesh (ap (λ (m : State). m.inputs) a.loaded.mesh) (ap (λ (m : State). m.hands) a.loaded.mesh) (ap (λ (m : State). m.cores) a.loaded.mesh) (ap (λ (m : State). m.dumped) a.loaded.mesh) alike.quiet;
-    other_quiet = same_quiet g.mesh other.mesh (ap (λ (m : State). m.inputs) b.loaded.mesh) (ap (λ (m : State). m.hands) b.loaded.mesh) (ap (λ (m : State). m.cores) b.loaded.mesh) (ap (λ (m : State). m.dumped) b.loaded.mesh) alike.other_quiet;
+    quiet = same_quiet h.mesh new.mesh (ap (λ (m : State). m.inputs) a.loaded.mesh) (ap (λ (m : State). m.hands) a.loaded.mesh)
+        (ap (λ (m : State). m.cores) a.loaded.mesh) (ap (λ (m : State). m.dumped) a.loaded.mesh) alike.quiet;
+    other_quiet = same_quiet g.mesh other.mesh (ap (λ (m : State). m.inputs) b.loaded.mesh) (ap (λ (m : State). m.hands) b.loaded.mesh)
+        (ap (λ (m : State). m.cores) b.loaded.mesh) (ap (λ (m : State). m.dumped) b.loaded.mesh) alike.other_quiet;
   }
 
 alike_after_load : (h g new other : Host) (n : ℕ) (job : AppJob) (a b : LoadAnswer) → IsValidJob job → AreAlike h g → length h.mesh.unsent ≡ length h.mesh.setup.spots → a ≡ b →

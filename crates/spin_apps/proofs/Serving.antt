@@ -1,16 +1,10 @@
 -- A host after what was done on it.
 use Rattle.std.proofs.Common.{◌≡◌, ℕ, List, ◌++◌, Option, Some, refl, sym, subst, ap, Result, Ok, Err, IfOk, OnOk, OnErr}
 use Rattle.mesh_core.specs.State.{State}
-use Rattle.app_loads.specs.Applications.{AreApps}
-use Rattle.app_loads.specs.Host.{Host}
-use Rattle.app_loads.specs.Loading.{HasLoaded}
-use Rattle.app_loads.specs.Unloading.{HasUnloaded}
-use Rattle.app_loads.specs.declared.answers.Ended.{Ended}
-use Rattle.app_loads.specs.declared.plans.AppPlan.{AppPlan}
+use Rattle.app_loads.specs.{Applications.AreApps, Host.Host, Loading.HasLoaded, Unloading.HasUnloaded}
+use Rattle.app_loads.specs.declared.{answers.Ended.Ended, plans.AppPlan.AppPlan}
 use Rattle.job_requests.specs.declared.steps.Step.TheVariants.{Run}
-use Rattle.spin_apps.specs.Answers.{HasDrained}
-use Rattle.spin_apps.specs.Hosting.{HasAddedLine}
-use Rattle.spin_apps.specs.Lines.{run_line}
+use Rattle.spin_apps.specs.{Answers.HasDrained, Hosting.HasAddedLine, Lines.run_line}
 
 loaded_machine : (old new : Host) (number : ℕ) (plan : AppPlan) → HasLoaded old number plan new → new.mesh.setup.machine ≡ old.mesh.setup.machine
 loaded_machine old new number plan loaded = ap (λ (s : State). s.setup.machine) loaded.mesh

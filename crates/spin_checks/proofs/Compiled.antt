@@ -1,49 +1,37 @@
 -- What the compiler makes of a graph is answered right.
-use Rattle.std.proofs.Common.{◌≡◌, ℕ, ◌<◌, List, length, get_or, Some, Result, Ok, Err, IfOk, IfErr, refl, sym, ◌∙◌, subst, arith, inl, inr}
-use Rattle.std.specs.Prelude.{MatchResult}
-use Rattle.std.specs.List.{All, AllPairs, slice_get}
-use Rattle.std.proofs.lemmas.List.{length-map}
-use Rattle.std.proofs.lemmas.List.Sorted.{IsPermutation-refl}
-use Rattle.std.proofs.lemmas.Option.{slice_get_within}
-use Rattle.spin_base.proofs.Places.{All-at, one_item_at, slice_get_there, slice_get-mapped}
+use Rattle.std.proofs.Common.{◌≡◌, ℕ, List, get_or, Some, Result, Ok, Err, IfOk, IfErr, refl, sym, ◌∙◌, subst, arith, inl, inr}
+use Rattle.std.proofs.lemmas.List.{length-map, Sorted.IsPermutation-refl}
+use Rattle.std.specs.{Prelude.MatchResult, List.All, List.AllPairs, List.slice_get}
+use Rattle.spin_base.proofs.Places.{All-at, one_item_at, slice_get-mapped}
 use Rattle.spin_base.specs.declared.blocks.Block.{Block}
 use Rattle.machine_desc.specs.declared.trees.Edge.{Edge}
-use Rattle.machine_desc.specs.Description.{Description}
-use Rattle.machine_desc.specs.EdgeOrder.{IsEdgeBefore}
-use Rattle.machine_desc.specs.Live.{IsInside}
-use Rattle.machine_desc.specs.RoutingTree.{IsRoutingTree}
-use Rattle.machine_desc.proofs.EdgePlaces.{before_place}
-use Rattle.app_graph.specs.declared.graphs.Graph.{Graph}
-use Rattle.app_graph.specs.declared.graphs.Net.{Net}
-use Rattle.link_detours.specs.Repair.{AreInPlaceOrder}
+use Rattle.machine_desc.specs.{Description.Description, EdgeOrder.IsEdgeBefore, Live.IsInside, RoutingTree.IsRoutingTree}
 use Rattle.machine_desc.specs.declared.nets.NetPlan.{NetPlan}
+use Rattle.machine_desc.proofs.EdgePlaces.{before_place}
+use Rattle.app_graph.specs.declared.graphs.{Graph.Graph, Net.Net}
+use Rattle.link_detours.specs.Repair.{AreInPlaceOrder}
 use Rattle.net_plans.specs.NetPlans.{IsPlannedNet}
 use Rattle.net_tables.proofs.Trees.{edges_inside}
+use Rattle.net_tables.specs.PlainTable.{AreRoutedApart}
 use Rattle.table_load.specs.declared.tables.Image.{Image}
 use Rattle.table_load.specs.Images.{Spells}
 use Rattle.par_compile.specs.declared.compiling.Plan.{Plan}
 use Rattle.par_compile.specs.Compiled.{IsPlanOf, blocks_of}
 use Rattle.par_compile.proofs.Unique.{routed_of}
 use Rattle.plan_check.specs.declared.verdicts.Verdict.TheVariants.{Right}
-use Rattle.plan_check.specs.MadeImages.{IsImageOf}
-use Rattle.plan_check.specs.Verdicts.{IsVerdict}
-use Rattle.net_tables.specs.PlainTable.{AreRoutedApart}
-use Rattle.run_report.specs.declared.causes.Refusal.{Refusal}
-use Rattle.run_report.specs.declared.causes.Refusal.TheVariants.{Memory}
+use Rattle.plan_check.specs.{MadeImages.IsImageOf, Verdicts.IsVerdict}
+use Rattle.run_report.specs.declared.causes.Refusal.{Refusal, TheVariants.Memory}
 use Rattle.spin_checks.specs.declared.findings.Finding.TheVariants.{Judged}
 use Rattle.spin_checks.specs.Answers.{HasNoAnswer, IsAnswer}
-use Rattle.spin_checks.specs.Findings.{HasGoodTree, right_line}
-use Rattle.spin_checks.specs.Nets.{AreNetsWith, IsNetWith}
-use Rattle.spin_checks.specs.Plans.{HasKeptRows, trees_of}
+use Rattle.spin_checks.specs.{Findings.HasGoodTree, Findings.right_line, Nets.AreNetsWith, Nets.IsNetWith, Plans.HasKeptRows, Plans.trees_of}
 use Rattle.spin_checks.proofs.Refusing.{none_due}
 
 -- ---- the trees of plans are in order
 
 tree_in_order : (m : Description) (edges : List Edge) → All (λ (e : Edge). IsInside m e.chip) edges → AreInPlaceOrder m edges → AllPairs (λ e f. IsEdgeBefore f e → ⊥) edges
 tree_in_order m edges inside up i j d less below before =
-    let rises = up i j d less below in
     let falls = before_place m (get_or edges j d) (get_or edges i d) (inside j d below) before in
-    omega (arith, rises, falls)
+    omega (arith, up i j d less below, falls)
 
 module _ (m : Description) (graph : Graph) (target : ℕ) (plan : Plan) (is : IsPlanOf m graph target plan) where
   its_tree : (i : ℕ) (p : NetPlan) → slice_get plan.nets i ≡ Some p → IsRoutingTree m p.tree.root p.tree.edges p.targets
@@ -74,9 +62,8 @@ module _ (m : Description) (graph : Graph) (target : ℕ) (plan : Plan) (is : Is
     one_tree_each = length-map plan.nets (λ (net : NetPlan). net.tree.edges) ∙ is.routing.planned.one_plan_each;
     one_plan_each = is.routing.planned.one_plan_each;
     each = λ i net block edges p net_at block_at edges_at p_at.
-        let planned = is.routing.planned.each i net block p net_at block_at p_at in
         let same : p.tree.edges ≡ edges = one_item_at (trees_of plan.nets) i i p.tree.edges edges refl (slice_get-mapped (λ (n : NetPlan). n.tree.edges) plan.nets i p p_at) edges_at in
-        subst (λ es. IsNetWith plan.placement.spots net block es p) same (net_with i net block p planned p_at);
+        subst (λ es. IsNetWith plan.placement.spots net block es p) same (net_with i net block p (is.routing.planned.each i net block p net_at block_at p_at) p_at);
   }
 
   all_good : All (HasGoodTree m) plan.nets

@@ -1,18 +1,14 @@
 -- Nets one by one: each with its plan, and the first with a bad tree.
 use Rattle.std.proofs.Common.{◌≡◌, ℕ, ◌+◌, ◌<◌, ◌≤◌, List, [], ◌∷◌, ◌++◌, length, get_or, Some, sym, ap, ◌∙◌, subst, arith, inl, inr}
+use Rattle.std.proofs.lemmas.{Bool.cases_lt, List.length_push, Option.slice_get-get_or}
 use Rattle.std.specs.List.{All, slice_get}
-use Rattle.std.proofs.lemmas.Bool.{cases_lt}
-use Rattle.std.proofs.lemmas.List.{length_push}
-use Rattle.std.proofs.lemmas.Option.{slice_get-get_or}
 use Rattle.spin_base.proofs.Places.{one_item_at, slice_get-push_cases}
-use Rattle.spin_base.specs.declared.blocks.Block.{Block}
-use Rattle.spin_base.specs.declared.chips.Spot.{Spot}
+use Rattle.spin_base.specs.declared.{blocks.Block.Block, chips.Spot.Spot}
 use Rattle.machine_desc.specs.declared.trees.Edge.{Edge}
 use Rattle.machine_desc.specs.Description.{Description}
-use Rattle.app_graph.specs.declared.graphs.Net.{Net}
 use Rattle.machine_desc.specs.declared.nets.NetPlan.{NetPlan}
-use Rattle.spin_checks.specs.Findings.{HasGoodTree}
-use Rattle.spin_checks.specs.Nets.{IsEachNetWith, IsNetWith}
+use Rattle.app_graph.specs.declared.graphs.Net.{Net}
+use Rattle.spin_checks.specs.{Findings.HasGoodTree, Nets.IsEachNetWith, Nets.IsNetWith}
 
 -- one plan more
 module _ (spots : List Spot) (nets : List Net) (blocks : List Block) (trees : List (List Edge)) (old new : List NetPlan) (i : ℕ) (net : Net) (block : Block) (edges : List Edge) (plan : NetPlan)

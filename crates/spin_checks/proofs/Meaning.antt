@@ -1,25 +1,19 @@
 -- What the lines mean: each begins as no other does.
 use Rattle.std.proofs.Common.{◌≡◌, ℕ, List, [], ◌∷◌, Some, refl, sym, ap, ◌∙◌, subst, arith, codes}
 use Rattle.std.specs.List.{slice_get}
-use Rattle.spin_base.specs.declared.blocks.Entry.{Entry}
-use Rattle.spin_base.specs.declared.chips.Chip.{Chip}
+use Rattle.spin_base.specs.declared.{blocks.Entry.Entry, chips.Chip.Chip}
 use Rattle.machine_desc.specs.declared.trees.Edge.{Edge}
 use Rattle.machine_desc.specs.Description.{Description}
-use Rattle.app_graph.specs.declared.graphs.Graph.{Graph}
-use Rattle.app_graph.specs.declared.graphs.Net.{Net}
 use Rattle.machine_desc.specs.declared.nets.NetPlan.{NetPlan}
 use Rattle.machine_desc.specs.RightTables.{AreRight}
+use Rattle.app_graph.specs.declared.graphs.{Graph.Graph, Net.Net}
 use Rattle.table_load.specs.declared.tables.Image.{Image}
-use Rattle.table_load.specs.Images.{Spells}
-use Rattle.table_load.specs.Memories.{IsLoaded}
+use Rattle.table_load.specs.{Images.Spells, Memories.IsLoaded}
 use Rattle.plan_check.specs.declared.verdicts.Verdict.TheVariants.{Right, Wrong, Split}
 use Rattle.plan_check.specs.Verdicts.{IsMisrouted}
 use Rattle.run_report.specs.ReportText.{line}
-use Rattle.spin_checks.specs.declared.findings.Finding.{Finding}
-use Rattle.spin_checks.specs.declared.findings.Finding.TheVariants.{BadTree, BadImage, OtherMachine, Judged}
-use Rattle.spin_checks.specs.Answers.{NamesMisrouted, RoutesRight}
-use Rattle.spin_checks.specs.Findings.{finding_line, right_line}
-use Rattle.spin_checks.specs.Nets.{AreNetsWith}
+use Rattle.spin_checks.specs.declared.findings.Finding.{Finding, TheVariants.BadTree, TheVariants.BadImage, TheVariants.OtherMachine, TheVariants.Judged}
+use Rattle.spin_checks.specs.{Answers.NamesMisrouted, Answers.RoutesRight, Findings.finding_line, Findings.right_line, Nets.AreNetsWith}
 use Rattle.spin_checks.proofs.OneNets.{one_list}
 
 -- the first letter

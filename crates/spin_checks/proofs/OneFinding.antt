@@ -1,20 +1,16 @@
 -- Nets and bytes have one finding.
 use Rattle.std.proofs.Common.{◌≡◌, ℕ, List, [], ◌++◌, Option, Some, None, refl, sym, ap, subst, inl, inr, append-nil}
-use Rattle.std.specs.List.{All}
 use Rattle.std.proofs.lemmas.Bool.{cases_order}
+use Rattle.std.specs.List.{All}
 use Rattle.spin_base.proofs.Places.{All-at}
-use Rattle.machine_desc.specs.Description.{Description}
-use Rattle.machine_desc.specs.Live.{IsInside}
-use Rattle.machine_desc.specs.RoutingTree.{IsRoutingTree}
+use Rattle.machine_desc.specs.{Description.Description, Live.IsInside, RoutingTree.IsRoutingTree}
 use Rattle.machine_desc.specs.declared.nets.NetPlan.{NetPlan}
 use Rattle.net_tables.specs.Marks.{IsRouted}
 use Rattle.table_load.specs.declared.tables.Image.{Image}
-use Rattle.table_load.specs.Images.{Spells}
-use Rattle.table_load.specs.Reading.{fault_of}
+use Rattle.table_load.specs.{Images.Spells, Reading.fault_of}
 use Rattle.plan_check.specs.declared.verdicts.Verdict.{Verdict}
 use Rattle.plan_check.specs.Verdicts.{IsVerdict}
-use Rattle.spin_checks.specs.declared.findings.Finding.{Finding}
-use Rattle.spin_checks.specs.declared.findings.Finding.TheVariants.{BadTree, BadImage, OtherMachine, Judged}
+use Rattle.spin_checks.specs.declared.findings.Finding.{Finding, TheVariants.BadTree, TheVariants.BadImage, TheVariants.OtherMachine, TheVariants.Judged}
 use Rattle.spin_checks.specs.Findings.{HasGoodTree, IsFinding, IsFirstBad, IsOfGrid}
 use Rattle.spin_checks.specs.Nets.{StandsOnSites}
 use Rattle.spin_checks.proofs.OneVerdict.{one_verdict}

@@ -1,17 +1,13 @@
 -- Edges that are put in order give one tree.
 use Rattle.std.proofs.Common.{◌≡◌, ℕ, ◌+◌, ◌≤◌, Bool, true, false, List, [], ◌∷◌, get_or, refl, sym, ap, ◌∙◌, subst, arith, inl, inr}
-use Rattle.std.specs.List.{All, AllPairs, sum_by}
-use Rattle.std.specs.List.Sorted.{IsPermutation}
-use Rattle.std.proofs.lemmas.List.Elements.{All-cons}
-use Rattle.std.proofs.lemmas.List.Sorted.{IsPermutation-sym, IsPermutation-trans, sum_by-IsPermutation}
+use Rattle.std.proofs.lemmas.List.{Elements.All-cons, Sorted.IsPermutation-sym, Sorted.IsPermutation-trans, Sorted.sum_by-IsPermutation}
 use Rattle.std.proofs.lemmas.List.Sums.{sum_by-cons, sum_by-le}
+use Rattle.std.specs.List.{All, AllPairs, sum_by, Sorted.IsPermutation}
 use Rattle.spin_base.proofs.Pairs.{AllPairs-head, AllPairs-tail}
 use Rattle.spin_base.specs.declared.chips.Chip.{Chip}
-use Rattle.machine_desc.specs.declared.trees.Edge.{Edge}
-use Rattle.machine_desc.specs.declared.trees.Tree.{Tree}
-use Rattle.machine_desc.specs.Equality.{edge_eq}
+use Rattle.machine_desc.specs.declared.trees.{Edge.Edge, Tree.Tree}
+use Rattle.machine_desc.specs.{Equality.edge_eq, EdgeOrder.IsEdgeBefore, EdgeOrder.edge_key}
 use Rattle.machine_desc.proofs.Same.{edge_eq-true, edge_eq_self, same_chip, same_dir, same_edge}
-use Rattle.machine_desc.specs.EdgeOrder.{IsEdgeBefore, edge_key}
 use Rattle.net_plans.proofs.Ordering.{same_from_neither}
 use Rattle.spin_checks.specs.Nets.{IsTreeOf}
 
@@ -42,7 +38,8 @@ IsInOrder edges = AllPairs (λ e f. IsEdgeBefore f e → ⊥) edges
 -- an edge before the first of a list in order does not stand there
 not_there : (e f : Edge) (fs : List Edge) → IsInOrder (f ∷ fs) → IsEdgeBefore e f → times e (f ∷ fs) ≤ 0
 not_there e f fs up before =
-    let none : All (λ g. count_at (edge_eq e g) ≤ 0) (f ∷ fs) = All-cons (λ g. count_at (edge_eq e g) ≤ 0) f fs (off f (λ same. not_before_itself f (subst (λ g. IsEdgeBefore g f) same before)) (edge_eq e f) refl)
+    let none : All (λ g. count_at (edge_eq e g) ≤ 0) (f ∷ fs) =
+    All-cons (λ g. count_at (edge_eq e g) ≤ 0) f fs (off f (λ same. not_before_itself f (subst (λ g. IsEdgeBefore g f) same before)) (edge_eq e f) refl)
     (λ k d below.
     let later : IsEdgeBefore (get_or fs k d) f → ⊥ = AllPairs-head (λ (a b : Edge). IsEdgeBefore b a → ⊥) f fs up k d below in
     off (get_or fs k d) (λ same. later (subst (λ g. IsEdgeBefore g f) same before)) (edge_eq e (get_or fs k d)) refl) in

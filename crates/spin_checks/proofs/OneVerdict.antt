@@ -1,23 +1,16 @@
 -- Nets that are routed have one verdict on an image.
 use Rattle.std.proofs.Common.{◌≡◌, ℕ, List, Some, refl, sym, ap, ◌∙◌, subst, inl, inr}
-use Rattle.std.specs.List.{All, slice_get}
 use Rattle.std.proofs.lemmas.Bool.{cases_order}
+use Rattle.std.specs.List.{All, slice_get}
 use Rattle.spin_base.proofs.Places.{All-at, one_item_at}
-use Rattle.spin_base.specs.declared.blocks.Block.{Block}
-use Rattle.spin_base.specs.declared.blocks.Entry.{Entry}
-use Rattle.spin_base.specs.declared.chips.Chip.{Chip}
-use Rattle.spin_base.specs.declared.chips.Port.{Port}
-use Rattle.spin_base.specs.declared.routes.Route.{Route}
-use Rattle.machine_desc.specs.Description.{Description}
-use Rattle.machine_desc.specs.Live.{IsInside, index_of}
-use Rattle.machine_desc.proofs.Far.{same_index}
+use Rattle.spin_base.specs.declared.{blocks.Block.Block, blocks.Entry.Entry, chips.Chip.Chip, chips.Port.Port, routes.Route.Route}
+use Rattle.machine_desc.specs.{Description.Description, Live.IsInside, Live.index_of}
 use Rattle.machine_desc.specs.declared.nets.NetPlan.{NetPlan}
+use Rattle.machine_desc.proofs.Far.{same_index}
 use Rattle.net_tables.specs.Marks.{IsRouted}
-use Rattle.net_tables.proofs.Determined.{one_port}
-use Rattle.net_tables.proofs.Trees.{chips_inside}
+use Rattle.net_tables.proofs.{Determined.one_port, Trees.chips_inside}
 use Rattle.table_load.specs.declared.tables.Image.{Image}
-use Rattle.plan_check.specs.declared.verdicts.Verdict.{Verdict}
-use Rattle.plan_check.specs.declared.verdicts.Verdict.TheVariants.{Right, Wrong, Split}
+use Rattle.plan_check.specs.declared.verdicts.Verdict.{Verdict, TheVariants.Right, TheVariants.Wrong, TheVariants.Split}
 use Rattle.plan_check.specs.Verdicts.{AreFineBefore, GetsRoute, GetsRouteThat, IsFine, IsFineAll, IsFirstToMeet, IsSplitAt, IsTreeRoute, IsVerdict, IsWrong, LiesInside, Meets, rows_for}
 
 -- ---- a block in rows
@@ -123,7 +116,8 @@ module _ (m : Description) (v : Image) where
         λ k. Split (same.0 k) (same.2 k) (rows k)
 
 -- the net that a wrong verdict names is the same for each list of memories
-pub wrong_named : (m : Description) (v : Image) (nets : List NetPlan) (verdict : Verdict) (i : ℕ) (c : Chip) (key : ℕ) (Is : List (List Entry) → NetPlan → Type 0) (Loaded : List (List Entry) → Type 0) →
+pub wrong_named : (m : Description) (v : Image) (nets : List NetPlan) (verdict : Verdict) (i : ℕ) (c : Chip) (key : ℕ)
+    (Is : List (List Entry) → NetPlan → Type 0) (Loaded : List (List Entry) → Type 0) →
     IsVerdict m nets v verdict → verdict ≡ Wrong i c key →
     ((memories : List (List Entry)) → Loaded memories → (net : NetPlan) × (slice_get nets i ≡ Some net) × Is memories net) →
     (net : NetPlan) × (slice_get nets i ≡ Some net) × ((memories : List (List Entry)) → Loaded memories → Is memories net)

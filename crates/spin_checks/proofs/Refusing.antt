@@ -1,13 +1,10 @@
 -- A graph has at most one refusal that is due, and none where it has nets with trees.
 use Rattle.std.proofs.Common.{◌≡◌, ℕ, List, Result, Ok, Err, IfOk, IfErr, sym, ap, ◌∙◌, inl, inr}
 use Rattle.spin_base.proofs.Places.{one_item_at}
-use Rattle.spin_base.specs.declared.chips.Spot.{Spot}
-use Rattle.spin_base.specs.declared.wants.Memory.{Memory as WantsMemory}
+use Rattle.spin_base.specs.declared.{chips.Spot.Spot, wants.Memory.Memory as WantsMemory}
 use Rattle.machine_desc.specs.declared.trees.Edge.{Edge}
 use Rattle.machine_desc.specs.Description.{Description}
-use Rattle.app_graph.specs.declared.graphs.Graph.{Graph}
-use Rattle.app_graph.specs.declared.graphs.Net.{Net}
-use Rattle.app_graph.specs.declared.graphs.Vertex.{Vertex}
+use Rattle.app_graph.specs.declared.graphs.{Graph.Graph, Net.Net, Vertex.Vertex}
 use Rattle.place_fit.specs.Cause.{IsPlacementCause}
 use Rattle.place_fit.specs.declared.placing.PlaceErr.{PlaceErr}
 use Rattle.place_fit.specs.declared.placing.PlaceErr.TheVariants as places
@@ -19,8 +16,7 @@ use Rattle.net_plans.specs.Cause.{IsRefusedBy}
 use Rattle.place_fit.specs.Placement.{IsPlacement}
 use Rattle.place_fit.proofs.Determined as placing
 use Rattle.key_alloc.proofs.Determined as keying
-use Rattle.run_report.specs.declared.causes.Refusal.{Refusal}
-use Rattle.run_report.specs.declared.causes.Refusal.TheVariants.{NoRoom, KeysOut, Memory}
+use Rattle.run_report.specs.declared.causes.Refusal.{Refusal, TheVariants.NoRoom, TheVariants.KeysOut, TheVariants.Memory}
 use Rattle.spin_checks.specs.Answers.{HasNoAnswer, IsAnswer, IsJobRefusal, keys_out, no_room}
 use Rattle.spin_checks.specs.Nets.{AreNetsWith}
 use Rattle.spin_checks.specs.Naming.{IsNetIn, IsVertexIn, key_refusal, place_refusal}
@@ -45,7 +41,8 @@ module _ (m : Description) (graph : Graph) where
   none_due trees nets r are (keys_out spots memory placed i v out at is) = keying.not_both graph.nets are.blocks i are.keyed out
 
   -- Whatever is answered, if what it says is so, it is the refusal that is due.
-  pub refused_where : {X : Type 0} (P : X → Type 0) → ((x : X) → P x → (r : Refusal) → IsJobRefusal m graph r → ⊥) → (result : Result X Refusal) → IfOk result P → IfErr result (HasNoAnswer m graph) → (r : Refusal) →
+  pub refused_where : {X : Type 0} (P : X → Type 0) → ((x : X) → P x → (r : Refusal) → IsJobRefusal m graph r → ⊥) →
+      (result : Result X Refusal) → IfOk result P → IfErr result (HasNoAnswer m graph) → (r : Refusal) →
       IsJobRefusal m graph r → IsRefusedBy result r Memory
   refused_where P never (Ok x) is cause r due = absurd (never x is r due)
   refused_where P never (Err s) is (inl other) r due = inl (ap Err (one_due s r other due))
@@ -55,7 +52,8 @@ module _ (m : Description) (graph : Graph) where
       IsJobRefusal m graph r → IsRefusedBy result r Memory
   refused_nets trees = refused_where (AreNetsWith m graph trees) (λ nets are r due. none_due trees nets r are due)
 
-  pub refused_answer : (trees : List (List Edge)) (bytes : List ℕ) (result : Result (List ℕ) Refusal) → IfOk result (IsAnswer m graph trees bytes) → IfErr result (HasNoAnswer m graph) → (r : Refusal) →
+  pub refused_answer : (trees : List (List Edge)) (bytes : List ℕ) (result : Result (List ℕ) Refusal) →
+      IfOk result (IsAnswer m graph trees bytes) → IfErr result (HasNoAnswer m graph) → (r : Refusal) →
       IsJobRefusal m graph r → IsRefusedBy result r Memory
   refused_answer trees bytes = refused_where (IsAnswer m graph trees bytes) (λ text is r due. none_due trees is.nets r is.are due)
 

@@ -1,17 +1,14 @@
 -- Nets whose vertices stand on sites begin on the grid and end at cores and devices.
 use Rattle.std.proofs.Common.{◌≡◌, ◌<◌, List, length, get_or, sym, subst}
-use Rattle.std.specs.List.{All}
 use Rattle.std.proofs.lemmas.Option.{slice_get-get_or}
+use Rattle.std.specs.List.{All}
 use Rattle.spin_base.proofs.Places.{All-at, All-each, slice_get_there}
-use Rattle.spin_base.specs.declared.blocks.Block.{Block}
-use Rattle.spin_base.specs.declared.chips.Spot.{Spot}
+use Rattle.spin_base.specs.declared.{blocks.Block.Block, chips.Spot.Spot}
 use Rattle.machine_desc.specs.declared.trees.Edge.{Edge}
-use Rattle.machine_desc.specs.Description.{Description}
-use Rattle.machine_desc.specs.Live.{IsSite}
-use Rattle.machine_desc.proofs.Far.{live_inside}
-use Rattle.machine_desc.proofs.Sites.{site_parts}
-use Rattle.app_graph.specs.declared.graphs.Net.{Net}
+use Rattle.machine_desc.specs.{Description.Description, Live.IsSite}
 use Rattle.machine_desc.specs.declared.nets.NetPlan.{NetPlan}
+use Rattle.machine_desc.proofs.{Far.live_inside, Sites.site_parts}
+use Rattle.app_graph.specs.declared.graphs.Net.{Net}
 use Rattle.spin_checks.specs.Nets.{IsEachNetWith, IsNetWith, StandsOnSites}
 
 module _ (m : Description) (spots : List Spot) (sites : All (IsSite m) spots) where

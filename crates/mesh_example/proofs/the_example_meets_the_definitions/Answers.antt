@@ -1,14 +1,9 @@
 use Rattle.std.proofs.Common.{ℕ, ◌<◌, suc, zero, List, refl, arith}
 use Rattle.spin_base.specs.declared.copies.Event.{Event}
-use Rattle.mesh_core.specs.Step.{after_events}
-use Rattle.mesh_core.specs.Opened.{MeetsJobLedger}
-use Rattle.mesh_core.specs.Whereabouts.{IsTracked}
-use Rattle.mesh_core.proofs.EventsLaw.{events_keep_job}
-use Rattle.mesh_core.proofs.OpenedLaw.{opened_meets_ledger}
+use Rattle.mesh_core.specs.{Step.after_events, Opened.MeetsJobLedger, Whereabouts.IsTracked}
+use Rattle.mesh_core.proofs.{EventsLaw.events_keep_job, OpenedLaw.opened_meets_ledger}
 use Rattle.mesh_example.specs.Board.{setup, net, other_net, nets, packets, opened}
-use Rattle.mesh_example.proofs.Stands.{stands, mesh_stands, packets_of_nets}
-use Rattle.mesh_example.proofs.Right.{tables_right, wrong_not_right}
-use Rattle.mesh_example.proofs.Tracked.{job_tracked}
+use Rattle.mesh_example.proofs.{Stands.stands, Stands.mesh_stands, Stands.packets_of_nets, Right.tables_right, Right.wrong_not_right, Tracked.job_tracked}
 use Rattle.mesh_example.proofs.the_example_meets_the_definitions.Goals as goal
 
 keeps : (events : List Event) → MeetsJobLedger (after_events opened events) nets packets

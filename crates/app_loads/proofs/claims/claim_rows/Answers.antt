@@ -6,7 +6,8 @@ use Rattle.app_loads.proofs.claims.claim_rows.Goals as goal
 
 pub claim_runs-requires : goal.claim_runs-requires
 claim_runs-requires c = record {
-  inside = subst (All (λ i. i < chip_count c.args.machine.now)) (sym c.deref.ensures.value) (places_inside c.args.machine.now c.args.nets.now c.in_ok-chips.chips.items c.requires c.in_ok-chips.ensures.same);
+  inside = subst (All (λ i. i < chip_count c.args.machine.now)) (sym c.deref.ensures.value)
+      (places_inside c.args.machine.now c.args.nets.now c.in_ok-chips.chips.items c.requires c.in_ok-chips.ensures.same);
   sorted = subst (λ (l : List ℕ). AllPairs (λ a b. a ≤ b) l) (sym c.deref.ensures.value) c.in_ok-chips.ensures.sorted;
 }
 

@@ -1,13 +1,9 @@
 use Rattle.std.proofs.Common.{◌≤◌, length, subst, sym, ap, arith, List}
-use Rattle.std.specs.List.{All}
 use Rattle.std.proofs.lemmas.List.Elements.{All-weaker}
-use Rattle.app_loads.specs.declared.loaded.Claim.{Claim}
-use Rattle.app_loads.specs.declared.plans.AppNet.{AppNet}
-use Rattle.app_loads.specs.Counting.{IsKeyCount}
-use Rattle.app_loads.specs.Plans.{IsAppNet}
-use Rattle.app_loads.proofs.Claiming.{claims_joined}
-use Rattle.app_loads.proofs.FewClaims.{few_claims}
-use Rattle.app_loads.proofs.FewSpots.{few_spots}
+use Rattle.std.specs.List.{All}
+use Rattle.app_loads.specs.declared.{loaded.Claim.Claim, plans.AppNet.AppNet}
+use Rattle.app_loads.specs.{Counting.IsKeyCount, Plans.IsAppNet}
+use Rattle.app_loads.proofs.{Claiming.claims_joined, FewClaims.few_claims, FewSpots.few_spots}
 use Rattle.app_loads.proofs.claims.claims_of.Goals as goal
 
 pub prove-unreachable-requires : goal.prove-unreachable-requires

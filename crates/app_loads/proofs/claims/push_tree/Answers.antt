@@ -1,7 +1,6 @@
 use Rattle.std.proofs.Common.{◌∙◌, ◌++◌, ◌∷◌, ap, subst, sym, List}
+use Rattle.std.proofs.lemmas.{List.take_all, Option.slice_get-get_or}
 use Rattle.std.specs.List.{All, flat_map}
-use Rattle.std.proofs.lemmas.List.{take_all}
-use Rattle.std.proofs.lemmas.Option.{slice_get-get_or}
 use Rattle.machine_desc.specs.declared.trees.Edge.{Edge}
 use Rattle.machine_desc.specs.Live.{index_of, IsInside}
 use Rattle.app_loads.specs.Counting.{end_places}
@@ -15,7 +14,8 @@ push_end-requires c =
 
 pub loop-edge-preserved : goal.loop-edge-preserved
 loop-edge-preserved c =
-    ends_more (end_places c.args.machine.now) c.as_slice-edge-items.result.now c.loop-edge.edge-index _ c.args.chips.now.items c.loop-edge.chips.items c.push_end.new.chips.items (index_of c.args.machine.now c.args.net.now.tree.root)
+    ends_more (end_places c.args.machine.now) c.as_slice-edge-items.result.now c.loop-edge.edge-index _ c.args.chips.now.items c.loop-edge.chips.items c.push_end.new.chips.items
+    (index_of c.args.machine.now c.args.net.now.tree.root)
     (slice_get-get_or c.as_slice-edge-items.result.now c.loop-edge.edge-index _ c.loop-edge-test.true) c.loop-edge.invariant c.in_ok-push_end.ensures
 
 pub returns : goal.returns

@@ -1,9 +1,6 @@
 use Rattle.std.proofs.Common.{◌∙◌, ap, subst, sym, arith, take, List, [], ◌++◌, Some, ℕ}
-use Rattle.std.specs.List.{flat_map}
-use Rattle.std.specs.List.Sorted.{IsPermutation}
-use Rattle.std.proofs.lemmas.List.{flat_map_more, take_all}
-use Rattle.std.proofs.lemmas.List.Sorted.{IsNonDecreasingBy-from_sort}
-use Rattle.std.proofs.lemmas.Option.{slice_get-get_or}
+use Rattle.std.proofs.lemmas.{List.flat_map_more, List.take_all, List.Sorted.IsNonDecreasingBy-from_sort, Option.slice_get-get_or}
+use Rattle.std.specs.List.{flat_map, Sorted.IsPermutation}
 use Rattle.spin_base.proofs.Places.{take_more_at}
 use Rattle.app_loads.specs.Counting.{HasTree, tree_places}
 use Rattle.app_loads.specs.declared.plans.AppNet.{AppNet}

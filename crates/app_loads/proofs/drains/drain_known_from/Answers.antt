@@ -1,10 +1,8 @@
 use Rattle.std.proofs.Common.{◌∙◌, ap, refl, subst, sym}
 use Rattle.mesh_core.specs.State.{State}
-use Rattle.app_loads.specs.Earlier.{with_earlier}
-use Rattle.app_loads.specs.Grouping.{all_grouped}
-use Rattle.app_loads.specs.Running.{AreAlikeInBlocks}
-use Rattle.mesh_drain.proofs.Senders.{moved_of_reached}
+use Rattle.app_loads.specs.{Earlier.with_earlier, Grouping.all_grouped, Running.AreAlikeInBlocks}
 use Rattle.app_loads.proofs.Kept.{moved_as, same_mesh}
+use Rattle.mesh_drain.proofs.Senders.{moved_of_reached}
 use Rattle.app_loads.proofs.drains.drain_known_from.Goals as goal
 
 pub send_each-requires-clause-alike : goal.send_each-requires-clause-alike

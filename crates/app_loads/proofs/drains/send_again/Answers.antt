@@ -1,11 +1,8 @@
 use Rattle.std.proofs.Common.{◌∙◌, ap, sym, subst}
-use Rattle.mesh_core.specs.Queues.{drop_front}
-use Rattle.mesh_core.specs.State.{State}
+use Rattle.mesh_core.specs.{Queues.drop_front, State.State}
 use Rattle.mesh_drain.specs.Draining.{IsReachedDropless}
 use Rattle.mesh_drain.proofs.Frame.{reached_none}
-use Rattle.app_loads.specs.Earlier.{with_earlier}
-use Rattle.app_loads.specs.Grouping.{all_grouped}
-use Rattle.app_loads.specs.Groups.{last_arrivals}
+use Rattle.app_loads.specs.{Earlier.with_earlier, Grouping.all_grouped, Groups.last_arrivals}
 use Rattle.app_loads.proofs.Kept.{again_clean, again_reached, dropped}
 use Rattle.app_loads.proofs.drains.send_again.Goals as goal
 

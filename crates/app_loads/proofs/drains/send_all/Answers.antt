@@ -1,7 +1,6 @@
 use Rattle.mesh_drain.proofs.Frame.{reached_none, reached_then}
 use Rattle.mesh_drain.proofs.Turns.{all_sent_there, as_before, is_none, is_some', one_less, there_still, was_there}
-use Rattle.app_loads.specs.Earlier.{with_earlier}
-use Rattle.app_loads.specs.Grouping.{all_grouped}
+use Rattle.app_loads.specs.{Earlier.with_earlier, Grouping.all_grouped}
 use Rattle.app_loads.proofs.Kept.{none_known}
 use Rattle.app_loads.proofs.drains.send_all.Goals as goal
 

@@ -1,11 +1,7 @@
 use Rattle.std.proofs.Common.{arith, subst, sym}
 use Rattle.mesh_drain.proofs.Frame.{reached_none, reached_then, setup_reached}
-use Rattle.mesh_drain.proofs.Packets.{few_spots}
-use Rattle.mesh_drain.proofs.Senders.{one_less_sender, rest_from, sender_there}
-use Rattle.mesh_drain.proofs.Turns.{was_there}
-use Rattle.app_loads.specs.Earlier.{with_earlier}
-use Rattle.app_loads.specs.Grouping.{all_grouped}
-use Rattle.app_loads.specs.Running.{AreAlikeInBlocks}
+use Rattle.mesh_drain.proofs.{Packets.few_spots, Senders.one_less_sender, Senders.rest_from, Senders.sender_there, Turns.was_there}
+use Rattle.app_loads.specs.{Earlier.with_earlier, Grouping.all_grouped, Running.AreAlikeInBlocks}
 use Rattle.app_loads.proofs.Kept.{alone_with}
 use Rattle.app_loads.proofs.drains.send_each.Goals as goal
 
@@ -37,8 +33,7 @@ pub loop-vertex-preserved : goal.loop-vertex-preserved
 loop-vertex-preserved c =
     let below =
     sender_there (with_earlier (all_grouped c.args.earlier.now) c.args.mesh.now) (with_earlier (all_grouped c.loop-vertex.earlier) c.loop-vertex.mesh) c.args.vertices.now c.loop-vertex.vertex-index _
-    (alone_with (all_grouped c.args.earlier.now) c.args.mesh.now c.args.vertices.now c.requires.alone) c.loop-vertex.invariant.reached c.loop-vertex-test.true
-    in
+    (alone_with (all_grouped c.args.earlier.now) c.args.mesh.now c.args.vertices.now c.requires.alone) c.loop-vertex.invariant.reached c.loop-vertex-test.true in
     record {
       reached = reached_then (with_earlier (all_grouped c.args.earlier.now) c.args.mesh.now) (with_earlier (all_grouped c.loop-vertex.earlier) c.loop-vertex.mesh)
           (with_earlier (all_grouped c.send_all.new.earlier) c.send_all.new.mesh) c.loop-vertex.invariant.reached c.send_all.ensures.reached;

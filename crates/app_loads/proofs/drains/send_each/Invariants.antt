@@ -1,9 +1,7 @@
 use Rattle.std.proofs.Common.{drop}
 use Rattle.mesh_drain.proofs.Senders.{Unsent}
 use Rattle.mesh_drain.specs.Draining.{IsReachedDropless}
-use Rattle.app_loads.specs.Earlier.{with_earlier}
-use Rattle.app_loads.specs.Grouping.{all_grouped}
-use Rattle.app_loads.specs.Running.{IsClean}
+use Rattle.app_loads.specs.{Earlier.with_earlier, Grouping.all_grouped, Running.IsClean}
 use Rattle.app_loads.proofs.drains.send_each.Given as goal
 
 -- only the vertices from here on have packets unsent

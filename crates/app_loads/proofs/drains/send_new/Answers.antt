@@ -1,10 +1,7 @@
 use Rattle.std.proofs.Common.{◌∙◌, ap, drop, sym}
 use Rattle.mesh_drain.proofs.Frame.{setup_reached}
 use Rattle.spin_base.specs.declared.blocks.Block.{Block}
-use Rattle.app_loads.specs.Earlier.{with_earlier}
-use Rattle.app_loads.specs.Grouping.{all_grouped}
-use Rattle.app_loads.specs.Groups.{last_arrivals}
-use Rattle.app_loads.specs.Running.{AreKnown, Comes, IsBlockWith}
+use Rattle.app_loads.specs.{Earlier.with_earlier, Grouping.all_grouped, Groups.last_arrivals, Running.AreKnown, Running.Comes, Running.IsBlockWith}
 use Rattle.app_loads.proofs.Kept.{comes_again, known_still, some_first}
 use Rattle.app_loads.proofs.drains.send_new.Goals as goal
 use Rattle.app_loads.proofs.drains.send_new.Goals.{After-ends_with, After-block_of}
@@ -35,8 +32,7 @@ returns-in_default-clause-known c = still (goal.at.returns-in_default-clause-kno
 
 pub returns-clause-last : goal.returns-clause-last
 returns-clause-last c =
-    let known = still (goal.at.returns-clause-last c).After-ends_with in
-    comes (goal.at.returns-clause-last c).After-block_of c.in-Some.block c.in-Some.ensures known
+    comes (goal.at.returns-clause-last c).After-block_of c.in-Some.block c.in-Some.ensures (still (goal.at.returns-clause-last c).After-ends_with)
 
 pub returns-clause-known : goal.returns-clause-known
 returns-clause-known c =

@@ -1,8 +1,6 @@
-use Rattle.std.proofs.Common.{◌∙◌, ap, subst, sym}
-use Rattle.std.specs.Option.{option_copied}
+use Rattle.std.proofs.Common.{subst}
 use Rattle.std.specs.Prelude.{IfSome}
-use Rattle.app_loads.specs.Groups.{last_arrivals}
-use Rattle.app_loads.specs.Running.{Comes}
+use Rattle.app_loads.specs.{Groups.last_arrivals, Running.Comes}
 use Rattle.app_loads.proofs.Kept.{known_still, ok_anyway}
 use Rattle.app_loads.proofs.drains.send_next.Goals as goal
 

@@ -13,12 +13,14 @@ returns-in_err-send_first-clause-reached c = reached_with (all_grouped c.args.ea
 
 pub returns-clause-reached : goal.returns-clause-reached
 returns-clause-reached c =
-    sent_reached (all_grouped c.args.earlier.now) (all_grouped c.keep.new.earlier) c.args.mesh.now c.send_first.new.mesh c.keep.new.mesh c.requires.clean c.send_first.ensures.reached c.keep.ensures.mesh c.keep.ensures.all
+    sent_reached (all_grouped c.args.earlier.now) (all_grouped c.keep.new.earlier) c.args.mesh.now c.send_first.new.mesh c.keep.new.mesh
+    c.requires.clean c.send_first.ensures.reached c.keep.ensures.mesh c.keep.ensures.all
 
 pub returns-clause-clean : goal.returns-clause-clean
 returns-clause-clean c =
     ok_then c.keep.result
-    (sent_clean (all_grouped c.args.earlier.now) (all_grouped c.keep.new.earlier) c.args.mesh.now c.send_first.new.mesh c.keep.new.mesh c.requires.clean c.send_first.ensures.reached c.keep.ensures.mesh c.keep.ensures.all
+    (sent_clean (all_grouped c.args.earlier.now) (all_grouped c.keep.new.earlier) c.args.mesh.now c.send_first.new.mesh c.keep.new.mesh
+    c.requires.clean c.send_first.ensures.reached c.keep.ensures.mesh c.keep.ensures.all
     c.in_ok-send_first.ensures.quiet) c.keep.ensures.none
 
 pub returns-clause-unsent : goal.returns-clause-unsent

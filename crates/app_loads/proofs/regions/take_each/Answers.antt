@@ -1,9 +1,7 @@
 use Rattle.std.proofs.Common.{None, ◌∙◌, ap, arith, length, refl, sym}
-use Rattle.std.specs.List.{slice_get}
 use Rattle.std.proofs.lemmas.List.{length-replicate, length-set}
-use Rattle.app_loads.specs.declared.answers.LoadRefusal.TheVariants.{Loaded}
-use Rattle.app_loads.specs.declared.places.Region.TheVariants.{Keys}
-use Rattle.app_loads.specs.declared.loaded.Claim.{Claim}
+use Rattle.std.specs.List.{slice_get}
+use Rattle.app_loads.specs.declared.{answers.LoadRefusal.TheVariants.Loaded, places.Region.TheVariants.Keys, loaded.Claim.Claim}
 use Rattle.app_loads.proofs.Serving.{few_held, pushed_long, claim_fair, claim_served, claim_due, claim_taken, claim_room, count_held, counts_more, none_counted, none_served, of_region, all_served}
 use Rattle.app_loads.proofs.regions.take_each.Goals as goal
 
@@ -49,13 +47,11 @@ returns-in-Err-clause-room c =
 pub loop-claim-preserved : goal.loop-claim-preserved
 loop-claim-preserved c =
     let long = c.loop-claim.invariant.each_one in
-    let kept = c.push_reserved.ensures.capacity in
-    let room = c.loop-claim.invariant.room in
     let held = count_held _ c.index-regions-at.result c.loop-claim-test.true c.loop-claim.invariant.each_one c.loop-claim.invariant.served c.requires.can c.place-at.ensures
     c.loop-claim.counts _ c.loop-claim.invariant.counts c.loop-claim.invariant.counted in
     record {
       each_one = let more = pushed_long c.loop-claim.ranges.items c.push_reserved.new.self.items _ c.push_reserved.ensures.items in omega (arith, more, long);
-      room = omega (arith, kept, room);
+      room = omega (arith, c.push_reserved.ensures.capacity, c.loop-claim.invariant.room);
       served = claim_served _ c.index-regions-at.result c.loop-claim-test.true c.loop-claim.invariant.each_one c.loop-claim.invariant.served c.requires.can c.place-at.ensures
           c.take_claim.new.region c.in-Ok.place c.push_reserved.new.self.items _ held c.push_reserved.ensures.items c.in-Ok.ensures.taken c.in-Ok.ensures.room;
       counts = length-set c.loop-claim.counts _ _ ∙ c.loop-claim.invariant.counts;

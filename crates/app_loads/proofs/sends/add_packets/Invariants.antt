@@ -1,7 +1,6 @@
 use Rattle.std.proofs.Common.{List}
 use Rattle.spin_base.specs.declared.chips.Spot.{Spot}
-use Rattle.app_loads.specs.Joining.{AreSent}
-use Rattle.app_loads.specs.Sending.{AreSources, IsSameBeside}
+use Rattle.app_loads.specs.{Joining.AreSent, Sending.AreSources, Sending.IsSameBeside}
 use Rattle.app_loads.proofs.sends.add_packets.Given as goal
 
 -- the packets so far are sent

@@ -3,8 +3,10 @@ use Rattle.app_loads.proofs.sends.clear.Goals as goal
 
 pub loop-source-preserved : goal.loop-source-preserved
 loop-source-preserved c = record {
-  beside = emptied_beside c.args.sources.now c.args.unsent.now c.loop-source.unsent c.requires c.loop-source.invariant.beside c.loop-source.source-index 0 c.loop-source-test.true c.new.result c.new.ensures;
-  empty = emptied_more c.args.sources.now c.args.unsent.now c.loop-source.unsent c.requires c.loop-source.invariant.beside c.loop-source.source-index 0 c.loop-source-test.true c.new.result c.new.ensures
+  beside = emptied_beside c.args.sources.now c.args.unsent.now c.loop-source.unsent c.requires c.loop-source.invariant.beside
+      c.loop-source.source-index 0 c.loop-source-test.true c.new.result c.new.ensures;
+  empty = emptied_more c.args.sources.now c.args.unsent.now c.loop-source.unsent c.requires c.loop-source.invariant.beside
+      c.loop-source.source-index 0 c.loop-source-test.true c.new.result c.new.ensures
       c.loop-source.invariant.empty;
 }
 

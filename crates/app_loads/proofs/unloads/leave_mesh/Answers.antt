@@ -1,12 +1,10 @@
 use Rattle.std.proofs.Common.{◌∙◌, ◌<◌, sym, subst, List, length}
-use Rattle.std.specs.Prelude.{IfSome}
 use Rattle.std.proofs.lemmas.List.Elements.{All-weaker}
+use Rattle.std.specs.Prelude.{IfSome}
 use Rattle.mesh_core.specs.State.{State, IsMesh}
 use Rattle.mesh_drain.specs.Draining.{SendAlone}
 use Rattle.app_loads.specs.declared.loaded.Range.{Range}
-use Rattle.app_loads.specs.Leaving.{IsLeastUnderWay}
-use Rattle.app_loads.specs.Regions.{IsRangeWithin}
-use Rattle.app_loads.specs.Taking.{HaveRoom}
+use Rattle.app_loads.specs.{Leaving.IsLeastUnderWay, Regions.IsRangeWithin, Taking.HaveRoom}
 use Rattle.app_loads.proofs.LeftMesh.{can_clear, parted_whole, taken_still}
 use Rattle.app_loads.proofs.unloads.leave_mesh.Goals as goal
 
@@ -43,7 +41,8 @@ give_all-requires c = record {
   taken = (
     c.args.mesh.setup.machine,
     c.requires.can.others,
-    taken_still c.args.mesh.setup.machine c.requires.can.others c.args.app.now.ranges c.as_slice.result.now c.args.regions.now c.make_ready.new.regions c.make_ready.ensures.same c.as_slice.ensures c.requires.can.taken,
+    taken_still c.args.mesh.setup.machine c.requires.can.others c.args.app.now.ranges c.as_slice.result.now c.args.regions.now
+        c.make_ready.new.regions c.make_ready.ensures.same c.as_slice.ensures c.requires.can.taken,
   );
   room = subst (λ (l : List Range). HaveRoom l c.make_ready.new.regions) (sym c.as_slice.ensures) c.in-Ok.ensures.room;
 }

@@ -7,5 +7,5 @@ loop-i-init c = draws_none (drawn_packet c.args.nets.now) c.args.generator.now c
 
 pub loop-i-preserved : goal.loop-i-preserved
 loop-i-preserved c =
-    draws_push (drawn_packet c.args.nets.now) c.loop-i.i c.args.generator.now c.loop-i.generator c.draw_packet-packet.new.generator c.loop-i.packets.items c.push.new.self.items c.draw_packet-packet.result
-    c.in_ok-push.ensures.items c.loop-i.invariant c.draw_packet-packet.ensures
+    draws_push (drawn_packet c.args.nets.now) c.loop-i.i c.args.generator.now c.loop-i.generator c.draw_packet-packet.new.generator c.loop-i.packets.items c.push.new.self.items
+    c.draw_packet-packet.result c.in_ok-push.ensures.items c.loop-i.invariant c.draw_packet-packet.ensures

@@ -11,4 +11,5 @@ loop-packet-preserved c =
     c.loop-packet-test.true c.in_ok-push.ensures.items c.in_ok-value.ensures c.loop-packet.invariant
 
 pub returns : goal.returns
-returns c = view-Array c.loop-packet.values ∙ ap array (mapped_all packet_data c.loop-packet.packet-index c.args.packets.now c.loop-packet.values.items c.loop-packet-test.false c.loop-packet.invariant)
+returns c = view-Array c.loop-packet.values
+    ∙ ap array (mapped_all packet_data c.loop-packet.packet-index c.args.packets.now c.loop-packet.values.items c.loop-packet-test.false c.loop-packet.invariant)

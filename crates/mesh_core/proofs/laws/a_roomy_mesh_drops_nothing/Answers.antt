@@ -1,6 +1,4 @@
-use Rattle.mesh_core.proofs.NoDump.{no_dump}
-use Rattle.mesh_core.proofs.OnlyUnderWay.{of_job}
-use Rattle.mesh_core.proofs.RoomyRuns.{records_after}
+use Rattle.mesh_core.proofs.{NoDump.no_dump, OnlyUnderWay.of_job, RoomyRuns.records_after}
 use Rattle.mesh_core.proofs.laws.a_roomy_mesh_drops_nothing.Goals as goal
 
 pub returns-clause-idle : goal.returns-clause-idle

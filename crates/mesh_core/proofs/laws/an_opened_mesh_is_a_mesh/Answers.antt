@@ -1,5 +1,4 @@
-use Rattle.mesh_core.proofs.Changes.{IsMesh-empty}
-use Rattle.mesh_core.proofs.OpenedLaw.{IsMesh-opened}
+use Rattle.mesh_core.proofs.{Changes.IsMesh-empty, OpenedLaw.IsMesh-opened}
 use Rattle.mesh_core.proofs.laws.an_opened_mesh_is_a_mesh.Goals as goal
 
 pub returns : goal.returns

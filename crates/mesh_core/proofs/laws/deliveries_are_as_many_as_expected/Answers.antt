@@ -1,5 +1,4 @@
-use Rattle.mesh_core.proofs.DeliveredLaw.{delivered_as_expected}
-use Rattle.mesh_core.proofs.ExpectedCount.{as_many}
+use Rattle.mesh_core.proofs.{DeliveredLaw.delivered_as_expected, ExpectedCount.as_many}
 use Rattle.mesh_core.proofs.laws.deliveries_are_as_many_as_expected.Goals as goal
 
 pub returns : goal.returns

@@ -1,5 +1,4 @@
-use Rattle.mesh_core.proofs.DeliveredLaw.{delivered_as_expected}
-use Rattle.mesh_core.proofs.ExpectedList.{in_order_is_list}
+use Rattle.mesh_core.proofs.{DeliveredLaw.delivered_as_expected, ExpectedList.in_order_is_list}
 use Rattle.mesh_core.proofs.laws.deliveries_in_order_are_the_expected_list.Goals as goal
 
 pub returns : goal.returns

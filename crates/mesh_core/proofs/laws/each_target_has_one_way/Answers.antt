@@ -1,5 +1,4 @@
-use Rattle.mesh_core.proofs.OneWay.{one_way}
-use Rattle.mesh_core.proofs.Ways.{some_way}
+use Rattle.mesh_core.proofs.{OneWay.one_way, Ways.some_way}
 use Rattle.mesh_core.proofs.laws.each_target_has_one_way.Goals as goal
 
 pub returns-clause-some : goal.returns-clause-some

@@ -4,5 +4,4 @@ use Rattle.mesh_core.proofs.QueueLists.{drop_front-popped}
 use Rattle.mesh_core.proofs.queues.drop_front.Goals as goal
 
 pub returns : goal.returns
-returns c =
-    drop_front-popped _ _ _ _ _ (slice_get-get_or _ _ _ c.requires) c.pop.ensures.items c.pop.ensures.none
+returns c = drop_front-popped _ _ _ _ _ (slice_get-get_or _ _ _ c.requires) c.pop.ensures.items c.pop.ensures.none

@@ -19,4 +19,5 @@ loop-vertex-preserved c =
     let P : ℕ → Type 0 = λ p. TellsVertices c.args.machine.now (take (c.loop-vertex.vertex + 1) c.args.spots.now) (set c.loop-vertex.table.items p (Some c.loop-vertex.vertex)) in
     subst P (sym same)
     (TellsVertices-more c.args.machine.now c.args.spots.now c.loop-vertex.vertex y c.loop-vertex.table.items
-    c.loop-vertex-test.true (get_or_default c.args.spots.now c.loop-vertex.vertex _ y c.loop-vertex-test.true) c.requires.different (c.requires.sites c.loop-vertex.vertex _ c.loop-vertex-test.true) c.loop-vertex.invariant)
+    c.loop-vertex-test.true (get_or_default c.args.spots.now c.loop-vertex.vertex _ y c.loop-vertex-test.true) c.requires.different
+    (c.requires.sites c.loop-vertex.vertex _ c.loop-vertex-test.true) c.loop-vertex.invariant)

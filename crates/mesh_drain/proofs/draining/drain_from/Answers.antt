@@ -1,15 +1,12 @@
 use Rattle.std.proofs.Common.{arith}
 use Rattle.mesh_drain.proofs.Frame.{reached_then, kept_reached}
-use Rattle.mesh_drain.proofs.Packets.{few_spots}
-use Rattle.mesh_drain.proofs.Senders.{moved_of_reached, one_less_sender, rest_from, sender_there}
-use Rattle.mesh_drain.proofs.Turns.{was_there}
+use Rattle.mesh_drain.proofs.{Packets.few_spots, Senders.moved_of_reached, Senders.one_less_sender, Senders.rest_from, Senders.sender_there, Turns.was_there}
 use Rattle.mesh_drain.proofs.draining.drain_from.Goals as goal
 
 pub overflow_cast-vertex : goal.overflow_cast-vertex
 overflow_cast-vertex c =
-    let few = few_spots c.args.mesh.now c.requires.kept in
     let below = c.requires.alone.there c.loop-vertex.vertex-index 0 c.loop-vertex-test.true in
-    omega (arith, few, below)
+    omega (arith, few_spots c.args.mesh.now c.requires.kept, below)
 
 pub send_all-requires : goal.send_all-requires
 send_all-requires c = record {
@@ -25,8 +22,7 @@ pub loop-vertex-preserved : goal.loop-vertex-preserved
 loop-vertex-preserved c =
     let kept = kept_reached c.args.mesh.now c.loop-vertex.mesh c.requires.kept c.loop-vertex.invariant.reached in
     let below =
-    sender_there c.args.mesh.now c.loop-vertex.mesh c.args.vertices.now c.loop-vertex.vertex-index _ c.requires.alone c.loop-vertex.invariant.reached c.loop-vertex-test.true
-    in
+    sender_there c.args.mesh.now c.loop-vertex.mesh c.args.vertices.now c.loop-vertex.vertex-index _ c.requires.alone c.loop-vertex.invariant.reached c.loop-vertex-test.true in
     record {
       reached = reached_then c.args.mesh.now c.loop-vertex.mesh c.send_all.new.mesh c.loop-vertex.invariant.reached c.send_all.ensures.reached;
       quiet = c.in_ok-send_all.ensures.quiet;

@@ -1,6 +1,5 @@
 use Rattle.std.proofs.Common.{◌≡◌, ◌≤◌, drop}
-use Rattle.mesh_drain.specs.Draining.{IsReachedOnward}
-use Rattle.mesh_drain.specs.UnderWay.{work, IsServing}
+use Rattle.mesh_drain.specs.{Draining.IsReachedOnward, UnderWay.work, UnderWay.IsServing}
 use Rattle.mesh_drain.proofs.draining.go_on.Given as goal
 
 -- the outputs from here on are still to be served

@@ -1,15 +1,10 @@
 use Rattle.std.proofs.Common.{◌<◌, ◌≤◌, length, ap, arith, subst}
-use Rattle.mesh_drain.proofs.Frame.{reached_then, kept_reached}
-use Rattle.mesh_drain.proofs.Packets.{few_spots}
+use Rattle.mesh_drain.proofs.{Frame.reached_then, Frame.kept_reached, Packets.few_spots}
 use Rattle.mesh_drain.proofs.Turns.{there_still, was_there, one_vertex_more, at_rest}
 use Rattle.mesh_drain.proofs.draining.send_each.Goals as goal
 
 pub overflow_cast-vertex : goal.overflow_cast-vertex
-overflow_cast-vertex c =
-    let few = few_spots c.args.mesh.now c.requires.kept in
-    let list = ap length c.spots-count.ensures in
-    let below = c.loop-vertex-test.true in
-    omega (arith, few, list, below)
+overflow_cast-vertex c = omega (arith, few_spots c.args.mesh.now c.requires.kept, ap length c.spots-count.ensures, c.loop-vertex-test.true)
 
 pub send_all-requires : goal.send_all-requires
 send_all-requires c = record {
@@ -26,8 +21,7 @@ pub loop-vertex-preserved : goal.loop-vertex-preserved
 loop-vertex-preserved c =
     let kept = kept_reached c.args.mesh.now c.loop-vertex.mesh c.requires.kept c.loop-vertex.invariant.reached in
     let below = there_still c.args.mesh.now c.loop-vertex.mesh c.loop-vertex.vertex c.loop-vertex.invariant.reached
-    (subst (λ l. c.loop-vertex.vertex < length l) c.spots-count.ensures c.loop-vertex-test.true)
-    in
+    (subst (λ l. c.loop-vertex.vertex < length l) c.spots-count.ensures c.loop-vertex-test.true) in
     record {
       reached = reached_then c.args.mesh.now c.loop-vertex.mesh c.send_all.new.mesh c.loop-vertex.invariant.reached c.send_all.ensures.reached;
       quiet = c.in_ok-send_all.ensures.quiet;

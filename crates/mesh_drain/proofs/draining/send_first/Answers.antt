@@ -1,5 +1,4 @@
-use Rattle.mesh_drain.proofs.Again.{brought}
-use Rattle.mesh_drain.proofs.Turns.{on_both}
+use Rattle.mesh_drain.proofs.{Again.brought, Turns.on_both}
 use Rattle.mesh_drain.proofs.draining.send_first.Goals as goal
 
 pub send_packet-requires-clause-can : goal.send_packet-requires-clause-can

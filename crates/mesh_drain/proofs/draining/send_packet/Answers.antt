@@ -21,7 +21,8 @@ loop-next-preserved c = record {
 }
 
 pub loop-next-smaller : goal.loop-next-smaller
-loop-next-smaller c = popped_smaller c.loop-next.mesh c.go_on.new.mesh c.loop-next.waiting.items c.pop.new.self.items c.go_on.new.waiting.items c.in-Some.next c.in-Some.ensures.items c.in_ok-go_on.ensures.less
+loop-next-smaller c = popped_smaller c.loop-next.mesh c.go_on.new.mesh c.loop-next.waiting.items c.pop.new.self.items
+    c.go_on.new.waiting.items c.in-Some.next c.in-Some.ensures.items c.in_ok-go_on.ensures.less
 
 pub returns-clause-reached : goal.returns-clause-reached
 returns-clause-reached c = sent_dropless c.args.mesh.now c.loop-next.mesh c.args.vertex c.loop-next.invariant.onward

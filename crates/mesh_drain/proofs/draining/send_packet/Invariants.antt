@@ -1,10 +1,8 @@
 use Rattle.std.proofs.Common.{◌≡◌, ◌∷◌, List, Some}
 use Rattle.std.specs.List.{slice_get, slice_set}
-use Rattle.spin_base.specs.declared.copies.Event.TheVariants.{Inject}
-use Rattle.spin_base.specs.declared.copies.McCopy.{McCopy}
+use Rattle.spin_base.specs.declared.copies.{Event.TheVariants.Inject, McCopy.McCopy}
 use Rattle.mesh_core.specs.Step.{after_event}
-use Rattle.mesh_drain.specs.Draining.{IsReachedOnward}
-use Rattle.mesh_drain.specs.UnderWay.{work, WaitsAlone}
+use Rattle.mesh_drain.specs.{Draining.IsReachedOnward, UnderWay.work, UnderWay.WaitsAlone}
 use Rattle.mesh_drain.proofs.draining.send_packet.Given as goal
 
 abbrev pub invariant-loop-next : goal.invariant-loop-next

@@ -1,10 +1,7 @@
 use Rattle.std.proofs.Common.{ap, ◌∙◌, arith, length, refl}
-use Rattle.mesh_core.specs.State.{State}
-use Rattle.mesh_core.specs.Step.{after_event}
+use Rattle.mesh_core.specs.{State.State, Step.after_event}
 use Rattle.spin_base.specs.declared.copies.Event.TheVariants.{Send, Collect}
-use Rattle.mesh_drain.proofs.Frame.{onward_by, onward_then, unsent_stays}
-use Rattle.mesh_drain.proofs.Packets.{few_in_mesh}
-use Rattle.mesh_drain.proofs.Steps.{kept_after}
+use Rattle.mesh_drain.proofs.{Frame.onward_by, Frame.onward_then, Frame.unsent_stays, Packets.few_in_mesh, Steps.kept_after}
 use Rattle.mesh_drain.proofs.Turns.{on_ok, link_served, core_served, nowhere_served}
 use Rattle.mesh_drain.proofs.draining.serve.Goals as goal
 
@@ -12,10 +9,8 @@ pub overflow_cast-vertex : goal.overflow_cast-vertex
 overflow_cast-vertex c =
     let mesh = (kept_after c.args.mesh.now (Send c.args.chip c.args.out) c.requires.1.kept).mesh in
     let few = few_in_mesh (after_event c.args.mesh.now (Send c.args.chip c.args.out)) mesh in
-    let lists = mesh.core_lists in
     let same = ap (λ (s : State). length s.cores) c.in_ok-step.ensures.moves in
-    let below = c.in-Core.ensures.place in
-    omega (arith, few, lists, same, below)
+    omega (arith, few, mesh.core_lists, same, c.in-Core.ensures.place)
 
 pub returns-in-Input-clause-reached : goal.returns-in-Input-clause-reached
 returns-in-Input-clause-reached c = onward_by c.args.mesh.now c.step.new.self (Send c.args.chip c.args.out) tt c.in_ok-step.ensures.moves

@@ -1,10 +1,9 @@
 use Rattle.std.proofs.Common.{◌+◌, ◌<◌, length, sym, ap, subst, None, arith}
-use Rattle.std.specs.List.{slice_index_or}
 use Rattle.std.proofs.lemmas.Option.{get_or_from_slice_get}
+use Rattle.std.specs.List.{slice_index_or}
 use Rattle.spin_base.specs.declared.copies.Packet.{Packet}
 use Rattle.machine_desc.specs.declared.nets.NetPlan.{NetPlan}
-use Rattle.mesh_drain.proofs.Opened.{known, listed_source, grows}
-use Rattle.mesh_drain.proofs.Packets.{few_in_mesh}
+use Rattle.mesh_drain.proofs.{Opened.known, Opened.listed_source, Opened.grows, Packets.few_in_mesh}
 use Rattle.mesh_drain.proofs.opening.add_packets.Goals as goal
 
 pub loop-number-init : goal.loop-number-init
@@ -36,25 +35,24 @@ overflow_cast-sources c =
     let d : Packet = record { net = 0; index = 0; payload = None } in
     let k = known c.args.mesh.now.setup.spots c.args.nets.now c.args.packets.now c.requires.listed.of_nets c.requires.listed.sources c.loop-number.number d c.loop-number-test.true in
     let source = (listed_source c.args.mesh.now.setup.spots c.args.nets.now c.args.sources.now (slice_index_or c.args.packets.now c.loop-number.number d) 0 c.requires.listed.vertices k).1 in
-    let below = k.below in
-    let few = few_in_mesh c.args.mesh.now c.every_mesh_is_one.ensures in
-    omega (arith, source, below, few)
+    omega (arith, source, k.below, few_in_mesh c.args.mesh.now c.every_mesh_is_one.ensures)
 
 pub add-requires-clause-exists : goal.add-requires-clause-exists
 add-requires-clause-exists c =
     let d : Packet = record { net = 0; index = 0; payload = None } in
     let k = known c.args.mesh.now.setup.spots c.args.nets.now c.args.packets.now c.requires.listed.of_nets c.requires.listed.sources c.loop-number.number d c.loop-number-test.true in
     let source = (listed_source c.args.mesh.now.setup.spots c.args.nets.now c.args.sources.now (slice_index_or c.args.packets.now c.loop-number.number d) 0 c.requires.listed.vertices k).1 in
-    let below = k.below in
     let same = ap (λ s. length s.setup.spots) c.loop-number.invariant.opened in
-    omega (arith, source, below, same)
+    omega (arith, source, k.below, same)
 
 pub loop-number-preserved : goal.loop-number-preserved
 loop-number-preserved c =
     let d : Packet = record { net = 0; index = 0; payload = None } in
     let k = known c.args.mesh.now.setup.spots c.args.nets.now c.args.packets.now c.requires.listed.of_nets c.requires.listed.sources c.loop-number.number d c.loop-number-test.true in
     record {
-      opened = grows c.args.mesh.now.setup c.args.nets.now c.args.packets.now c.loop-number.number d c.index-nets-net.result (slice_index_or c.args.sources.now (slice_index_or c.args.packets.now c.loop-number.number d).net 0) c.first_copy-copy.result c.loop-number.mesh c.add.new.self
+      opened = grows c.args.mesh.now.setup c.args.nets.now c.args.packets.now c.loop-number.number d c.index-nets-net.result
+          (slice_index_or c.args.sources.now (slice_index_or c.args.packets.now c.loop-number.number d).net 0) c.first_copy-copy.result c.loop-number.mesh c.add.new.self
           k c.loop-number-test.true c.loop-number.invariant.opened c.first_copy-copy.ensures
-          (listed_source c.args.mesh.now.setup.spots c.args.nets.now c.args.sources.now (slice_index_or c.args.packets.now c.loop-number.number d) 0 c.requires.listed.vertices k).1 c.in_ok-add.ensures.ok;
+          (listed_source c.args.mesh.now.setup.spots c.args.nets.now c.args.sources.now (slice_index_or c.args.packets.now c.loop-number.number d) 0 c.requires.listed.vertices k).1
+          c.in_ok-add.ensures.ok;
     }

@@ -1,6 +1,5 @@
 use Rattle.std.proofs.Common.{◌≡◌, sym, ap, subst, ◌∙◌, []}
-use Rattle.mesh_core.specs.State.{State, Setup}
-use Rattle.mesh_core.specs.Opened.{opened_mesh}
+use Rattle.mesh_core.specs.{State.State, State.Setup, Opened.opened_mesh}
 use Rattle.mesh_drain.specs.Opening.{AreListed}
 use Rattle.mesh_drain.proofs.Opened.{opens}
 use Rattle.mesh_drain.proofs.opening.open_mesh.Goals as goal

@@ -1,16 +1,12 @@
 use Rattle.std.proofs.Common.{◌≡◌, arith, subst}
 use Rattle.std.specs.Prelude.{OnOk}
 use Rattle.mesh_drain.specs.Draining.{collected_from}
-use Rattle.mesh_drain.proofs.Frame.{dropless}
-use Rattle.mesh_drain.proofs.Packets.{few_in_mesh}
+use Rattle.mesh_drain.proofs.{Frame.dropless, Packets.few_in_mesh}
 use Rattle.mesh_drain.proofs.settling.collect_behind.Goals as goal
 
 pub overflow_cast-vertex : goal.overflow_cast-vertex
 overflow_cast-vertex c =
-    let few = few_in_mesh c.args.mesh.now c.every_mesh_is_one.ensures in
-    let lists = c.every_mesh_is_one.ensures.core_lists in
-    let below = c.in-Core.ensures.place in
-    omega (arith, few, lists, below)
+    omega (arith, few_in_mesh c.args.mesh.now c.every_mesh_is_one.ensures, c.every_mesh_is_one.ensures.core_lists, c.in-Core.ensures.place)
 
 pub returns-in-Core-clause-collected : goal.returns-in-Core-clause-collected
 returns-in-Core-clause-collected c =

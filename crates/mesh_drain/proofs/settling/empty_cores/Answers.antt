@@ -2,9 +2,7 @@ use Rattle.std.proofs.Common.{List, ◌<◌, ◌≤◌, length, ap, ◌∙◌, s
 use Rattle.spin_base.specs.declared.chips.Spot.{Spot}
 use Rattle.mesh_core.specs.State.{Setup}
 use Rattle.mesh_drain.proofs.Frame.{reached_none, reached_then, setup_reached}
-use Rattle.mesh_drain.proofs.Moving.{after_reached, mesh_after}
-use Rattle.mesh_drain.proofs.Packets.{few_in_mesh}
-use Rattle.mesh_drain.proofs.Turns.{there_still}
+use Rattle.mesh_drain.proofs.{Moving.after_reached, Moving.mesh_after, Packets.few_in_mesh, Turns.there_still}
 use Rattle.mesh_drain.proofs.Vertices.{same_besides, same_then, one_more_collected, all_collected}
 use Rattle.mesh_drain.proofs.settling.empty_cores.Goals as goal
 
@@ -13,10 +11,7 @@ loop-vertex-init c = record { reached = reached_none c.args.mesh.now; others = s
 
 pub overflow_cast-vertex : goal.overflow_cast-vertex
 overflow_cast-vertex c =
-    let few = few_in_mesh c.args.mesh.now c.every_mesh_is_one.ensures in
-    let list = ap length c.spots-vertices.ensures in
-    let below = c.loop-vertex-test.true in
-    omega (arith, few, list, below)
+    omega (arith, few_in_mesh c.args.mesh.now c.every_mesh_is_one.ensures, ap length c.spots-vertices.ensures, c.loop-vertex-test.true)
 
 pub empty_core-requires : goal.empty_core-requires
 empty_core-requires c =
@@ -27,8 +22,7 @@ pub loop-vertex-preserved : goal.loop-vertex-preserved
 loop-vertex-preserved c =
     let mesh = mesh_after c.args.mesh.now c.loop-vertex.mesh c.every_mesh_is_one.ensures (after_reached c.args.mesh.now c.loop-vertex.mesh c.loop-vertex.invariant.reached) in
     let below = there_still c.args.mesh.now c.loop-vertex.mesh c.loop-vertex.vertex c.loop-vertex.invariant.reached
-    (subst (λ l. c.loop-vertex.vertex < length l) c.spots-vertices.ensures c.loop-vertex-test.true)
-    in
+    (subst (λ l. c.loop-vertex.vertex < length l) c.spots-vertices.ensures c.loop-vertex-test.true) in
     record {
       reached = reached_then c.args.mesh.now c.loop-vertex.mesh c.empty_core.new.mesh c.loop-vertex.invariant.reached c.empty_core.ensures.reached;
       others = same_then c.args.mesh.now c.loop-vertex.mesh c.empty_core.new.mesh c.loop-vertex.invariant.others c.empty_core.ensures.others;

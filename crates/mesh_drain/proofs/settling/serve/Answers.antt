@@ -1,8 +1,7 @@
 use Rattle.std.proofs.Common.{◌≡◌, sym, subst, ◌∙◌, ap, true, arith}
 use Rattle.std.specs.Prelude.{is_some}
 use Rattle.spin_base.specs.declared.copies.Event.TheVariants.{Send, Dump}
-use Rattle.mesh_core.specs.State.{State}
-use Rattle.mesh_core.specs.Step.{step_of}
+use Rattle.mesh_core.specs.{State.State, Step.step_of}
 use Rattle.mesh_core.proofs.Fixed.{dumped_stays}
 use Rattle.mesh_drain.proofs.Frame.{dumped_reached}
 use Rattle.mesh_drain.proofs.Moving.{after_one, after_then, after_lighter, after_reached, always, lighter, moved_enabled, dump_enabled, idle_stays, mesh_after}
@@ -20,8 +19,7 @@ pub returns-in-Moved-clause-lighter : goal.returns-in-Moved-clause-lighter
 returns-in-Moved-clause-lighter c =
     let mesh = mesh_after c.args.mesh.now c.step.new.self c.every_mesh_is_one.ensures (after_one c.args.mesh.now c.step.new.self (Send c.args.chip c.args.out) c.in_ok-step.ensures.moves) in
     let sent = lighter c.args.mesh.now c.step.new.self (Send c.args.chip c.args.out) c.every_mesh_is_one.ensures
-    (moved_enabled c.args.mesh.now (Send c.args.chip c.args.out) (sym c.in_ok-step.ensures.answer ∙ c.in-Moved.is)) c.in_ok-step.ensures.moves
-    in
+    (moved_enabled c.args.mesh.now (Send c.args.chip c.args.out) (sym c.in_ok-step.ensures.answer ∙ c.in-Moved.is)) c.in_ok-step.ensures.moves in
     let rest = after_lighter c.step.new.self c.collect_behind.new.mesh mesh (after_reached c.step.new.self c.collect_behind.new.mesh c.collect_behind.ensures.reached) in
     always c.collect_behind.result (omega (arith, sent, rest))
 

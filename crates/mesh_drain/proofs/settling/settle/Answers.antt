@@ -23,10 +23,9 @@ sweeps-init c = record {
 
 pub sweeps-smaller : goal.sweeps-smaller
 sweeps-smaller c =
-    let one = c.in_ok-move_on.ensures.lighter in
     let mesh = mesh_after c.sweeps.mesh c.move_on.new.mesh c.every_mesh_is_one.ensures c.move_on.ensures.after in
     let all = after_lighter c.move_on.new.mesh c.sweep.new.mesh mesh c.sweep.ensures.after in
-    omega (arith, one, all)
+    omega (arith, c.in_ok-move_on.ensures.lighter, all)
 
 pub sweeps-preserved : goal.sweeps-preserved
 sweeps-preserved c =

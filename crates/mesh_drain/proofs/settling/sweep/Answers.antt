@@ -26,7 +26,6 @@ returns-in_err-empty_chip-clause-links c =
 
 pub chip_at-chip-requires : goal.chip_at-chip-requires
 chip_at-chip-requires c =
-    let total = c.chips-chips.ensures.total in
-    let now = ap (λ (m : Description). m.width * m.height) (c.machine-in-loop-index.ensures ∙ (ap (λ (u : Setup). u.machine) (after_setup c.args.mesh.now c.loop-index.mesh c.loop-index.invariant.after) ∙ sym c.machine.ensures)) in
-    let below = c.loop-index-test.true in
-    omega (arith, total, now, below)
+    let now = ap (λ (m : Description). m.width * m.height)
+    (c.machine-in-loop-index.ensures ∙ (ap (λ (u : Setup). u.machine) (after_setup c.args.mesh.now c.loop-index.mesh c.loop-index.invariant.after) ∙ sym c.machine.ensures)) in
+    omega (arith, c.chips-chips.ensures.total, now, c.loop-index-test.true)

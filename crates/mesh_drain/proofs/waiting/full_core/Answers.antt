@@ -1,25 +1,16 @@
 use Rattle.std.proofs.Common.{ap, arith, length}
-use Rattle.mesh_drain.proofs.Packets.{few_in_mesh}
-use Rattle.mesh_drain.proofs.Ports.{no_core}
+use Rattle.mesh_drain.proofs.{Packets.few_in_mesh, Ports.no_core}
 use Rattle.mesh_drain.proofs.waiting.full_core.Goals as goal
 
 pub overflow_cast-vertex : goal.overflow_cast-vertex
 overflow_cast-vertex c =
-    let few = few_in_mesh c.args.mesh.now c.every_mesh_is_one.ensures in
-    let list = ap length c.spots-vertices.ensures in
-    let below = c.loop-vertex-test.true in
-    omega (arith, few, list, below)
+    omega (arith, few_in_mesh c.args.mesh.now c.every_mesh_is_one.ensures, ap length c.spots-vertices.ensures, c.loop-vertex-test.true)
 
 pub overflow_cast-result : goal.overflow_cast-result
 overflow_cast-result c =
-    let few = few_in_mesh c.args.mesh.now c.every_mesh_is_one.ensures in
-    let list = ap length c.spots-vertices.ensures in
-    let below = c.loop-vertex-test.true in
-    omega (arith, few, list, below)
+    omega (arith, few_in_mesh c.args.mesh.now c.every_mesh_is_one.ensures, ap length c.spots-vertices.ensures, c.loop-vertex-test.true)
 
 pub returns-clause-none : goal.returns-clause-none
 returns-clause-none c =
     let list = ap length c.spots-vertices.ensures in
-    let lists = c.every_mesh_is_one.ensures.core_lists in
-    let all = c.loop-vertex-test.false in
-    no_core c.args.mesh.now.cores c.loop-vertex.vertex (omega (arith, list, lists, all)) c.loop-vertex.invariant
+    no_core c.args.mesh.now.cores c.loop-vertex.vertex (omega (arith, list, c.every_mesh_is_one.ensures.core_lists, c.loop-vertex-test.false)) c.loop-vertex.invariant

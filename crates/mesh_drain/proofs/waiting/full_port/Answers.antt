@@ -7,5 +7,4 @@ pub returns-clause-none : goal.returns-clause-none
 returns-clause-none c =
     let total = c.chips-index-end.ensures.total in
     let area = ap (λ (m : Description). m.width * m.height) c.machine-machine.ensures in
-    let all = c.loop-index-test.false in
-    no_input c.args.mesh.now c.loop-index.index c.every_mesh_is_one.ensures.input_lists (omega (arith, total, area, all)) c.loop-index.invariant
+    no_input c.args.mesh.now c.loop-index.index c.every_mesh_is_one.ensures.input_lists (omega (arith, total, area, c.loop-index-test.false)) c.loop-index.invariant

@@ -1,11 +1,10 @@
 -- After rounds the first dumped copy goes back, so each pass leaves less to be done, until no record is left.
 use Rattle.std.proofs.Common.{rules, ◌<◌, ℕ, length, sym, ap, arith, subst}
-use Rattle.std.specs.Prelude.{IfErr}
 use Rattle.std.proofs.lemmas.Result.{IfErr-weaker}
+use Rattle.std.specs.Prelude.{IfErr}
 use Rattle.mesh_core.specs.State.{Setup, State}
 use Rattle.mesh_run.specs.Layouts.{IsLayoutOf}
-use Rattle.mesh_round.specs.RoundFlow.{HasRounds}
-use Rattle.mesh_round.specs.Reinjecting.{HasPasses}
+use Rattle.mesh_round.specs.{RoundFlow.HasRounds, Reinjecting.HasPasses}
 use Rattle.mesh_round.proofs.FirstBack.{first_goes_back}
 use Rattle.mesh_round.proofs.Passes.{passes_keep_mesh, passes_then, rounds_pass, rounds_no_more}
 use Rattle.mesh_round.proofs.reinjecting.pass_on.Goals as goal
@@ -56,8 +55,7 @@ passes-smaller g c =
     let m : State = c.passes.parts in
     let filled : State = c.in_ok-filled.filled in
     let job = c.requires.ledger in
-    let law = c.passes_keep_the_ledger.ensures in
-    let kept = law.of_nets p t c.args.parts m job.0 job.1 c.requires.ready.mesh job.2 job.3 c.passes.invariant.passes in
+    let kept = c.passes_keep_the_ledger.ensures.of_nets p t c.args.parts m job.0 job.1 c.requires.ready.mesh job.2 job.3 c.passes.invariant.passes in
     let some : 0 < length m.dumped = subst (λ (s : State). 0 < length s.dumped) c.parts.view_is (omega (arith, c.len.ensures, c.passes-test.true)) in
     let less = c.in_ok-filled.ensures.less (first_goes_back m c.passes.invariant.ready.mesh job.0 job.1 kept c.passes.invariant.at_rest (λ none. let no = ap length none in omega (arith, some, no))) in
     let no_more = rounds_no_more c.a_round_leaves_less_to_do.ensures.no_more p t filled c.in_ok-parts-2.parts c.in_ok-filled.ensures.ready.mesh c.in_ok-parts-2.ensures.rounds.rounds in

@@ -1,11 +1,9 @@
 -- Each copy that is put back leaves less to be done.
 use Rattle.std.proofs.Common.{◌<◌, ◌∙◌, refl, sym, subst, inl, inr}
 use Rattle.mesh_core.specs.State.{State}
-use Rattle.mesh_round.specs.Work.{work_in}
-use Rattle.mesh_round.specs.OnThreads.{MayGoOn}
+use Rattle.mesh_round.specs.{Work.work_in, OnThreads.MayGoOn}
 use Rattle.mesh_round.specs.Reinjecting.{HasPasses, none, put_back}
-use Rattle.mesh_round.proofs.PutBackParts.{ready_back}
-use Rattle.mesh_round.proofs.PutBackWork.{put_back_lighter, still_less}
+use Rattle.mesh_round.proofs.{PutBackParts.ready_back, PutBackWork.put_back_lighter, PutBackWork.still_less}
 use Rattle.mesh_round.proofs.reinjecting.put_all_back.Goals as goal
 
 pub copies-init : goal.copies-init
@@ -25,8 +23,7 @@ copies-smaller c =
 pub copies-preserved : goal.copies-preserved
 copies-preserved c =
     let lighter : work_in c.in_ok-next.next < work_in c.copies.mesh =
-    subst (λ (s : State). work_in s < work_in c.copies.mesh) (sym c.in_ok-next.ensures.moves) (put_back_lighter c.copies.mesh (sym c.in_ok-next.ensures.answer ∙ c.in-Moved.is))
-    in
+    subst (λ (s : State). work_in s < work_in c.copies.mesh) (sym c.in_ok-next.ensures.moves) (put_back_lighter c.copies.mesh (sym c.in_ok-next.ensures.answer ∙ c.in-Moved.is)) in
     record {
       passes = λ patience turns.
           subst (λ (s : State). HasPasses patience turns c.args.mesh s) (sym c.in_ok-next.ensures.moves) (put_back c.copies.mesh (c.copies.invariant.passes patience turns));

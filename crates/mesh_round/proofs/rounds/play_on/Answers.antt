@@ -85,6 +85,5 @@ returns-in-Ok-false-clause-ready g c =
 
 pub returns-in-Ok-false-clause-back : goal.returns-in-Ok-false-clause-back
 returns-in-Ok-false-clause-back g c =
-    let s = stood g (goal.at.returns-in-Ok-false-clause-back g c).In-Ok-false in
-    let same = c.lower-in-Ok-false.ensures c.args.parts c.requires.ready.mesh s.1 in
+    let same = c.lower-in-Ok-false.ensures c.args.parts c.requires.ready.mesh (stood g (goal.at.returns-in-Ok-false-clause-back g c).In-Ok-false).1 in
     refuses (λ n. n ≡ c.args.parts) c.at_rest.result c.lower-in-Ok-false.result c.args.parts same refl c.at_rest.ensures.back

@@ -1,10 +1,8 @@
 -- Rounds that moved a copy are counted; those that moved none left the mesh as it was.
 use Rattle.std.proofs.Common.{rules, ◌≡◌, ◌∙◌, true, false, sym, subst}
-use Rattle.std.specs.Prelude.{IfErr}
 use Rattle.std.proofs.lemmas.Result.{IfErr-weaker}
-use Rattle.mesh_round.specs.RoundFlow.{none}
-use Rattle.mesh_round.specs.OnThreads.{MayGoOn}
-use Rattle.mesh_round.specs.Bound.{HasMovingRounds}
+use Rattle.std.specs.Prelude.{IfErr}
+use Rattle.mesh_round.specs.{RoundFlow.none, OnThreads.MayGoOn, Bound.HasMovingRounds}
 use Rattle.mesh_round.proofs.Played.{IsLaw, IsReached, answers, at_pace, begins, moved_on, refuses, rests_where_none, stood_on}
 use Rattle.mesh_round.proofs.rounds.run_on.Given.{Over}
 use Rattle.mesh_round.proofs.rounds.run_on.Goals as goal
@@ -36,8 +34,7 @@ returns-in-Err-clause-refused g c =
 pub returns-in-Err-clause-ready_still : goal.returns-in-Err-clause-ready_still
 returns-in-Err-clause-ready_still g c =
     let is = c.loop.invariant.0 in
-    let raised = c.in-Err.ensures.back is.mesh is.ready.mesh is.raised in
-    subst MayGoOn (sym (c.lower.ensures is.mesh is.ready.mesh raised)) is.ready
+    subst MayGoOn (sym (c.lower.ensures is.mesh is.ready.mesh (c.in-Err.ensures.back is.mesh is.ready.mesh is.raised))) is.ready
 
 pub loop-preserved-in-Ok-true : goal.loop-preserved-in-Ok-true
 loop-preserved-in-Ok-true g c =

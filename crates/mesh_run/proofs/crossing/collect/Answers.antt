@@ -1,8 +1,7 @@
 use Rattle.std.proofs.Common.{◌≡◌, get_or, set, Some, refl, sym, ap, ◌∙◌, arith}
 use Rattle.std.proofs.lemmas.Option.{same_Some, slice_get-get_or}
 use Rattle.link_queue.specs.declared.links.{Tx.Tx, Rx.Rx}
-use Rattle.chip_node.specs.declared.ends.End.{End}
-use Rattle.chip_node.specs.declared.ends.End.TheVariants.{Sends, Takes}
+use Rattle.chip_node.specs.declared.ends.End.{End, TheVariants.Sends, TheVariants.Takes}
 use Rattle.mesh_run.specs.declared.homes.Cut.{Cut}
 use Rattle.mesh_run.proofs.CrossingLaws.{collected_all, collected_more, collected_none, next_laid}
 use Rattle.mesh_run.proofs.crossing.collect.Goals as goal

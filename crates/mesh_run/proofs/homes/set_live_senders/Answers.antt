@@ -3,8 +3,7 @@ use Rattle.std.proofs.lemmas.Option.{slice_get-get_or}
 use Rattle.machine_desc.specs.Live.{chip_of}
 use Rattle.machine_desc.proofs.Far.{live_inside}
 use Rattle.mesh_run.specs.Homes.{HaveSenders}
-use Rattle.mesh_run.proofs.Feeding.{leads, place_below}
-use Rattle.mesh_run.proofs.HomeLaws.{senders_more}
+use Rattle.mesh_run.proofs.{Feeding.leads, Feeding.place_below, HomeLaws.senders_more}
 use Rattle.mesh_run.proofs.homes.set_live_senders.Goals as goal
 
 pub set_sender-requires : goal.set_sender-requires

@@ -1,7 +1,6 @@
 use Rattle.std.proofs.Common.{◌+◌, ◌<◌, length, refl, ◌∙◌, arith}
 use Rattle.mesh_run.specs.Rooms.{SameCopies}
-use Rattle.mesh_run.proofs.Going.{gone_more, gone_none}
-use Rattle.mesh_run.proofs.Raising.{copies_so_far}
+use Rattle.mesh_run.proofs.{Going.gone_more, Going.gone_none, Raising.copies_so_far}
 use Rattle.mesh_run.proofs.rooms.make_room_in_all.Goals as goal
 
 pub loop-number-init : goal.loop-number-init

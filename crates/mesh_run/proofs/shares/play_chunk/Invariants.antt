@@ -1,6 +1,5 @@
 use Rattle.std.specs.List.{All}
-use Rattle.mesh_run.specs.Floors.{IsFloorOf}
-use Rattle.mesh_run.specs.Shares.{IsShareOf, PlaysAndStays}
+use Rattle.mesh_run.specs.{Floors.IsFloorOf, Shares.IsShareOf, Shares.PlaysAndStays}
 use Rattle.mesh_run.proofs.Going.{GoneTo}
 use Rattle.mesh_run.proofs.shares.play_chunk.Given as goal
 

@@ -1,6 +1,5 @@
 use Rattle.std.proofs.Common.{length, arith}
-use Rattle.par_compile.proofs.Left.{blocks_all, blocks_turning}
-use Rattle.par_compile.proofs.Righted.{coverable}
+use Rattle.par_compile.proofs.{Left.blocks_all, Left.blocks_turning, Righted.coverable}
 use Rattle.par_compile.proofs.chip_tables.blocks_for.Goals as goal
 
 pub returns-in_ok-turning-clause-blocks : goal.returns-in_ok-turning-clause-blocks

@@ -1,6 +1,6 @@
 use Rattle.std.proofs.Common.{◌≡◌, ◌*◌, ◌≤◌, ◌∙◌, List, length, map, take, arith}
-use Rattle.std.specs.List.{All, AllZip}
 use Rattle.std.proofs.lemmas.Result.{IfOk-weaker}
+use Rattle.std.specs.List.{All, AllZip}
 use Rattle.default_routes.specs.declared.stripping.Final.{Final}
 use Rattle.machine_desc.specs.RightTables.{AreRight}
 use Rattle.par_compile.specs.Finals.{AreAllUnlessLong, AreFinals, IsFinalFor, KeepsRows, loaded_of}
@@ -54,4 +54,5 @@ pub returns-clause-right : goal.returns-clause-right
 returns-clause-right g c =
     IfOk-weaker c.finals.result (λ (fs : List Final). AllZip (IsFinalFor c.args.request.now.target) (take (length fs) c.in_ok-blocks.blocks) fs)
     (λ (fs : List Final). length fs ≡ c.args.request.now.machine.now.width * c.args.request.now.machine.now.height → AreRight c.args.request.now.machine.now (map loaded_of fs) c.args.nets.now)
-    (λ fs each. all_right c.args.request.now.machine.now c.args.nets.now c.args.request.now.target c.in_ok-blocks.blocks fs c.in_ok-blocks.ensures.blocks each c.requires.routed) c.finals.ensures.finals
+    (λ fs each. all_right c.args.request.now.machine.now c.args.nets.now c.args.request.now.target c.in_ok-blocks.blocks fs c.in_ok-blocks.ensures.blocks each c.requires.routed)
+    c.finals.ensures.finals

@@ -1,18 +1,16 @@
 use Rattle.std.proofs.Common.{◌≡◌, ◌∙◌, length, ap, sym, subst, Some, arith, rules}
 use Rattle.std.specs.List.{position, slice_get}
-use Rattle.par_compile.specs.Compiled.{HasLongTable}
-use Rattle.par_compile.specs.Finals.{is_long}
-use Rattle.par_compile.proofs.Refusing.{refused_where}
-use Rattle.par_compile.proofs.Standing.{routing_is}
+use Rattle.par_compile.specs.{Compiled.HasLongTable, Finals.is_long}
+use Rattle.par_compile.proofs.{Refusing.refused_where, Standing.routing_is}
 use Rattle.par_compile.proofs.Unique.{long_has_many, long_has_no_pair, none_long, one_plan, routed_of}
 use Rattle.par_compile.proofs.compiling.compile.Goals as goal
 
 pub final_tables-requires-after_bounds : goal.final_tables-requires-after_bounds
 final_tables-requires-after_bounds g c κs within = record {
   routed = let routing =
-      routing_is c.args.request.now.machine.now c.args.request.now.graph.now c.in-Ok.placement c.in-Ok-keys.blocks c.in-Ok-net_plans.nets c.in-Ok.ensures.placed c.in-Ok.ensures.different c.in-Ok.ensures.sites
-      c.in-Ok.ensures.cores c.in-Ok-keys.ensures.blocks c.in-Ok-keys.ensures.apart c.in-Ok-keys.ensures.enough c.in-Ok-net_plans.ensures.planned c.in-Ok-net_plans.ensures.routing
-      in
+      routing_is c.args.request.now.machine.now c.args.request.now.graph.now c.in-Ok.placement c.in-Ok-keys.blocks c.in-Ok-net_plans.nets
+      c.in-Ok.ensures.placed c.in-Ok.ensures.different c.in-Ok.ensures.sites
+      c.in-Ok.ensures.cores c.in-Ok-keys.ensures.blocks c.in-Ok-keys.ensures.apart c.in-Ok-keys.ensures.enough c.in-Ok-net_plans.ensures.planned c.in-Ok-net_plans.ensures.routing in
       routed_of c.args.request.now.machine.now c.in-Ok.placement.spots c.in-Ok-net_plans.nets c.in-Ok.ensures.sites routing.stand;
   few = let long = c.in-Ok-net_plans.ensures.planned.one_plan_each in let few = c.requires.few_nets in omega (arith, long, few);
 }
@@ -20,7 +18,8 @@ final_tables-requires-after_bounds g c κs within = record {
 pub returns-in-None-clause-plan : goal.returns-in-None-clause-plan
 returns-in-None-clause-plan g c = record {
   routing =
-      routing_is c.args.request.now.machine.now c.args.request.now.graph.now c.in-Ok.placement c.in-Ok-keys.blocks c.in-Ok-net_plans.nets c.in-Ok.ensures.placed c.in-Ok.ensures.different c.in-Ok.ensures.sites
+      routing_is c.args.request.now.machine.now c.args.request.now.graph.now c.in-Ok.placement c.in-Ok-keys.blocks c.in-Ok-net_plans.nets
+      c.in-Ok.ensures.placed c.in-Ok.ensures.different c.in-Ok.ensures.sites
       c.in-Ok.ensures.cores c.in-Ok-keys.ensures.blocks c.in-Ok-keys.ensures.apart c.in-Ok-keys.ensures.enough c.in-Ok-net_plans.ensures.planned c.in-Ok-net_plans.ensures.routing;
   one_table_each = c.in_ok-tables.ensures.all (ap (position is_long) (sym c.as_slice.ensures) ∙ sym c.in-None.ensures);
   tables = c.in_ok-tables.ensures.finals;
@@ -42,7 +41,8 @@ returns-in-Some-clause-cause g c =
       placement = c.in-Ok.placement;
       nets = c.in-Ok-net_plans.nets;
       routing =
-          routing_is c.args.request.now.machine.now c.args.request.now.graph.now c.in-Ok.placement c.in-Ok-keys.blocks c.in-Ok-net_plans.nets c.in-Ok.ensures.placed c.in-Ok.ensures.different c.in-Ok.ensures.sites
+          routing_is c.args.request.now.machine.now c.args.request.now.graph.now c.in-Ok.placement c.in-Ok-keys.blocks c.in-Ok-net_plans.nets
+          c.in-Ok.ensures.placed c.in-Ok.ensures.different c.in-Ok.ensures.sites
           c.in-Ok.ensures.cores c.in-Ok-keys.ensures.blocks c.in-Ok-keys.ensures.apart c.in-Ok-keys.ensures.enough c.in-Ok-net_plans.ensures.planned c.in-Ok-net_plans.ensures.routing;
       finals = c.in_ok-tables.tables;
       are = c.in_ok-tables.ensures.finals;

@@ -1,7 +1,6 @@
 use Rattle.std.proofs.Common.{◌∙◌, List, length, take, ap, arith}
+use Rattle.std.proofs.lemmas.{List.length-map, Result.IfOk-weaker}
 use Rattle.std.specs.List.{AllZip}
-use Rattle.std.proofs.lemmas.List.{length-map}
-use Rattle.std.proofs.lemmas.Result.{IfOk-weaker}
 use Rattle.default_routes.specs.declared.stripping.Final.{Final}
 use Rattle.par_compile.specs.declared.workers.Work.TheVariants.{Plain}
 use Rattle.par_compile.specs.Finals.{AreAllUnlessLong, GivesFinal, IsFinalFor}

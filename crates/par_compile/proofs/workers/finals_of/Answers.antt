@@ -1,7 +1,6 @@
 use Rattle.std.proofs.Common.{◌≡◌, ◌∙◌, List, None, arith, subst, sym}
-use Rattle.std.specs.List.{position}
 use Rattle.std.proofs.lemmas.Grind.{common_steps}
-use Rattle.std.specs.Vec.Iter.{into_iter_items}
+use Rattle.std.specs.{List.position, Vec.Iter.into_iter_items}
 use Rattle.default_routes.specs.declared.stripping.Final.{Final}
 use Rattle.par_compile.specs.declared.workers.Work.{Work}
 use Rattle.par_compile.specs.Finals.{is_long}

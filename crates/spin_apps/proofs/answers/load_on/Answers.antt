@@ -5,8 +5,7 @@ use Rattle.spin_apps.proofs.answers.load_on.Goals as goal
 pub load-requires : goal.load-requires
 load-requires c = record {
   numbers = let few = c.requires.valid.run.few_packets in
-      let numbers = c.requires.numbers in
-      omega (arith, few, numbers);
+      omega (arith, few, c.requires.numbers);
   valid = c.requires.valid;
 }
 

@@ -1,6 +1,6 @@
 use Rattle.std.proofs.Common.{◌≡◌, refl, sym, ap, subst, arith, Option, Some, string_bytes, rules}
-use Rattle.std.specs.List.{slice_get}
 use Rattle.std.proofs.lemmas.Option.{slice_get_read}
+use Rattle.std.specs.List.{slice_get}
 use Rattle.spin_base.proofs.Places.{All-at}
 use Rattle.job_requests.specs.Valid.{IsValidStep}
 use Rattle.app_loads.specs.Host.{Host}
@@ -22,10 +22,9 @@ take-requires c = record {
       let at : slice_get steps i ≡ Some c.step-item.result = slice_get_read steps _ i c.step-item.result refl c.loop-step-test.true c.step-item.is in
       finds_host steps i c.step-item.result c.loop-step.hosted at c.loop-step.invariant.find;
   numbers = let few = c.loop-step.invariant.few in
-      let below = c.loop-step-test.true in
-      let most = c.requires.few in
-      omega (arith, few, below, most);
-  valid = All-at IsValidStep c.args.steps.now c.loop-step.step-index c.step-item.result c.requires.valid (slice_get_read c.args.steps.now _ c.loop-step.step-index c.step-item.result refl c.loop-step-test.true c.step-item.is);
+      omega (arith, few, c.loop-step-test.true, c.requires.few);
+  valid = All-at IsValidStep c.args.steps.now c.loop-step.step-index c.step-item.result c.requires.valid
+      (slice_get_read c.args.steps.now _ c.loop-step.step-index c.step-item.result refl c.loop-step-test.true c.step-item.is);
 }
 
 pub loop-step-preserved : goal.loop-step-preserved
@@ -37,11 +36,10 @@ loop-step-preserved c =
     let valid = All-at IsValidStep steps i step c.requires.valid at in
     let told = c.in_ok-take.ensures in
     let more = packets_more step c.loop-step.hosted (string_bytes c.loop-step.text) (string_bytes c.take.new.text) c.take.new.hosted valid told in
-    let few = c.loop-step.invariant.few in
     record {
       goes = goes_more steps i step c.loop-step.hosted c.take.new.hosted (string_bytes c.loop-step.text) (string_bytes c.take.new.text) at told c.loop-step.invariant.goes;
       find = find_after steps i step c.loop-step.hosted (string_bytes c.loop-step.text) (string_bytes c.take.new.text) c.take.new.hosted at told c.loop-step.invariant.find;
-      few = omega (arith, more, few);
+      few = omega (arith, more, c.loop-step.invariant.few);
     }
 
 pub returns : goal.returns

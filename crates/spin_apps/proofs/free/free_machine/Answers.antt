@@ -14,8 +14,7 @@ invariant_of-parts-clause-cores_inside c =
     c.from_vec.ensures
     ∙ (c.in_ok-push_spots.ensures.spots
     ∙ ap (λ (l : List Spot). l ++ all_spots h.apps)
-    (c.in_ok-dead_cores.ensures.items ∙ (c.deref.ensures.value ∙ (c.hosted.invariant.unusable ∙ ap unusable_spots (sym c.hosted.invariant.machine)))))
-    in
+    (c.in_ok-dead_cores.ensures.items ∙ (c.deref.ensures.value ∙ (c.hosted.invariant.unusable ∙ ap unusable_spots (sym c.hosted.invariant.machine))))) in
     subst (All (λ (s : Spot). (s.chip.x < c.width.result) × (s.chip.y < c.height.result))) (sym is)
     (dead_inside h c.width.result c.height.result (c.width.ensures.value ∙ ap (λ (m : Description). m.width) (sym c.hosted.invariant.machine))
     (c.height.ensures.value ∙ ap (λ (m : Description). m.height) (sym c.hosted.invariant.machine)) c.push_spots.ensures.inside)

@@ -1,11 +1,9 @@
 use Rattle.std.proofs.Common.{sym, subst, rules}
 use Rattle.machine_desc.specs.Description.{Description}
 use Rattle.place_fit.specs.Placement.{IsPlacement}
-use Rattle.spin_apps.specs.Plans.{IsWhyUnplanned}
+use Rattle.spin_apps.specs.{Plans.IsWhyUnplanned, Making.IsPlaced}
+use Rattle.spin_apps.proofs.{NoVertices.placed_none, Planning.why_unplaced}
 use Rattle.app_loads.specs.Applications.{AreApps}
-use Rattle.spin_apps.specs.Making.{IsPlaced}
-use Rattle.spin_apps.proofs.NoVertices.{placed_none}
-use Rattle.spin_apps.proofs.Planning.{why_unplaced}
 use Rattle.spin_apps.proofs.plans.placed.Goals as goal
 
 pub returns-then-is_empty-clause-placed : goal.returns-then-is_empty-clause-placed

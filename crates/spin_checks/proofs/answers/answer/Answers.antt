@@ -1,8 +1,5 @@
 use Rattle.std.proofs.Common.{Ok, rules}
-use Rattle.spin_checks.proofs.Compiled.{right_or_memory}
-use Rattle.spin_checks.proofs.Meaning.{right_means, wrong_means}
-use Rattle.spin_checks.proofs.OneAnswer.{one_answer}
-use Rattle.spin_checks.proofs.Refusing.{refused_answer}
+use Rattle.spin_checks.proofs.{Compiled.right_or_memory, Meaning.right_means, Meaning.wrong_means, OneAnswer.one_answer, Refusing.refused_answer}
 use Rattle.spin_checks.proofs.answers.answer.Goals as goal
 
 pub returns-in_err-nets-clause-refused : goal.returns-in_err-nets-clause-refused
@@ -39,10 +36,12 @@ returns-in-Ok-line_of-clause-refused c =
 
 pub returns-in_err-nets-clause-made : goal.returns-in_err-nets-clause-made
 returns-in_err-nets-clause-made c = λ target plan v is kept same spelled.
-    right_or_memory c.args.machine.now c.args.graph.now target plan is v c.args.image.now kept spelled (c.made_images_are_right.ensures c.args.machine.now plan.nets target plan.tables v) c.args.trees.now
+    right_or_memory c.args.machine.now c.args.graph.now target plan is v c.args.image.now kept spelled
+    (c.made_images_are_right.ensures c.args.machine.now plan.nets target plan.tables v) c.args.trees.now
     c.from_residual.result same (search rules) (search rules)
 
 pub returns-in-Ok-line_of-clause-made : goal.returns-in-Ok-line_of-clause-made
 returns-in-Ok-line_of-clause-made c = λ target plan v is kept same spelled.
-    right_or_memory c.args.machine.now c.args.graph.now target plan is v c.args.image.now kept spelled (c.made_images_are_right.ensures c.args.machine.now plan.nets target plan.tables v) c.args.trees.now
+    right_or_memory c.args.machine.now c.args.graph.now target plan is v c.args.image.now kept spelled
+    (c.made_images_are_right.ensures c.args.machine.now plan.nets target plan.tables v) c.args.trees.now
     (Ok c.in-Ok-line_of.text) same (returns-in-Ok-line_of-clause-only c) tt

@@ -1,15 +1,9 @@
 use Rattle.std.proofs.Common.{◌≡◌, ◌∙◌, ◌+◌, ◌<◌, ◌≤◌, ◌++◌, ◌∷◌, [], refl, sym, ap, subst, arith, length, List, Option, Some, ℕ}
+use Rattle.std.proofs.lemmas.{List.with_items_is, Result.IfOk-at_ok, Result.IfErr-at_err}
 use Rattle.std.specs.Prelude.{IfSome, vec_capacity, vec_len}
 use Rattle.std.specs.Vec.{with_items}
-use Rattle.std.proofs.lemmas.List.{with_items_is}
-use Rattle.std.proofs.lemmas.Result.{IfOk-at_ok, IfErr-at_err}
-use Rattle.app_loads.specs.declared.loaded.LoadedApp.{LoadedApp}
-use Rattle.app_loads.specs.declared.plans.AppNet.{AppNet}
-use Rattle.app_loads.specs.declared.plans.AppPlan.{AppPlan}
-use Rattle.app_loads.specs.Applications.{AreApps}
-use Rattle.app_loads.specs.Claims.{claims_of}
-use Rattle.app_loads.specs.Joining.{IsServedApp, IsSettled}
-use Rattle.app_loads.specs.Sending.{AreWithSources}
+use Rattle.app_loads.specs.declared.{loaded.LoadedApp.LoadedApp, plans.AppNet.AppNet, plans.AppPlan.AppPlan}
+use Rattle.app_loads.specs.{Applications.AreApps, Claims.claims_of, Joining.IsServedApp, Joining.IsSettled, Sending.AreWithSources}
 use Rattle.app_loads.specs.Taking.{AreFreeAgain, IsDueAlways, frees}
 use Rattle.app_loads.proofs.LoadedParts.{IsOut, Joins, Stands, can_join, err_why, free_again, never_none, on_err, on_ok, ok_host, ok_loaded, packets_fit, still}
 use Rattle.app_loads.proofs.apps.Apps.load.Goals as goal

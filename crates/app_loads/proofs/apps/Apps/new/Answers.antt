@@ -1,8 +1,7 @@
 use Rattle.std.proofs.Common.{◌∙◌, [], ap, refl, subst, sym}
 use Rattle.mesh_core.specs.State.{IsMesh}
 use Rattle.mesh_drain.specs.Draining.{SendAlone}
-use Rattle.app_loads.specs.Inner.{numbers_of}
-use Rattle.app_loads.specs.Taking.{frees}
+use Rattle.app_loads.specs.{Inner.numbers_of, Taking.frees}
 use Rattle.app_loads.proofs.Bare.{bare_mesh_alone, made_apps}
 use Rattle.app_loads.proofs.apps.Apps.new.Goals as goal
 
@@ -19,5 +18,6 @@ invariant_of-result c =
 
 pub returns-clause-apps : goal.returns-clause-apps
 returns-clause-apps c =
-    made_apps c.args.machine.now c.args.queue c.new.result (frees c.in_ok-regions.regions.items) c.new-2.result.items (c.new.ensures ∙ c.in_ok-mesh.ensures.bare) c.in_ok-regions.ensures c.new-2.ensures.items
+    made_apps c.args.machine.now c.args.queue c.new.result (frees c.in_ok-regions.regions.items) c.new-2.result.items
+    (c.new.ensures ∙ c.in_ok-mesh.ensures.bare) c.in_ok-regions.ensures c.new-2.ensures.items
     (subst IsMesh (sym c.new.ensures) c.in_ok-mesh.ensures.valid)

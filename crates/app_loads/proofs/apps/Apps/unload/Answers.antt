@@ -1,11 +1,8 @@
 use Rattle.std.proofs.Common.{◌≡◌, ◌∙◌, refl, sym, ap, Some}
+use Rattle.std.proofs.lemmas.{List.with_items_is, Result.IfOk-at_ok, Result.IfErr-at_err}
 use Rattle.std.specs.Vec.{with_items}
-use Rattle.std.proofs.lemmas.List.{with_items_is}
-use Rattle.std.proofs.lemmas.Result.{IfOk-at_ok, IfErr-at_err}
 use Rattle.app_loads.specs.declared.answers.Ended.{Ended}
-use Rattle.app_loads.specs.Leaving.{NoneUnderWay}
-use Rattle.app_loads.specs.Removing.{HasLeft, IsWhyHere}
-use Rattle.app_loads.specs.Taking.{AreGivenBack, frees}
+use Rattle.app_loads.specs.{Leaving.NoneUnderWay, Removing.HasLeft, Removing.IsWhyHere, Taking.AreGivenBack, Taking.frees}
 use Rattle.app_loads.proofs.LeftParts.{HasGone, Leaves, can_leave, not_loaded, ok_host, ok_none, ok_unloaded, on_ok_is, senders_known, why_stays}
 use Rattle.app_loads.proofs.LoadedParts.{Stands, never_none, on_err, still}
 use Rattle.app_loads.proofs.apps.Apps.unload.Goals as goal

@@ -1,6 +1,5 @@
 use Rattle.std.proofs.Common.{◌≡◌, ◌∙◌, length, subst, sym}
-use Rattle.app_loads.specs.Grouping.{Grouped}
-use Rattle.app_loads.specs.Groups.{EndsWith, sent_of}
+use Rattle.app_loads.specs.{Grouping.Grouped, Groups.EndsWith, Groups.sent_of}
 use Rattle.app_loads.proofs.GroupLaws.{ends_with}
 use Rattle.app_loads.proofs.group.Group.ends_with.Goals as goal
 

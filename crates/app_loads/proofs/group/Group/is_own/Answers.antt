@@ -1,8 +1,7 @@
 use Rattle.std.proofs.Common.{◌≡◌, ◌∙◌, All, sym, subst, true}
 use Rattle.std.proofs.lemmas.Bool.{and_from}
 use Rattle.spin_base.specs.declared.copies.Delivery.{Delivery}
-use Rattle.app_loads.specs.Grouping.{Grouped}
-use Rattle.app_loads.specs.Leaving.{is_delivery_of}
+use Rattle.app_loads.specs.{Grouping.Grouped, Leaving.is_delivery_of}
 use Rattle.app_loads.proofs.GroupLaws.{own_all}
 use Rattle.app_loads.proofs.group.Group.is_own.Goals as goal
 

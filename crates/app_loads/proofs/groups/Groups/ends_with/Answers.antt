@@ -7,9 +7,8 @@ use Rattle.app_loads.proofs.groups.Groups.ends_with.Goals as goal
 pub returns : goal.returns
 returns c is =
     let gs = c.self.inside.groups.items in
-    let a = c.len-count.ensures in
-    let b = c.self.inside.groups.ok in
-    let long : c.len-count.result ≡ length gs = omega (arith, a, b) in
+    let long : c.len-count.result ≡ length gs = omega (arith, c.len-count.ensures, c.self.inside.groups.ok) in
     subst (λ (l : List Grouped). drop c.args.before (all_grouped l) ≡ deliveries_at (last_arrivals l) (sent_of c.args.copy)) c.self.view_is
-    (behind_others gs c.len-count.result c.index.result.now long c.if-count-eq0.false c.index.ensures c.args.before c.self.inside.count (c.self.inside.count - c.args.before) (sent_of c.args.copy) c.self.invariant
+    (behind_others gs c.len-count.result c.index.result.now long c.if-count-eq0.false c.index.ensures c.args.before c.self.inside.count
+    (c.self.inside.count - c.args.before) (sent_of c.args.copy) c.self.invariant
     c.if-self-before.false refl (c.ends_with.ensures is))

@@ -6,7 +6,5 @@ use Rattle.app_loads.proofs.groups.Groups.last_arrivals.Goals as goal
 pub returns : goal.returns
 returns c =
     let gs = c.self.inside.groups.items in
-    let a = c.len-count.ensures in
-    let b = c.self.inside.groups.ok in
-    let long : c.len-count.result ≡ length gs = omega (arith, a, b) in
+    let long : c.len-count.result ≡ length gs = omega (arith, c.len-count.ensures, c.self.inside.groups.ok) in
     c.arrivals.ensures ∙ (sym (last_arrivals_are gs c.len-count.result c.index.result.now long c.if-count-eq0.false c.index.ensures) ∙ ap last_arrivals c.self.view_is)

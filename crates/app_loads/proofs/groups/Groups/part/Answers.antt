@@ -1,7 +1,6 @@
 use Rattle.std.proofs.Common.{◌≡◌, ◌∙◌, List, [], ap, arith, length, not}
-use Rattle.std.specs.Prelude.{vec_capacity, vec_len}
-use Rattle.std.specs.Vec.Iter.{into_iter_items}
 use Rattle.std.proofs.lemmas.Grind.{common_steps}
+use Rattle.std.specs.{Prelude.vec_capacity, Prelude.vec_len, Vec.Iter.into_iter_items}
 use Rattle.spin_base.proofs.Places.{none_within}
 use Rattle.app_loads.specs.Grouping.{Grouped, all_grouped, is_mixed_group}
 use Rattle.app_loads.specs.Leaving.{is_delivery_of}
@@ -11,7 +10,8 @@ use Rattle.app_loads.proofs.groups.Groups.part.Goals as goal
 pub overflow_sub-others_count : goal.overflow_sub-others_count
 overflow_sub-others_count c =
     few_more (is_delivery_of c.args.app.now) (all_grouped c.args.self) (all_grouped c.loop-group.own.items) (all_grouped c.loop-group.others.items) c.self.inside.count c.loop-group.others_count
-    (c.self.invariant ∙ ap (λ (gs : List Grouped). length (all_grouped gs)) c.self.view_is) c.loop-group.invariant.4 c.in-Some.group.deliveries (all_grouped (into_iter_items c.next.new.self)) c.put_by-others_count.result
+    (c.self.invariant ∙ ap (λ (gs : List Grouped). length (all_grouped gs)) c.self.view_is) c.loop-group.invariant.4 c.in-Some.group.deliveries
+    (all_grouped (into_iter_items c.next.new.self)) c.put_by-others_count.result
     (rest_is (is_delivery_of c.args.app.now) (all_grouped c.loop-group.own.items) (all_grouped c.args.self) c.in-Some.ensures.steps.0 c.loop-group.invariant.2) c.put_by-others_count.ensures.count
 
 pub invariant_of-result-2 : goal.invariant_of-result-2
@@ -31,12 +31,15 @@ loop-group-preserved c =
     let others_is = rest_is (λ d. not (is_delivery_of c.args.app.now d)) (all_grouped c.loop-group.others.items) (all_grouped c.args.self) is c.loop-group.invariant.3 in (
       tt,
       tt,
-      put_group (is_delivery_of c.args.app.now) (all_grouped c.loop-group.own.items) c.in-Some.group.deliveries (all_grouped rest) (all_grouped c.args.self) (all_grouped c.put_by-others_count.new.own.items)
+      put_group (is_delivery_of c.args.app.now) (all_grouped c.loop-group.own.items) c.in-Some.group.deliveries (all_grouped rest)
+          (all_grouped c.args.self) (all_grouped c.put_by-others_count.new.own.items)
           own_is c.put_by-others_count.ensures.own,
-      put_group (λ d. not (is_delivery_of c.args.app.now d)) (all_grouped c.loop-group.others.items) c.in-Some.group.deliveries (all_grouped rest) (all_grouped c.args.self) (all_grouped c.put_by-others_count.new.others.items)
+      put_group (λ d. not (is_delivery_of c.args.app.now d)) (all_grouped c.loop-group.others.items) c.in-Some.group.deliveries (all_grouped rest)
+          (all_grouped c.args.self) (all_grouped c.put_by-others_count.new.others.items)
           others_is c.put_by-others_count.ensures.others,
       still_counted (is_delivery_of c.args.app.now) (all_grouped c.args.self) (all_grouped c.loop-group.own.items) (all_grouped c.loop-group.others.items) c.self.inside.count c.loop-group.others_count
-          (c.self.invariant ∙ ap (λ (gs : List Grouped). length (all_grouped gs)) c.self.view_is) c.loop-group.invariant.4 c.in-Some.group.deliveries (all_grouped rest) (all_grouped c.put_by-others_count.new.own.items)
+          (c.self.invariant ∙ ap (λ (gs : List Grouped). length (all_grouped gs)) c.self.view_is) c.loop-group.invariant.4 c.in-Some.group.deliveries
+          (all_grouped rest) (all_grouped c.put_by-others_count.new.own.items)
           c.put_by-others_count.result own_is c.put_by-others_count.ensures.own c.put_by-others_count.ensures.count,
       room_still (into_iter_items c.loop-group.group-iterator) rest c.in-Some.group (vec_len c.loop-group.own) (vec_len c.put_by-others_count.new.own) (vec_capacity c.loop-group.own)
           (vec_capacity c.put_by-others_count.new.own) is c.loop-group.invariant.5 c.put_by-others_count.ensures.own_length c.put_by-others_count.ensures.own_room,

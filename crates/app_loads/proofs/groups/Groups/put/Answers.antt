@@ -1,4 +1,4 @@
-use Rattle.std.proofs.Common.{◌≡◌, ◌+◌, ◌++◌, ◌∙◌, ap, arith, length, rules, List}
+use Rattle.std.proofs.Common.{◌≡◌, ◌+◌, ◌++◌, ◌∙◌, ap, arith, rules, List}
 use Rattle.app_loads.specs.Grouping.{Grouped, all_grouped}
 use Rattle.app_loads.specs.Groups.{deliveries_at, sent_of}
 use Rattle.app_loads.proofs.GroupLaws.{put_back, put_counted, put_last_arrivals}

@@ -7,9 +7,7 @@ use Rattle.app_loads.proofs.groups.Groups.share.Goals.{After-share}
 
 same : (c : After-share) → slice_set c.self.inside.groups.items (c.len-count.result - 1) c.share.new.self ≡ c.self.inside.groups.items
 same c =
-    let a = c.len-count.ensures in
-    let b = c.self.inside.groups.ok in
-    let long : c.len-count.result ≡ length c.self.inside.groups.items = omega (arith, a, b) in
+    let long : c.len-count.result ≡ length c.self.inside.groups.items = omega (arith, c.len-count.ensures, c.self.inside.groups.ok) in
     same_groups c.self.inside.groups.items c.len-count.result c.index_mut.result.now long c.if-count-eq0.false c.index_mut.ensures.value c.share.new.self c.share.ensures
 
 pub invariant_of-self : goal.invariant_of-self

@@ -1,10 +1,7 @@
 use Rattle.std.proofs.Common.{◌∙◌, ap, sym}
-use Rattle.mesh_core.specs.State.{State}
-use Rattle.mesh_core.specs.Step.{after_event}
-use Rattle.app_loads.specs.Earlier.{with_earlier}
-use Rattle.app_loads.specs.Grouping.{all_grouped}
-use Rattle.app_loads.proofs.Earlier.{event_with}
-use Rattle.app_loads.proofs.Kept.{ok_then}
+use Rattle.mesh_core.specs.{State.State, Step.after_event}
+use Rattle.app_loads.specs.{Earlier.with_earlier, Grouping.all_grouped}
+use Rattle.app_loads.proofs.{Earlier.event_with, Kept.ok_then}
 use Rattle.app_loads.proofs.meshes.KeptMesh.step.Goals as goal
 
 pub returns-clause-moves : goal.returns-clause-moves

@@ -2,9 +2,8 @@
 use Rattle.std.proofs.Common.{◌≡◌, sym, ap, ◌∙◌, subst, Some, List}
 use Rattle.std.specs.List.{slice_index_or}
 use Rattle.spin_base.specs.declared.copies.McCopy.{McCopy}
-use Rattle.machine_desc.specs.Live.{IsInside}
+use Rattle.machine_desc.specs.{Live.IsInside, NetsOn.vertex_at}
 use Rattle.mesh_core.specs.State.{State, IsMesh}
-use Rattle.machine_desc.specs.NetsOn.{vertex_at}
 use Rattle.mesh_core.proofs.Searching.{delivery_has, core_has, core_lacks, none_from, core_queue_there}
 use Rattle.mesh_core.proofs.VertexTableLaws.{site_inside}
 use Rattle.mesh_core.proofs.meshes.Mesh.at_core.Goals as goal

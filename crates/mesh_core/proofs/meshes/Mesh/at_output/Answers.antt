@@ -16,5 +16,4 @@ returns-in_err-place c =
     (sym c.holds.ensures ∙ c.if-holds.false) (sym c.dump_at.ensures ∙ c.in_err-place.was))
 
 pub returns : goal.returns
-returns c =
-    dump_has c.args.self.now c.args.packet c.args.chip c.args.out c.in_ok-place.place (sym c.dump_at.ensures ∙ c.in_ok-place.was)
+returns c = dump_has c.args.self.now c.args.packet c.args.chip c.args.out c.in_ok-place.place (sym c.dump_at.ensures ∙ c.in_ok-place.was)

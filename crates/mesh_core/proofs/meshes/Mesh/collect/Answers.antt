@@ -1,16 +1,10 @@
 -- The mesh after the copy was delivered is the one that the step gives.
 use Rattle.std.proofs.Common.{◌≡◌, ◌∙◌, ap, sym, arith, Some, ℕ, List}
-use Rattle.std.specs.List.{slice_get}
-use Rattle.std.specs.Vec.{with_items}
 use Rattle.std.proofs.lemmas.List.{with_items_is}
-use Rattle.spin_base.specs.declared.copies.Event.TheVariants.{Collect}
-use Rattle.spin_base.specs.declared.copies.McCopy.{McCopy}
-use Rattle.mesh_core.specs.Queues.{front_of, drop_front}
-use Rattle.mesh_core.specs.State.{State}
-use Rattle.mesh_core.specs.Step.{step_of}
-use Rattle.mesh_core.specs.Whole.{state_of}
-use Rattle.mesh_core.proofs.Keeping.{IsMesh-step_of}
-use Rattle.mesh_core.proofs.StepParts.{step_of-collect}
+use Rattle.std.specs.{List.slice_get, Vec.with_items}
+use Rattle.spin_base.specs.declared.copies.{Event.TheVariants.Collect, McCopy.McCopy}
+use Rattle.mesh_core.specs.{Queues.front_of, Queues.drop_front, State.State, Step.step_of, Whole.state_of}
+use Rattle.mesh_core.proofs.{Keeping.IsMesh-step_of, StepParts.step_of-collect}
 use Rattle.mesh_core.proofs.meshes.Mesh.collect.Goals as goal
 
 -- the lists after the event
@@ -26,12 +20,10 @@ moves c =
     let s : State = state_of c.self.inside in
     let v : ℕ = c.args.v in
     let front : Some c.in-Some.copy ≡ front_of (slice_get s.cores v) =
-    sym c.in-Some.is ∙ (c.front.ensures ∙ ap (λ (l : List (List McCopy)). front_of (slice_get l v)) c.deref.ensures.value)
-    in
+    sym c.in-Some.is ∙ (c.front.ensures ∙ ap (λ (l : List (List McCopy)). front_of (slice_get l v)) c.deref.ensures.value) in
     let is_cores : (after c).cores ≡ drop_front s.cores v (slice_get s.cores v) =
     with_items_is c.self.inside.cores c.drop_front.new.queues (omega arith)
-    ∙ (c.drop_front.ensures ∙ ap (λ (l : List (List McCopy)). drop_front l v (slice_get l v)) c.deref_mut.ensures.value)
-    in
+    ∙ (c.drop_front.ensures ∙ ap (λ (l : List (List McCopy)). drop_front l v (slice_get l v)) c.deref_mut.ensures.value) in
     step_of-collect s v c.in-Some.copy (after c).cores (after c).delivered front is_cores c.in_ok-push.ensures.ok
 
 pub invariant_of-self-2 : goal.invariant_of-self-2

@@ -1,20 +1,12 @@
 -- The mesh after the copy was sent is the one that the step gives.
 use Rattle.std.proofs.Common.{◌≡◌, ◌∙◌, ◌<◌, ap, sym, subst, arith, true, Some, ℕ, List, length, get_or}
-use Rattle.std.specs.List.{slice_get}
-use Rattle.std.specs.Vec.{with_items}
-use Rattle.std.proofs.lemmas.List.{with_items_is}
-use Rattle.std.proofs.lemmas.Option.{slice_get-get_or}
-use Rattle.spin_base.specs.declared.chips.Spot.{Spot}
-use Rattle.spin_base.specs.declared.chips.Port.TheVariants.{Local}
-use Rattle.spin_base.specs.declared.copies.Event.TheVariants.{Inject}
-use Rattle.spin_base.specs.declared.copies.McCopy.{McCopy}
+use Rattle.std.proofs.lemmas.{List.with_items_is, Option.slice_get-get_or}
+use Rattle.std.specs.{List.slice_get, Vec.with_items}
+use Rattle.spin_base.specs.declared.{chips.Spot.Spot, chips.Port.TheVariants.Local, copies.Event.TheVariants.Inject, copies.McCopy.McCopy}
 use Rattle.machine_desc.specs.Description.{Description}
 use Rattle.mesh_core.specs.Queues.{front_of, drop_front}
-use Rattle.mesh_core.specs.State.{State, queue_at}
-use Rattle.mesh_core.specs.Step.{has_room, push_at, step_of, after_event}
-use Rattle.mesh_core.specs.Whole.{state_of}
-use Rattle.mesh_core.proofs.Keeping.{IsMesh-step_of}
-use Rattle.mesh_core.proofs.StepParts.{step_of-inject, after_event-moved}
+use Rattle.mesh_core.specs.{State.State, State.queue_at, Step.has_room, Step.push_at, Step.step_of, Step.after_event, Whole.state_of}
+use Rattle.mesh_core.proofs.{Keeping.IsMesh-step_of, StepParts.step_of-inject, StepParts.after_event-moved}
 use Rattle.mesh_core.proofs.meshes.Mesh.inject.Goals as goal
 
 -- the lists after the event
@@ -33,31 +25,25 @@ moves c =
     let spot : Spot = get_or c.spots-spots.result.now v none in
     let below : v < length c.spots-spots.result.now = omega (arith, c.if-vertex-spots.false) in
     let at_spot : slice_get s.setup.spots v ≡ Some spot =
-    ap (λ (l : List Spot). slice_get l v) (sym c.spots-spots.ensures) ∙ slice_get-get_or c.spots-spots.result.now v none below
-    in
+    ap (λ (l : List Spot). slice_get l v) (sym c.spots-spots.ensures) ∙ slice_get-get_or c.spots-spots.result.now v none below in
     let from : ℕ = queue_at s.setup.machine spot.chip Local in
     let place : c.queue_place-queue.result ≡ from =
-    c.queue_place-queue.ensures.place ∙ ap (λ (m : Description). queue_at m spot.chip Local) c.machine.ensures
-    in
+    c.queue_place-queue.ensures.place ∙ ap (λ (m : Description). queue_at m spot.chip Local) c.machine.ensures in
     let front : Some c.in-Some.copy ≡ front_of (slice_get s.unsent v) =
-    sym c.in-Some.is ∙ (c.front.ensures ∙ ap (λ (l : List (List McCopy)). front_of (slice_get l v)) c.deref.ensures.value)
-    in
+    sym c.in-Some.is ∙ (c.front.ensures ∙ ap (λ (l : List (List McCopy)). front_of (slice_get l v)) c.deref.ensures.value) in
     let room : has_room s.setup.capacity (slice_get s.inputs from) ≡ true =
     ap (λ (n : ℕ). has_room s.setup.capacity (slice_get s.inputs n)) (sym place)
     ∙ (ap (λ (l : List (List McCopy)). has_room s.setup.capacity (slice_get l c.queue_place-queue.result)) (sym c.deref-2.ensures.value)
     ∙ (ap (λ (n : ℕ). has_room n (slice_get c.deref-2.result.now c.queue_place-queue.result)) (sym c.capacity.ensures)
-    ∙ (sym c.has_room.ensures ∙ c.if-not-has_room.false)))
-    in
+    ∙ (sym c.has_room.ensures ∙ c.if-not-has_room.false))) in
     let is_unsent : (after c).unsent ≡ drop_front s.unsent v (slice_get s.unsent v) =
     with_items_is c.self.inside.unsent c.drop_front.new.queues (omega arith)
-    ∙ (c.drop_front.ensures ∙ ap (λ (l : List (List McCopy)). drop_front l v (slice_get l v)) c.deref_mut-2.ensures.value)
-    in
+    ∙ (c.drop_front.ensures ∙ ap (λ (l : List (List McCopy)). drop_front l v (slice_get l v)) c.deref_mut-2.ensures.value) in
     let is_inputs : (after c).inputs ≡ push_at s.inputs from c.in-Some.copy (slice_get s.inputs from) =
     with_items_is c.self.inside.inputs c.push_at.new.queues (omega arith)
     ∙ (c.in_ok-push_at.ensures.ok
     ∙ (ap (λ (l : List (List McCopy)). push_at l c.queue_place-queue.result c.in-Some.copy (slice_get l c.queue_place-queue.result)) c.deref_mut.ensures.value
-    ∙ ap (λ (n : ℕ). push_at s.inputs n c.in-Some.copy (slice_get s.inputs n)) place))
-    in
+    ∙ ap (λ (n : ℕ). push_at s.inputs n c.in-Some.copy (slice_get s.inputs n)) place)) in
     step_of-inject s v spot c.in-Some.copy (after c).unsent (after c).inputs at_spot front room is_unsent is_inputs
 
 pub invariant_of-self-2 : goal.invariant_of-self-2

@@ -17,8 +17,7 @@ invariant_of-result c =
     (c.in_ok-lists.ensures.unsent ∙ ap (λ (n : ℕ). replicate {A = List McCopy} n []) vertices)
     (c.in_ok-lists.ensures.inputs ∙ ap (λ (n : ℕ). replicate {A = List McCopy} (7 * n) []) chips)
     (c.in_ok-lists.ensures.hands ∙ ap (λ (n : ℕ). replicate {A = Option Hand} n None) chips)
-    (c.in_ok-lists.ensures.cores ∙ ap (λ (n : ℕ). replicate {A = List McCopy} n []) vertices)
-    in
+    (c.in_ok-lists.ensures.cores ∙ ap (λ (n : ℕ). replicate {A = List McCopy} n []) vertices) in
     let size : HasSize u.machine = subst HasSize c.machine.ensures c.chips-chips.ensures.size in
     let law = c.every_setup_has_sites.ensures in
     IsMesh-dumped _ _ (IsMesh-delivered _ _ (subst IsMesh made (IsMesh-empty u size law.different law.sites law.room c.requires)))

@@ -1,18 +1,13 @@
 -- The mesh after the copy was sent is the one that the step gives.
 use Rattle.std.proofs.Common.{◌≡◌, ◌∙◌, ap, sym, subst, arith, true, Some, ℕ}
-use Rattle.std.specs.List.{slice_get}
-use Rattle.std.specs.Vec.{with_items}
 use Rattle.std.proofs.lemmas.List.{with_items_is}
-use Rattle.spin_base.specs.declared.copies.Event.TheVariants.{Send}
-use Rattle.spin_base.specs.declared.copies.McCopy.{McCopy}
+use Rattle.std.specs.{List.slice_get, Vec.with_items}
+use Rattle.spin_base.specs.declared.copies.{Event.TheVariants.Send, McCopy.McCopy}
 use Rattle.spin_base.specs.Hops.{onward}
 use Rattle.machine_desc.specs.Live.{index_of}
 use Rattle.mesh_core.specs.Serving.{queue_named, copy_served, inputs_after, cores_after, hands_after}
-use Rattle.mesh_core.specs.State.{State, Queue, behind}
-use Rattle.mesh_core.specs.Step.{has_room_behind, step_of, after_event}
-use Rattle.mesh_core.specs.Whole.{state_of}
-use Rattle.mesh_core.proofs.Keeping.{IsMesh-step_of}
-use Rattle.mesh_core.proofs.StepParts.{step_of-send, after_event-moved}
+use Rattle.mesh_core.specs.{State.State, State.Queue, State.behind, Step.has_room_behind, Step.step_of, Step.after_event, Whole.state_of}
+use Rattle.mesh_core.proofs.{Keeping.IsMesh-step_of, StepParts.step_of-send, StepParts.after_event-moved}
 use Rattle.mesh_core.proofs.meshes.Mesh.send.Goals as goal
 
 -- the lists after the event
@@ -31,30 +26,23 @@ moves c =
     let k : McCopy = c.in-Some.copy in
     let chip : ℕ = index_of s.setup.machine c.args.c in
     let copy : Some k ≡ copy_served s c.args.c c.args.out (slice_get s.hands chip) =
-    subst (λ (t : State). Some k ≡ copy_served t c.args.c c.args.out (slice_get t.hands (index_of t.setup.machine c.args.c))) (sym c.self.view_is) (sym c.in-Some.is ∙ c.copy_for.ensures.copy)
-    in
+    subst (λ (t : State). Some k ≡ copy_served t c.args.c c.args.out (slice_get t.hands (index_of t.setup.machine c.args.c))) (sym c.self.view_is) (sym c.in-Some.is ∙ c.copy_for.ensures.copy) in
     let queue : queue_named c.behind-queue.result ≡ to =
-    subst (λ (t : State). queue_named c.behind-queue.result ≡ behind t.setup c.args.c c.args.out) (sym c.self.view_is) c.behind-queue.ensures.queue
-    in
+    subst (λ (t : State). queue_named c.behind-queue.result ≡ behind t.setup c.args.c c.args.out) (sym c.self.view_is) c.behind-queue.ensures.queue in
     let room_named : has_room_behind s (queue_named c.behind-queue.result) ≡ true =
-    subst (λ (t : State). has_room_behind t (queue_named c.behind-queue.result) ≡ true) (sym c.self.view_is) (sym c.has_room_behind.ensures ∙ c.if-not-has_room_behind.false)
-    in
+    subst (λ (t : State). has_room_behind t (queue_named c.behind-queue.result) ≡ true) (sym c.self.view_is) (sym c.has_room_behind.ensures ∙ c.if-not-has_room_behind.false) in
     let room : has_room_behind s to ≡ true = ap (has_room_behind s) (sym queue) ∙ room_named in
     let is_inputs : (after c).inputs ≡ inputs_after s.inputs to (onward k) =
-    with_items_is c.self.inside.inputs c.push_behind.new.inputs (omega arith) ∙ cc c.in_ok-push_behind.ensures.inputs
-    in
+    with_items_is c.self.inside.inputs c.push_behind.new.inputs (omega arith) ∙ cc c.in_ok-push_behind.ensures.inputs in
     let is_cores : (after c).cores ≡ cores_after s.cores to (onward k) =
-    with_items_is c.self.inside.cores c.push_behind.new.cores (omega arith) ∙ cc c.in_ok-push_behind.ensures.cores
-    in
+    with_items_is c.self.inside.cores c.push_behind.new.cores (omega arith) ∙ cc c.in_ok-push_behind.ensures.cores in
     let is_hands : (after c).hands ≡ hands_after s.hands chip c.args.out (slice_get s.hands chip) =
-    with_items_is c.self.inside.hands c.serve.new.hands (omega arith) ∙ cc
-    in
+    with_items_is c.self.inside.hands c.serve.new.hands (omega arith) ∙ cc in
     step_of-send s c.args.c c.args.out k (after c).inputs (after c).cores (after c).hands copy room is_inputs is_cores is_hands
 
 pub invariant_of-self-2 : goal.invariant_of-self-2
 unfolding after
-invariant_of-self-2 c =
-    IsMesh-step_of (state_of c.self.inside) (after c) (Send c.args.c c.args.out) c.self.invariant (moves c)
+invariant_of-self-2 c = IsMesh-step_of (state_of c.self.inside) (after c) (Send c.args.c c.args.out) c.self.invariant (moves c)
 
 pub returns-clause-moves : goal.returns-clause-moves
 unfolding after

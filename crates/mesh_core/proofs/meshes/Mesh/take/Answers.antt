@@ -1,15 +1,11 @@
 -- The mesh after the copy was taken is the one that the step gives.
 use Rattle.std.proofs.Common.{◌≡◌, ◌∙◌, ap, sym, subst, arith, true, Some, None, ℕ, ◌<◌, ◌*◌, length, List, set}
-use Rattle.std.specs.List.{slice_get}
-use Rattle.std.specs.Vec.{with_items, with_item}
 use Rattle.std.proofs.lemmas.List.{with_items_is}
-use Rattle.spin_base.specs.declared.copies.Event.TheVariants.{Take}
-use Rattle.machine_desc.specs.Description.{Description}
-use Rattle.machine_desc.specs.Live.{index_of, is_live_chip}
-use Rattle.spin_base.specs.declared.copies.McCopy.{McCopy}
+use Rattle.std.specs.{List.slice_get, Vec.with_items, Vec.with_item}
+use Rattle.spin_base.specs.declared.copies.{Event.TheVariants.Take, McCopy.McCopy}
+use Rattle.machine_desc.specs.{Description.Description, Live.index_of, Live.is_live_chip}
 use Rattle.mesh_core.specs.declared.places.Did.TheVariants.{Moved}
-use Rattle.mesh_core.specs.Queues.{front_of, drop_front}
-use Rattle.mesh_core.specs.State.{State, queue_at}
+use Rattle.mesh_core.specs.{Queues.front_of, Queues.drop_front, State.State, State.queue_at}
 use Rattle.mesh_core.specs.Step.{in_hand, outputs, step_of, answer, after_event}
 use Rattle.mesh_core.specs.Whole.{state_of}
 use Rattle.mesh_core.proofs.Keeping.{IsMesh-step_of}
@@ -34,32 +30,27 @@ moves c =
     let machine : c.machine-machine.result.now ≡ s.setup.machine = c.machine-machine.ensures in
     let at : c.index-chip.result ≡ chip = c.index-chip.ensures.value ∙ ap (λ (m : Description). index_of m c.args.c) machine in
     let below : c.index-chip.result < s.setup.machine.width * s.setup.machine.height =
-    subst (λ (m : Description). c.index-chip.result < m.width * m.height) machine c.index-chip.ensures.below
-    in
-    let place : c.queue_place-queue.result ≡ queue =
-    c.queue_place-queue.ensures.place ∙ ap (λ (m : Description). queue_at m c.args.c c.args.port) machine
-    in
+    subst (λ (m : Description). c.index-chip.result < m.width * m.height) machine c.index-chip.ensures.below in
+    let place : c.queue_place-queue.result ≡ queue = c.queue_place-queue.ensures.place ∙ ap (λ (m : Description). queue_at m c.args.c c.args.port) machine in
     let free : slice_get s.hands chip ≡ Some None =
-    ap (slice_get s.hands) (sym at) ∙ no_hand s.hands c.index-chip.result c.index.result.now (omega (arith, c.self.invariant.hand_list, below)) c.index.ensures (sym c.is_some.ensures ∙ c.if-is_some.false)
-    in
+    ap (slice_get s.hands) (sym at) ∙ no_hand s.hands c.index-chip.result c.index.result.now
+    (omega (arith, c.self.invariant.hand_list, below)) c.index.ensures (sym c.is_some.ensures ∙ c.if-is_some.false) in
     let front : Some c.in-Some.copy ≡ front_of (slice_get s.inputs queue) = cc in
     let is_inputs : (after c).inputs ≡ drop_front s.inputs queue (slice_get s.inputs queue) =
     with_items_is c.self.inside.inputs c.drop_front.new.queues (omega arith)
     ∙ (c.drop_front.ensures
     ∙ (ap (λ (l : List (List McCopy)). drop_front l c.queue_place-queue.result (slice_get l c.queue_place-queue.result)) c.deref_mut.ensures.value
-    ∙ ap (λ (n : ℕ). drop_front s.inputs n (slice_get s.inputs n)) place))
-    in
+    ∙ ap (λ (n : ℕ). drop_front s.inputs n (slice_get s.inputs n)) place)) in
     let is_hands : (after c).hands ≡ set s.hands chip (in_hand c.in-Some.copy c.args.port (outputs s.setup c.args.c c.args.port c.in-Some.copy)) =
     ap (λ (n : ℕ). set s.hands n c.taken.result) at
-    ∙ ap (set s.hands chip) (c.taken.ensures ∙ ap (in_hand c.in-Some.copy c.args.port) (outputs_at s c.args.c c.args.port c.in-Some.copy c.index-chip.result c.tables.result.now c.index-tables-chip.result _ at c.tables.ensures
-    (omega (arith, c.self.invariant.table_list, below, ap length c.tables.ensures)) c.index-tables-chip.is))
-    in
+    ∙ ap (set s.hands chip) (c.taken.ensures ∙ ap (in_hand c.in-Some.copy c.args.port)
+    (outputs_at s c.args.c c.args.port c.in-Some.copy c.index-chip.result c.tables.result.now c.index-tables-chip.result _ at c.tables.ensures
+    (omega (arith, c.self.invariant.table_list, below, ap length c.tables.ensures)) c.index-tables-chip.is)) in
     step_of-take s c.args.c c.args.port c.in-Some.copy (after c).inputs (after c).hands live free front is_inputs is_hands
 
 pub invariant_of-self : goal.invariant_of-self
 unfolding after
-invariant_of-self c =
-    IsMesh-step_of (state_of c.self.inside) (after c) (Take c.args.c c.args.port) c.self.invariant (moves c)
+invariant_of-self c = IsMesh-step_of (state_of c.self.inside) (after c) (Take c.args.c c.args.port) c.self.invariant (moves c)
 
 pub returns-clause-answer : goal.returns-clause-answer
 returns-clause-answer c =

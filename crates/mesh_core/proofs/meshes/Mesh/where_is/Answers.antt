@@ -1,11 +1,9 @@
 -- Each search on the way finds the target's copy or shows where it is not, and the walk goes on.
 use Rattle.std.proofs.Common.{◌≡◌, ℕ, ◌*◌, ◌≤◌, ap, sym, ◌∙◌, subst, Some, None, List}
-use Rattle.spin_base.specs.declared.chips.Port.{Port}
-use Rattle.machine_desc.specs.declared.trees.Edge.{Edge}
 use Rattle.std.specs.List.{All}
-use Rattle.machine_desc.specs.Description.{Description}
-use Rattle.machine_desc.specs.Live.{IsInside}
-use Rattle.spin_base.specs.declared.routes.Out.{Out}
+use Rattle.spin_base.specs.declared.{chips.Port.Port, routes.Out.Out}
+use Rattle.machine_desc.specs.declared.trees.Edge.{Edge}
+use Rattle.machine_desc.specs.{Description.Description, Live.IsInside}
 use Rattle.machine_desc.proofs.Sites.{site_parts}
 use Rattle.mesh_core.specs.State.{State, IsMesh}
 use Rattle.mesh_core.specs.Searches.{IsFound, IsOfPort, IsEdgeInto, port_behind}

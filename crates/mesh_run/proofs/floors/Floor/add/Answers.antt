@@ -1,7 +1,6 @@
 use Rattle.std.proofs.Common.{◌*◌, ℕ, refl, ap, ◌∙◌, subst}
 use Rattle.spin_base.specs.declared.chips.Chip.{Chip}
-use Rattle.machine_desc.specs.Description.{Description}
-use Rattle.machine_desc.specs.Live.{chip_of, is_live_chip}
+use Rattle.machine_desc.specs.{Description.Description, Live.chip_of, Live.is_live_chip}
 use Rattle.mesh_run.specs.Floors.{AddsBehind, live_if}
 use Rattle.mesh_run.proofs.FloorLaws.{bank_of, floor_more}
 use Rattle.mesh_run.proofs.floors.Floor.add.Goals as goal

@@ -1,15 +1,12 @@
 use Rattle.std.proofs.Common.{ℕ, ◌+◌, ◌<◌, List, ◌++◌, length, sym, ap, ◌∙◌, subst}
-use Rattle.std.specs.List.{All, flat_map}
-use Rattle.std.specs.Vec.{with_items}
 use Rattle.std.proofs.lemmas.List.{with_items_is}
+use Rattle.std.specs.{List.All, List.flat_map, Vec.with_items}
 use Rattle.link_queue.specs.declared.links.{Link.Link, LinkEnds.LinkEnds}
 use Rattle.mesh_core.specs.State.{IsMesh, State}
 use Rattle.mesh_run.specs.declared.{homes.Cut.Cut, raised.RaisedMesh.RaisedMesh, shares.Share.Share}
 use Rattle.mesh_run.specs.Crossing.{AreCuts, AreLaid, Deals, HoldsNoEnds}
 use Rattle.mesh_run.specs.Gathering.{AreEmptied, FitsLogs, IsAnyMoved}
-use Rattle.mesh_run.specs.Queues.{RestAll, WasUp}
-use Rattle.mesh_run.specs.Raised.{IsRoomyFrom, PlaysTo}
-use Rattle.mesh_run.specs.{Shares.IsShareOf, Standing.HoldsAll}
+use Rattle.mesh_run.specs.{Queues.RestAll, Queues.WasUp, Raised.IsRoomyFrom, Raised.PlaysTo, Shares.IsShareOf, Standing.HoldsAll}
 use Rattle.mesh_run.proofs.AfterDeal.{cuts_apart, few_links}
 use Rattle.mesh_run.proofs.RoundSteps.{IsCollected, IsDealt, IsTurned, PlayAndStay, can_rest, cuts_laid, is_collected, is_dealt}
 use Rattle.mesh_run.proofs.RoundSteps.{is_turned, no_ends, room_for_logs, round_plays, shares_of_mesh, still_cuts}

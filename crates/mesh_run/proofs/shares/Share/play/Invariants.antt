@@ -1,5 +1,4 @@
-use Rattle.mesh_run.specs.Floors.{IsFloorOf}
-use Rattle.mesh_run.specs.Shares.{IsShareOf, PlaysRound}
+use Rattle.mesh_run.specs.{Floors.IsFloorOf, Shares.IsShareOf, Shares.PlaysRound}
 use Rattle.mesh_run.proofs.shares.Share.play.Given as goal
 
 -- so many turns were played

@@ -1,10 +1,9 @@
 use Rattle.std.proofs.Common.{◌≡◌, ◌+◌, ◌≤◌, ◌++◌, ℕ, List, length, sym, ap, ◌∙◌, subst, arith}
-use Rattle.spin_base.specs.declared.copies.McCopy.{McCopy}
-use Rattle.std.specs.List.{All}
 use Rattle.std.proofs.lemmas.List.{length-map}
+use Rattle.std.specs.List.{All}
+use Rattle.spin_base.specs.declared.copies.McCopy.{McCopy}
 use Rattle.mesh_core.specs.State.{State}
-use Rattle.mesh_run.specs.{Queues.AreUp, Split.cut_queues}
-use Rattle.mesh_run.specs.Splitting.{AreInside, HoldNothing}
+use Rattle.mesh_run.specs.{Queues.AreUp, Split.cut_queues, Splitting.AreInside, Splitting.HoldNothing}
 use Rattle.mesh_run.proofs.PlanLaws.{cuts_fit, cuts_inside, plan_fits, plan_shared}
 use Rattle.mesh_run.proofs.splitting.SplitPlan.of.Goals as goal
 
