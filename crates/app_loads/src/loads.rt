@@ -205,10 +205,10 @@ fn settle_mesh(alloc: Global, mesh: Mesh, app: &LoadedApp) -> (Mesh, Result<(), 
     if app.plan.nets.is_empty() {
         return (mesh, Ok(()));
     }
-    let Ok(rooms) = rooms_for(alloc, mesh.machine(), app.ranges.as_slice()) else {
+    let Ok(rows) = originals_of(alloc, mesh.machine(), app) else {
         return (mesh, Err(Memory));
     };
-    let Ok(rows) = originals_of(alloc, mesh.machine(), app) else {
+    let Ok(rooms) = rooms_for(alloc, mesh.machine(), app.ranges.as_slice()) else {
         return (mesh, Err(Memory));
     };
     let mut parts = mesh.take_apart();

@@ -1,13 +1,15 @@
 // The plain rows of an application, and their ranges in the tables.
-ghost use Rattle.std.specs.Prelude.{◌≡◌, ◌+◌, ◌*◌, ◌<◌, ◌≤◌, ◌++◌, All, IfOk, drop, length, map, take};
+ghost use Rattle.std.specs.Prelude.{◌≡◌, ◌+◌, ◌*◌, ◌<◌, ◌≤◌, ◌++◌, ◌∷◌, All, IfOk, drop, length, map, take};
 ghost use Rattle.std.specs.List.{AllZip};
+ghost use Rattle.std.specs.Vec.Iter.{into_iter_items};
 ghost use Rattle.machine_desc.specs.declared.nets.NetPlan.{NetPlan as Plan};
 ghost use Rattle.tern_word.specs.Entries.{entry_of};
 ghost use Rattle.net_tables.specs.Marks.{IsTableOf, row_of_mark, table_of_sorted};
 ghost use Rattle.net_tables.specs.PlainTable.{AtEach, IsPlainTable};
 ghost use Rattle.app_loads.specs.Host.{net_with, nets_of};
 ghost use Rattle.app_loads.specs.Joining.{HasRoutes};
-ghost use Rattle.app_loads.specs.Writing.{AreCopied, AreUnused, AreUnusedFrom, CanClear, CanCopy, HasEntriesFrom, tables_in};
+ghost use Rattle.app_loads.specs.Writing.{AreCopied, AreUnused, AreUnusedFrom, CanClear, CanCopy, HasEntriesFrom, HasRoom, HaveRooms, tables_in};
+ghost use Rattle.app_loads.specs.Regions.{IsRangeWithin, chip_count};
 
 use crate::loaded::{LoadedApp, Range};
 use crate::places::Region;
@@ -17,6 +19,7 @@ use net_tables::marks::Mark;
 use net_tables::{in_row_order, original_blocks};
 use spin_base::{Block, Entry, Memory, Seq};
 use std::alloc::Global;
+use std::vec::IntoIter;
 use tcam_find::{Room, RoomyTcam, Tcam};
 
 // The original blocks of the application's nets, by the chips' indices, in the order of the rows of their plain tables. So no row is
@@ -92,7 +95,8 @@ fn net_with(alloc: Global, net: &AppNet, block: Block) -> Result<NetPlan, Memory
 
 // Room for the places of each range of entries, in their tables.
 pub fn rooms_for(alloc: Global, machine: &Machine, ranges: &[Range]) -> Result<Vec<Room>, Memory>
-    requires { AreWithin machine.now ranges.now }
+    requires { All (IsRangeWithin machine.now (1 + (chip_count machine.now + chip_count machine.now)))
+        ranges.now }
     ensures { IfOk result (λ rooms. HaveRooms machine.now ranges.now rooms.items) }
 {
     let mut rooms = Vec::with_capacity(alloc, ranges.len())?;
@@ -104,7 +108,8 @@ pub fn rooms_for(alloc: Global, machine: &Machine, ranges: &[Range]) -> Result<V
 
 // Room for the places of a range, if it is one of entries.
 fn room_for(alloc: Global, machine: &Machine, range: &Range) -> Result<Room, Memory>
-    requires { IsRangeWithin machine.now (1 + (chip_count machine.now + chip_count machine.now)) range.now }
+    requires { IsRangeWithin machine.now (1 + (chip_count machine.now + chip_count machine.now))
+        range.now }
     ensures { IfOk result (HasRoom machine.now range.now) }
 {
     match Region::at(machine, range.region) {
@@ -126,12 +131,30 @@ pub fn write_rows(
     requires room { HaveRooms machine.now ranges.now rooms.items }
     ensures { AreCopied machine.now (tables_in lists.now) ranges.now tables.old tables.new }
 {
-    for (range, room) in ranges.iter().zip(rooms) {
+    let mut rooms = rooms.into_iter();
+    for range in ranges {
+        let room = next_room(&mut rooms);
         if let Region::Rows(chip) = Region::at(machine, range.region) {
             let at = machine.index(chip) as usize;
-            let marks = lists[at].as_slice();
-            put_rows(alloc, &mut tables[at], room, range.place as u32, marks);
+            put_rows(
+                alloc,
+                &mut tables[at],
+                room,
+                range.place as u32,
+                lists[at].as_slice(),
+            );
         }
+    }
+}
+
+// The room that comes next.
+fn next_room(rooms: &mut IntoIter<Room>) -> Room
+    requires { 0 < length (into_iter_items rooms.old) }
+    ensures { into_iter_items rooms.old ≡ result ∷ into_iter_items rooms.new }
+{
+    match rooms.next() {
+        Some(room) => room,
+        None => unreachable!(),
     }
 }
 
