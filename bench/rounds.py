@@ -69,7 +69,7 @@ use std::process::ExitCode;
 use std::sync::Wait;
 use std::thread::Threads;
 use std::time::{Clock, Duration, Instant};
-use tcam_find::Tcam;
+use tcam_find::{Room, RoomyTcam, Tcam};
 
 const PATIENCE: u32 = 1000;
 
@@ -90,12 +90,17 @@ fn torus(alloc: Global, width: u8, height: u8) -> Result<Machine, Memory> {
     Machine::new(alloc, parts)
 }
 
-fn send(table: &mut Tcam, place: u32, key: u32, bit: u32) {
+fn send(table: &mut RoomyTcam, place: u32, key: u32, bit: u32) {
     table.set(place, Entry { key, mask: 0xffff_ffff, route: Route { bits: 1 << bit } });
 }
 
 fn put(mesh: &mut Mesh, vertex: u32, packet: u32, key: u32) -> Result<(), Memory> {
     mesh.add(vertex, McCopy { packet, key, payload: None, hop: 0 })
+}
+
+// A memory of unused entries, with room for rows.
+fn roomy(alloc: Global, rows: u32) -> Result<RoomyTcam, Memory> {
+    Ok(RoomyTcam::new(Tcam::empty(alloc), Room::new(alloc, rows)?))
 }
 
 // Vertices on the first `cores` cores of each chip.
@@ -115,7 +120,7 @@ fn spots(alloc: Global, width: u8, height: u8, cores: u8) -> Result<Seq<Spot>, M
 fn idle(alloc: Global, capacity: u32) -> Result<Mesh, Memory> {
     let mut tables = Seq::new(alloc);
     for _ in 0..4096 {
-        tables.push(Tcam::empty())?;
+        tables.push(Tcam::empty(alloc))?;
     }
     Mesh::new(alloc, MeshSetup::new(alloc, torus(alloc, 64, 64)?, spots(alloc, 64, 64, 4)?, tables, capacity)?)
 }
@@ -125,14 +130,14 @@ fn board(alloc: Global, capacity: u32, rows: bool) -> Result<Mesh, Memory> {
     let mut tables = Seq::new(alloc);
     for x in 0..8 {
         for y in 0..6 {
-            let mut table = Tcam::empty();
+            let mut table = roomy(alloc, 1)?;
             let (key, step, last, bit) = if rows { (y, x, 7, 0) } else { (x, y, 5, 2) };
             if step == 0 {
                 send(&mut table, 0, key, bit);
             } else if step == last {
                 send(&mut table, 0, key, 7);
             }
-            tables.push(table)?;
+            tables.push(table.into_memory())?;
         }
     }
     let setup = MeshSetup::new(alloc, torus(alloc, 8, 6)?, spots(alloc, 8, 6, 1)?, tables, capacity)?;
@@ -149,12 +154,12 @@ fn board(alloc: Global, capacity: u32, rows: bool) -> Result<Mesh, Memory> {
 
 // Packet after packet of 1,024 nets between the 17 vertices of a chip.
 fn chip(alloc: Global, capacity: u32) -> Result<Mesh, Memory> {
-    let mut table = Tcam::empty();
+    let mut table = roomy(alloc, 1024)?;
     for net in 0..1024 {
         send(&mut table, net, net, 7 + (net + 1) % 17);
     }
     let mut tables = Seq::new(alloc);
-    tables.push(table)?;
+    tables.push(table.into_memory())?;
     let setup = MeshSetup::new(alloc, torus(alloc, 1, 1)?, spots(alloc, 1, 1, 17)?, tables, capacity)?;
     let mut mesh = Mesh::new(alloc, setup)?;
     for packet in 0..65536 {

@@ -49,7 +49,7 @@ use std::alloc::Global;
 use std::env;
 use std::process::ExitCode;
 use table_load::{ChipTable, Image, decode, encode, load};
-use tcam_find::Tcam;
+use tcam_find::{Room, RoomyTcam, Tcam};
 use tern_word::{Alias, Row, Table, block_of};
 
 fn next(seed: u32) -> u32 {
@@ -61,11 +61,12 @@ fn entry(key: u32) -> Entry {
 }
 
 // 1,024 entries, and one key after the other.
-fn lookups(count: u32, slow: bool) -> u32 {
-    let mut memory = Tcam::empty();
+fn lookups(alloc: Global, count: u32, slow: bool) -> Result<u32, Memory> {
+    let mut roomy = RoomyTcam::new(Tcam::empty(alloc), Room::new(alloc, 1024)?);
     for place in 0..1024 {
-        memory.set(place, entry(place));
+        roomy.set(place, entry(place));
     }
+    let memory = roomy.into_memory();
     let mut sum: u32 = 0;
     let mut seed = 1;
     for _ in 0..count {
@@ -74,7 +75,7 @@ fn lookups(count: u32, slow: bool) -> u32 {
         let bits = if slow { scan(&memory, key) } else { memory.find(key, Port::Local).bits };
         sum = sum.wrapping_add(bits);
     }
-    sum
+    Ok(sum)
 }
 
 // The same by one look at each entry in turn.
@@ -146,8 +147,8 @@ fn rows_after(alloc: Global, count: u32, routes: u32, covering: bool) -> Result<
 
 fn answer(alloc: Global, what: &str, first: u32, second: u32) -> Result<u32, Memory> {
     match what {
-        "find" => Ok(lookups(first, false)),
-        "scan" => Ok(lookups(first, true)),
+        "find" => lookups(alloc, first, false),
+        "scan" => lookups(alloc, first, true),
         "image" => images(alloc, first),
         "cover" => rows_after(alloc, first, second, true),
         _ => rows_after(alloc, first, second, false),

@@ -42,3 +42,4 @@ mod Claiming
 mod Copying
 mod Clearing
 mod RoomToGive
+mod Rooms

@@ -31,6 +31,15 @@ FitsTable m rows range =
     (c : Chip) (t : Table) → IsInside m c → range.region ≡ place_of m (Rows c) → slice_get rows (index_of m c) ≡ Some t →
     (range.place + length t.rows ≤ ROUTER_ENTRIES) × (range.size ≡ length t.rows)
 
+-- a range of entries has room for its places
+abbrev pub HasRoom : Description → Range → ℕ → Type 0
+HasRoom m range room = (c : Chip) → range.region ≡ place_of m (Rows c) → range.place + range.size ≤ room
+
+-- there is a room for each range, in their order
+pub record HaveRooms (m : Description) (ranges : List Range) (rooms : List ℕ) : Type 0 where
+  pub all : length ranges ≤ length rooms
+  pub each : (i : ℕ) (range : Range) (room : ℕ) → slice_get ranges i ≡ Some range → slice_get rooms i ≡ Some room → HasRoom m range room
+
 -- there are a table and rows for each chip, and the ranges share no entry and fit
 pub record CanCopy (m : Description) (tables : List (List Entry)) (rows : List Table) (ranges : List Range) : Type 0 where
   pub tables_long : length tables ≡ chip_count m

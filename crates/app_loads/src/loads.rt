@@ -6,7 +6,7 @@ ghost use Rattle.app_loads.specs.Joining.{AreKeyed, CanJoin, CanServePlan, CanSe
 ghost use Rattle.app_loads.specs.Loading.{HasLoaded, IsWhyNotLoaded};
 ghost use Rattle.app_loads.specs.Plans.{MayLoad};
 ghost use Rattle.app_loads.specs.Taking.{AreFreeAgain, HaveRoom, IsDueAlways};
-ghost use Rattle.app_loads.specs.Writing.{AreCopied, CanCopy, tables_in};
+ghost use Rattle.app_loads.specs.Writing.{AreCopied, CanCopy, HaveRooms, tables_in};
 
 use crate::answers::{LoadErr, LoadRefusal};
 use crate::apps::{Apps, add, put, reserve_one};
@@ -15,7 +15,7 @@ use crate::loaded::{Claim, LoadedApp, Range};
 use crate::meshes::KeptMesh;
 use crate::plans::AppPlan;
 use crate::regions::{give_all, take_all};
-use crate::rows::{originals_of, write_rows};
+use crate::rows::{originals_of, rooms_for, write_rows};
 use crate::sends::{send, with_sources};
 use machine_desc::Machine;
 use mesh_core::{Mesh, MeshSetup};
@@ -23,6 +23,7 @@ use net_tables::marks::Mark;
 use range_store::Ranges;
 use spin_base::{Block, Memory, Seq};
 use std::alloc::Global;
+use tcam_find::Room;
 use tern_word::block_of;
 
 impl Apps {
@@ -207,6 +208,9 @@ fn settle_mesh(alloc: Global, mesh: Mesh, app: &LoadedApp) -> (Mesh, Result<(), 
     let Ok(rows) = originals_of(alloc, mesh.machine(), app) else {
         return (mesh, Err(Memory));
     };
+    let Ok(rooms) = rooms_for(alloc, mesh.machine(), app.ranges.as_slice()) else {
+        return (mesh, Err(Memory));
+    };
     let mut parts = mesh.take_apart();
     match send(alloc, &parts.setup, &mut parts.unsent, app) {
         Ok(()) => {
@@ -215,6 +219,7 @@ fn settle_mesh(alloc: Global, mesh: Mesh, app: &LoadedApp) -> (Mesh, Result<(), 
                 &mut parts.setup,
                 rows.as_slice(),
                 app.ranges.as_slice(),
+                rooms,
             );
             (Mesh::put_together(parts), Ok(()))
         }
@@ -223,13 +228,27 @@ fn settle_mesh(alloc: Global, mesh: Mesh, app: &LoadedApp) -> (Mesh, Result<(), 
 }
 
 // Puts the rows into the setup's tables.
-fn install(alloc: Global, setup: &mut MeshSetup, rows: &[Seq<Mark>], ranges: &[Range])
-    requires { CanCopy setup.old.machine setup.old.tables (tables_in rows.now) ranges.now }
+fn install(
+    alloc: Global,
+    setup: &mut MeshSetup,
+    rows: &[Seq<Mark>],
+    ranges: &[Range],
+    rooms: Vec<Room>,
+)
+    requires can { CanCopy setup.old.machine setup.old.tables (tables_in rows.now) ranges.now }
+    requires room { HaveRooms setup.old.machine ranges.now rooms.items }
     ensures setup { setup.new ≡ record setup.old { tables = setup.new.tables } }
     ensures copied { AreCopied
         setup.old.machine (tables_in rows.now) ranges.now setup.old.tables setup.new.tables }
 {
     let mut tables = setup.swap_tables(Seq::new(alloc));
-    write_rows(setup.machine(), tables.as_mut_slice(), rows, ranges);
+    write_rows(
+        alloc,
+        setup.machine(),
+        tables.as_mut_slice(),
+        rows,
+        ranges,
+        rooms,
+    );
     setup.swap_tables(tables);
 }

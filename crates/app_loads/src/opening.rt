@@ -75,7 +75,7 @@ fn empty_tables(alloc: Global, count: usize) -> Result<Seq<Tcam>, Memory>
 {
     let mut tables = Vec::with_capacity(alloc, count)?;
     for _ in 0..count {
-        tables.push(Tcam::empty())?;
+        tables.push(Tcam::empty(alloc))?;
     }
     Ok(Seq::from_vec(tables))
 }

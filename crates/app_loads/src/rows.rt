@@ -1,14 +1,15 @@
 // The plain rows of an application, and their ranges in the tables.
-ghost use Rattle.std.specs.Prelude.{◌≡◌, ◌+◌, ◌*◌, ◌<◌, ◌≤◌, ◌++◌, All, IfOk, drop, length, map, take};
+ghost use Rattle.std.specs.Prelude.{◌≡◌, ◌+◌, ◌*◌, ◌<◌, ◌≤◌, ◌++◌, ◌∷◌, All, IfOk, drop, length, map, take};
 ghost use Rattle.std.specs.List.{AllZip};
+ghost use Rattle.std.specs.Vec.Iter.{into_iter_items};
 ghost use Rattle.machine_desc.specs.declared.nets.NetPlan.{NetPlan as Plan};
-ghost use Rattle.tcam_find.specs.Memory.{unused};
 ghost use Rattle.tern_word.specs.Entries.{entry_of};
 ghost use Rattle.net_tables.specs.Marks.{IsTableOf, row_of_mark, table_of_sorted};
 ghost use Rattle.net_tables.specs.PlainTable.{AtEach, IsPlainTable};
 ghost use Rattle.app_loads.specs.Host.{net_with, nets_of};
 ghost use Rattle.app_loads.specs.Joining.{HasRoutes};
-ghost use Rattle.app_loads.specs.Writing.{AreCopied, AreUnused, AreUnusedFrom, CanClear, CanCopy, HasEntriesFrom, tables_in};
+ghost use Rattle.app_loads.specs.Writing.{AreCopied, AreUnused, AreUnusedFrom, CanClear, CanCopy, HasEntriesFrom, HasRoom, HaveRooms, tables_in};
+ghost use Rattle.app_loads.specs.Regions.{IsRangeWithin, chip_count};
 
 use crate::loaded::{LoadedApp, Range};
 use crate::places::Region;
@@ -16,9 +17,10 @@ use crate::plans::AppNet;
 use machine_desc::{Machine, NetPlan};
 use net_tables::marks::Mark;
 use net_tables::{in_row_order, original_blocks};
-use spin_base::{Block, Entry, Memory, Route, Seq};
+use spin_base::{Block, Entry, Memory, Seq};
 use std::alloc::Global;
-use tcam_find::Tcam;
+use std::vec::IntoIter;
+use tcam_find::{Room, RoomyTcam, Tcam};
 
 // The original blocks of the application's nets, by the chips' indices, in the order of the rows of their plain tables. So no row is
 // made, and none has a list of aliases.
@@ -91,28 +93,83 @@ fn net_with(alloc: Global, net: &AppNet, block: Block) -> Result<NetPlan, Memory
     })
 }
 
+// Room for the places of each range of entries, in their tables.
+pub fn rooms_for(alloc: Global, machine: &Machine, ranges: &[Range]) -> Result<Vec<Room>, Memory>
+    requires { All (IsRangeWithin machine.now (1 + (chip_count machine.now + chip_count machine.now)))
+        ranges.now }
+    ensures { IfOk result (λ rooms. HaveRooms machine.now ranges.now rooms.items) }
+{
+    let mut rooms = Vec::with_capacity(alloc, ranges.len())?;
+    for range in ranges {
+        rooms.push(room_for(alloc, machine, range)?)?;
+    }
+    Ok(rooms)
+}
+
+// Room for the places of a range, if it is one of entries.
+fn room_for(alloc: Global, machine: &Machine, range: &Range) -> Result<Room, Memory>
+    requires { IsRangeWithin machine.now (1 + (chip_count machine.now + chip_count machine.now))
+        range.now }
+    ensures { IfOk result (HasRoom machine.now range.now) }
+{
+    match Region::at(machine, range.region) {
+        Region::Rows(_) => Room::new(alloc, (range.place + range.size) as u32),
+        _ => Ok(Room::none(alloc)),
+    }
+}
+
 // Puts the rows of each chip's original blocks into the range of its table.
-pub fn write_rows(machine: &Machine, tables: &mut [Tcam], lists: &[Seq<Mark>], ranges: &[Range])
-    requires { CanCopy machine.now tables.old (tables_in lists.now) ranges.now }
+pub fn write_rows(
+    alloc: Global,
+    machine: &Machine,
+    tables: &mut [Tcam],
+    lists: &[Seq<Mark>],
+    ranges: &[Range],
+    rooms: Vec<Room>,
+)
+    requires can { CanCopy machine.now tables.old (tables_in lists.now) ranges.now }
+    requires room { HaveRooms machine.now ranges.now rooms.items }
     ensures { AreCopied machine.now (tables_in lists.now) ranges.now tables.old tables.new }
 {
+    let mut rooms = rooms.into_iter();
     for range in ranges {
+        let room = next_room(&mut rooms);
         if let Region::Rows(chip) = Region::at(machine, range.region) {
             let at = machine.index(chip) as usize;
-            put_rows(&mut tables[at], range.place as u32, lists[at].as_slice());
+            put_rows(
+                alloc,
+                &mut tables[at],
+                room,
+                range.place as u32,
+                lists[at].as_slice(),
+            );
         }
     }
 }
 
+// The room that comes next.
+fn next_room(rooms: &mut IntoIter<Room>) -> Room
+    requires { 0 < length (into_iter_items rooms.old) }
+    ensures { into_iter_items rooms.old ≡ result ∷ into_iter_items rooms.new }
+{
+    match rooms.next() {
+        Some(room) => room,
+        None => unreachable!(),
+    }
+}
+
 // Puts the rows of original blocks at the places from one on.
-fn put_rows(table: &mut Tcam, first: u32, marks: &[Mark])
-    requires { HasEntriesFrom table.old first (length marks.now) }
+fn put_rows(alloc: Global, table: &mut Tcam, room: Room, first: u32, marks: &[Mark])
+    requires has { HasEntriesFrom table.old first (length marks.now) }
+    requires fits { first + length marks.now ≤ room }
     ensures { table.new ≡ take first table.old
         ++ (map entry_of (map row_of_mark marks.now) ++ drop (first + length marks.now) table.old) }
 {
+    let mut roomy = RoomyTcam::new(std::mem::replace(table, Tcam::empty(alloc)), room);
     for (at, mark) in marks.iter().enumerate() {
-        table.set(first + at as u32, entry_of(*mark));
+        roomy.set(first + at as u32, entry_of(*mark));
     }
+    *table = roomy.into_memory();
 }
 
 // The entry of an original block.
@@ -148,17 +205,6 @@ fn clear_entries(table: &mut Tcam, first: u32, count: u32)
     ensures { AreUnusedFrom first count table.old table.new }
 {
     for at in 0..count {
-        table.set(first + at, unused());
-    }
-}
-
-// An entry that no key matches.
-fn unused() -> Entry
-    ensures { result ≡ unused }
-{
-    Entry {
-        key: u32::MAX,
-        mask: 0,
-        route: Route::nothing(),
+        table.clear(first + at);
     }
 }

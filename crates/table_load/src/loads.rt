@@ -8,7 +8,7 @@ use crate::tables::Image;
 use range_store::Ranges;
 use spin_base::{Entry, Memory, ROUTER_ENTRIES, Seq};
 use std::alloc::Global;
-use tcam_find::Tcam;
+use tcam_find::{Room, RoomyTcam, Tcam};
 
 /// One lookup memory for each chip of the grid, in the order of the chips' indices x * height + y: a chip's rows from
 /// place 0 on, and unused entries after them.
@@ -31,7 +31,7 @@ fn empty_memories(alloc: Global, count: usize) -> Result<Vec<Tcam>, Memory>
 {
     let mut memories = Vec::with_capacity(alloc, count)?;
     for _ in 0..count {
-        memories.push(Tcam::empty())?;
+        memories.push(Tcam::empty(alloc))?;
     }
     Ok(memories)
 }
@@ -44,20 +44,24 @@ fn fill(alloc: Global, memory: &mut Tcam, rows: &[Entry]) -> Result<(), Memory>
     ensures { OnOk result (memory.new ≡ loaded rows.now) }
 {
     let first = take_places(alloc, rows.len() as u64)?;
-    put_rows(memory, first, rows);
+    let room = Room::new(alloc, rows.len() as u32)?;
+    put_rows(alloc, memory, room, first, rows);
     Ok(())
 }
 
 /// Puts rows at the places `first` onwards of a memory.
-fn put_rows(memory: &mut Tcam, first: u32, rows: &[Entry])
+fn put_rows(alloc: Global, memory: &mut Tcam, room: Room, first: u32, rows: &[Entry])
     requires size { length memory.old ≡ ROUTER_ENTRIES }
-    requires fits { first + length rows.now ≤ ROUTER_ENTRIES }
+    requires fits { first + length rows.now ≤ room }
+    requires few { room ≤ ROUTER_ENTRIES }
     ensures { memory.new
         ≡ take first memory.old ++ (rows.now ++ drop (first + length rows.now) memory.old) }
 {
+    let mut roomy = RoomyTcam::new(std::mem::replace(memory, Tcam::empty(alloc)), room);
     for (at, row) in rows.iter().enumerate() {
-        memory.set(first + at as u32, *row);
+        roomy.set(first + at as u32, *row);
     }
+    *memory = roomy.into_memory();
 }
 
 /// Takes places for so many rows from the region of a memory's places, and answers the first of them, which is 0.

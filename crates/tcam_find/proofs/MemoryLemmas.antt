@@ -1,10 +1,12 @@
 -- The entries of a memory, which stand in groups of eight.
-use Rattle.std.proofs.Common.{◌≡◌, ℕ, ◌+◌, ◌*◌, ◌<◌, ◌≤◌, eqb, Bool, true, false, List, [], ◌∷◌, ◌++◌, length, get_or, set, replicate, bit_and, refl, sym, ap, ◌∙◌, subst, arith, zero, suc, Some, None, slice_get, ◌-◌, inl, inr}
+use Rattle.std.proofs.Common.{◌≡◌, ℕ, ◌+◌, ◌*◌, ◌/◌, ◌<◌, ◌≤◌, eqb, Bool, true, false, List, [], ◌∷◌, ◌++◌, length, get_or, set, replicate, bit_and, refl, sym, ap, ◌∙◌, subst, arith, zero, suc, Some, None, slice_get, ◌-◌, inl, inr}
 use Rattle.std.proofs.lemmas.Bool.{cases_lt, eqb-false, eqb-true}
-use Rattle.std.proofs.lemmas.List.{length-replicate, length-append, replicate-append-replicate, set-append_left, set-append_right}
+use Rattle.std.proofs.lemmas.List.{length-replicate, length-append, length-set, length_push, append_assoc, get_or-replicate, replicate-append-replicate, set-append_left, set-append_right}
+use Rattle.std.proofs.lemmas.Grind.{flat_map-append}
+use Rattle.std.proofs.lemmas.Option.{slice_get-get_or, slice_get_within}
 use Rattle.std.proofs.lemmas.List.Elements.{All-cons, All-head, All-nil, All-replicate, All-set, All-tail}
 use Rattle.std.specs.Int.Bits.{and_zero_r}
-use Rattle.spin_base.proofs.Places.{slice_get-append_left, slice_get-set_other, slice_get-set_same}
+use Rattle.spin_base.proofs.Places.{set-slice_get, slice_get-append_left, slice_get-push_cases, slice_get-set_other, slice_get-set_same}
 use Rattle.spin_base.specs.declared.routes.Route.{Route}
 use Rattle.spin_base.specs.declared.chips.Port.{Port}
 use Rattle.spin_base.specs.declared.blocks.Entry.{Entry}
@@ -13,7 +15,7 @@ use Rattle.spin_base.specs.Lookup.{default_route, lookup, matches}
 use Rattle.spin_base.specs.Outputs.{nothing}
 use Rattle.tcam_find.specs.declared.groups.Group.{Group}
 use Rattle.tcam_find.specs.Lanes.{first_route}
-use Rattle.tcam_find.specs.Memory.{HaveInCommon, Misses, NoneMatches, NoneMatchesFrom, entries_in, entries_of, entries_of_groups, empty_memory, unused}
+use Rattle.tcam_find.specs.Memory.{AreLengthened, HaveInCommon, Misses, NoneMatches, entries_held, entries_in, entries_of, entries_of_groups, empty_memory, unused}
 
 pub length-entries_of : (keys masks : List ℕ) (routes : List Route) → length masks ≡ length keys → length routes ≡ length keys
     → length (entries_of keys masks routes) ≡ length keys
@@ -155,76 +157,113 @@ hit (x ∷ xs) ys key port r routed = by_test (hit xs ys key port r) (matches x 
     by_test others false is = let later : Some r ≡ first_route xs key = routed ∙ (rw is refl) in rw is (others later)
 
 -- the first group that has a route for the key decides
-pub lookup_found : (gs : List Group) (i key : ℕ) (port : Port) (g : Group) (r : Route) → slice_get gs i ≡ Some g
+pub lookup_found : (gs : List Group) (tail : List Entry) (i key : ℕ) (port : Port) (g : Group) (r : Route) → slice_get gs i ≡ Some g
     → ((k : ℕ) (x : Group) → k < i → slice_get gs k ≡ Some x → NoneMatches key (entries_in x))
-    → Some r ≡ first_route (entries_in g) key → r ≡ lookup (entries_of_groups gs) key port
-lookup_found [] i key port g r got before routed = cc
-lookup_found (x ∷ xs) zero key port g r got before routed =
+    → Some r ≡ first_route (entries_in g) key → r ≡ lookup (entries_of_groups gs ++ tail) key port
+lookup_found [] tail i key port g r got before routed = cc
+lookup_found (x ∷ xs) tail zero key port g r got before routed =
     let same : g ≡ x = cc in
-    hit (entries_in x) (entries_of_groups xs) key port r (routed ∙ ap (λ it. first_route (entries_in it) key) same)
-lookup_found (x ∷ xs) (suc i) key port g r got before routed =
-    lookup_found xs i key port g r got (λ k y lt there. before (suc k) y (omega (arith, lt)) there) routed
-    ∙ pass (entries_in x) (entries_of_groups xs) key port (before 0 x (omega arith) refl)
+    hit (entries_in x) (entries_of_groups xs ++ tail) key port r (routed ∙ ap (λ it. first_route (entries_in it) key) same)
+    ∙ ap (λ es. lookup es key port) (sym (append_assoc (entries_in x) (entries_of_groups xs) tail))
+lookup_found (x ∷ xs) tail (suc i) key port g r got before routed =
+    lookup_found xs tail i key port g r got (λ k y lt there. before (suc k) y (omega (arith, lt)) there) routed
+    ∙ pass (entries_in x) (entries_of_groups xs ++ tail) key port (before 0 x (omega arith) refl)
+    ∙ ap (λ es. lookup es key port) (sym (append_assoc (entries_in x) (entries_of_groups xs) tail))
+
+none_found : (es : List Entry) (key : ℕ) (port : Port) → NoneMatches key es → default_route port ≡ lookup es key port
+none_found [] key port none = refl
+none_found (e ∷ es) key port none =
+    rw (All-head (λ e. matches e key ≡ false) e es none) (none_found es key port (All-tail (λ e. matches e key ≡ false) e es none))
 
 -- where no group has an entry that matches, the default route does
-pub lookup_none : (gs : List Group) (key : ℕ) (port : Port)
+pub lookup_none : (gs : List Group) (n key : ℕ) (port : Port)
     → ((k : ℕ) (x : Group) → slice_get gs k ≡ Some x → NoneMatches key (entries_in x))
-    → default_route port ≡ lookup (entries_of_groups gs) key port
-lookup_none [] key port none = refl
-lookup_none (x ∷ xs) key port none =
-    lookup_none xs key port (λ k y there. none (suc k) y there)
-    ∙ pass (entries_in x) (entries_of_groups xs) key port (none 0 x refl)
+    → default_route port ≡ lookup (entries_of_groups gs ++ replicate n unused) key port
+lookup_none [] n key port none =
+    none_found (replicate n unused) key port (All-replicate (λ e. matches e key ≡ false) n unused (unused_matches key))
+lookup_none (x ∷ xs) n key port none =
+    lookup_none xs n key port (λ k y there. none (suc k) y there)
+    ∙ pass (entries_in x) (entries_of_groups xs ++ replicate n unused) key port (none 0 x refl)
+    ∙ ap (λ es. lookup es key port) (sym (append_assoc (entries_in x) (entries_of_groups xs) (replicate n unused)))
 
 -- groups before the next that may have an entry that matches
-pub passed_over : (gs : List Group) (common values : List ℕ) (group next key : ℕ)
+pub passed_over : (gs : List Group) (group next key : ℕ)
     → ((i : ℕ) (x : Group) → i < group → slice_get gs i ≡ Some x → NoneMatches key (entries_in x))
     → ((x : Group) → slice_get gs group ≡ Some x → NoneMatches key (entries_in x))
-    → ((i : ℕ) → group + 1 ≤ i → i < next → Misses common values i key)
-    → HaveInCommon gs common values
+    → ((i : ℕ) (x : Group) → group + 1 ≤ i → i < next → slice_get gs i ≡ Some x → NoneMatches key (entries_in x))
     → (i : ℕ) (x : Group) → i < next → slice_get gs i ≡ Some x → NoneMatches key (entries_in x)
-passed_over gs common values group next key before here apart others i x early got =
+passed_over gs group next key before here others i x early got =
     elim (cases_lt i group) [
       | inl less ↦ before i x less got
       | inr late ↦ elim (cases_lt group i) [
-        | inl more ↦ others i key x got (apart i (omega (arith, more)) early)
+        | inl more ↦ others i x (omega (arith, more)) early got
         | inr equal ↦ (let same : i ≡ group = omega (arith, late, equal) in here x (ap (slice_get gs) (sym same) ∙ got))
       ]
     ]
 
--- groups of which none before the used ones' end has an entry that matches
-pub passed_all : (gs : List Group) (group used key : ℕ) → used ≤ group
-    → ((i : ℕ) (x : Group) → i < group → slice_get gs i ≡ Some x → NoneMatches key (entries_in x)) → NoneMatchesFrom used gs
+-- groups of which none has one
+pub passed_all : (gs : List Group) (group key : ℕ) → length gs ≤ group
+    → ((i : ℕ) (x : Group) → i < group → slice_get gs i ≡ Some x → NoneMatches key (entries_in x))
     → (i : ℕ) (x : Group) → slice_get gs i ≡ Some x → NoneMatches key (entries_in x)
-passed_all gs group used key past before rest i x got =
-    elim (cases_lt i group) [
-      | inl less ↦ before i x less got
-      | inr late ↦ rest i key x (omega (arith, past, late)) got
-    ]
+passed_all gs group key past before i x got = before i x (omega (arith, past, slice_get_within gs i x got)) got
 
--- ---- the empty memory
+-- ---- the memory of these groups
 
-same_groups : (n : ℕ) (g : Group) (es : List Entry) → entries_in g ≡ es
-    → (i : ℕ) (x : Group) → slice_get (replicate n g) i ≡ Some x → entries_in x ≡ es
-same_groups zero g es is i x got = cc
-same_groups (suc n) g es is zero x got = let same : g ≡ x = cc in ap entries_in (sym same) ∙ is
-same_groups (suc n) g es is (suc i) x got = same_groups n g es is i x got
+pub length_held : (gs : List Group) → length gs ≤ 128 → length (entries_held gs) ≡ 1024
+length_held gs few =
+    length-append (entries_of_groups gs) (replicate (1024 - 8 * length gs) unused)
+    ∙ omega (arith, few, length_groups gs, length-replicate (1024 - 8 * length gs) unused)
 
-pub none_of_empty : (n : ℕ) (g : Group) → entries_in g ≡ replicate 8 unused
-    → (i key : ℕ) (x : Group) → slice_get (replicate n g) i ≡ Some x → NoneMatches key (entries_in x)
-none_of_empty n g is i key x got =
-    subst (NoneMatches key) (sym (same_groups n g (replicate 8 unused) is i x got))
-    (All-replicate (λ e. matches e key ≡ false) 8 unused (unused_matches key))
-
-flat_replicated : (n : ℕ) (g : Group) → entries_in g ≡ replicate 8 unused → entries_of_groups (replicate n g) ≡ replicate (8 * n) unused
-flat_replicated zero g is = refl
-flat_replicated (suc n) g is =
-    let more : 8 * suc n ≡ 8 + 8 * n = omega arith in
-    ap (λ es. es ++ entries_of_groups (replicate n g)) is ∙ ap (λ es. replicate 8 unused ++ es) (flat_replicated n g is)
-    ∙ replicate-append-replicate 8 (8 * n) unused ∙ ap (λ m. replicate m unused) (sym more)
-
-pub empty_is : (g : Group) → entries_in g ≡ replicate 8 unused → entries_of_groups (replicate 128 g) ≡ empty_memory
+pub empty_is : (gs : List Group) → gs ≡ [] → entries_held gs ≡ empty_memory
 unfolding empty_memory
-empty_is g is = flat_replicated 128 g is
+empty_is [] is = refl
+empty_is (g ∷ gs) is = cc
+
+-- nothing need be in common where no group is behind the first
+pub common_few : (gs : List Group) (common values : List ℕ) → length gs ≤ 1 → HaveInCommon gs common values
+common_few gs common values few i key x behind got miss = absurd (omega (arith, few, behind, slice_get_within gs i x got))
+
+-- an entry behind the groups
+pub get_behind_groups : (gs : List Group) (k : ℕ) → length gs ≤ k / 8 → k < 1024 → slice_get (entries_held gs) k ≡ Some unused
+get_behind_groups gs k behind below =
+    let there : 8 * length gs + (k - 8 * length gs) ≡ k = omega (arith, behind) in
+    let inside : k - 8 * length gs < 1024 - 8 * length gs = omega (arith, behind, below) in
+    ap (slice_get (entries_held gs)) (sym there)
+    ∙ get_behind (entries_of_groups gs) (replicate (1024 - 8 * length gs) unused) (8 * length gs) (k - 8 * length gs) unused (length_groups gs)
+    (slice_get-get_or (replicate (1024 - 8 * length gs) unused) (k - 8 * length gs) unused (omega (arith, inside, length-replicate (1024 - 8 * length gs) unused))
+    ∙ ap Some (get_or-replicate (1024 - 8 * length gs) (k - 8 * length gs) unused unused inside))
+
+-- an entry that is put into a group is put into the memory
+pub set_in_held : (gs : List Group) (i j : ℕ) (g h : Group) (e : Entry)
+    → slice_get gs i ≡ Some g → j < 8 → entries_in h ≡ set (entries_in g) j e
+    → entries_held (set gs i h) ≡ set (entries_held gs) (8 * i + j) e
+set_in_held gs i j g h e got inside put =
+    ap (λ n. entries_of_groups (set gs i h) ++ replicate (1024 - 8 * n) unused) (length-set gs i h)
+    ∙ ap (λ es. es ++ replicate (1024 - 8 * length gs) unused) (set_in_groups gs i j g h e got inside put)
+    ∙ sym (set-append_left (entries_of_groups gs) (replicate (1024 - 8 * length gs) unused) (8 * i + j) e
+    (omega (arith, inside, length_groups gs, slice_get_within gs i g got)))
+
+-- ---- a group of unused entries more
+
+pub held_more : (gs : List Group) (g : Group) → length gs < 128 → entries_in g ≡ replicate 8 unused → entries_held (gs ++ g ∷ []) ≡ entries_held gs
+held_more gs g short is =
+    let left : 8 + (1024 - 8 * length (gs ++ g ∷ [])) ≡ 1024 - 8 * length gs = omega (arith, short, length_push gs g) in
+    ap (λ es. es ++ replicate n unused) (flat_map-append entries_in gs (g ∷ []))
+    ∙ append_assoc (entries_of_groups gs) (entries_in g ++ []) (replicate n unused)
+    ∙ ap (λ es. entries_of_groups gs ++ es)
+    (append_assoc (entries_in g) [] (replicate n unused) ∙ ap (λ es. es ++ replicate n unused) is
+    ∙ replicate-append-replicate 8 n unused ∙ ap (λ m. replicate m unused) left)
+  where
+    n : ℕ
+    n = 1024 - 8 * length (gs ++ g ∷ [])
+
+pub common_more : (gs : List Group) (g : Group) (common values : List ℕ) → entries_in g ≡ replicate 8 unused
+    → HaveInCommon gs common values → HaveInCommon (gs ++ g ∷ []) common values
+common_more gs g common values is others i key x behind got miss = elim (slice_get-push_cases gs g x i got) [
+  | inl before ↦ others i key x behind before.1 miss
+  | inr last ↦
+      (subst (NoneMatches key) (sym is ∙ ap entries_in last.1) (All-replicate (λ e. matches e key ≡ false) 8 unused (unused_matches key)))
+]
 
 pub group_of_unused : (route : Route) → route ≡ nothing
     → entries_of (replicate 8 0xffff_ffff) (replicate 8 0) (replicate 8 route) ≡ replicate 8 unused
@@ -232,18 +271,12 @@ group_of_unused route e = ap (λ o. entries_of (replicate 8 0xffff_ffff) (replic
 
 -- ---- an entry is put into a group
 
--- once an entry is put into a group, behind which nothing matched
-pub rest_after : (gs : List Group) (i used more : ℕ) (h : Group) → i < more → used ≤ more
-    → NoneMatchesFrom used gs → NoneMatchesFrom more (set gs i h)
-rest_after gs i used more h inside longer rest k key x far got =
-    rest k key x (omega (arith, far, longer)) (sym (slice_get-set_other gs i k h (λ same. omega (arith, far, inside, same))) ∙ got)
-
 pub common_after : (gs : List Group) (common values new_common new_values : List ℕ) (i j : ℕ) (g h : Group) (e : Entry)
     → slice_get gs i ≡ Some g → entries_in h ≡ set (entries_in g) j e → HaveInCommon gs common values
     → ((k key : ℕ) → Misses new_common new_values k key → Misses common values k key)
     → ((key : ℕ) → Misses new_common new_values i key → matches e key ≡ false)
     → HaveInCommon (set gs i h) new_common new_values
-common_after gs common values new_common new_values i j g h e got put others before of_entry k key x got_x miss =
+common_after gs common values new_common new_values i j g h e got put others before of_entry k key x behind got_x miss =
     by_place (eqb k i) refl
   where
     by_place : (b : Bool) → eqb k i ≡ b → NoneMatches key (entries_in x)
@@ -253,6 +286,27 @@ common_after gs common values new_common new_values i j g h e got put others bef
         let is_h : h ≡ x = cc in
         let here : Misses new_common new_values i key = subst (λ n. Misses new_common new_values n key) same miss in
         subst (NoneMatches key) (sym put ∙ ap entries_in is_h)
-        (All-set (λ e. matches e key ≡ false) (entries_in g) j e (of_entry key here) (others i key g got (before i key here)))
+        (All-set (λ e. matches e key ≡ false) (entries_in g) j e (of_entry key here) (others i key g (omega (arith, behind, same)) got (before i key here)))
     by_place false is =
-        others k key x (sym (slice_get-set_other gs i k h (eqb-false k i is)) ∙ got_x) (before k key miss)
+        others k key x behind (sym (slice_get-set_other gs i k h (eqb-false k i is)) ∙ got_x) (before k key miss)
+
+-- an unused entry is put into a group
+pub common_cleared : (gs : List Group) (common values : List ℕ) (i j : ℕ) (g h : Group)
+    → slice_get gs i ≡ Some g → entries_in h ≡ set (entries_in g) j unused → HaveInCommon gs common values → HaveInCommon (set gs i h) common values
+common_cleared gs common values i j g h got put others =
+    common_after gs common values common values i j g h unused got put others (λ k key miss. miss) (λ key miss. unused_matches key)
+
+-- an entry behind the groups is unused as it is
+pub clear_behind : (gs : List Group) (k : ℕ) → length gs ≤ k / 8 → k < 1024 → entries_held gs ≡ set (entries_held gs) k unused
+clear_behind gs k behind below = sym (set-slice_get (entries_held gs) k unused (get_behind_groups gs k behind below))
+
+pub lengthened_none : (gs : List Group) → AreLengthened gs gs
+lengthened_none gs = record { few = λ few. few; held = refl; others = λ common values knows. knows }
+
+pub lengthened_more : (old gs : List Group) (g : Group) → length gs < 128 → entries_in g ≡ replicate 8 unused
+    → AreLengthened old gs → AreLengthened old (gs ++ g ∷ [])
+lengthened_more old gs g short is so_far = record {
+  few = λ few. omega (arith, short, length_push gs g);
+  held = held_more gs g short is ∙ so_far.held;
+  others = λ common values knows. common_more gs g common values is (so_far.others common values knows);
+}

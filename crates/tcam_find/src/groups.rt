@@ -22,7 +22,7 @@ pub(crate) struct Group {
 }
 
 impl Group {
-    ghost use Rattle.std.specs.Prelude.{◌≡◌, ◌<◌, Some, length, replicate, slice_get, slice_set};
+    ghost use Rattle.std.specs.Prelude.{◌≡◌, ◌<◌, Some, length, replicate, slice_get, slice_set, vec_capacity};
     ghost use Rattle.tcam_find.specs.Lanes.{first_route};
     ghost use Rattle.tcam_find.specs.Memory.{entries_in, unused};
     ghost use Rattle.tcam_find.specs.declared.groups.Group.{Group};
@@ -39,11 +39,13 @@ impl Group {
     }
 
     /// Puts an entry at a place of one of the groups.
-    pub(crate) fn put(groups: &mut [Group], group: usize, lane: usize, e: Entry)
-        requires inside { group < length groups.old }
+    pub(crate) fn put(groups: &mut Vec<Group>, group: usize, lane: usize, e: Entry)
+        requires inside { group < length groups.old.items }
         requires within { lane < 8 }
-        ensures { (g : Group) → slice_get groups.old group ≡ Some g
-            → (h : Group) × (entries_in h ≡ slice_set (entries_in g) lane e) × (groups.new ≡ slice_set groups.old group h) }
+        ensures one { (g : Group) → slice_get groups.old.items group ≡ Some g
+            → (h : Group) × (entries_in h ≡ slice_set (entries_in g) lane e)
+            × (groups.new.items ≡ slice_set groups.old.items group h) }
+        ensures room { vec_capacity groups.new ≡ vec_capacity groups.old }
     {
         groups[group].set(lane, e);
     }

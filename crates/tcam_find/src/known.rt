@@ -1,22 +1,22 @@
 // What is known of groups of entries without a look at them.
-ghost use Rattle.std.specs.Prelude.{◌≡◌, ℕ, ◌+◌, ◌<◌, ◌≤◌, ◌==◌, false, bit_and, length, slice_index};
-ghost use Rattle.tcam_find.specs.Memory.{TellOfGroups};
+ghost use Rattle.std.specs.Prelude.{◌≡◌, ℕ, ◌+◌, ◌<◌, ◌≤◌, ◌==◌, false, bit_and, IfSome, List, Some, length, slice_get, slice_index, slice_set};
+ghost use Rattle.tcam_find.specs.declared.groups.Group.{Group};
+ghost use Rattle.tcam_find.specs.Memory.{HaveInCommon, NoneMatches, TellOfGroups, entries_in};
 
 use crate::groups::{BLOCKS, GROUPS};
 use crate::lanes::{LANES, first_match};
-use spin_base::Entry;
+use spin_base::{Entry, Memory};
+use std::alloc::Global;
 
-/// Behind which group no entry was set; of each group the bits that its entries have in common, and their values; and the same of each
-/// block of eight groups. A key that has other values misses the group, or the block. (The rows have eight words more than there are
-/// groups or blocks, so that eight can be read at each place.)
+/// Of each group behind the first the bits that its entries have in common, and their values; and the same of each block of eight groups. A key that has
+/// other values misses the group, or the block. (The rows have eight words more than there are groups or blocks, so that eight can be read
+/// at each place.)
 #[derive(Drop)]
 pub(crate) struct Known {
-    pub used: usize,
     common: [u32; GROUPS + LANES],
     values: [u32; GROUPS + LANES],
     block_common: [u32; BLOCKS + LANES],
     block_values: [u32; BLOCKS + LANES],
-    ghost few: { used ≤ 128 },
     ghost blocks: { TellOfGroups common values block_common block_values },
 }
 
@@ -26,11 +26,8 @@ impl Known {
     ghost use Rattle.tcam_find.specs.Memory.{Misses};
 
     /// No entry was set.
-    pub(crate) fn nothing() -> Known
-        ensures { result.used ≡ 0 }
-    {
+    pub(crate) fn nothing() -> Known {
         Known {
-            used: 0,
             common: [0; GROUPS + LANES],
             values: [u32::MAX; GROUPS + LANES],
             block_common: [0; BLOCKS + LANES],
@@ -45,7 +42,6 @@ impl Known {
             → matches e key ≡ false }
         ensures others { (i key : ℕ) → Misses self.new.common self.new.values i key
             → Misses self.old.common self.old.values i key }
-        ensures used { (group < self.new.used) × (self.old.used ≤ self.new.used) }
     {
         let (value, common) = in_common(self.values[group], self.common[group], e.key, e.mask);
         let block = group / LANES;
@@ -55,39 +51,40 @@ impl Known {
             value,
             common,
         );
-        self.used = self.used.max(group + 1);
         self.values[group] = value;
         self.common[group] = common;
         self.block_values[block] = block_value;
         self.block_common[block] = block_common;
     }
 
-    /// The first group from `from` on that the key doesn't miss, or one behind those used.
+    /// The first group from `from` on that the key doesn't miss, or one behind the `used` first.
     #[inline(always)]
-    pub(crate) fn next_group(&self, from: usize, key: u32) -> usize
+    pub(crate) fn next_group(&self, from: usize, used: usize, key: u32) -> usize
+        requires { used ≤ 128 }
         ensures ahead { from ≤ result }
         ensures others { (i : ℕ) → from ≤ i → i < result
             → Misses self.now.common self.now.values i key }
     {
         let mut at = from;
-        while at < self.used {
+        while at < used {
             let ahead = first_match(&self.values, &self.common, at, key);
             if ahead < LANES {
                 return at + ahead;
             }
-            at = self.next_block(at + LANES, key);
+            at = self.next_block(at + LANES, used, key);
         }
         at
     }
 
-    // The first group from `from` on whose block the key doesn't miss, or one behind those used.
+    // The first group from `from` on whose block the key doesn't miss, or one behind the `used` first.
     #[inline(always)]
-    fn next_block(&self, from: usize, key: u32) -> usize
+    fn next_block(&self, from: usize, used: usize, key: u32) -> usize
+        requires { used ≤ 128 }
         ensures ahead { from ≤ result }
         ensures others { (i : ℕ) → from ≤ i → i < result
             → Misses self.now.common self.now.values i key }
     {
-        if from >= self.used {
+        if from >= used {
             return from;
         }
         let ahead = next_place(
@@ -99,6 +96,59 @@ impl Known {
         );
         let block = ahead.min(BLOCKS);
         from.max(LANES * block)
+    }
+}
+
+// What is known where so many places may be used: nothing need be where they are one group's.
+pub(crate) fn known_for(alloc: Global, rows: usize) -> Result<Option<Box<Known>>, Memory> {
+    if rows <= LANES {
+        return Ok(None);
+    }
+    Ok(Some(Box::new(alloc, Known::nothing())?))
+}
+
+// What is known of so many groups: as before, or what another one knows if that needn't be of any group.
+pub(crate) fn known_of(
+    known: Option<Box<Known>>,
+    other: Option<Box<Known>>,
+    groups: usize,
+) -> Option<Box<Known>>
+    ensures { (gs : List Group) → length gs ≡ groups → IfSome known (λ k. HaveInCommon gs k.value.common k.value.values)
+        → IfSome result (λ k. HaveInCommon gs k.value.common k.value.values) }
+{
+    match known {
+        Some(known) => Some(known),
+        None if groups < 2 => other,
+        None => None,
+    }
+}
+
+// An entry is put into a group.
+pub(crate) fn put_known(known: &mut Option<Box<Known>>, group: usize, e: Entry)
+    requires { group < 128 }
+    ensures { (gs : List Group) (lane : ℕ) (g h : Group) → slice_get gs group ≡ Some g
+        → entries_in h ≡ slice_set (entries_in g) lane e
+        → IfSome known.old (λ k. HaveInCommon gs k.value.common k.value.values)
+        → IfSome known.new (λ k. HaveInCommon (slice_set gs group h) k.value.common k.value.values) }
+{
+    if let Some(known) = known {
+        known.put(group, e);
+    }
+}
+
+/// The first group from `from` on, behind the first, that the key doesn't miss, or one behind the `used` first.
+#[inline(always)]
+pub(crate) fn next_group(known: &Option<Box<Known>>, from: usize, used: usize, key: u32) -> usize
+    requires begun { 1 ≤ from }
+    requires few { used ≤ 128 }
+    ensures ahead { from ≤ result }
+    ensures others { (gs : List Group) → IfSome known.now (λ k. HaveInCommon gs k.value.common k.value.values)
+        → (i : ℕ) (g : Group) → from ≤ i → i < result → slice_get gs i ≡ Some g
+        → NoneMatches key (entries_in g) }
+{
+    match known {
+        Some(known) => known.next_group(from, used, key),
+        None => from,
     }
 }
 

@@ -2,24 +2,21 @@
 ghost use Rattle.spin_base.specs.Links.{dir_number};
 ghost use Rattle.spin_base.specs.Lookup.{default_route};
 ghost use Rattle.std.specs.Prelude.{◌≡◌, ◌^◌};
-ghost use Rattle.tcam_find.specs.Memory.{HaveInCommon, NoneMatchesFrom};
 
-use crate::groups::{GROUPS, Group};
-use crate::known::Known;
+use crate::held::{Held, unused};
+use crate::known::next_group;
 use crate::lanes::LANES;
 use spin_base::{Dir, Entry, Port, Route, Shared};
+use std::alloc::Global;
 use std::marker::Model;
 
 /// The lookup memory of a router: 1,024 entries, seen as their list.
 ///
-/// They stand in groups of eight. Behind the groups in which an entry was set no entry matches, so nobody looks there; nor at a group
-/// where a key misses what is known of it.
+/// They stand in groups of eight, up to the last in which an entry was set, and nobody looks at a group where a key misses what is known
+/// of it. A memory of unused entries holds no group.
 #[derive(Drop)]
 pub struct Tcam {
-    groups: [Group; GROUPS],
-    known: Known,
-    ghost rest: { NoneMatchesFrom known.used groups },
-    ghost others: { HaveInCommon groups known.common known.values },
+    held: Held,
 }
 
 impl Shared for Tcam {}
@@ -27,40 +24,52 @@ impl Shared for Tcam {}
 impl Model for Tcam {
     ghost use Rattle.std.specs.Prelude.{List};
     ghost use Rattle.spin_base.specs.declared.blocks.Entry.{Entry};
-    ghost use Rattle.tcam_find.specs.Memory.{entries_of_groups};
+    ghost use Rattle.tcam_find.specs.Memory.{entries_held};
 
     ghost Value = { List Entry };
 
-    ghost view = { λ t. entries_of_groups t.groups };
+    ghost view = { λ t. entries_held t.held.groups.items };
 }
 
 impl Tcam {
     ghost use Rattle.std.specs.Prelude.{◌≡◌, ℕ, ◌<◌, false, Some, length, slice_get, slice_set};
     ghost use Rattle.spin_base.specs.Lookup.{lookup, matches};
     ghost use Rattle.spin_base.specs.declared.sizes.TheConstants.{ROUTER_ENTRIES};
-    ghost use Rattle.tcam_find.specs.Memory.{empty_memory, unused};
+    ghost use Rattle.tcam_find.specs.Memory.{empty_memory, entries_held, unused};
 
-    /// A memory of unused entries. An unused entry has key ffffffff, mask 0 and no route, and matches no key.
-    pub fn empty() -> Tcam
+    /// A memory of unused entries. An unused entry has key ffffffff, mask 0 and no route, and matches no key. It takes no memory.
+    pub fn empty(alloc: Global) -> Tcam
         ensures all_unused { result ≡ empty_memory }
         ensures size { length result ≡ ROUTER_ENTRIES }
         ensures unused_matches_no_key { (key : ℕ) → matches unused key ≡ false }
     {
         Tcam {
-            groups: [Group::empty(); GROUPS],
-            known: Known::nothing(),
+            held: Held::nothing(alloc),
         }
     }
 
-    /// Puts an entry at a place below 1,024.
-    pub fn set(&mut self, place: u32, e: Entry)
+    /// The memory that holds these groups.
+    pub(crate) fn of(held: Held) -> Tcam
+        ensures { result ≡ entries_held held.groups.items }
+    {
+        Tcam { held }
+    }
+
+    /// The groups that it holds.
+    pub(crate) fn into_held(self) -> Held
+        ensures { entries_held result.groups.items ≡ self }
+    {
+        let Tcam { held } = self;
+        held
+    }
+
+    /// Makes the entry at a place below 1,024 unused. It takes no memory.
+    pub fn clear(&mut self, place: u32)
         requires { place < ROUTER_ENTRIES }
-        ensures one { self.new ≡ slice_set self.old place e }
+        ensures one { self.new ≡ slice_set self.old place unused }
         ensures size { length self.new ≡ ROUTER_ENTRIES }
     {
-        let group = place as usize / LANES;
-        Group::put(&mut self.groups, group, place as usize % LANES, e);
-        self.known.put(group, e);
+        self.held.clear(place as usize);
     }
 
     /// The entry at a place below 1,024.
@@ -69,7 +78,12 @@ impl Tcam {
         ensures at_place { slice_get self.now place ≡ Some result }
         ensures size { length self.now ≡ ROUTER_ENTRIES }
     {
-        self.groups[place as usize / LANES].entry(place as usize % LANES)
+        let group = place as usize / LANES;
+        if group < self.held.groups.len() {
+            self.held.groups[group].entry(place as usize % LANES)
+        } else {
+            unused()
+        }
     }
 
     /// The route of a packet with that key that came in at that port: the route of the first entry that matches,
@@ -78,10 +92,15 @@ impl Tcam {
         ensures { result ≡ lookup self.now key port }
     {
         let mut group = 0;
-        while group < self.known.used {
-            match self.groups[group].route_of(key) {
+        while group < self.held.groups.len() {
+            match self.held.groups[group].route_of(key) {
                 Some(route) => return route,
-                None => group = self.known.next_group(group + 1, key),
+                None => group = next_group(
+                    &self.held.known,
+                    group + 1,
+                    self.held.groups.len(),
+                    key,
+                ),
             }
         }
         undecided(port)

@@ -1,7 +1,11 @@
-use Rattle.std.proofs.Common.{take}
+use Rattle.std.proofs.Common.{◌≡◌, drop, take}
+use Rattle.std.specs.Vec.Iter.{into_iter_items}
 use Rattle.app_loads.specs.Writing.{AreCopied, tables_in}
 use Rattle.app_loads.proofs.rows.write_rows.Given as goal
 
--- the ranges so far have their rows
+-- the ranges so far have their rows, and the rooms of the others are left
 abbrev pub invariant-loop-range : goal.invariant-loop-range
-invariant-loop-range l = AreCopied l.machine (tables_in l.lists) (take l.range-index l.ranges) l.fn.tables l.tables
+invariant-loop-range l = record {
+  copied : AreCopied l.machine (tables_in l.lists) (take l.range-index l.ranges) l.fn.tables l.tables;
+  left : into_iter_items l.rooms ≡ drop l.range-index l.fn.rooms.items;
+}

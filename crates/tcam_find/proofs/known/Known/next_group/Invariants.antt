@@ -9,4 +9,4 @@ invariant-loop-at l = record {
 }
 
 abbrev pub decreases-loop-at : goal.decreases-loop-at
-decreases-loop-at l = l.self.used - l.at
+decreases-loop-at l = l.used - l.at

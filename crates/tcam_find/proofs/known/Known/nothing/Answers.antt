@@ -1,6 +1,5 @@
-use Rattle.std.proofs.Common.{arith}
 use Rattle.tcam_find.proofs.KnownLemmas.{blocks_empty}
 use Rattle.tcam_find.proofs.known.Known.nothing.Goals as goal
 
 pub invariant_of-result : goal.invariant_of-result
-invariant_of-result c = record { few = omega arith; blocks = blocks_empty }
+invariant_of-result c = record { blocks = blocks_empty }

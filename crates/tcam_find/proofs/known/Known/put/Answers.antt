@@ -6,7 +6,6 @@ pub invariant_of-self : goal.invariant_of-self
 invariant_of-self c =
     let old = c.args.self.now in
     record {
-      few = omega (arith, old.few, c.requires, c.max-self.ensures);
       blocks = blocks_after old.common old.values old.block_common old.block_values c.args.group
           c.in_common-value.result.1 c.in_common-value.result.0 c.in_common-block_value.result.1 c.in_common-block_value.result.0
           (omega (arith, c.requires)) (omega (arith, c.requires)) (omega (arith, c.requires)) (omega (arith, c.requires))

@@ -1,0 +1,55 @@
+-- Room for the rows of an application.
+use Rattle.std.proofs.Common.{◌≡◌, ℕ, ◌+◌, ◌<◌, ◌≤◌, zero, suc, List, [], ◌∷◌, ◌++◌, length, drop, get_or, sym, ap, ◌∙◌, arith, inl, inr, Some, subst}
+use Rattle.std.specs.List.{slice_get}
+use Rattle.std.proofs.lemmas.List.{length_push}
+use Rattle.std.proofs.lemmas.Option.{same_Some, slice_get_within}
+use Rattle.machine_desc.specs.Description.{Description}
+use Rattle.machine_desc.specs.Live.{index_of}
+use Rattle.spin_base.proofs.Places.{slice_get-push_cases}
+use Rattle.spin_base.specs.declared.chips.Chip.{Chip}
+use Rattle.app_loads.specs.declared.loaded.Range.{Range}
+use Rattle.app_loads.specs.declared.places.Region.{Region}
+use Rattle.app_loads.specs.declared.places.Region.TheVariants.{Rows}
+use Rattle.app_loads.specs.Regions.{IsRangeWithin, IsRegion, chip_count, place_of, region_size}
+use Rattle.app_loads.specs.Writing.{HasRoom, HaveRooms}
+use Rattle.app_loads.proofs.Copying.{place_of_no_rows}
+use Rattle.app_loads.proofs.Settling.{rows_size}
+
+-- a range of entries ends within the table
+pub rows_within : (m : Description) (range : Range) (r : Region) (c : Chip) → r ≡ Rows c → place_of m r ≡ range.region → IsRangeWithin m (1 + (chip_count m + chip_count m)) range → range.place + range.size ≤ 1024
+rows_within m range r c is at within =
+    let region : range.region ≡ 1 + (chip_count m + index_of m c) = sym at ∙ ap (place_of m) is in
+    subst (λ n. range.place + range.size ≤ n) (ap (region_size m) region ∙ rows_size m (index_of m c)) within.within
+
+-- a range of no entries needs none
+pub no_room : (m : Description) (range : Range) (r : Region) → ((c : Chip) → r ≡ Rows c → ⊥) → IsRegion m r → place_of m r ≡ range.region → (room : ℕ) → HasRoom m range room
+no_room m range r other is at room c region =
+    let below : range.region ≤ chip_count m = place_of_no_rows m r other is range.region at in
+    let above : range.region ≡ 1 + (chip_count m + index_of m c) = region in
+    absurd (omega (arith, below, above))
+
+-- the first of the items that are left stands at the next place
+pub left_first : {X : Type 0} (xs : List X) (k : ℕ) (x : X) (rest : List X) → drop k xs ≡ x ∷ rest → (slice_get xs k ≡ Some x) × (rest ≡ drop (k + 1) xs)
+left_first [] zero x rest is = cc
+left_first [] (suc k) x rest is = cc
+left_first (y ∷ ys) zero x rest is = let head : y ≡ x = cc in let tail : rest ≡ ys = cc in (ap Some head, tail)
+left_first (y ∷ ys) (suc k) x rest is =
+    let deeper = left_first ys k x rest is in
+    let up : suc (k + 1) ≡ suc k + 1 = omega arith in
+    (deeper.0, deeper.1 ∙ ap (λ n. drop n (y ∷ ys)) up)
+
+-- the ranges so far have room
+abbrev pub HaveRoomTo : Description → ℕ → List Range → List ℕ → Type 0
+HaveRoomTo m n ranges rooms = (length rooms ≡ n) × ((i : ℕ) (range : Range) (room : ℕ) → slice_get ranges i ≡ Some range → slice_get rooms i ≡ Some room → HasRoom m range room)
+
+pub room_more : (m : Description) (n : ℕ) (ranges : List Range) (rooms : List ℕ) (range : Range) (room : ℕ) → slice_get ranges n ≡ Some range → HasRoom m range room → HaveRoomTo m n ranges rooms → HaveRoomTo m (n + 1) ranges (rooms ++ room ∷ [])
+room_more m n ranges rooms range room at has so_far = (
+  omega (arith, so_far.0, length_push rooms room),
+  λ i other there at_i room_i. elim (slice_get-push_cases rooms room there i room_i) [
+    | inl before ↦ so_far.1 i other there at_i before.1
+    | inr last ↦
+        let here : i ≡ n = last.0 ∙ so_far.0 in
+        let same : range ≡ other = same_Some _ _ (sym at ∙ (sym (ap (slice_get ranges) here) ∙ at_i)) in
+        subst (HasRoom m other) last.1 (subst (λ (r : Range). HasRoom m r room) same has)
+  ],
+)
