@@ -262,6 +262,9 @@ module _ {m : Description} {old cur : List (List Entry)} {rows : List Table} {ra
       pub R_fits : range.place + length R.rows ≤ 1024
       R_fits = fit.0
 
+      pub R_size : range.size ≡ length R.rows
+      R_size = fit.1
+
       pub place_small : range.place < 4294967296
       place_small = let f = fit.0 in omega (arith, f)
 

@@ -42,6 +42,9 @@ left_first (y ∷ ys) (suc k) x rest is =
 abbrev pub HaveRoomTo : Description → ℕ → List Range → List ℕ → Type 0
 HaveRoomTo m n ranges rooms = (length rooms ≡ n) × ((i : ℕ) (range : Range) (room : ℕ) → slice_get ranges i ≡ Some range → slice_get rooms i ≡ Some room → HasRoom m range room)
 
+pub room_none : (m : Description) (ranges : List Range) (rooms : List ℕ) → rooms ≡ [] → HaveRoomTo m 0 ranges rooms
+room_none m ranges rooms is = (ap length is, λ i range room at_range at_room c region. absurd (omega (arith, ap length is, slice_get_within rooms i room at_room)))
+
 pub room_more : (m : Description) (n : ℕ) (ranges : List Range) (rooms : List ℕ) (range : Range) (room : ℕ) → slice_get ranges n ≡ Some range → HasRoom m range room → HaveRoomTo m n ranges rooms → HaveRoomTo m (n + 1) ranges (rooms ++ room ∷ [])
 room_more m n ranges rooms range room at has so_far = (
   omega (arith, so_far.0, length_push rooms room),

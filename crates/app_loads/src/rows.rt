@@ -143,6 +143,8 @@ pub fn write_rows(
                 range.place as u32,
                 lists[at].as_slice(),
             );
+        } else {
+            drop(room);
         }
     }
 }

@@ -1,7 +1,9 @@
-use Rattle.std.proofs.lemmas.List.{length-map}
+use Rattle.std.proofs.lemmas.List.{length-drop, length-map}
+use Rattle.std.proofs.lemmas.Option.{slice_get-get_or}
 use Rattle.std.proofs.Common.{◌+◌, ◌∙◌, [], refl, sym, ap, subst, arith, take, length}
 use Rattle.net_tables.specs.Marks.{row_of_mark, table_of_sorted}
-use Rattle.app_loads.proofs.Copying.{of_chip, there, place_of_no_rows, j_below, j_in_tables, j_in_rows, T_long, R_fits, place_small, all_copied, copied_skip, copied_more, put_listed, rows_listed}
+use Rattle.app_loads.proofs.Copying.{of_chip, there, place_of_no_rows, j_below, j_in_tables, j_in_rows, T_long, R_fits, R_size, place_small, all_copied, copied_skip, copied_more, put_listed, rows_listed}
+use Rattle.app_loads.proofs.Rooms.{left_first}
 use Rattle.app_loads.specs.Writing.{AreCopied, tables_in}
 use Rattle.app_loads.proofs.rows.write_rows.Goals as goal
 
@@ -37,25 +39,39 @@ put_rows-requires c =
     let fits = R_fits _ c.requires.can c.loop-range-test.true c.loop-range.invariant.copied of c.index-tables-at.result (table_of_sorted c.index-lists-at.result) in
     let same = ap length (rows_listed c.as_slice.result.now c.args.lists.now c.index-at.result c.index-lists-at.result (c.as_slice.ensures ∙ c.index-lists-at.is)) in
     let as_long = length-map c.as_slice.result.now row_of_mark in
+    let size = R_size _ c.requires.can c.loop-range-test.true c.loop-range.invariant.copied of c.index-tables-at.result (table_of_sorted c.index-lists-at.result) in
+    let i = c.loop-range.range-index in
+    let next = left_first c.args.rooms.items i c.next_room-room.result _ (sym c.loop-range.invariant.left ∙ c.next_room-room.ensures) in
+    let room = c.requires.room.each i _ c.next_room-room.result (slice_get-get_or c.args.ranges.now i _ c.loop-range-test.true) next.0 c.in-Rows.chip of.region_is in
     record {
-      size = T_long _ c.requires.can c.loop-range-test.true c.loop-range.invariant.copied of c.index-tables-at.result (table_of_sorted c.index-lists-at.result);
-      fits = omega (arith, fits, same, as_long);
+      has = record {
+        size = T_long _ c.requires.can c.loop-range-test.true c.loop-range.invariant.copied of c.index-tables-at.result (table_of_sorted c.index-lists-at.result);
+        fits = omega (arith, fits, same, as_long);
+      };
+      fits = omega (arith, room, size, same, as_long);
     }
 
 pub at-requires : goal.at-requires
 at-requires c = there _ c.requires.can c.loop-range-test.true c.loop-range.invariant.copied
 
 pub loop-range-preserved : goal.loop-range-preserved
-loop-range-preserved c = elim c.match-at.branch [
-  | goal.in-Rows w ↦
-      subst (AreCopied c.args.machine.now (tables_in c.args.lists.now) (take (c.loop-range.range-index + 1) c.args.ranges.now) c.args.tables.now) (sym w.tables-is)
-      (copied_more _ c.requires.can c.loop-range-test.true c.loop-range.invariant.copied (of_chip w.in-Rows.is c.at.ensures.its c.at.ensures.place w.index-at.ensures.value)
-      w.index-tables-at.result (table_of_sorted w.index-lists-at.result) _ refl w.put_rows.new.table
-      (put_listed _ _ _ _ c.args.lists.now _ w.index-lists-at.result w.put_rows.ensures (w.as_slice.ensures ∙ w.index-lists-at.is)))
-  | goal.in_default w ↦
-      subst (AreCopied c.args.machine.now (tables_in c.args.lists.now) (take (c.loop-range.range-index + 1) c.args.ranges.now) c.args.tables.now) (sym w.tables-is)
-      (copied_skip _ c.requires.can c.loop-range-test.true c.loop-range.invariant.copied (place_of_no_rows c.args.machine.now c.at.result w.in_default.not-Rows c.at.ensures.its _ c.at.ensures.place))
-]
+loop-range-preserved c = record {
+  copied = elim c.match-at.branch [
+    | goal.in-Rows w ↦
+        subst (AreCopied c.args.machine.now (tables_in c.args.lists.now) (take (c.loop-range.range-index + 1) c.args.ranges.now) c.args.tables.now) (sym w.tables-is)
+        (copied_more _ c.requires.can c.loop-range-test.true c.loop-range.invariant.copied (of_chip w.in-Rows.is c.at.ensures.its c.at.ensures.place w.index-at.ensures.value)
+        w.index-tables-at.result (table_of_sorted w.index-lists-at.result) _ refl w.put_rows.new.table
+        (put_listed _ _ _ _ c.args.lists.now _ w.index-lists-at.result w.put_rows.ensures (w.as_slice.ensures ∙ w.index-lists-at.is)))
+    | goal.in_default w ↦
+        subst (AreCopied c.args.machine.now (tables_in c.args.lists.now) (take (c.loop-range.range-index + 1) c.args.ranges.now) c.args.tables.now) (sym w.tables-is)
+        (copied_skip _ c.requires.can c.loop-range-test.true c.loop-range.invariant.copied (place_of_no_rows c.args.machine.now c.at.result w.in_default.not-Rows c.at.ensures.its _ c.at.ensures.place))
+  ];
+  left = (left_first c.args.rooms.items c.loop-range.range-index c.next_room-room.result _ (sym c.loop-range.invariant.left ∙ c.next_room-room.ensures)).1;
+}
 
 pub returns : goal.returns
 returns c = all_copied c.args.machine.now (tables_in c.args.lists.now) c.args.ranges.now c.args.tables.now c.loop-range.tables c.loop-range.range-index c.loop-range-test.false c.loop-range.invariant.copied
+
+pub next_room-room-requires : goal.next_room-room-requires
+next_room-room-requires c =
+    omega (arith, ap length c.loop-range.invariant.left, length-drop c.loop-range.range-index c.args.rooms.items, c.requires.room.all, c.loop-range-test.true)
