@@ -134,14 +134,12 @@ fn length_on_torus(across: OnAxis, up: OnAxis) -> u32
         length_of (on_torus across.places up.places across.place up.place) }
     ensures few { result ≤ 64 }
 {
-    let (a, b) = (across.place, up.place);
-    let (behind, below) = (across.places - a, up.places - b);
-    let length = a
-        .max(b)
+    let (a, b) = (u32::from(across.place), u32::from(up.place));
+    let (behind, below) = (u32::from(across.places) - a, u32::from(up.places) - b);
+    a.max(b)
         .min(behind + b)
         .min(a + below)
-        .min(behind.max(below));
-    u32::from(length)
+        .min(behind.max(below))
 }
 
 /// The displacement from `p` to `q`. On an open grid it is the difference of their coordinates. On a torus it is, of

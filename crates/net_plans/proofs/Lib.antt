@@ -1,3 +1,4 @@
+mod Boarding
 pub mod CutOffLaws
 pub mod Ordering
 pub mod Determined

@@ -1,6 +1,7 @@
 pub use Rattle.machine_desc.specs.Live
 pub use Rattle.machine_desc.specs.RoutingTree
 pub use Rattle.app_graph.specs.ValidGraph
+pub mod Boards
 pub mod Cause
 pub mod CutOffTargets
 pub mod Keys

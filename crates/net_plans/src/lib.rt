@@ -5,6 +5,7 @@
 //! own.
 #![tactic(auto)]
 
+mod boards;
 mod laws;
 mod nets;
 mod orders;

@@ -5,6 +5,7 @@ ghost use Rattle.machine_desc.specs.Live.{IsInside};
 ghost use Rattle.net_plans.specs.Targets.{AreTargets, AreTargetChips};
 ghost use Rattle.net_plans.specs.Keys.{nowhere, spot_numbered, chip_of_key, AreNumbersOf, AreChipKeys, IsChipOfOne};
 
+use crate::boards::{board_of, cores_on};
 use crate::orders::each_once;
 use machine_desc::Machine;
 use ner_trees::distance;
@@ -18,6 +19,21 @@ use std::alloc::Global;
 ///
 /// `Memory` where memory runs out.
 pub fn targets_of(
+    alloc: Global,
+    spots: &Seq<Spot>,
+    vertices: &Seq<u32>,
+) -> Result<Seq<Spot>, Memory>
+    requires { All (λ v. v < length spots.now) vertices.now }
+    ensures { IfOk result (λ targets. AreTargets spots.now vertices.now targets) }
+{
+    match board_of(alloc, spots, vertices)? {
+        Some(board) => cores_on(alloc, &board),
+        None => sorted_targets(alloc, spots, vertices),
+    }
+}
+
+// The same by a sort, which takes less where targets are few.
+fn sorted_targets(
     alloc: Global,
     spots: &Seq<Spot>,
     vertices: &Seq<u32>,

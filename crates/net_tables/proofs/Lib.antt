@@ -2,6 +2,7 @@ pub mod Determined
 mod Marking
 mod Ordering
 mod Parting
+mod Rising
 mod Taking
 pub mod Telling
 pub mod Trees

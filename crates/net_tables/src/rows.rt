@@ -1,5 +1,5 @@
 // The rows of original blocks, in order.
-ghost use Rattle.std.specs.Prelude.{◌≡◌, length, map, IfOk, OnOk};
+ghost use Rattle.std.specs.Prelude.{◌≡◌, length, map, true, IfOk, OnOk};
 ghost use Rattle.std.specs.List.{AllZip, AllPairs};
 ghost use Rattle.std.specs.List.Sorted.{IsPermutation};
 ghost use Rattle.tern_word.specs.SoundTable.{IsSound};
@@ -7,7 +7,7 @@ ghost use Rattle.net_tables.specs.PlainTable.{row_of, IsRowNotAfter};
 ghost use Rattle.net_tables.specs.Marks.{AreApart, original_of, row_of_mark, table_of_sorted, IsTableOf};
 
 use crate::marks::Mark;
-use spin_base::{Memory, Seq};
+use spin_base::{Block, Memory, Seq};
 use std::alloc::Global;
 use tern_word::{Alias, Row, Table, generality};
 
@@ -51,8 +51,37 @@ fn sort_marks(marks: &mut Vec<Mark>) -> Result<(), Memory>
     ensures in_order { OnOk result (AllPairs (λ a b. IsRowNotAfter (row_of_mark a)
         (row_of_mark b)) marks.new.items) }
 {
-    marks.sort_by_key(|mark| (generality(mark.block), mark.block.key))?;
+    if !stand_in_order(marks) {
+        marks.sort_by_key(|mark| (generality(mark.block), mark.block.key))?;
+    }
     Ok(())
+}
+
+// Whether original blocks stand in that order already. It is seen where all care for the same bits.
+fn stand_in_order(marks: &[Mark]) -> bool
+    ensures { result ≡ true → AllPairs (λ a b. IsRowNotAfter (row_of_mark a)
+        (row_of_mark b)) marks.now }
+{
+    match marks.first() {
+        Some(first) => have_rising_keys(marks, first.block.mask),
+        None => false,
+    }
+}
+
+// Whether all original blocks care for these bits, and no key is less than the one before.
+fn have_rising_keys(marks: &[Mark], mask: u32) -> bool
+    ensures { result ≡ true → AllPairs (λ a b. IsRowNotAfter (row_of_mark a)
+        (row_of_mark b)) marks.now }
+{
+    let mut least = 0;
+    for mark in marks {
+        let Block { key, mask: cares } = mark.block;
+        if cares != mask || key < least {
+            return false;
+        }
+        least = key;
+    }
+    true
 }
 
 // The rows of the original blocks, in their order.

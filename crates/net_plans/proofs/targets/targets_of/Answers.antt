@@ -1,13 +1,13 @@
-use Rattle.std.proofs.Common.{map, nat_cmp, sym, subst}
-use Rattle.net_plans.specs.Keys.{spot_numbered}
+use Rattle.std.proofs.Common.{ℕ, ◌*◌, List, length, sym, subst}
+use Rattle.net_plans.specs.Boards.{AreOnBefore, TellsCores}
 use Rattle.net_plans.specs.Targets.{AreTargets}
-use Rattle.net_plans.proofs.TargetLaws.{AreOnce, are_targets, ok_is}
+use Rattle.net_plans.proofs.Boarding.{are_targets_on, ok_weaker}
 use Rattle.net_plans.proofs.targets.targets_of.Goals as goal
 
-pub returns : goal.returns
-returns c =
-    let once : AreOnce nat_cmp c.in_ok-numbers.numbers.items c.each_once.new.keys.items =
-    record { ascending = c.each_once.ensures.ascending; each = c.each_once.ensures.each; only = c.each_once.ensures.only } in
-    let here : AreOnce nat_cmp c.in_ok-numbers.numbers.items c.deref.result.now = subst (AreOnce nat_cmp c.in_ok-numbers.numbers.items) (sym c.deref.ensures.value) once in
-    ok_is c.spots_of.result (AreTargets c.args.spots.now c.args.vertices.now) (map spot_numbered c.deref.result.now) c.spots_of.ensures
-    (are_targets c.args.spots.now c.args.vertices.now c.requires c.in_ok-numbers.numbers.items c.in_ok-numbers.ensures c.deref.result.now here)
+pub returns-in-Some : goal.returns-in-Some
+returns-in-Some c =
+    let board : List ℕ = c.deref.result.now in
+    let told : TellsCores board c.args.spots.now c.args.vertices.now =
+    subst (λ (b : List ℕ). TellsCores b c.args.spots.now c.args.vertices.now) (sym c.deref.ensures.value) (rw c.in-Some.is at c.in_ok-board.ensures.told) in
+    ok_weaker c.cores_on.result (AreOnBefore board (length board * 32)) (AreTargets c.args.spots.now c.args.vertices.now)
+    (λ cores before. are_targets_on board c.args.spots.now c.args.vertices.now cores told before) c.cores_on.ensures

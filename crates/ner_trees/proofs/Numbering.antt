@@ -1,0 +1,83 @@
+-- Edges in the order of their numbers are in their order.
+use Rattle.std.proofs.Common.{◌≡◌, ℕ, ◌+◌, ◌*◌, ◌/◌, ◌%◌, ◌<◌, ◌≤◌, List, map, length, refl, sym, ap, ◌∙◌, subst, arith, inl, inr, Result, Ok, Err, IfOk}
+use Rattle.std.specs.List.{All, AllPairs, slice_index_or}
+use Rattle.std.specs.List.Sorted.{IsNonDecreasing}
+use Rattle.std.proofs.lemmas.List.{get_or-map, length-map}
+use Rattle.std.proofs.Math.ListN.{get_or-eq_default}
+use Rattle.std.proofs.lemmas.List.Elements.{All-get_or}
+use Rattle.spin_base.specs.declared.chips.Dir.{Dir}
+use Rattle.spin_base.specs.declared.chips.Dir.TheVariants.{East, NorthEast, North, West, SouthWest, South}
+use Rattle.spin_base.specs.Links.{all_dirs, dir_at, dir_number}
+use Rattle.machine_desc.specs.declared.trees.Edge.{Edge}
+use Rattle.machine_desc.specs.EdgeOrder.{IsEdgeBefore}
+use Rattle.machine_desc.proofs.Same.{below_six}
+use Rattle.ner_trees.specs.EdgeNumbers.{edge_number, edge_numbered, IsEdgeNumber}
+
+-- a link has its number alone
+pub link_back : (d : Dir) → dir_at (dir_number d) ≡ d
+link_back East = refl
+link_back NorthEast = refl
+link_back North = refl
+link_back West = refl
+link_back SouthWest = refl
+link_back South = refl
+
+pub no_link : (n : ℕ) → 6 ≤ n → dir_at n ≡ East
+no_link n more = get_or-eq_default all_dirs East more
+
+-- the digits of a number
+low_digit : (high low n : ℕ) → n ≡ high * 256 + low → low < 256 → n % 256 ≡ low
+low_digit high low n is few = omega (arith, is, few)
+
+second_digit : (x y d n : ℕ) → n ≡ x * 65536 + y * 256 + d → y < 256 → d < 256 → n / 256 % 256 ≡ y
+second_digit x y d n is y_few d_few = omega (arith, is, y_few, d_few)
+
+third_digit : (x y d n : ℕ) → n ≡ x * 65536 + y * 256 + d → x < 256 → y < 256 → d < 256 → n / 65536 % 256 ≡ x
+third_digit x y d n is x_few y_few d_few = omega (arith, is, x_few, y_few, d_few)
+
+-- an edge has its number alone
+pub edge_back : (e : Edge) (n : ℕ) → e.chip.x < 256 → e.chip.y < 256 → n ≡ edge_number e → edge_numbered n ≡ e
+edge_back e n x_few y_few is =
+    let d_few : dir_number e.dir < 6 = below_six e.dir in
+    let few : dir_number e.dir < 256 = omega (arith, d_few) in
+    let x : n / 65536 % 256 ≡ e.chip.x = third_digit e.chip.x e.chip.y (dir_number e.dir) n is x_few y_few few in
+    let y : n / 256 % 256 ≡ e.chip.y = second_digit e.chip.x e.chip.y (dir_number e.dir) n is y_few few in
+    let high : n ≡ (e.chip.x * 256 + e.chip.y) * 256 + dir_number e.dir = omega (arith, is) in
+    let d : dir_at (n % 256) ≡ e.dir = ap dir_at (low_digit _ (dir_number e.dir) n high few) ∙ link_back e.dir in
+    λ i. record { chip = record { x = x i; y = y i }; dir = d i }
+
+-- of an edge that comes before another the number is less
+number_rises : (e f : Edge) → e.chip.y < 256 → IsEdgeBefore e f → edge_number e < edge_number f
+number_rises e f few before = let d : dir_number e.dir < 6 = below_six e.dir in by d before
+  where
+    by : dir_number e.dir < 6 → IsEdgeBefore e f → edge_number e < edge_number f
+    by d (inl x) = omega (arith, few, d, x)
+    by d (inr (x, inl y)) = omega (arith, few, d, x, y)
+    by d (inr (x, inr (y, z))) = omega (arith, few, d, x, y, z)
+
+not_less : (x y a b : ℕ) → x ≡ a → y ≡ b → y < x → a ≤ b → ⊥
+not_less x y a b x_is y_is less no_less = omega (arith, x_is, y_is, less, no_less)
+
+low_row : (n : ℕ) → n / 256 % 256 < 256
+low_row n = omega arith
+
+-- edges of numbers that do not fall
+pub in_order_edges : (ns : List ℕ) → IsNonDecreasing ns → All IsEdgeNumber ns → AllPairs (λ e f. IsEdgeBefore f e → ⊥) (map edge_numbered ns)
+in_order_edges ns up are i j d less short before =
+    let shorter : j < length ns = rw length-map at short in
+    let first : i < length ns = omega (arith, shorter, less) in
+    let a : ℕ = slice_index_or ns i 0 in
+    let b : ℕ = slice_index_or ns j 0 in
+    let e_is : slice_index_or (map edge_numbered ns) i d ≡ edge_numbered a = get_or-map edge_numbered ns i 0 d first in
+    let f_is : slice_index_or (map edge_numbered ns) j d ≡ edge_numbered b = get_or-map edge_numbered ns j 0 d shorter in
+    let here : IsEdgeBefore (edge_numbered b) (edge_numbered a) = subst (IsEdgeBefore (edge_numbered b)) e_is (subst (λ (f : Edge). IsEdgeBefore f (slice_index_or (map edge_numbered ns) i d)) f_is before) in
+    let rises : edge_number (edge_numbered b) < edge_number (edge_numbered a) = number_rises (edge_numbered b) (edge_numbered a) (low_row b) here in
+    let a_is : edge_number (edge_numbered a) ≡ a = All-get_or IsEdgeNumber ns i 0 first are in
+    let b_is : edge_number (edge_numbered b) ≡ b = All-get_or IsEdgeNumber ns j 0 shorter are in
+    let no_less : a ≤ b = up i j 0 (omega (arith, less)) shorter in
+    not_less _ _ a b a_is b_is rises no_less
+
+-- an answer of which the items are known
+pub ok_items : {V E X : Type 0} (r : Result V E) (items : V → List X) (P : List X → Type 0) (xs : List X) → IfOk r (λ v. items v ≡ xs) → P xs → IfOk r (λ v. P (items v))
+ok_items (Ok v) items P xs is holds = subst P (sym is) holds
+ok_items (Err e) items P xs is holds = tt

@@ -1,0 +1,6 @@
+use Rattle.std.proofs.Common.{◌≡◌, map, take}
+use Rattle.ner_trees.specs.EdgeNumbers.{edge_numbered}
+use Rattle.ner_trees.proofs.growths.edges_of.Given as goal
+
+abbrev pub invariant-loop-number : goal.invariant-loop-number
+invariant-loop-number l = l.edges.items ≡ map edge_numbered (take l.number-index l.numbers)

@@ -1,0 +1,13 @@
+use Rattle.std.proofs.Common.{map, nat_cmp, sym, subst}
+use Rattle.net_plans.specs.Keys.{spot_numbered}
+use Rattle.net_plans.specs.Targets.{AreTargets}
+use Rattle.net_plans.proofs.TargetLaws.{AreOnce, are_targets, ok_is}
+use Rattle.net_plans.proofs.targets.sorted_targets.Goals as goal
+
+pub returns : goal.returns
+returns c =
+    let once : AreOnce nat_cmp c.in_ok-numbers.numbers.items c.each_once.new.keys.items =
+    record { ascending = c.each_once.ensures.ascending; each = c.each_once.ensures.each; only = c.each_once.ensures.only } in
+    let here : AreOnce nat_cmp c.in_ok-numbers.numbers.items c.deref.result.now = subst (AreOnce nat_cmp c.in_ok-numbers.numbers.items) (sym c.deref.ensures.value) once in
+    ok_is c.spots_of.result (AreTargets c.args.spots.now c.args.vertices.now) (map spot_numbered c.deref.result.now) c.spots_of.ensures
+    (are_targets c.args.spots.now c.args.vertices.now c.requires c.in_ok-numbers.numbers.items c.in_ok-numbers.ensures c.deref.result.now here)
