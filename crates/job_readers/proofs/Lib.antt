@@ -12,3 +12,4 @@ mod RunSteps
 mod VerbSteps
 mod Parts
 mod Named
+mod KnownNames

@@ -1,15 +1,17 @@
 // Names in the order of a list, looked up in a map.
-ghost use Rattle.std.specs.Prelude.{◌≡◌, ◌<◌, ◌≤◌, [], ◌∷◌, ◌++◌, None, length, option_map, unwrap_or, map, IfOk};
+ghost use Rattle.std.specs.Prelude.{◌≡◌, ◌<◌, ◌≤◌, [], ◌∷◌, ◌++◌, true, None, length, option_map, option_and_then, unwrap_or, map, IfOk};
+ghost use Rattle.std.specs.List.{list_all};
+ghost use Rattle.serde_json.specs.Find.{as_str};
 ghost use Rattle.serde_json.specs.View.{view};
-ghost use Rattle.job_text.specs.Reading.{GivesOrFaults, IsFirstFault};
-ghost use Rattle.job_text.specs.Fields.{text_value};
+ghost use Rattle.job_text.specs.Reading.{GivesOrFaults, IsFirstFault, ◌▹◌};
+ghost use Rattle.job_text.specs.Fields.{is_name, range_unless, text_value};
 ghost use Rattle.job_text.specs.declared.faults.JobFault.TheVariants.{UnknownName, DoubleName, Clash};
 ghost use Rattle.job_readers.specs.Places.{name_place_in, reference_faults, reference_value, new_name_faults};
 ghost use Rattle.job_readers.specs.GraphPart.{name_value};
 ghost use Rattle.job_readers.specs.Indexed.{slot_for};
 ghost use Rattle.job_text.specs.Paths.{path_text};
 
-use job_text::{JobFault, Path, TextErr, member, text_in};
+use job_text::{JobFault, Path, TextErr, may_name, member, range, shape, text_in};
 use serde_json::Value;
 use spin_base::Memory;
 use std::alloc::Global;
@@ -143,6 +145,17 @@ pub(crate) fn unknown(alloc: Global, path: &Path<'_>) -> TextErr
     }
 }
 
+// The error of a text that is none of the names: it is no name, or a name that refers to nothing.
+pub(crate) fn unplaced(alloc: Global, said: &str, path: &Path<'_>) -> TextErr
+    ensures { IsFirstFault result (range_unless (is_name said.now) (path_text path.now)
+        ▹ UnknownName (path_text path.now) ∷ []) }
+{
+    if may_name(said) {
+        return unknown(alloc, path);
+    }
+    range(alloc, path)
+}
+
 // The error of a name that stands earlier.
 fn double(alloc: Global, path: &Path<'_>) -> TextErr
     ensures { IsFirstFault result (DoubleName (path_text path.now) ∷ []) }
@@ -180,6 +193,40 @@ pub(crate) fn reference(
     match names.place(said) {
         Some(i) => Ok(i),
         None => Err(unknown(alloc, path)),
+    }
+}
+
+// The text that a value is.
+pub(crate) fn said_text<'a>(v: Option<&'a Value>) -> Option<&'a str>
+    ensures { option_map (λ s. s.now) result
+        ≡ option_and_then as_str (option_map (λ d. view d.now) v.entry) }
+{
+    match v {
+        Some(found) => found.as_str(),
+        None => None,
+    }
+}
+
+// The place of the name that a text is, among names that all are names: what is found needs no test.
+#[tactic(auto, unfolding(crate::specs::Places::reference_faults, crate::specs::Places::reference_value))]
+pub(crate) fn known_reference(
+    alloc: Global,
+    v: Option<&Value>,
+    path: &Path<'_>,
+    names: &Names,
+) -> Result<u32, TextErr>
+    requires { list_all is_name names.now ≡ true }
+    ensures read { GivesOrFaults (λ i. i) result
+        (reference_faults names.now (path_text path.now) (option_map (λ d. view d.now) v.entry))
+        (reference_value names.now (option_map (λ d. view d.now) v.entry)) }
+    ensures below { IfOk result (λ i. i < length names.now) }
+{
+    let Some(said) = said_text(v) else {
+        return Err(shape(alloc, path));
+    };
+    match names.place(said) {
+        Some(i) => Ok(i),
+        None => Err(unplaced(alloc, said, path)),
     }
 }
 
