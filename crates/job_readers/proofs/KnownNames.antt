@@ -18,11 +18,11 @@ use Rattle.job_readers.specs.Places.{double_faults, name_place_in, new_name_faul
 use Rattle.job_readers.specs.GraphPart.{name_faults, name_value, next_vertex_faults, sender_at, sender_in, vertex_faults, vertex_names_of, vertex_value, vertices_faults, vertices_value}
 use Rattle.job_readers.proofs.NoFaults.{none_first, none_inside, none_second}
 
-and_first : (a b : Bool) → (a && b) ≡ true → a ≡ true
+pub and_first : (a b : Bool) → (a && b) ≡ true → a ≡ true
 and_first true b both = refl
 and_first false b both = absurd cc
 
-and_second : (a b : Bool) → (a && b) ≡ true → b ≡ true
+pub and_second : (a b : Bool) → (a && b) ≡ true → b ≡ true
 and_second true b both = both
 and_second false b both = absurd cc
 
@@ -83,7 +83,8 @@ name_is_name : (before : List (List ℕ)) (path : List ℕ) (d : Data) → name_
 unfolding name_faults new_name_faults name_value
 name_is_name before path d none =
     typed_name (option_and_then as_str (member_of (codes "name") d)) (member_at path (codes "name"))
-    (none_own (text_faults (member_at path (codes "name")) (member_of (codes "name") d)) (double_faults (member_at path (codes "name")) (name_place_in before (text_value (member_of (codes "name") d)))) none)
+    (none_own (text_faults (member_at path (codes "name")) (member_of (codes "name") d))
+    (double_faults (member_at path (codes "name")) (name_place_in before (text_value (member_of (codes "name") d)))) none)
 
 vertex_has_name : (version : ℕ) (before : List Vertex) (path : List ℕ) (d : Data) → next_vertex_faults version before path d ≡ [] → is_name (vertex_value version d).name ≡ true
 unfolding vertex_faults vertex_value

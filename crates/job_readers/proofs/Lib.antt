@@ -13,3 +13,4 @@ mod VerbSteps
 mod Parts
 mod Named
 mod KnownNames
+mod NameWords
