@@ -12,3 +12,5 @@ mod RunSteps
 mod VerbSteps
 mod Parts
 mod Named
+mod KnownNames
+mod NameWords

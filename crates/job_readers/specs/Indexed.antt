@@ -1,5 +1,6 @@
 -- What a contract sees of names in order, and what their slots and their map keep.
-use Rattle.std.specs.Prelude.{◌≡◌, ℕ, ◌<◌, ◌≤◌, ◌%◌, List, length, map, bytes_eq, if◌then◌else◌, Option, Some, None, slice_get, slice_index_or}
+use Rattle.std.specs.Prelude.{◌≡◌, ℕ, ◌-◌, ◌*◌, ◌<◌, ◌≤◌, ◌/◌, ◌%◌, ◌^◌, List, ◌∷◌, ◌++◌, length, map, replicate, bytes_eq, nat_eq, nat_le, if◌then◌else◌, Option, Some, None, slice_get, slice_index_or}
+use Rattle.std.specs.Int.{from_le_bytes, w64}
 use Rattle.std.specs.Hash.FoldHasher.{initial, write}
 use Rattle.std.specs.Ordering.{nat_cmp}
 use Rattle.std.specs.Cmp.Lexicographic.{slice_cmp}
@@ -10,9 +11,17 @@ use Rattle.job_readers.specs.Places.{name_place_in}
 abbrev pub said_of : Inside → List (List ℕ)
 said_of s = map (λ n. n.now) s.said.items
 
+-- A text of at most 7 bytes as one number: its length, then its bytes and zeros, the lowest byte first. 0 of a longer one.
+unfoldable pub word_for : List ℕ → ℕ
+word_for q = if nat_le (length q) 7 then from_le_bytes w64 (length q ∷ (q ++ replicate (7 - length q) 0)) else 0
+
+-- the high half of a short text's word, spread over 64 bits; of another text a word of its bytes
+unfoldable pub hash_for : List ℕ → ℕ
+hash_for q = if nat_eq (word_for q) 0 then (write initial q).state else word_for q * 0x9e37_79b9_7f4a_7c15 % 2 ^ 64 / 2 ^ 32
+
 -- the slot, of so many, of a text
 unfoldable pub slot_for : ℕ → List ℕ → ℕ
-slot_for slots q = (write initial q).state % slots
+slot_for slots q = hash_for q % slots
 
 -- the place that stands in a text's slot
 abbrev pub in_slot : List ℕ → List ℕ → ℕ
@@ -36,5 +45,7 @@ pub record AreSlots (names : List (List ℕ)) (slots : List ℕ) (later : List �
   pub alone : (q : List ℕ) → length names ≤ in_slot slots q → later q ≡ None
   pub told : (q : List ℕ) → by_slot (slice_get names (in_slot slots q)) (in_slot slots q) (later q) q ≡ name_place_in names q
 
-abbrev pub IsIndexed : Inside → Type 0
-IsIndexed s = AreSlots (said_of s) s.slots.items (told_later s)
+-- the slots, and the word of each name
+pub record IsIndexed (s : Inside) : Type 0 where
+  pub slots : AreSlots (said_of s) s.slots.items (told_later s)
+  pub words : s.words.items ≡ map word_for (said_of s)

@@ -1,9 +1,9 @@
 // Reads the graph of a job.
-ghost use Rattle.std.specs.Prelude.{◌≡◌, ◌<◌, ◌≤◌, false, length, map, option_map, [], IfOk, IfSome, Some, None, All, AllPairs, slice_get};
-ghost use Rattle.std.specs.List.{list_any};
+ghost use Rattle.std.specs.Prelude.{◌≡◌, ◌<◌, ◌≤◌, false, true, length, map, option_map, [], IfOk, IfSome, Some, None, All, AllPairs, slice_get};
+ghost use Rattle.std.specs.List.{list_all, list_any};
 ghost use Rattle.serde_json.specs.View.{view};
 ghost use Rattle.job_text.specs.Reading.{GivesOrFaults, ◌▹◌};
-ghost use Rattle.job_text.specs.Fields.{list_value};
+ghost use Rattle.job_text.specs.Fields.{is_name, list_value};
 ghost use Rattle.app_graph.specs.declared.graphs.Vertex.{Vertex};
 ghost use Rattle.app_graph.specs.ValidGraph.{IsValidVertex, IsValidNet, IsValidGraph, IsFixedFor, AreFixedApart, HaveDifferentDevices, HasSendingSource};
 ghost use Rattle.job_readers.specs.Items.{following_faults};
@@ -20,9 +20,9 @@ use crate::fixed_blocks::FixedBlocks;
 use crate::items::{ItemReader, each_item};
 use crate::members::{list_of, member_from, number_of};
 use crate::named_vertices::NamedVertices;
-use crate::names::{Names, clash, new_name, reference, said_name, unknown};
+use crate::names::{Names, clash, known_reference, new_name, said_name, said_text, unplaced};
 use app_graph::{Graph, Net, Vertex};
-use job_text::{Path, TextErr, field, list, member, object, range, shape, text_in};
+use job_text::{Path, TextErr, field, list, member, object, range, shape};
 use machine_desc::Edge;
 use serde_json::Value;
 use spin_base::{Block, Chip, Memory, Name, Seq};
@@ -204,26 +204,30 @@ fn source(
         → v.device ≡ None) }
 {
     let path = Path::Member(path, "source");
-    let said = text_in(alloc, member(item, "source"), &path)?;
+    let Some(said) = said_text(member(item, "source")) else {
+        return Err(shape(alloc, &path));
+    };
     match sender(said, among) {
         Some(i) => Ok(i),
-        None => Err(unknown(alloc, &path)),
+        None => Err(unplaced(alloc, said, &path)),
     }
 }
 
-// The vertices, by whose names targets are read.
+// The vertices, by whose names targets are read. Each was read as a name.
 #[derive(Clone, Copy)]
 struct Named<'a, 'b> {
     vertices: &'a Names<'b>,
 }
 
 impl<'a, 'b> ItemReader for Named<'a, 'b> {
-    ghost use Rattle.std.specs.Prelude.{◌<◌, ⊤, length};
+    ghost use Rattle.std.specs.Prelude.{◌≡◌, ◌<◌, true, length};
+    ghost use Rattle.std.specs.List.{list_all};
+    ghost use Rattle.job_text.specs.Fields.{is_name};
     ghost use Rattle.job_readers.specs.GraphPart.{target_faults, target_value};
 
     type Item = u32;
 
-    ghost IsReady = { λ _. ⊤ };
+    ghost IsReady = { λ among. list_all is_name among.vertices.now ≡ true };
 
     ghost faults = { λ among. target_faults among.vertices.now };
 
@@ -233,7 +237,7 @@ impl<'a, 'b> ItemReader for Named<'a, 'b> {
 
     #[tactic(auto, unfolding(crate::specs::GraphPart::target_faults, crate::specs::GraphPart::target_value))]
     fn read(&self, alloc: Global, item: &Value, path: &Path<'_>) -> Result<u32, TextErr> {
-        reference(alloc, Some(item), path, self.vertices)
+        known_reference(alloc, Some(item), path, self.vertices)
     }
 }
 
@@ -263,6 +267,7 @@ fn targets(
     path: &Path<'_>,
     vertices: &Names,
 ) -> Result<Seq<u32>, TextErr>
+    requires { list_all is_name vertices.now ≡ true }
     ensures read { GivesOrFaults (λ t. t) result (targets_faults vertices.now (path_text path.now)
         (view item.now))
         (targets_value vertices.now (view item.now)) }
@@ -428,7 +433,8 @@ fn nets_among(
     version: u32,
     vertices: &Seq<Vertex>,
 ) -> Result<Seq<Net>, TextErr>
-    requires { length vertices.now ≤ 16384 }
+    requires few { length vertices.now ≤ 16384 }
+    requires known { list_all is_name (vertex_names_of vertices.now) ≡ true }
     ensures read { GivesOrFaults (λ n. n) result
         (nets_faults version vertices.now (path_text path.now)
         (view graph.now)) (nets_value version vertices.now (view graph.now)) }

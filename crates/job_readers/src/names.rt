@@ -1,15 +1,17 @@
 // Names in the order of a list, looked up in a map.
-ghost use Rattle.std.specs.Prelude.{◌≡◌, ◌<◌, ◌≤◌, [], ◌∷◌, ◌++◌, None, length, option_map, unwrap_or, map, IfOk};
+ghost use Rattle.std.specs.Prelude.{◌≡◌, ◌<◌, ◌≤◌, [], ◌∷◌, ◌++◌, true, None, length, option_map, option_and_then, unwrap_or, map, bytes_eq, IfOk};
+ghost use Rattle.std.specs.List.{list_all};
+ghost use Rattle.serde_json.specs.Find.{as_str};
 ghost use Rattle.serde_json.specs.View.{view};
-ghost use Rattle.job_text.specs.Reading.{GivesOrFaults, IsFirstFault};
-ghost use Rattle.job_text.specs.Fields.{text_value};
+ghost use Rattle.job_text.specs.Reading.{GivesOrFaults, IsFirstFault, ◌▹◌};
+ghost use Rattle.job_text.specs.Fields.{is_name, range_unless, text_value};
 ghost use Rattle.job_text.specs.declared.faults.JobFault.TheVariants.{UnknownName, DoubleName, Clash};
 ghost use Rattle.job_readers.specs.Places.{name_place_in, reference_faults, reference_value, new_name_faults};
 ghost use Rattle.job_readers.specs.GraphPart.{name_value};
-ghost use Rattle.job_readers.specs.Indexed.{slot_for};
+ghost use Rattle.job_readers.specs.Indexed.{slot_for, word_for};
 ghost use Rattle.job_text.specs.Paths.{path_text};
 
-use job_text::{JobFault, Path, TextErr, member, text_in};
+use job_text::{JobFault, Path, TextErr, may_name, member, range, shape, text_in};
 use serde_json::Value;
 use spin_base::Memory;
 use std::alloc::Global;
@@ -20,14 +22,18 @@ use std::marker::Model;
 // So many slots there are for each name that is to come: most names then have one of their own.
 const SLOTS: usize = 16;
 
+// What short words are multiplied by, so that the slots of alike words are far apart: 2^64 by the golden ratio.
+const SPREAD: u64 = 0x9e37_79b9_7f4a_7c15;
+
 // A slot that no name has.
 const EMPTY: u32 = u32::MAX;
 
-// The names of a list, in its order. Contracts see the list. A word of its bytes tells a name's slot. The first name of a slot has
-// it; each later one stands in an ordered map. So names whose words are alike cost a logarithm.
+// The names of a list, in its order, and their words. Contracts see the list. A name's word tells its slot, or a word of its bytes
+// where it is long. The first name of a slot has it; each later one stands in an ordered map. So names of one slot cost a logarithm.
 #[derive(Drop)]
 pub(crate) struct Names<'a> {
     said: Vec<&'a str>,
+    words: Vec<u64>,
     slots: Vec<u32>,
     crowded: BTreeMap<&'a str, u32>,
 }
@@ -51,6 +57,7 @@ impl<'a> Names<'a> {
     {
         Ok(Names {
             said: Vec::new(alloc),
+            words: Vec::new(alloc),
             slots: vec![in alloc; EMPTY; SLOTS * count + 1]?,
             crowded: BTreeMap::new(alloc),
         })
@@ -60,9 +67,10 @@ impl<'a> Names<'a> {
     pub(crate) fn place(&self, name: &str) -> Option<u32>
         ensures { result ≡ name_place_in self.now name.now }
     {
-        let at = self.slots[slot_of(name, self.slots.len())];
+        let word = word_of(name);
+        let at = self.slots[slot_of(word, name, self.slots.len())];
         let said = self.said.get(at as usize)?;
-        if *said == name {
+        if is_same(self.words[at as usize], word, said, name) {
             return Some(at);
         }
         self.crowded.get(name).copied()
@@ -77,12 +85,15 @@ impl<'a> Names<'a> {
         if known {
             let Names {
                 mut said,
+                mut words,
                 slots,
                 crowded,
             } = self;
             said.push(name)?;
+            words.push(word_of(name))?;
             return Ok(Names {
                 said,
+                words,
                 slots,
                 crowded,
             });
@@ -98,16 +109,20 @@ impl<'a> Names<'a> {
     {
         let Names {
             mut said,
+            mut words,
             mut slots,
             mut crowded,
         } = self;
         let count = said.len() as u32;
+        let word = word_of(name);
         said.push(name)?;
-        let slot = slot_of(name, slots.len());
+        words.push(word)?;
+        let slot = slot_of(word, name, slots.len());
         if slots[slot] == EMPTY {
             slots[slot] = count;
             return Ok(Names {
                 said,
+                words,
                 slots,
                 crowded,
             });
@@ -115,19 +130,56 @@ impl<'a> Names<'a> {
         crowded.insert(name, count)?;
         Ok(Names {
             said,
+            words,
             slots,
             crowded,
         })
     }
 }
 
-// The slot of a name, by a word of its bytes.
+// A text of 1 to 7 bytes as one number that tells it from all others: its length, and then its bytes. 0 of any other text.
+#[tactic(auto, unfolding(crate::specs::Indexed::word_for))]
+fn word_of(name: &str) -> u64
+    ensures { result ≡ word_for name.now }
+{
+    match name.as_bytes() {
+        [a] => u64::from_le_bytes([1, *a, 0, 0, 0, 0, 0, 0]),
+        [a, b] => u64::from_le_bytes([2, *a, *b, 0, 0, 0, 0, 0]),
+        [a, b, c] => u64::from_le_bytes([3, *a, *b, *c, 0, 0, 0, 0]),
+        [a, b, c, d] => u64::from_le_bytes([4, *a, *b, *c, *d, 0, 0, 0]),
+        [a, b, c, d, e] => u64::from_le_bytes([5, *a, *b, *c, *d, *e, 0, 0]),
+        [a, b, c, d, e, f] => u64::from_le_bytes([6, *a, *b, *c, *d, *e, *f, 0]),
+        [a, b, c, d, e, f, g] => u64::from_le_bytes([7, *a, *b, *c, *d, *e, *f, *g]),
+        _ => 0,
+    }
+}
+
+// Whether two texts are the same, by their words where these tell.
+fn is_same(held: u64, word: u64, said: &str, name: &str) -> bool
+    requires held { held ≡ word_for said.now }
+    requires word { word ≡ word_for name.now }
+    ensures { result ≡ bytes_eq said.now name.now }
+{
+    if held != word {
+        return false;
+    }
+    if word != 0 {
+        return true;
+    }
+    said == name
+}
+
+// The slot of a text, by its word, or by a word of its bytes where it has none.
 #[tactic(auto, unfolding(crate::specs::Indexed::slot_for))]
-fn slot_of(name: &str, slots: usize) -> usize
-    requires { 0 < slots }
+fn slot_of(word: u64, name: &str, slots: usize) -> usize
+    requires some { 0 < slots }
+    requires word { word ≡ word_for name.now }
     ensures within { result < slots }
     ensures slot { result ≡ slot_for slots name.now }
 {
+    if word != 0 {
+        return (word.wrapping_mul(SPREAD) >> 32) as usize % slots;
+    }
     let mut hasher = FoldHasher::default();
     hasher.write(name.as_bytes());
     hasher.finish() as usize % slots
@@ -141,6 +193,17 @@ pub(crate) fn unknown(alloc: Global, path: &Path<'_>) -> TextErr
         Ok(path) => TextErr::Fault(JobFault::UnknownName(path)),
         Err(_) => TextErr::Memory,
     }
+}
+
+// The error of a text that is none of the names: it is no name, or a name that refers to nothing.
+pub(crate) fn unplaced(alloc: Global, said: &str, path: &Path<'_>) -> TextErr
+    ensures { IsFirstFault result (range_unless (is_name said.now) (path_text path.now)
+        ▹ UnknownName (path_text path.now) ∷ []) }
+{
+    if may_name(said) {
+        return unknown(alloc, path);
+    }
+    range(alloc, path)
 }
 
 // The error of a name that stands earlier.
@@ -180,6 +243,40 @@ pub(crate) fn reference(
     match names.place(said) {
         Some(i) => Ok(i),
         None => Err(unknown(alloc, path)),
+    }
+}
+
+// The text that a value is.
+pub(crate) fn said_text<'a>(v: Option<&'a Value>) -> Option<&'a str>
+    ensures { option_map (λ s. s.now) result
+        ≡ option_and_then as_str (option_map (λ d. view d.now) v.entry) }
+{
+    match v {
+        Some(found) => found.as_str(),
+        None => None,
+    }
+}
+
+// The place of the name that a text is, among names that all are names: what is found needs no test.
+#[tactic(auto, unfolding(crate::specs::Places::reference_faults, crate::specs::Places::reference_value))]
+pub(crate) fn known_reference(
+    alloc: Global,
+    v: Option<&Value>,
+    path: &Path<'_>,
+    names: &Names,
+) -> Result<u32, TextErr>
+    requires { list_all is_name names.now ≡ true }
+    ensures read { GivesOrFaults (λ i. i) result
+        (reference_faults names.now (path_text path.now) (option_map (λ d. view d.now) v.entry))
+        (reference_value names.now (option_map (λ d. view d.now) v.entry)) }
+    ensures below { IfOk result (λ i. i < length names.now) }
+{
+    let Some(said) = said_text(v) else {
+        return Err(shape(alloc, path));
+    };
+    match names.place(said) {
+        Some(i) => Ok(i),
+        None => Err(unplaced(alloc, said, path)),
     }
 }
 

@@ -3,6 +3,7 @@ use Rattle.std.proofs.lemmas.List.{map_push, length-map, get_or_read}
 use Rattle.std.proofs.lemmas.Map.Text.{btree_map_updates_str}
 use Rattle.job_readers.specs.Places.{name_place_in}
 use Rattle.job_readers.specs.Indexed.{in_slot, slot_for, said_of, told_later}
+use Rattle.job_readers.proofs.NameWords.{words_more}
 use Rattle.job_readers.proofs.SlotSteps.{first_in, later_in}
 use Rattle.job_readers.proofs.names.Names.with_new.Goals as goal
 
@@ -19,8 +20,11 @@ invariant_of-result c =
     let at : c.slot_of-slot.result ≡ slot_for (length slots) s = c.slot_of-slot.ensures.slot ∙ ap (λ n. slot_for n s) (omega (arith, c.len.ensures, c.self.inside.slots.ok.0)) in
     let empty : in_slot slots s ≡ 4294967295 =
     ap (λ i. get_or slots i 0) (sym at) ∙ sym (get_or_read slots _ _ (omega (arith, c.slot_of-slot.ensures.within, c.len.ensures, c.self.inside.slots.ok.0)) c.index.ensures 0) ∙ c.if-index.true in
-    rw (more, count, at)
-    (first_in names s absent (rw c.self.view_is c.requires.few) slots (told_later c.self.inside) c.self.invariant empty)
+    record {
+      slots = rw (more, count, at) (first_in names s absent (rw c.self.view_is c.requires.few) slots (told_later c.self.inside) c.self.invariant.slots empty);
+      words = words_more names (map (λ n. n.now) c.push.new.self.items) s c.self.inside.words.items
+          c.push-2.new.self.items c.word_of-word.result c.self.invariant.words c.word_of-word.ensures c.in_ok-push-2.ensures.items more;
+    }
 
 pub invariant_of-result-2 : goal.invariant_of-result-2
 invariant_of-result-2 c =
@@ -35,6 +39,10 @@ invariant_of-result-2 c =
     let at : c.slot_of-slot.result ≡ slot_for (length slots) s = c.slot_of-slot.ensures.slot ∙ ap (λ n. slot_for n s) (omega (arith, c.len.ensures, c.self.inside.slots.ok.0)) in
     let taken : in_slot slots s ≢ 4294967295 =
     λ empty. c.if-index.false (get_or_read slots _ _ (omega (arith, c.slot_of-slot.ensures.within, c.len.ensures, c.self.inside.slots.ok.0)) c.index.ensures 0 ∙ ap (λ i. get_or slots i 0) at ∙ empty) in
-    rw more
-    (later_in names s absent (rw c.self.view_is c.requires.few) slots (told_later c.self.inside) c.self.invariant
-    _ taken (λ q. rw (← count) (btree_map_updates_str s c.self.inside.crowded c.insert.new.self _ c.in_ok-insert.ensures.updates q)))
+    record {
+      slots = rw more
+          (later_in names s absent (rw c.self.view_is c.requires.few) slots (told_later c.self.inside) c.self.invariant.slots
+          _ taken (λ q. rw (← count) (btree_map_updates_str s c.self.inside.crowded c.insert.new.self _ c.in_ok-insert.ensures.updates q)));
+      words = words_more names (map (λ n. n.now) c.push.new.self.items) s c.self.inside.words.items
+          c.push-2.new.self.items c.word_of-word.result c.self.invariant.words c.word_of-word.ensures c.in_ok-push-2.ensures.items more;
+    }
