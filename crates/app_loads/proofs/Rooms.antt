@@ -1,5 +1,5 @@
 -- Room for the rows of an application.
-use Rattle.std.proofs.Common.{◌≡◌, ℕ, ◌+◌, ◌<◌, ◌≤◌, zero, suc, List, [], ◌∷◌, ◌++◌, length, drop, get_or, sym, ap, ◌∙◌, arith, inl, inr, Some, subst}
+use Rattle.std.proofs.Common.{◌≡◌, ℕ, ◌+◌, ◌≤◌, zero, suc, List, [], ◌∷◌, ◌++◌, length, drop, sym, ap, ◌∙◌, arith, inl, inr, Some, subst}
 use Rattle.std.specs.List.{slice_get}
 use Rattle.std.proofs.lemmas.List.{length_push}
 use Rattle.std.proofs.lemmas.Option.{same_Some, slice_get_within}
@@ -11,7 +11,7 @@ use Rattle.app_loads.specs.declared.loaded.Range.{Range}
 use Rattle.app_loads.specs.declared.places.Region.{Region}
 use Rattle.app_loads.specs.declared.places.Region.TheVariants.{Rows}
 use Rattle.app_loads.specs.Regions.{IsRangeWithin, IsRegion, chip_count, place_of, region_size}
-use Rattle.app_loads.specs.Writing.{HasRoom, HaveRooms}
+use Rattle.app_loads.specs.Writing.{HasRoom}
 use Rattle.app_loads.proofs.Copying.{place_of_no_rows}
 use Rattle.app_loads.proofs.Settling.{rows_size}
 
