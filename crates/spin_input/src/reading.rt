@@ -22,9 +22,13 @@ use run_report::Refusal;
 use serde_json::Value;
 use spin_base::{ReadErr, Seq, Source, read_all};
 use std::alloc::Global;
+use std::mem;
 
 /// The most bytes of an input.
 const MOST_BYTES: u64 = 16_777_216;
+
+/// The most bytes of a text whose value is not freed.
+const MOST_UNFREED: usize = 8_388_608;
 
 /// The job that all bytes are which the source has left. It is read to its end, where nothing fails before.
 ///
@@ -138,19 +142,37 @@ fn input_of_text<I: Input>(alloc: Global, bytes: &[u8]) -> Result<I, Refusal>
         (λ r. (input_from (input_of I.faults I.value_of) (json_of bytes.now) ≡ Err r)
         ⊎ (r ≡ Memory)) }
 {
-    input_of_parsed(alloc, parse(alloc, bytes))
+    input_of_parsed(alloc, parse(alloc, bytes), bytes.len())
 }
 
-// The input that was parsed. Bytes that were not are refused as `unparsed` says: for want of memory exactly where parsing wanted it.
-fn input_of_parsed<I: Input>(alloc: Global, parsed: Result<Value, ParseErr>) -> Result<I, Refusal>
+// The input that was parsed from so many bytes. Bytes that were not are refused as `unparsed` says: for want of memory exactly where
+// parsing wanted it.
+fn input_of_parsed<I: Input>(
+    alloc: Global,
+    parsed: Result<Value, ParseErr>,
+    length: usize,
+) -> Result<I, Refusal>
     ensures read { MatchResult parsed
         (λ value. IsOrWantsMemory (input_of I.faults I.value_of (view value)) result)
         (λ error. result ≡ Err (unparsed error)) }
     ensures sound { IfOk result I.IsSound }
 {
     match parsed {
-        Ok(value) => fitted(I::of_value(alloc, &value)),
+        Ok(value) => {
+            let read = I::of_value(alloc, &value);
+            let_go(value, length);
+            fitted(read)
+        }
         Err(error) => Err(unparsed(error)),
+    }
+}
+
+// Lets a value go that was read, of a text of so many bytes. To free its many small parts one by one takes up to a fifth of a
+// command, and the system has all back at the command's end. So of a short text the value stays: a caller who goes on loses with each
+// short text that is read what its value takes. A long text's value is freed, since later stages may want its memory.
+fn let_go(value: Value, length: usize) {
+    if length <= MOST_UNFREED {
+        mem::forget(value);
     }
 }
 

@@ -12,4 +12,4 @@ pub returns-in-Ok-clause-read : goal.returns-in-Ok-clause-read
 returns-in-Ok-clause-read g c =
     subst (λ (p : Result Value ParseErr). MatchResult p (λ value. IsOrWantsMemory (input_of g.I.Input.faults g.I.Input.value_of (view value)) c.fitted.result) (λ error. c.fitted.result ≡ Err (unparsed error)))
     (sym c.in-Ok.is)
-    (fitted_input c.of_value.result c.fitted.result (g.I.Input.faults (view c.in-Ok.value)) (g.I.Input.value_of (view c.in-Ok.value)) c.of_value.ensures.read c.fitted.ensures)
+    (fitted_input c.of_value-read.result c.fitted.result (g.I.Input.faults (view c.in-Ok.value)) (g.I.Input.value_of (view c.in-Ok.value)) c.of_value-read.ensures.read c.fitted.ensures)
