@@ -17,6 +17,7 @@ WORDS = {"use", "mod", "abbrev", "record", "data", "unfoldable", "opaque"}
 
 # name: why it stands twice
 ALLOWED = {
+    "HasRoom": "place_fit: a chip has room for a vertex; app_loads: a range of entries has room for its places",
     "Misses": "tern_word: a block meets no alias of a row; tcam_find: a key lacks the values that entries have in common",
 }
 
