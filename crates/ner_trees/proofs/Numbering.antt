@@ -70,7 +70,8 @@ in_order_edges ns up are i j d less short before =
     let b : ℕ = slice_index_or ns j 0 in
     let e_is : slice_index_or (map edge_numbered ns) i d ≡ edge_numbered a = get_or-map edge_numbered ns i 0 d first in
     let f_is : slice_index_or (map edge_numbered ns) j d ≡ edge_numbered b = get_or-map edge_numbered ns j 0 d shorter in
-    let here : IsEdgeBefore (edge_numbered b) (edge_numbered a) = subst (IsEdgeBefore (edge_numbered b)) e_is (subst (λ (f : Edge). IsEdgeBefore f (slice_index_or (map edge_numbered ns) i d)) f_is before) in
+    let here : IsEdgeBefore (edge_numbered b) (edge_numbered a) =
+    subst (IsEdgeBefore (edge_numbered b)) e_is (subst (λ (f : Edge). IsEdgeBefore f (slice_index_or (map edge_numbered ns) i d)) f_is before) in
     let rises : edge_number (edge_numbered b) < edge_number (edge_numbered a) = number_rises (edge_numbered b) (edge_numbered a) (low_row b) here in
     let a_is : edge_number (edge_numbered a) ≡ a = All-get_or IsEdgeNumber ns i 0 first are in
     let b_is : edge_number (edge_numbered b) ≡ b = All-get_or IsEdgeNumber ns j 0 shorter are in

@@ -148,7 +148,7 @@ fn tree_of_root(alloc: Global, machine: &Machine, root: Chip) -> Result<GrowingT
     on.set(root)?;
     Ok(GrowingTree {
         root,
-        edges: Vec::with_capacity(alloc, 64)?,
+        edges: Vec::with_capacity(alloc, 128)?,
         on,
     })
 }
@@ -182,7 +182,7 @@ pub fn ner(
         IsTreeTo machine.now root g.tree.edges targets.now) }
 {
     let mut tree = tree_of_root(alloc, machine, root)?;
-    let mut joins = Seq::new(alloc);
+    let mut joins = Seq::from_vec(Vec::with_capacity(alloc, targets.len())?);
     let mut walk = Vec::with_capacity(alloc, 64)?;
     let mut links = Vec::with_capacity(alloc, 64)?;
     for target in targets.as_slice() {

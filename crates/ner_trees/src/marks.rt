@@ -31,7 +31,7 @@ impl<'m> Marks<'m> {
             t.items.items ≡ replicate (machine.now.width * machine.now.height) false) }
     {
         let items = vec![in alloc; false; machine.chips()]?;
-        let chips = Vec::with_capacity(alloc, 64)?;
+        let chips = Vec::with_capacity(alloc, 128)?;
         Ok(Marks {
             machine,
             items,

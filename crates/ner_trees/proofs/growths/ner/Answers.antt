@@ -13,8 +13,8 @@ loop-target-init c = record {
   machine = c.in_ok-tree.ensures.machine;
   root = c.in_ok-tree.ensures.root;
   grown =
-      so_far_start c.args.machine.now c.args.root c.in_ok-tree.tree.on.items.items c.in_ok-tree.tree.edges.items c.new-joins.result c.in_ok-tree.ensures.on_is
-      c.in_ok-tree.ensures.edges c.new-joins.ensures;
+      so_far_start c.args.machine.now c.args.root c.in_ok-tree.tree.on.items.items c.in_ok-tree.tree.edges.items c.from_vec-joins.result c.in_ok-tree.ensures.on_is
+      c.in_ok-tree.ensures.edges (c.from_vec-joins.ensures ∙ c.in_ok-with_capacity.ensures.items);
 }
 
 pub loop-target-preserved : goal.loop-target-preserved
