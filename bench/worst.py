@@ -22,7 +22,7 @@ each of bench/worst_apps.py, is run at its most, and those are named at the end 
     by_parity      `tables`: 2,046 nets along a path of so many chips, target 0: those of whose number the bits add up to an even sum also
                    go to each chip, so that two routes lie in one another as on a checkerboard
     in_groups      `tables`: 4,096 nets along such a path, of which four each go to the same chips, drawn at random: target 0
-    alike          `tables`: so many vertices, and 200,000 targets that name the last; all names have one word modulo four times their
+    alike          `tables`: so many vertices, and 200,000 targets that name the last; all names have one word modulo sixteen times their
                    number and one: so they have one slot
     in_a_bucket    `tables`: the same; the words of all names agree on the bits by which std's hash map tells names apart at first
     holes          `apps`: loads of so many nets together with fixed blocks of a key, each with a hole behind, upwards
@@ -175,7 +175,7 @@ def referred_to(names):
 
 
 def alike(size):
-    return referred_to(names_with(size, lambda name: word_of(name) % (4 * size + 1) == 0))
+    return referred_to(names_with(size, lambda name: word_of(name) % (16 * size + 1) == 0))
 
 
 def in_a_bucket(size):
