@@ -4,7 +4,7 @@ pub mod Determined
 mod Growing
 mod LongestFirst
 mod Nearest
-mod Numbering
+pub mod Numbering
 pub mod Ordered
 mod Searching
 mod Signed

@@ -5,28 +5,19 @@ use Rattle.std.specs.List.Sorted.{IsNonDecreasing}
 use Rattle.std.proofs.lemmas.List.{get_or-map, length-map}
 use Rattle.std.proofs.Math.ListN.{get_or-eq_default}
 use Rattle.std.proofs.lemmas.List.Elements.{All-get_or}
-use Rattle.spin_base.specs.declared.chips.Dir.{Dir}
-use Rattle.spin_base.specs.declared.chips.Dir.TheVariants.{East, NorthEast, North, West, SouthWest, South}
+use Rattle.spin_base.specs.declared.chips.Dir.TheVariants.{East}
 use Rattle.spin_base.specs.Links.{all_dirs, dir_at, dir_number}
+use Rattle.spin_base.proofs.Spots.{dir_at-dir_number}
 use Rattle.machine_desc.specs.declared.trees.Edge.{Edge}
 use Rattle.machine_desc.specs.EdgeOrder.{IsEdgeBefore}
 use Rattle.machine_desc.proofs.Same.{below_six}
 use Rattle.ner_trees.specs.EdgeNumbers.{edge_number, edge_numbered, IsEdgeNumber}
 
--- a link has its number alone
-pub link_back : (d : Dir) → dir_at (dir_number d) ≡ d
-link_back East = refl
-link_back NorthEast = refl
-link_back North = refl
-link_back West = refl
-link_back SouthWest = refl
-link_back South = refl
-
 pub no_link : (n : ℕ) → 6 ≤ n → dir_at n ≡ East
 no_link n more = get_or-eq_default all_dirs East more
 
 -- the digits of a number
-low_digit : (high low n : ℕ) → n ≡ high * 256 + low → low < 256 → n % 256 ≡ low
+pub low_digit : (high low n : ℕ) → n ≡ high * 256 + low → low < 256 → n % 256 ≡ low
 low_digit high low n is few = omega (arith, is, few)
 
 second_digit : (x y d n : ℕ) → n ≡ x * 65536 + y * 256 + d → y < 256 → d < 256 → n / 256 % 256 ≡ y
@@ -43,7 +34,7 @@ edge_back e n x_few y_few is =
     let x : n / 65536 % 256 ≡ e.chip.x = third_digit e.chip.x e.chip.y (dir_number e.dir) n is x_few y_few few in
     let y : n / 256 % 256 ≡ e.chip.y = second_digit e.chip.x e.chip.y (dir_number e.dir) n is y_few few in
     let high : n ≡ (e.chip.x * 256 + e.chip.y) * 256 + dir_number e.dir = omega (arith, is) in
-    let d : dir_at (n % 256) ≡ e.dir = ap dir_at (low_digit _ (dir_number e.dir) n high few) ∙ link_back e.dir in
+    let d : dir_at (n % 256) ≡ e.dir = ap dir_at (low_digit _ (dir_number e.dir) n high few) ∙ dir_at-dir_number e.dir in
     λ i. record { chip = record { x = x i; y = y i }; dir = d i }
 
 -- of an edge that comes before another the number is less

@@ -1,10 +1,8 @@
 use Rattle.std.proofs.Common.{◌≡◌, ◌∙◌, ℕ, ◌+◌, ◌*◌, ◌/◌, ◌%◌, ◌<◌, ap, arith}
+use Rattle.ner_trees.proofs.Numbering.{low_digit}
 use Rattle.net_plans.proofs.targets.spot_number.Goals as goal
 
--- what is left of a number of two digits, and what is not
-rest_is : (high low n : ℕ) → n ≡ high * 256 + low → low < 256 → n % 256 ≡ low
-rest_is high low n is few = omega (arith, is, few)
-
+-- the higher digits of a number
 high_is : (high low n : ℕ) → n ≡ high * 256 + low → low < 256 → n / 256 ≡ high
 high_is high low n is few = omega (arith, is, few)
 
@@ -30,7 +28,7 @@ returns-clause-y_back c =
     let core_fits : c.args.core < 256 = omega (arith, c.ranges.core.fits) in
     let is : n ≡ high * 256 + c.args.core = omega (arith, c.from.ensures, c.from-2.ensures, c.from-3.ensures) in
     let same : high ≡ c.args.x * 256 + c.args.y = omega arith in
-    ap (λ (k : ℕ). k % 256) (high_is high c.args.core n is core_fits) ∙ rest_is c.args.x c.args.y high same y_fits
+    ap (λ (k : ℕ). k % 256) (high_is high c.args.core n is core_fits) ∙ low_digit c.args.x c.args.y high same y_fits
 
 pub returns-clause-core_back : goal.returns-clause-core_back
 returns-clause-core_back c =
@@ -38,4 +36,4 @@ returns-clause-core_back c =
     let high : ℕ = c.args.x * 256 + c.args.y in
     let core_fits : c.args.core < 256 = omega (arith, c.ranges.core.fits) in
     let is : n ≡ high * 256 + c.args.core = omega (arith, c.from.ensures, c.from-2.ensures, c.from-3.ensures) in
-    rest_is high c.args.core n is core_fits
+    low_digit high c.args.core n is core_fits

@@ -1,5 +1,5 @@
 use Rattle.std.proofs.Common.{ℕ, ◌*◌, List, length, sym, subst}
-use Rattle.net_plans.specs.Boards.{AreOnBefore, TellsCores}
+use Rattle.net_plans.specs.Boards.{AreOnBefore, HasCoresOf}
 use Rattle.net_plans.specs.Targets.{AreTargets}
 use Rattle.net_plans.proofs.Boarding.{are_targets_on, ok_weaker}
 use Rattle.net_plans.proofs.targets.targets_of.Goals as goal
@@ -7,7 +7,7 @@ use Rattle.net_plans.proofs.targets.targets_of.Goals as goal
 pub returns-in-Some : goal.returns-in-Some
 returns-in-Some c =
     let board : List ℕ = c.deref.result.now in
-    let told : TellsCores board c.args.spots.now c.args.vertices.now =
-    subst (λ (b : List ℕ). TellsCores b c.args.spots.now c.args.vertices.now) (sym c.deref.ensures.value) (rw c.in-Some.is at c.in_ok-board.ensures.told) in
+    let told : HasCoresOf board c.args.spots.now c.args.vertices.now =
+    subst (λ (b : List ℕ). HasCoresOf b c.args.spots.now c.args.vertices.now) (sym c.deref.ensures.value) (rw c.in-Some.is at c.in_ok-board.ensures.told) in
     ok_weaker c.cores_on.result (AreOnBefore board (length board * 32)) (AreTargets c.args.spots.now c.args.vertices.now)
     (λ cores before. are_targets_on board c.args.spots.now c.args.vertices.now cores told before) c.cores_on.ensures
