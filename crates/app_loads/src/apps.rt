@@ -91,17 +91,17 @@ impl Apps {
         has_number(&self.numbers, number)
     }
 
-    /// Puts the spots of all loaded applications at the back of a list.
+    /// The spots of the application of a number, in the order of its vertices, or none where no application has it.
     ///
     /// # Errors
     ///
     /// `Memory` where memory runs out.
-    pub fn push_spots(&self, spots: &mut Vec<Spot>) -> Result<(), Memory>
-        ensures spots { OnOk result (spots.new.items ≡ spots.old.items ++ all_spots self.now.apps) }
-        ensures inside { All (λ s. IsInside self.now.mesh.setup.machine s.chip)
-            (all_spots self.now.apps) }
+    pub fn spots_of(&self, alloc: Global, number: u32) -> Result<Vec<Spot>, Memory>
     {
-        push_spots(&self.apps, spots)
+        match self.place_of(number) {
+            Some(at) => Ok(Vec::from_slice(alloc, self.apps[at].plan.spots.as_slice())?),
+            None => Ok(Vec::new(alloc)),
+        }
     }
 
     /// How many packets all loads so far had together. It takes no memory and constant time.
@@ -111,16 +111,6 @@ impl Apps {
     {
         self.packets
     }
-}
-
-// Puts the spots of all these applications at the back of a list.
-fn push_spots(apps: &[LoadedApp], spots: &mut Vec<Spot>) -> Result<(), Memory>
-    ensures { OnOk result (spots.new.items ≡ spots.old.items ++ all_spots apps.now) }
-{
-    for app in apps {
-        spots.extend_from_slice(app.plan.spots.as_slice())?;
-    }
-    Ok(())
 }
 
 // Puts an item in its place. What was there is dropped here, as a value of any type: so no caller drops a whole mesh.

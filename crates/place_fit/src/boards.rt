@@ -1,8 +1,10 @@
 // How far the chips of a machine are filled.
-ghost use Rattle.std.specs.Prelude.{◌≡◌, ℕ, ◌+◌, ◌-◌, ◌==◌, ◌^◌, ◌<◌, ◌≤◌, Some, length, slice_get, slice_set, slice_index, if◌then◌else◌, nat_lt, IfOk, IfSome, IfNone};
-ghost use Rattle.place_fit.specs.Boards.{IsBoard, IsEmptyBoard, IsNextCore, IsPlaceWithRoom, HasNoPlace, HasNoRoomAt, IsFairBoard, IsFreePlace, IsFilled, IsPut, IsPutOnCore, HasNoSpot, first_room};
+ghost use Rattle.std.specs.Prelude.{◌≡◌, ℕ, ◌+◌, ◌-◌, ◌==◌, ◌^◌, ◌<◌, ◌≤◌, Some, length, slice_get, slice_set, slice_index, if◌then◌else◌, IfOk, IfSome, IfNone};
+ghost use Rattle.std.specs.Int.{bit_at};
+ghost use Rattle.machine_desc.specs.Live.{is_usable};
+ghost use Rattle.place_fit.specs.Boards.{IsBoardOf, IsWholeBoard, IsPlaceWithRoom, HasNoPlace, HasNoRoomAt, IsFairBoard, IsFreePlace, IsFilled, IsPut, IsPutOnCore, HasNoSpot, room_left};
 ghost use Rattle.place_fit.specs.Curve.{IsCurveLevel};
-ghost use Rattle.place_fit.specs.Placement.{HasDeviceRoom, device_spot};
+ghost use Rattle.place_fit.specs.Placement.{HasDeviceRoom, core_spot, device_spot};
 
 use crate::curves::{curve, place_on_curve};
 use crate::rooms::Rooms;
@@ -11,13 +13,14 @@ use machine_desc::{Edge, Machine};
 use spin_base::{CORES, Chip, Memory, Seq, Spot};
 use std::alloc::Global;
 
-// The chips of the curve of a level. Beside each, its least free core, or 18; and how much room it has, which is one
-// more than the bytes that are left of its memory, and 0 where no core is free.
+// The chips of the curve of a level. Beside each, its free cores, as bits; and how much room it has, which is one more than
+// the bytes that are left of its memory, and 0 where no core is free.
 #[derive(Drop)]
 pub struct Board {
     pub level: u32,
+    pub sdram: u32,
     pub chips: Seq<Chip>,
-    pub cores: Vec<u8>,
+    pub cores: Vec<u32>,
     pub rooms: Rooms,
 }
 
@@ -29,22 +32,20 @@ pub struct Placed {
 }
 
 // The board on which no vertex stands.
-pub fn empty_board(alloc: Global, machine: &Machine) -> Result<Board, Memory>
-    ensures level { IfOk result (λ b. IsCurveLevel machine.now b.level) }
-    ensures board { IfOk result (λ b. IsBoard machine.now b.level b) }
-    ensures empty { IfOk result (IsEmptyBoard machine.now) }
-{
+pub fn empty_board(alloc: Global, machine: &Machine) -> Result<Board, Memory> {
     let level = level_of(machine);
     let chips = curve(alloc, level)?;
+    let sdram = machine.sdram();
     let mut cores = Vec::new(alloc);
     let mut rooms = Rooms::new(alloc, 2 * level)?;
     for (place, chip) in chips.as_slice().iter().enumerate() {
-        let core = next_core(machine, *chip, 0);
-        cores.push(core)?;
-        rooms.set(place, room_with(core, machine.sdram()));
+        let free = usable_cores(machine, *chip);
+        cores.push(free)?;
+        rooms.set(place, room_left(free, sdram));
     }
     Ok(Board {
         level,
+        sdram,
         chips,
         cores,
         rooms,
@@ -68,73 +69,49 @@ fn level_of(machine: &Machine) -> u32
     6
 }
 
-// The room of a chip with this least free core, of whose memory so many bytes are left.
-fn room_with(core: u8, left: u32) -> u64
-    ensures { result ≡ first_room core left }
-{
-    if core < CORES { u64::from(left) + 1 } else { 0 }
-}
-
-// The least usable core of a chip from a number on, or 18.
-fn next_core(machine: &Machine, chip: Chip, from: u8) -> u8
-    requires { from ≤ 18 }
-    ensures { IsNextCore machine.now chip from result }
-{
-    for core in from..CORES {
+// The cores of a chip that are usable, as bits.
+fn usable_cores(machine: &Machine, chip: Chip) -> u32 {
+    let mut cores = 0;
+    for core in 1..CORES {
         if machine.usable(Spot { chip, core }) {
-            return core;
+            cores |= 1 << core;
         }
     }
-    CORES
+    cores
+}
+
+// The room of a chip with these free cores, of whose memory so many bytes are left.
+fn room_left(cores: u32, left: u32) -> u64 {
+    if cores == 0 { 0 } else { u64::from(left) + 1 }
 }
 
 impl Board {
-    // Puts a vertex on the board: a device at its link, and any other on the least free core of the chip that is found.
-    pub fn put(&mut self, machine: &Machine, vertex: &Vertex) -> Option<Placed>
-        requires { IsFairBoard machine.now self.old }
-        ensures placed { IfSome result (IsPut machine.now self.old self.new vertex.now) }
-        ensures none { IfNone result (HasNoSpot machine.now self.old vertex.now) }
-    {
+    // Puts a vertex on the board: a device at its link, if the links are known, and any other on the least free core of the
+    // chip that is found.
+    pub fn put(&mut self, links: Option<&Machine>, vertex: &Vertex) -> Option<Placed> {
         match vertex.device {
-            Some(device) => at_link(machine, device),
-            None => self.put_on_core(machine, vertex),
+            Some(device) => at_link(links?, device),
+            None => self.put_on_core(vertex),
         }
     }
 
     // Puts a vertex on the least free core of the chip that is found for it.
-    fn put_on_core(&mut self, machine: &Machine, vertex: &Vertex) -> Option<Placed>
-        requires { IsFairBoard machine.now self.old }
-        ensures placed { IfSome result (IsPutOnCore machine.now self.old self.new vertex.now) }
-        ensures none { IfNone result (HasNoPlace machine.now self.old vertex.now) }
-    {
-        let place = self.find(machine, vertex)?;
-        Some(self.fill(machine, place, vertex.sdram))
+    fn put_on_core(&mut self, vertex: &Vertex) -> Option<Placed> {
+        let place = self.find(vertex)?;
+        Some(self.fill(place, vertex.sdram))
     }
 
     // The place of the chip on which a vertex stands: the first with room, or that of the chip that it names.
-    fn find(&self, machine: &Machine, vertex: &Vertex) -> Option<usize>
-        requires { IsBoard machine.now self.now.level self.now }
-        ensures found { IfSome result (IsPlaceWithRoom self.now vertex.now) }
-        ensures none { IfNone result (HasNoPlace machine.now self.now vertex.now) }
-    {
+    fn find(&self, vertex: &Vertex) -> Option<usize> {
         match vertex.at {
             None => self.rooms.first_above(u64::from(vertex.sdram)),
-            Some(chip) => self.named(machine, chip, vertex.sdram),
+            Some(chip) => self.named(chip, vertex.sdram),
         }
     }
 
     // The place of a chip, if it has room.
-    fn named(&self, machine: &Machine, chip: Chip, sdram: u32) -> Option<usize>
-        requires { IsBoard machine.now self.now.level self.now }
-        ensures within { IfSome result (λ place. place < length self.now.chips) }
-        ensures enough { IfSome result (λ place. sdram < slice_index self.now.rooms place) }
-        ensures there { IfSome result (λ place. slice_get self.now.chips place ≡ Some chip) }
-        ensures none { IfNone result (HasNoRoomAt machine.now self.now sdram chip) }
-    {
-        if !machine.live(chip) {
-            return None;
-        }
-        let place = place_on_curve(self.level, chip);
+    fn named(&self, chip: Chip, sdram: u32) -> Option<usize> {
+        let place = self.place_of(chip)?;
         if self.rooms.get(place) > u64::from(sdram) {
             Some(place)
         } else {
@@ -142,23 +119,60 @@ impl Board {
         }
     }
 
-    // Puts a vertex that needs so many bytes on the least free core of the chip at a place.
-    fn fill(&mut self, machine: &Machine, place: usize, sdram: u32) -> Placed
-        requires { IsFreePlace machine.now self.old place sdram }
-        ensures { IsFilled machine.now place sdram self.old self.new result }
-    {
-        let total = machine.sdram();
-        let chip = *self.chips.get(place);
-        let core = self.cores[place];
-        let left = self.rooms.get(place) - 1;
-        let next = next_core(machine, chip, core + 1);
-        self.cores[place] = next;
-        self.rooms
-            .set(place, room_with(next, (left - u64::from(sdram)) as u32));
-        Placed {
-            spot: Spot { chip, core },
-            memory: begin_of(sdram, u64::from(total) - left),
+    // The place of a chip, if the square has it.
+    fn place_of(&self, chip: Chip) -> Option<usize> {
+        let side = 1 << self.level;
+        if chip.x < side && chip.y < side {
+            Some(place_on_curve(self.level, chip))
+        } else {
+            None
         }
+    }
+
+    // Puts a vertex that needs so many bytes on the least free core of the chip at a place.
+    fn fill(&mut self, place: usize, sdram: u32) -> Placed {
+        let chip = *self.chips.get(place);
+        let free = self.cores[place];
+        let core = free.trailing_zeros();
+        let others = free & !(1 << core);
+        let left = self.rooms.get(place) - 1;
+        self.cores[place] = others;
+        self.rooms
+            .set(place, room_left(others, (left - u64::from(sdram)) as u32));
+        Placed {
+            spot: Spot {
+                chip,
+                core: core as u8,
+            },
+            memory: begin_of(sdram, u64::from(self.sdram) - left),
+        }
+    }
+
+    // The chips of these spots have all their memory.
+    pub fn settle(&mut self, spots: &[Spot]) {
+        for spot in spots {
+            if let Some(place) = self.place_of(spot.chip) {
+                self.make_whole(place);
+            }
+        }
+    }
+
+    // These cores are free, and their chips have all their memory.
+    pub fn give(&mut self, spots: &[Spot]) {
+        for spot in spots {
+            if spot.core < CORES {
+                if let Some(place) = self.place_of(spot.chip) {
+                    self.cores[place] |= 1 << spot.core;
+                    self.make_whole(place);
+                }
+            }
+        }
+    }
+
+    // The chip at a place has all its memory.
+    fn make_whole(&mut self, place: usize) {
+        self.rooms
+            .set(place, room_left(self.cores[place], self.sdram));
     }
 }
 

@@ -13,4 +13,4 @@ mod rooms;
 
 pub use curves::curve;
 pub use laws::placements_are_determined;
-pub use placing::{PlaceErr, Placement, place};
+pub use placing::{FreeCores, PlaceErr, Placement, place};
