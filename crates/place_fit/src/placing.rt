@@ -7,8 +7,8 @@ ghost use Rattle.app_graph.specs.ValidGraph.{IsValidGraph};
 ghost use Rattle.place_fit.specs.Placement.{IsPlacement};
 ghost use Rattle.place_fit.specs.Cause.{IsPlacementCause};
 
-use crate::boards::{Board, empty_board};
-use app_graph::{Graph, Vertex};
+use crate::boards::whole_board;
+use app_graph::Graph;
 use machine_desc::Machine;
 use spin_base::{Memory, Seq, Shared, Spot};
 use std::alloc::Global;
@@ -58,87 +58,15 @@ pub fn place(alloc: Global, machine: &Machine, graph: &Graph) -> Result<Placemen
     ensures cores { IfOk result (λ p. AllZip
         (λ (v : Vertex) s. v.device ≡ None → IsUsable machine.now s) graph.now.vertices p.spots) }
 {
-    let mut board = empty_board(alloc, machine)?;
-    let mut spots = Vec::new(alloc);
-    let mut memory = Vec::new(alloc);
-    put_all(
-        &mut board,
-        Some(machine),
-        graph.vertices.as_slice(),
-        &mut spots,
-        &mut memory,
-    )?;
-    Ok(Placement {
-        spots: Seq::from_vec(spots),
-        memory: Seq::from_vec(memory),
-    })
-}
-
-// Puts all these vertices on a board, with their spots and where their memories begin into two lists.
-fn put_all(
-    board: &mut Board,
-    links: Option<&Machine>,
-    vertices: &[Vertex],
-    spots: &mut Vec<Spot>,
-    memory: &mut Vec<u64>,
-) -> Result<(), PlaceErr> {
-    for (i, vertex) in vertices.iter().enumerate() {
-        reserve_one(spots, memory)?;
-        let Some(placed) = board.put(links, vertex) else {
+    let mut board = whole_board(alloc, machine)?;
+    let mut spots = Seq::new(alloc);
+    let mut memory = Seq::new(alloc);
+    for (i, vertex) in graph.vertices.as_slice().iter().enumerate() {
+        let Some(placed) = board.put(machine, vertex) else {
             return Err(PlaceErr::NoRoom { vertex: i as u32 });
         };
-        spots.push_reserved(placed.spot);
-        memory.push_reserved(placed.memory);
+        spots.push(placed.spot)?;
+        memory.push(placed.memory)?;
     }
-    Ok(())
-}
-
-fn reserve_one(spots: &mut Vec<Spot>, memory: &mut Vec<u64>) -> Result<(), Memory> {
-    spots.reserve(1)?;
-    memory.reserve(1)?;
-    Ok(())
-}
-
-/// The cores of a machine that are free.
-#[derive(Drop)]
-pub struct FreeCores {
-    board: Board,
-}
-
-impl FreeCores {
-    /// The usable cores of a machine.
-    pub fn of(alloc: Global, machine: &Machine) -> Result<FreeCores, Memory> {
-        let board = empty_board(alloc, machine)?;
-        Ok(FreeCores { board })
-    }
-
-    /// Places vertices, none of them a device.
-    pub fn place(&mut self, alloc: Global, graph: &Graph) -> Result<Placement, PlaceErr> {
-        let mut spots = Vec::new(alloc);
-        let mut memory = Vec::new(alloc);
-        match put_all(
-            &mut self.board,
-            None,
-            graph.vertices.as_slice(),
-            &mut spots,
-            &mut memory,
-        ) {
-            Ok(()) => {
-                self.board.settle(&spots);
-                Ok(Placement {
-                    spots: Seq::from_vec(spots),
-                    memory: Seq::from_vec(memory),
-                })
-            }
-            Err(e) => {
-                self.board.give(&spots);
-                Err(e)
-            }
-        }
-    }
-
-    /// These cores are free again.
-    pub fn give(&mut self, spots: &[Spot]) {
-        self.board.give(spots);
-    }
+    Ok(Placement { spots, memory })
 }
