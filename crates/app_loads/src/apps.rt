@@ -1,9 +1,10 @@
 // The applications of a machine, and what can be asked of them.
-ghost use Rattle.std.specs.Prelude.{◌≡◌, ◌==◌, ◌+◌, ◌≤◌, ◌++◌, ◌∷◌, [], All, IfOk, OnOk, Some, vec_capacity, vec_len};
+ghost use Rattle.std.specs.Prelude.{◌≡◌, ◌==◌, ◌+◌, ◌≤◌, ◌++◌, ◌∷◌, [], Contains, IfOk, OnOk, Some, false, vec_capacity, vec_len};
 ghost use Rattle.std.specs.List.{list_any, remove};
 ghost use Rattle.spin_base.specs.Equality.{spot_eq};
 ghost use Rattle.app_loads.specs.Applications.{AreApps};
-ghost use Rattle.app_loads.specs.Host.{all_spots, is_free_spot, is_loaded, is_spot_taken};
+ghost use Rattle.app_loads.specs.declared.loaded.LoadedApp.{LoadedApp as AnApp};
+ghost use Rattle.app_loads.specs.Host.{is_free_spot, is_loaded, is_spot_taken};
 ghost use Rattle.app_loads.specs.Inner.{HaveRoomForOne, IsInBoth};
 ghost use Rattle.app_loads.specs.Opening.{bare_host};
 
@@ -97,11 +98,16 @@ impl Apps {
     ///
     /// `Memory` where memory runs out.
     pub fn spots_of(&self, alloc: Global, number: u32) -> Result<Vec<Spot>, Memory>
+        ensures spots { IfOk result (λ spots. (app : AnApp) → Contains self.now.apps app
+            → app.number ≡ number → spots.items ≡ app.plan.spots) }
+        ensures none { IfOk result (λ spots. is_loaded self.now.apps number ≡ false
+            → spots.items ≡ []) }
     {
-        match self.place_of(number) {
-            Some(at) => Ok(Vec::from_slice(alloc, self.apps[at].plan.spots.as_slice())?),
-            None => Ok(Vec::new(alloc)),
-        }
+        let Some(at) = self.place_of(number) else {
+            return Ok(Vec::new(alloc));
+        };
+        let app = &self.apps[at];
+        Ok(Vec::from_slice(alloc, app.plan.spots.as_slice())?)
     }
 
     /// How many packets all loads so far had together. It takes no memory and constant time.

@@ -1,5 +1,6 @@
 -- Cores and memory given back to a board.
-use Rattle.std.proofs.Common.{◌≡◌, ◌≢◌, ℕ, zero, suc, ◌-◌, ◌^◌, ◌<◌, ◌≤◌, ◌==◌, Bool, true, false, ◌||◌, cond, List, [], ◌∷◌, ◌++◌, length, set, get_or, refl, sym, ap, ap₂, ◌∙◌, subst, Some, slice_get, inl, inr, arith}
+use Rattle.std.proofs.Common.{◌≡◌, ◌≢◌, ℕ, zero, suc, ◌-◌, ◌^◌, ◌<◌, ◌≤◌, ◌==◌, Bool, true, false, ◌||◌, cond, List, [], ◌∷◌, ◌++◌}
+use Rattle.std.proofs.Common.{length, set, get_or, refl, sym, ap, ap₂, ◌∙◌, subst, Some, slice_get, inl, inr, arith}
 use Rattle.std.specs.Int.{bit_at}
 use Rattle.std.specs.List.{list_any}
 use Rattle.std.proofs.lemmas.Bool.{cases_Bool, cases_eq, cases_lt, and_left, and_right, and_from, both_ways, cond-true, cond-false, or_parts}
@@ -30,7 +31,8 @@ or_none false = refl
 
 -- ---- one spot
 
-module _ (old mid new : Board) (s : Spot) (place : ℕ) (was : IsBoard old) (board : IsBoard mid) (level : mid.level ≡ old.level) (sdram : mid.sdram ≡ old.sdram) (chips : mid.chips ≡ old.chips) (rooms : mid.rooms ≡ old.rooms)
+module _ (old mid new : Board) (s : Spot) (place : ℕ) (was : IsBoard old) (board : IsBoard mid) (level : mid.level ≡ old.level)
+    (sdram : mid.sdram ≡ old.sdram) (chips : mid.chips ≡ old.chips) (rooms : mid.rooms ≡ old.rooms)
     (at : slice_get old.chips place ≡ Some s.chip) (kept : (q : ℕ) → q ≢ place → get_or mid.cores.items q 0 ≡ get_or old.cores.items q 0)
     (is : new ≡ record mid { rooms = set mid.rooms place (room_left (get_or mid.cores.items place 0) mid.sdram) }) where
   on_curve : (q : ℕ) (c : Chip) → slice_get old.chips q ≡ Some c → slice_get (hilbert old.level) q ≡ Some c
@@ -112,7 +114,8 @@ module _ (old mid new : Board) (s : Spot) (place : ℕ) (was : IsBoard old) (boa
         let bits : get_or new.cores.items q 0 ≡ get_or old.cores.items q 0 = ap (λ l. get_or l q 0) (same_cores ∙ same) in
         let differs : (p == s.core) ≡ false = (let apart : p ≢ s.core = λ e. omega (arith, e, low, high) in grind (arith, nat_tests)) in
         ap (λ n. bit_at n p) bits
-        ∙ sym (cond-false (list_any (spot_eq (core_spot c p)) (s ∷ [])) 1 (bit_at (get_or old.cores.items q 0) p) (or_none (spot_eq (core_spot c p) s) ∙ and_right (chip_eq c s.chip) (p == s.core) differs));
+        ∙ sym (cond-false (list_any (spot_eq (core_spot c p)) (s ∷ [])) 1 (bit_at (get_or old.cores.items q 0) p)
+        (or_none (spot_eq (core_spot c p) s) ∙ and_right (chip_eq c s.chip) (p == s.core) differs));
   }
 
   given_one : IsJoined (get_or old.cores.items place 0) s.core (get_or mid.cores.items place 0) → AreGiven (s ∷ []) old new
@@ -153,41 +156,11 @@ given old mid new s place was freed at is =
 
 -- ---- one spot after others
 
-few_set : (xs : List ℕ) (i x : ℕ) → ((q : ℕ) → get_or xs q 0 < 2 ^ 18) → x < 2 ^ 18 → (q : ℕ) → get_or (set xs i x) q 0 < 2 ^ 18
-few_set [] i x all low q = all q
-few_set (y ∷ ys) zero x all low zero = low
-few_set (y ∷ ys) zero x all low (suc q) = all (suc q)
-few_set (y ∷ ys) (suc i) x all low zero = all 0
-few_set (y ∷ ys) (suc i) x all low (suc q) = few_set ys i x (λ k. all (suc k)) low q
-
 pub few_push : (xs : List ℕ) (x : ℕ) → ((q : ℕ) → get_or xs q 0 < 2 ^ 18) → x < 2 ^ 18 → (q : ℕ) → get_or (xs ++ x ∷ []) q 0 < 2 ^ 18
 few_push [] x all low zero = low
 few_push [] x all low (suc q) = all q
 few_push (y ∷ ys) x all low zero = all 0
 few_push (y ∷ ys) x all low (suc q) = few_push ys x (λ k. all (suc k)) low q
-
--- a board where a chip's cores are others
-pub board_with : (old new : Board) (place cores : ℕ) → IsBoard old → new.level ≡ old.level → new.chips ≡ old.chips → length new.rooms ≡ length old.rooms → new.cores.items ≡ set old.cores.items place cores → cores < 2 ^ 18 → IsBoard new
-board_with old new place cores board level chips rooms is few = record {
-  small = subst (λ (n : ℕ). n ≤ 6) (sym level) board.small;
-  chips = chips ∙ (board.chips ∙ ap hilbert (sym level));
-  cores = ap length is ∙ (length-set old.cores.items place cores ∙ (board.cores ∙ ap length (sym chips)));
-  rooms = rooms ∙ (board.rooms ∙ ap length (sym chips));
-  few = λ q. subst (λ (l : List ℕ). get_or l q 0 < 2 ^ 18) (sym is) (few_set old.cores.items place cores board.few few q);
-}
-
-pub freed : (old new : Board) (place core cores : ℕ) → IsBoard old → place < length old.chips → core < 18 → new.level ≡ old.level → new.sdram ≡ old.sdram → new.chips ≡ old.chips → new.rooms ≡ old.rooms
-    → IsJoined (get_or old.cores.items place 0) core cores → new.cores.items ≡ set old.cores.items place cores → IsFreed place core old new
-freed old new place core cores board within low level sdram chips rooms joined is = record {
-  level = level;
-  sdram = sdram;
-  chips = chips;
-  rooms = rooms;
-  board = board_with old new place cores board level chips (ap length rooms) is joined.few;
-  others = λ q other. ap (λ l. get_or l q 0) is ∙ get_or-set_other old.cores.items place q cores 0 other;
-  low = λ _. subst (IsJoined (get_or old.cores.items place 0) core) (sym (ap (λ l. get_or l place 0) is ∙ get_or-set_same old.cores.items place cores 0 (omega (arith, within, board.cores)))) joined;
-  high = λ high. absurd (omega (arith, low, high));
-}
 
 -- a vertex more leaves the chips without spots as they were
 pub kept_more : (spots : List Spot) (a b c : Board) (place sdram : ℕ) (r : Placed) → AreKept spots a b → IsFilled place sdram b c r → AreKept (spots ++ r.spot ∷ []) a c
@@ -247,7 +220,8 @@ module _ (spots : List Spot) (s : Spot) (a b c : Board) where
               ∙ (ap (room_left (get_or c.cores.items q 0)) first.sdram
               ∙ sym (cond-true all x y (both d ∙ or_right_true (has_spot_on d spots) (has_spot_on d (s ∷ [])) last))))
           | inr not_last ↦ (
-              let read : get_or c.rooms q 0 ≡ get_or b.rooms q 0 = then.rooms q d there ∙ cond-false (has_spot_on d (s ∷ [])) (room_left (get_or c.cores.items q 0) b.sdram) (get_or b.rooms q 0) not_last in
+              let read : get_or c.rooms q 0 ≡ get_or b.rooms q 0 =
+              then.rooms q d there ∙ cond-false (has_spot_on d (s ∷ [])) (room_left (get_or c.cores.items q 0) b.sdram) (get_or b.rooms q 0) not_last in
               let cores : get_or c.cores.items q 0 ≡ get_or b.cores.items q 0 = then.cores q d there not_last in
               elim (cases_Bool (has_spot_on d spots)) [
                 | inl before ↦ read

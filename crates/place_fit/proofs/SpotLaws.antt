@@ -29,10 +29,11 @@ use Rattle.place_fit.specs.Curve.{hilbert, IsCurveLevel}
 use Rattle.place_fit.specs.Quarters.{curve_place}
 use Rattle.place_fit.proofs.CurveLaws.{at_place}
 use Rattle.place_fit.specs.Boards.{AreFreeOn, AreGiven, AreSettled, IsBoard, IsWithout, IsWholeBoard, IsPlaceWithRoom, HasNoRoomAt, HasNoPlace, IsFilled, IsPutOnCore, IsPutAtLink, IsPut, HasNoSpot}
-use Rattle.place_fit.specs.Placement.{core_spot, need_of, used_on, HasRoom, IsFirstChip, choices, IsCoreFor, HasDeviceRoom, device_spot, IsSpotFor, FindsNoRoom, HasNoRoom, IsPlacement, AreFirstSpots, AreFirstMemories, memory_of}
+use Rattle.place_fit.specs.Placement.{core_spot, need_of, used_on, HasRoom, IsFirstChip, choices, IsCoreFor, HasDeviceRoom, device_spot, IsSpotFor, FindsNoRoom, HasNoRoom, AreFirstSpots, AreFirstMemories, memory_of}
 use Rattle.place_fit.specs.Standing.{ArePlaced, IsTold, Stands}
 use Rattle.place_fit.proofs.Giving.{high_bit, same_curve}
-use Rattle.place_fit.proofs.Standing.{and_last, live_in, free_parts, free_at, bit_of_free, has_room, cores_with_room, room_for, usable_parts, is_taken, need_of_core, need_of_device, stands_first, stands_more as one_stands_more, stands_device}
+use Rattle.place_fit.proofs.Standing.{and_last, live_in, free_parts, free_at, bit_of_free, has_room, cores_with_room, room_for, usable_parts}
+use Rattle.place_fit.proofs.Standing.{is_taken, need_of_core, need_of_device, stands_first, stands_more as one_stands_more, stands_device}
 
 -- the first item that passes is the first of those that pass a test, if it passes it
 first_from_place : (P : Chip → Type 0) (test : Chip → Bool) (xs : List Chip) (q : ℕ) (c : Chip) → slice_get xs q ≡ Some c → P c → test c ≡ true
@@ -234,7 +235,8 @@ placed_none m vertices b whole free = record {
   memories = no_memory_yet vertices;
 }
 
-module _ (m : Description) (vertices : List Vertex) (i : ℕ) (v : Vertex) (is : slice_get vertices i ≡ Some v) (spots : List Spot) (here : length spots ≡ i) (memory : List ℕ) (b : Board) (placed : ArePlaced m vertices spots memory b) where
+module _ (m : Description) (vertices : List Vertex) (i : ℕ) (v : Vertex) (is : slice_get vertices i ≡ Some v) (spots : List Spot) (here : length spots ≡ i) (memory : List ℕ)
+    (b : Board) (placed : ArePlaced m vertices spots memory b) where
   pub stands_here : Stands m (take i vertices) spots b
   stands_here = subst (λ n. Stands m (take n vertices) spots b) here placed.stands
 
@@ -262,15 +264,6 @@ module _ (m : Description) (vertices : List Vertex) (i : ℕ) (v : Vertex) (is :
     is = is;
     none = none;
   }
-
-pub is_placement : (m : Description) (vertices : List Vertex) (spots : List Spot) (memory : List ℕ) (b : Board) → ArePlaced m vertices spots memory b → length spots ≡ length vertices → IsPlacement m vertices spots memory
-is_placement m vertices spots memory b placed all = record {
-  order = filter (is_live_chip m) (hilbert b.level);
-  is_order = record { level = b.level; is_level = placed.stands.level; live = refl };
-  first = placed.first;
-  all = all;
-  memories = placed.memories;
-}
 
 -- ---- what follows for the layers above
 
@@ -353,7 +346,8 @@ module _ (m : Description) (order : List Chip) (vertices : List Vertex) (spots :
   pub cores_usable : All (λ (v : Vertex). v.device ≡ None) vertices → All (IsUsable m) spots
   cores_usable none j d inside =
       let at = vertex_at j (get_or spots j d) (slice_get-get_or spots j d inside) in
-      let core = subst (λ o. MatchOption o (IsCoreFor m order (take j vertices) (take j spots) at.vertex (get_or spots j d)) (λ device. HasDeviceRoom m device × (get_or spots j d ≡ device_spot device)))
+      let s = get_or spots j d in
+      let core = subst (λ o. MatchOption o (IsCoreFor m order (take j vertices) (take j spots) at.vertex s) (λ device. HasDeviceRoom m device × (s ≡ device_spot device)))
       (All-at (λ (v : Vertex). v.device ≡ None) vertices j at.vertex none at.is) at.spot in
       (free_parts m (take j spots) (get_or spots j d) core.free).0
 

@@ -270,7 +270,8 @@ module _ (m : Description) (vs : List Vertex) (ss : List Spot) (old new : Board)
               | inl here ↦ (
                   let same_chip : Some r.spot.chip ≡ Some c = sym filled.chip ∙ (ap (slice_get old.chips) (sym here) ∙ at) in
                   let chip_is : r.spot.chip ≡ c = cc in
-                  let told = told_here m vs ss stands.same v r.spot.chip (get_or old.cores.items place 0) (get_or old.rooms place 0) here_told r.spot.core others plain enough here_some filled.parted in
+                  let told =
+                  told_here m vs ss stands.same v r.spot.chip (get_or old.cores.items place 0) (get_or old.rooms place 0) here_told r.spot.core others plain enough here_some filled.parted in
                   let told_spot = subst (λ s. IsTold m (vs ++ v ∷ []) (ss ++ s ∷ []) r.spot.chip others room) spot_is told in
                   let told_chip = subst (λ z. IsTold m (vs ++ v ∷ []) (ss ++ r.spot ∷ []) z others room) chip_is told_spot in
                   let core_is : get_or new.cores.items q 0 ≡ others = ap (λ l. get_or l q 0) filled.cores ∙ (ap (λ n. get_or (set old.cores.items place others) n 0) here ∙ get_or-set_same old.cores.items place others 0 (omega (arith, within, b.cores))) in

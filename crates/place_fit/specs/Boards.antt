@@ -53,6 +53,11 @@ pub record IsBoard (b : Board) : Type 0 where
   pub rooms : length b.rooms ≡ length b.chips
   pub few : (q : ℕ) → slice_index b.cores.items q < 2 ^ 18
 
+-- a place of a board
+pub record IsPlaceOf (b : Board) (place : ℕ) : Type 0 where
+  pub board : IsBoard b
+  pub within : place < length b.chips
+
 -- the room of a chip with these free cores, of whose memory so many bytes are left
 abbrev pub room_left : ℕ → ℕ → ℕ
 room_left cores left = if cores == 0 then 0 else left + 1

@@ -1,7 +1,7 @@
 // How far the chips of a machine are filled.
 ghost use Rattle.std.specs.Prelude.{◌≡◌, ℕ, ◌==◌, ◌^◌, ◌<◌, ◌≤◌, ◌∷◌, [], Some, length, slice_get, slice_index, slice_set, if◌then◌else◌, IfOk, IfSome, IfNone};
 ghost use Rattle.machine_desc.specs.Live.{is_usable};
-ghost use Rattle.place_fit.specs.Boards.{AreCores, AreFreeOn, AreGiven, AreSettled, IsBoard, IsWholeBoard, IsFairBoard, IsParted, IsJoined, IsPlaceWithRoom, HasNoPlace, HasNoRoomAt, IsFreePlace, IsFilled, IsFreed, IsPut, IsPutOnCore, HasNoSpot, room_left};
+ghost use Rattle.place_fit.specs.Boards.{AreCores, AreFreeOn, AreGiven, AreSettled, IsBoard, IsWholeBoard, IsFairBoard, IsParted, IsJoined, IsPlaceOf, IsPlaceWithRoom, HasNoPlace, HasNoRoomAt, IsFreePlace, IsFilled, IsFreed, IsPut, IsPutOnCore, HasNoSpot, room_left};
 ghost use Rattle.place_fit.specs.Curve.{IsCurveLevel};
 ghost use Rattle.place_fit.specs.Placement.{HasDeviceRoom, device_spot};
 
@@ -87,8 +87,7 @@ fn usable_cores(machine: &Machine, chip: Chip) -> u32
 
 // These cores, and one.
 fn joined(cores: u32, core: u8) -> u32
-    requires few { cores < 2 ^ 18 }
-    requires core { core < 18 }
+    requires { (core < 18) × (cores < 2 ^ 18) }
     ensures { IsJoined cores core result }
 {
     cores | 1 << core
@@ -96,8 +95,7 @@ fn joined(cores: u32, core: u8) -> u32
 
 // The least of these cores, and the others.
 fn parted(cores: u32) -> (u8, u32)
-    requires some { 0 < cores }
-    requires few { cores < 2 ^ 18 }
+    requires { (0 < cores) × (cores < 2 ^ 18) }
     ensures { IsParted cores result.0 result.1 }
 {
     let least = cores.trailing_zeros();
@@ -243,8 +241,7 @@ impl Board {
 
     // The core of the chip at a place is free, if the chip has that core.
     fn free_core(&mut self, place: usize, core: u8)
-        requires board { IsBoard self.old }
-        requires within { place < length self.old.chips }
+        requires { IsPlaceOf self.old place }
         ensures { IsFreed place core self.old self.new }
     {
         if core < CORES {
@@ -254,8 +251,7 @@ impl Board {
 
     // The chip at a place has all its memory.
     fn make_whole(&mut self, place: usize)
-        requires board { IsBoard self.old }
-        requires within { place < length self.old.chips }
+        requires { IsPlaceOf self.old place }
         ensures { self.new ≡ record self.old {
           rooms = slice_set self.old.rooms place
               (room_left (slice_index self.old.cores.items place) self.old.sdram);

@@ -41,7 +41,6 @@ use Rattle.net_plans.specs.Cause.{IsNetCause, IsCauseOne}
 use Rattle.net_plans.specs.declared.nets.NetErr.{NetErr}
 use Rattle.net_plans.specs.declared.nets.NetErr.TheVariants as nets
 use Rattle.place_fit.specs.Cause.{IsPlacementCause as IsPlaceCause}
-use Rattle.place_fit.specs.Placement.{HasNoRoom}
 use Rattle.place_fit.specs.declared.placing.PlaceErr.{PlaceErr}
 use Rattle.place_fit.specs.declared.placing.PlaceErr.TheVariants as places
 
@@ -148,9 +147,9 @@ module _ {h : Host} {m : Description} {job : AppJob} {spots : List Spot} {sdram 
 
 -- ---- refusals
 
-pub why_unplaced : (h : Host) (free : Description) (job : AppJob) (e : PlaceErr) → free ≡ free_machine h → IsPlaceCause free job.graph.vertices e → IsWhyUnplanned h job (unplaced e)
-why_unplaced h free job (places.NoRoom vertex) is none = subst (λ (x : Description). HasNoRoom x job.graph.vertices vertex) is none
-why_unplaced h free job places.Memory is none = tt
+pub why_unplaced : (h : Host) (job : AppJob) (e : PlaceErr) → IsPlaceCause (free_machine h) job.graph.vertices e → IsWhyUnplanned h job (unplaced e)
+why_unplaced h job (places.NoRoom vertex) none = none
+why_unplaced h job places.Memory none = tt
 
 pub why_unrouted : {h : Host} {m : Description} {job : AppJob} {spots : List Spot} (e : NetErr) → h.mesh.setup.machine ≡ m → IsPlaced h job spots → IsNetCause m spots job.graph.nets e →
     IsWhyUnplanned h job (unrouted e)

@@ -1,10 +1,16 @@
 // A machine with its applications, and what it answers.
-ghost use Rattle.std.specs.Prelude.{◌≡◌, ◌≤◌, IfOk, OnOk};
+ghost use Rattle.std.specs.Prelude.{◌≡◌, ◌≤◌, ℕ, IfOk, OnOk, false};
 ghost use Rattle.app_loads.specs.Applications.{AreApps};
+ghost use Rattle.app_loads.specs.Host.{Host, is_loaded};
+ghost use Rattle.app_loads.specs.Loading.{IsWhyNotLoaded};
 ghost use Rattle.app_loads.specs.Opening.{bare_host};
-ghost use Rattle.app_loads.specs.Plans.{MayLoad};
+ghost use Rattle.app_loads.specs.declared.plans.AppPlan.{AppPlan as APlan};
+ghost use Rattle.job_requests.specs.declared.steps.AppJob.{AppJob as AJob};
+ghost use Rattle.place_fit.specs.Boards.{AreFreeOn};
 ghost use Rattle.spin_apps.specs.Answers.{HasDrained, IsLoadAnswer, IsUnloadAnswer};
-ghost use Rattle.spin_apps.specs.Hosting.{HasNumbersFor, IsTaken};
+ghost use Rattle.spin_apps.specs.Free.{free_machine};
+ghost use Rattle.spin_apps.specs.Hosting.{CanTakePlan, HasNumbersFor, IsTaken};
+ghost use Rattle.spin_apps.specs.Plans.{IsWhyUnplanned};
 
 use crate::plans::{PlanErr, plan_of};
 use app_loads::{AppPlan, Apps, LoadErr, LoadRefusal, UnloadErr};
@@ -101,22 +107,8 @@ impl Hosted {
             return Ok(LoadAnswer::Refused(LoadRefusal::Loaded));
         }
         match plan_of(alloc, &self.machine, &self.roads, &mut self.free, job) {
-            Ok(plan) => self.take(alloc, number, &plan),
-            Err(PlanErr::NoRoom { vertex }) => Ok(LoadAnswer::NoRoom { vertex }),
-            Err(PlanErr::CutOff { net, target }) => Ok(LoadAnswer::CutOff { net, target }),
-            Err(PlanErr::Memory) => Err(Memory),
-        }
-    }
-
-    // Loads a plan under a number, whose cores were taken. After a refusal they are free again.
-    fn take(&mut self, alloc: Global, number: u32, plan: &AppPlan) -> Result<LoadAnswer, Memory>
-    {
-        match self.apps.load(alloc, number, plan) {
-            Ok(()) => Ok(LoadAnswer::Done),
-            Err(e) => {
-                self.free.give(plan.spots.as_slice());
-                refused(e)
-            }
+            Ok(plan) => take(alloc, &mut self.apps, &mut self.free, number, &plan),
+            Err(e) => unplanned(e),
         }
     }
 
@@ -149,11 +141,48 @@ impl Hosted {
     }
 }
 
+// Loads a plan under a number, whose cores were taken. After a refusal they are free again.
+fn take(
+    alloc: Global,
+    apps: &mut Apps,
+    free: &mut FreeCores,
+    number: u32,
+    plan: &AppPlan,
+) -> Result<LoadAnswer, Memory>
+    requires { CanTakePlan apps.old plan.now free.old }
+    ensures taken { IfOk result (λ a. IsTaken apps.old number plan.now a apps.new) }
+    ensures apps { AreApps apps.new }
+    ensures machine { apps.new.mesh.setup.machine ≡ apps.old.mesh.setup.machine }
+    ensures free { AreFreeOn (free_machine apps.new) free.new }
+{
+    match apps.load(alloc, number, plan) {
+        Ok(()) => Ok(LoadAnswer::Done),
+        Err(e) => {
+            free.give(plan.spots.as_slice());
+            refused(e)
+        }
+    }
+}
+
 // What a load is answered that is refused.
 fn refused(e: LoadErr) -> Result<LoadAnswer, Memory>
+    ensures { (h : Host) (number : ℕ) (plan : APlan) → IsWhyNotLoaded h number plan e → IfOk result
+        (λ a. IsTaken h number plan a h) }
 {
     match e {
         LoadErr::Refused(refusal) => Ok(LoadAnswer::Refused(refusal)),
         LoadErr::Memory => Err(Memory),
+    }
+}
+
+// What a load is answered that has no plan.
+fn unplanned(e: PlanErr) -> Result<LoadAnswer, Memory>
+    ensures { (h : Host) (number : ℕ) (job : AJob) → is_loaded h.apps number ≡ false
+        → IsWhyUnplanned h job e → IfOk result (λ a. IsLoadAnswer h number job a h) }
+{
+    match e {
+        PlanErr::NoRoom { vertex } => Ok(LoadAnswer::NoRoom { vertex }),
+        PlanErr::CutOff { net, target } => Ok(LoadAnswer::CutOff { net, target }),
+        PlanErr::Memory => Err(Memory),
     }
 }

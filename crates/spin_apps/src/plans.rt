@@ -1,17 +1,19 @@
 // The plan by which a job is loaded.
-ghost use Rattle.std.specs.Prelude.{◌≡◌, All, IfOk, IfErr, false, map};
+ghost use Rattle.std.specs.Prelude.{◌≡◌, All, IfOk, IfErr, map};
 ghost use Rattle.std.specs.List.{AllZip};
 ghost use Rattle.machine_desc.specs.Live.{IsUsable};
 ghost use Rattle.app_graph.specs.declared.graphs.Vertex.{Vertex as VertexOf};
 ghost use Rattle.net_plans.specs.Cause.{IsNetCause, IsCauseOne};
 ghost use Rattle.net_plans.specs.CutOffTargets.{HasNoneCutOff};
 ghost use Rattle.job_requests.specs.Valid.{IsValidJob};
-ghost use Rattle.app_loads.specs.Plans.{IsAppNet, IsPlan};
-ghost use Rattle.app_loads.specs.Host.{is_spot_taken};
-ghost use Rattle.spin_apps.specs.Making.{CanRouteNet, CanRouteNets, IsPlaced, unplaced, unrouted, unrouted_net};
-ghost use Rattle.spin_apps.specs.Plans.{IsNetFor, IsPlanFor, IsWhyUnplanned};
+ghost use Rattle.app_loads.specs.Plans.{IsAppNet};
+ghost use Rattle.app_loads.specs.Host.{Host};
+ghost use Rattle.place_fit.specs.Boards.{AreFreeOn};
+ghost use Rattle.spin_apps.specs.Free.{free_machine};
+ghost use Rattle.spin_apps.specs.Making.{ArePlacedOn, CanPlan, CanRouteNet, CanRouteNets, HasFreeCores, IsNoPlanOn, IsPlanOn, unplaced, unrouted, unrouted_net};
+ghost use Rattle.spin_apps.specs.Plans.{IsNetFor};
 
-use app_graph::{Graph, Net, Vertex};
+use app_graph::{Net, Vertex};
 use app_loads::{AppNet, AppPlan};
 use job_requests::AppJob;
 use link_detours::{RepairErr, Roads};
@@ -53,10 +55,15 @@ pub(crate) fn plan_of(
     free: &mut FreeCores,
     job: &AppJob,
 ) -> Result<AppPlan, PlanErr>
+    requires { CanPlan machine.now roads.now free.old job.now }
+    ensures plan { (h : Host) → HasFreeCores h machine.now free.old → IfOk result
+        (IsPlanOn h job.now free.new) }
+    ensures none { (h : Host) → HasFreeCores h machine.now free.old → IfErr result
+        (IsNoPlanOn h job.now free.new) }
 {
     let sdram = bytes_of(alloc, &job.graph.vertices)?;
     let packets = copied(alloc, &job.run.packets)?;
-    let spots = placed(alloc, free, &job.graph)?;
+    let spots = placed(alloc, free, job)?;
     match app_nets(alloc, machine, roads, &spots, &job.graph.nets) {
         Ok(nets) => Ok(AppPlan {
             spots,
@@ -71,10 +78,15 @@ pub(crate) fn plan_of(
     }
 }
 
-// The cores of a job's vertices, of those that are free.
-fn placed(alloc: Global, free: &mut FreeCores, graph: &Graph) -> Result<Seq<Spot>, PlanErr>
+// The cores of a job's vertices, of those that are free, which are then its own.
+fn placed(alloc: Global, free: &mut FreeCores, job: &AppJob) -> Result<Seq<Spot>, PlanErr>
+    requires { IsValidJob job.now }
+    ensures placed { (h : Host) → AreFreeOn (free_machine h) free.old → IfOk result
+        (ArePlacedOn h job.now free.new) }
+    ensures none { (h : Host) → AreFreeOn (free_machine h) free.old → IfErr result
+        (IsNoPlanOn h job.now free.new) }
 {
-    match free.place(alloc, graph) {
+    match free.place(alloc, &job.graph) {
         Ok(placement) => Ok(placement.spots),
         Err(e) => Err(unplaced(e)),
     }

@@ -11,7 +11,8 @@ use Rattle.place_fit.proofs.CurveLaws.{hilbert_length}
 use Rattle.place_fit.proofs.Giving.{few_push}
 use Rattle.place_fit.proofs.boards.whole_board.Goals as goal
 
-cores_there : (m : Description) (chips : List Chip) (q i : ℕ) (d e : Chip) (free : ℕ) → q ≡ i → slice_get chips q ≡ Some d → AreCores (is_usable m) (get_or chips i e) free → AreCores (is_usable m) d free
+cores_there : (m : Description) (chips : List Chip) (q i : ℕ) (d e : Chip) (free : ℕ) → q ≡ i → slice_get chips q ≡ Some d
+    → AreCores (is_usable m) (get_or chips i e) free → AreCores (is_usable m) d free
 cores_there m chips q i d e free one at cores =
     subst (λ (z : Chip). AreCores (is_usable m) z free) (ap (λ n. get_or chips n e) (sym one) ∙ get_or_from_slice_get chips q d e at) cores
 

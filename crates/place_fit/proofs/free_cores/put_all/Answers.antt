@@ -60,6 +60,7 @@ loop-i-preserved c =
       placed = λ m free.
           let placed = inv.placed m free in
           let stands = stands_here m vertices i v is spots inv.each_one memory c.loop-i.board placed in
-          let stood = stood_on_core m _ spots c.loop-i.board stands v c.put_on_core.new.self r c.in-Some.ensures.fair.board (All-at (λ (w : Vertex). w.device ≡ None) vertices i v c.requires.cores is) put in
+          let stood =
+          stood_on_core m _ spots c.loop-i.board stands v c.put_on_core.new.self r c.in-Some.ensures.fair.board (All-at (λ (w : Vertex). w.device ≡ None) vertices i v c.requires.cores is) put in
           rw (pushed, noted) (placed_more m vertices i v is spots inv.each_one memory c.loop-i.board placed c.put_on_core.new.self r stood);
     }
