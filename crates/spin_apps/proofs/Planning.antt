@@ -1,5 +1,5 @@
 -- The plan of a job on free cores.
-use Rattle.std.proofs.Common.{◌≡◌, ℕ, ◌+◌, ◌^◌, ◌<◌, refl, sym, ap, ◌∙◌, subst, arith, inl, inr, List, [], ◌∷◌, ◌++◌, length, map, take, false, Some}
+use Rattle.std.proofs.Common.{◌≡◌, ℕ, ◌+◌, ◌^◌, ◌<◌, refl, sym, ap, ◌∙◌, subst, arith, inl, inr, List, [], ◌∷◌, ◌++◌, length, map, take, false, Some, Result, Ok, Err, IfOk}
 use Rattle.std.specs.List.{All, AllZip, Contains, slice_get}
 use Rattle.std.proofs.lemmas.Bool.{cases_lt}
 use Rattle.std.proofs.lemmas.List.{length-map}
@@ -175,7 +175,7 @@ may_load h job plan planned valid free numbers = record {
 }
 
 -- what a plan of the job is answered is what the job is answered
-pub taken_answer : (h : Host) (number : ℕ) (job : AppJob) (plan : AppPlan) (answer : LoadAnswer) (new : Host) → IsPlanFor h job plan → IsTaken h number plan answer new →
+taken_answer : (h : Host) (number : ℕ) (job : AppJob) (plan : AppPlan) (answer : LoadAnswer) (new : Host) → IsPlanFor h job plan → IsTaken h number plan answer new →
     IsLoadAnswer h number job answer new
 taken_answer h number job plan Done new planned taken = record { plan = plan; is = planned; loaded = taken }
 taken_answer h number job plan (NoRoom vertex) new planned taken = absurd taken
@@ -184,3 +184,8 @@ taken_answer h number job plan (Refused Loaded) new planned taken = taken
 taken_answer h number job plan (Refused (MemoryOut vertex)) new planned taken = record { plan = plan; is = planned; due = taken.0; same = taken.1 }
 taken_answer h number job plan (Refused (KeysOut net)) new planned taken = record { plan = plan; is = planned; due = taken.0; same = taken.1 }
 taken_answer h number job plan (Refused (RowsOut chip)) new planned taken = record { plan = plan; is = planned; due = taken.0; same = taken.1 }
+
+pub taken_answers : {E : Type 0} (r : Result LoadAnswer E) (h : Host) (number : ℕ) (job : AppJob) (plan : AppPlan) (new : Host) → IsPlanFor h job plan →
+    IfOk r (λ a. IsTaken h number plan a new) → IfOk r (λ a. IsLoadAnswer h number job a new)
+taken_answers (Ok a) h number job plan new planned taken = taken_answer h number job plan a new planned taken
+taken_answers (Err e) h number job plan new planned taken = tt
