@@ -32,7 +32,9 @@ use Rattle.spin_apps.specs.declared.hosts.LoadAnswer.TheVariants.{Done, NoRoom, 
 use Rattle.spin_apps.specs.Answers.{IsLoadAnswer}
 use Rattle.spin_apps.specs.Hosting.{IsTaken}
 use Rattle.spin_apps.specs.Free.{free_machine}
-use Rattle.spin_apps.specs.Making.{IsPlaced, unplaced, unrouted, unrouted_net}
+use Rattle.spin_apps.specs.declared.plans.PlanErr.{PlanErr}
+use Rattle.spin_apps.specs.declared.plans.PlanErr.TheVariants as plans
+use Rattle.spin_apps.specs.Making.{IsNoPlanOn, IsPlaced, unplaced, unrouted, unrouted_net}
 use Rattle.spin_apps.specs.Plans.{IsNetFor, IsPlanFor, IsWhyUnplanned}
 use Rattle.spin_apps.proofs.FreeSpots.{free_usable, placed_free}
 use Rattle.link_detours.specs.declared.repairs.RepairErr.{RepairErr}
@@ -41,6 +43,8 @@ use Rattle.net_plans.specs.Cause.{IsNetCause, IsCauseOne}
 use Rattle.net_plans.specs.declared.nets.NetErr.{NetErr}
 use Rattle.net_plans.specs.declared.nets.NetErr.TheVariants as nets
 use Rattle.place_fit.specs.Cause.{IsPlacementCause as IsPlaceCause}
+use Rattle.place_fit.specs.Boards.{AreFreeOn}
+use Rattle.place_fit.specs.declared.boards.Board.{Board}
 use Rattle.place_fit.specs.declared.placing.PlaceErr.{PlaceErr}
 use Rattle.place_fit.specs.declared.placing.PlaceErr.TheVariants as places
 
@@ -150,6 +154,10 @@ module _ {h : Host} {m : Description} {job : AppJob} {spots : List Spot} {sdram 
 pub why_unplaced : (h : Host) (job : AppJob) (e : PlaceErr) → IsPlaceCause (free_machine h) job.graph.vertices e → IsWhyUnplanned h job (unplaced e)
 why_unplaced h job (places.NoRoom vertex) none = none
 why_unplaced h job places.Memory none = tt
+
+-- want of memory, where the board is as it was
+pub no_memory : (h : Host) (job : AppJob) (free : Board) (e : PlanErr) → e ≡ plans.Memory → AreFreeOn (free_machine h) free → IsNoPlanOn h job free e
+no_memory h job free e is same = record { why = subst (IsWhyUnplanned h job) (sym is) tt; free = same }
 
 pub why_unrouted : {h : Host} {m : Description} {job : AppJob} {spots : List Spot} (e : NetErr) → h.mesh.setup.machine ≡ m → IsPlaced h job spots → IsNetCause m spots job.graph.nets e →
     IsWhyUnplanned h job (unrouted e)
