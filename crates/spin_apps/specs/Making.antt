@@ -33,9 +33,9 @@ pub record IsPlaced (h : Host) (job : AppJob) (spots : List Spot) : Type 0 where
   pub different : AllPairs (λ a b. a ≢ b) spots
 
 -- the host is on this machine, and the board has its free cores
-pub record HasFreeCores (h : Host) (m : Description) (free : Board) : Type 0 where
+pub record HasFreeCores (h : Host) (m : Description) (b : Board) : Type 0 where
   pub machine : h.mesh.setup.machine ≡ m
-  pub free : AreFreeOn (free_machine h) free
+  pub free : AreFreeOn (free_machine h) b
 
 -- a job is valid, and the machine's live links are known, and the board has the free cores of some host on it
 pub record CanPlan (m : Description) (links : Roads) (free : Board) (job : AppJob) : Type 0 where
@@ -59,9 +59,9 @@ pub record IsPlanOn (h : Host) (job : AppJob) (free : Board) (plan : AppPlan) : 
   pub taken : AreFreeOn (free_but h plan.spots) free
 
 -- why there is no plan, where the board has the free cores that it had
-pub record IsNoPlanOn (h : Host) (job : AppJob) (free : Board) (e : PlanErr) : Type 0 where
+pub record IsNoPlanOn (h : Host) (job : AppJob) (b : Board) (e : PlanErr) : Type 0 where
   pub why : IsWhyUnplanned h job e
-  pub free : AreFreeOn (free_machine h) free
+  pub free : AreFreeOn (free_machine h) b
 
 -- a net of vertices that have these cores can be routed on the machine, whose live links are known
 pub record CanRouteNet (m : Description) (links : Roads) (spots : List Spot) (net : Net) : Type 0 where
