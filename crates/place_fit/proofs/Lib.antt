@@ -1,5 +1,6 @@
 mod CurveLaws
 mod RoomLaws
 mod Standing
+mod Giving
 mod SpotLaws
 pub mod Determined
