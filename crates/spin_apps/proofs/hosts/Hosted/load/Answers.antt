@@ -29,8 +29,8 @@ take-requires c =
       taken = p.taken;
     }
 
-pub invariant_of-self-in-Ok : goal.invariant_of-self-in-Ok
-invariant_of-self-in-Ok c = record {
+pub invariant_of-self : goal.invariant_of-self
+invariant_of-self c = record {
   apps = c.take.ensures.apps;
   machine = c.take.ensures.machine ∙ c.self.invariant.machine;
   roads = c.self.invariant.roads;
