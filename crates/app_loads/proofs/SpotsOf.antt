@@ -92,10 +92,13 @@ module _ (h : Host) (number : ℕ) (apps : AreApps h) (app : LoadedApp) (has : C
       ]
 
   pub spots_beside : (is_spot_taken h.apps s ≡ (is_spot_taken (others_than number h.apps) s || has_spot app)) × (has_spot app ≡ true → is_spot_taken (others_than number h.apps) s ≡ false)
-  spots_beside = (taken_by, λ mine. elim (cases_Bool (is_spot_taken (others_than number h.apps) s)) [
-    | inl other ↦ (let found = any_among has_spot (others_than number h.apps) other in absurd (other_apart found.0 found.1 found.2 mine))
-    | inr none ↦ none
-  ])
+  spots_beside = (
+    taken_by,
+    λ mine. elim (cases_Bool (is_spot_taken (others_than number h.apps) s)) [
+      | inl other ↦ (let found = any_among has_spot (others_than number h.apps) other in absurd (other_apart found.0 found.1 found.2 mine))
+      | inr none ↦ none
+    ],
+  )
 
 -- the spots of an application are usable cores
 pub spots_usable : (h : Host) → AreApps h → (app : LoadedApp) → Contains h.apps app → All (IsUsable h.mesh.setup.machine) app.plan.spots

@@ -1,5 +1,5 @@
 -- The board of free cores, where cores are taken and given back.
-use Rattle.std.proofs.Common.{◌≡◌, ℕ, ◌^◌, ◌≤◌, refl, sym, ap, ◌∙◌, arith, List, [], ◌∷◌, ◌++◌, append_assoc, append-nil, ap₂, nat_le, Bool, true, false, not, ◌&&◌, ◌||◌, cond}
+use Rattle.std.proofs.Common.{◌≡◌, ℕ, refl, sym, ap, ◌∙◌, arith, List, [], ◌∷◌, ◌++◌, append_assoc, append-nil, ap₂, nat_le, Bool, true, false, not, ◌&&◌, ◌||◌, cond}
 use Rattle.std.specs.List.{All, list_any}
 use Rattle.std.proofs.lemmas.List.Elements.{All-contains}
 use Rattle.std.proofs.lemmas.List.Folds.{list_any-append}
@@ -17,7 +17,7 @@ use Rattle.app_loads.specs.Applications.{AreApps}
 use Rattle.app_loads.specs.declared.answers.Ended.{Ended}
 use Rattle.app_loads.specs.declared.loaded.LoadedApp.{LoadedApp}
 use Rattle.app_loads.specs.declared.plans.AppPlan.{AppPlan}
-use Rattle.app_loads.specs.Host.{Host, all_spots, is_free_spot, is_spot_taken}
+use Rattle.app_loads.specs.Host.{Host, all_spots, is_spot_taken}
 use Rattle.app_loads.specs.Loading.{HasLoaded}
 use Rattle.app_loads.specs.Leaving.{others_than}
 use Rattle.app_loads.specs.Opening.{bare_host}

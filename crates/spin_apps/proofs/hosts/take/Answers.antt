@@ -1,4 +1,4 @@
-use Rattle.std.proofs.Common.{◌≡◌, IfOk, List, sym, subst}
+use Rattle.std.proofs.Common.{IfOk, List, sym, subst}
 use Rattle.spin_base.specs.declared.chips.Spot.{Spot}
 use Rattle.place_fit.specs.Boards.{IsWith}
 use Rattle.app_loads.specs.Host.{Host}

@@ -1,4 +1,4 @@
-use Rattle.std.proofs.Common.{◌≡◌, List, sym, subst, rules}
+use Rattle.std.proofs.Common.{List, sym, subst, rules}
 use Rattle.spin_base.specs.declared.chips.Spot.{Spot}
 use Rattle.place_fit.specs.Boards.{IsWith}
 use Rattle.spin_apps.specs.Free.{free_but, free_machine}
