@@ -14,7 +14,8 @@ use Rattle.app_loads.specs.Applications.{AreApps, IsLoadedOn}
 use Rattle.app_loads.specs.Host.{Host, is_loaded, is_spot_taken}
 use Rattle.app_loads.specs.Leaving.{others_than}
 use Rattle.app_loads.proofs.LeftParts.{found_number, found_there, not_loaded}
-use Rattle.app_loads.proofs.Others.{HaveNumbers, across_pairs, only_one, same_tests}
+use Rattle.app_loads.proofs.Others.{HaveNumbers, across_pairs, only_one}
+pub use Rattle.app_loads.proofs.Others.{same_tests}
 
 -- a number of an application is loaded
 number_loaded : (apps : List LoadedApp) (number : ℕ) (app : LoadedApp) → Contains apps app → app.number ≡ number → is_loaded apps number ≡ true

@@ -3,12 +3,13 @@ use Rattle.std.proofs.Common.{◌≡◌, ◌≢◌, ℕ, zero, suc, ◌-◌, ◌
 use Rattle.std.proofs.Common.{length, set, get_or, refl, sym, ap, ap₂, ◌∙◌, subst, Some, slice_get, inl, inr, arith}
 use Rattle.std.specs.Int.{bit_at}
 use Rattle.std.specs.List.{list_any}
-use Rattle.std.proofs.lemmas.Bool.{cases_Bool, cases_eq, cases_lt, and_left, and_right, and_from, both_ways, cond-true, cond-false, or_parts}
+use Rattle.std.proofs.lemmas.Bool.{cases_Bool, cases_eq, cases_lt, and_left, and_right, and_from, both_ways, cond-true, cond-false, or_from, or_left, or_parts, or_right}
 use Rattle.std.proofs.lemmas.Bool.Decides.{nat_tests}
 use Rattle.std.proofs.lemmas.List.{get_or-set_same, get_or-set_other, length-set}
 use Rattle.std.proofs.lemmas.List.Folds.{list_any-append}
 use Rattle.std.proofs.lemmas.Nat.Bits.{bit_at_above}
 use Rattle.std.proofs.lemmas.Option.{slice_get_within}
+use Rattle.std.proofs.Math.Bool.{or-false}
 use Rattle.spin_base.proofs.Places.{slice_get_there}
 use Rattle.spin_base.specs.declared.chips.Chip.{Chip}
 use Rattle.spin_base.specs.declared.chips.Spot.{Spot}
@@ -20,14 +21,10 @@ use Rattle.place_fit.specs.declared.boards.Board.{Board}
 use Rattle.place_fit.specs.declared.boards.Placed.{Placed}
 use Rattle.place_fit.specs.Curve.{hilbert, IsCurveLevel}
 use Rattle.place_fit.specs.Quarters.{curve_place}
-use Rattle.place_fit.specs.Boards.{AreFreeOn, AreGiven, AreKept, AreSettled, HaveOneGrid, IsBoard, IsFilled, IsFreed, IsJoined, IsWholeBoard, IsWith, has_spot_on, room_left}
+use Rattle.place_fit.specs.Boards.{AreFreeOn, AreGiven, AreOthersKept, AreSettled, HaveOneGrid, IsBoard, IsFilled, IsFreed, IsJoined, IsWholeBoard, IsWith, has_spot_on, room_left}
 use Rattle.place_fit.specs.Placement.{core_spot}
 use Rattle.place_fit.proofs.CurveLaws.{place_at}
 use Rattle.place_fit.proofs.Standing.{usable_parts}
-
-or_none : (b : Bool) → (b || false) ≡ b
-or_none true = refl
-or_none false = refl
 
 -- ---- one spot
 
@@ -75,7 +72,7 @@ module _ (old mid new : Board) (s : Spot) (place : ℕ) (was : IsBoard old) (boa
   }
 
   has_here : (q : ℕ) (c : Chip) → slice_get old.chips q ≡ Some c → q ≡ place → has_spot_on c (s ∷ []) ≡ true
-  has_here q c here same = or_none (chip_eq c s.chip) ∙ (ap (λ d. chip_eq d s.chip) (here_chip q c here same) ∙ chip_eq_same s.chip)
+  has_here q c here same = or-false (chip_eq c s.chip) ∙ (ap (λ d. chip_eq d s.chip) (here_chip q c here same) ∙ chip_eq_same s.chip)
 
   pub settled_one : AreSettled (s ∷ []) old new
   settled_one = record {
@@ -97,7 +94,7 @@ module _ (old mid new : Board) (s : Spot) (place : ℕ) (was : IsBoard old) (boa
           | inr other ↦ ap (λ l. get_or l q 0) new_rooms
               ∙ (get_or-set_other mid.rooms place q room 0 other
               ∙ (ap (λ l. get_or l q 0) rooms
-              ∙ sym (cond-false (has_spot_on c (s ∷ [])) (room_left (get_or new.cores.items q 0) old.sdram) (get_or old.rooms q 0) (or_none (chip_eq c s.chip) ∙ apart q c here other))))
+              ∙ sym (cond-false (has_spot_on c (s ∷ [])) (room_left (get_or new.cores.items q 0) old.sdram) (get_or old.rooms q 0) (or-false (chip_eq c s.chip) ∙ apart q c here other))))
         ];
     cores = λ q c here none.
         elim (cases_eq q place) [
@@ -115,7 +112,7 @@ module _ (old mid new : Board) (s : Spot) (place : ℕ) (was : IsBoard old) (boa
         let differs : (p == s.core) ≡ false = (let apart : p ≢ s.core = λ e. omega (arith, e, low, high) in grind (arith, nat_tests)) in
         ap (λ n. bit_at n p) bits
         ∙ sym (cond-false (list_any (spot_eq (core_spot c p)) (s ∷ [])) 1 (bit_at (get_or old.cores.items q 0) p)
-        (or_none (spot_eq (core_spot c p) s) ∙ and_right (chip_eq c s.chip) (p == s.core) differs));
+        (or-false (spot_eq (core_spot c p) s) ∙ and_right (chip_eq c s.chip) (p == s.core) differs));
   }
 
   given_one : IsJoined (get_or old.cores.items place 0) s.core (get_or mid.cores.items place 0) → AreGiven (s ∷ []) old new
@@ -128,19 +125,19 @@ module _ (old mid new : Board) (s : Spot) (place : ℕ) (was : IsBoard old) (boa
               let bits : get_or new.cores.items q 0 ≡ get_or mid.cores.items place 0 = ap₂ (λ (l : List ℕ) (i : ℕ). get_or l i 0) same_cores same in
               elim (cases_eq p s.core) [
                 | inl core ↦ (
-                    let is_it : given ≡ true = or_none (spot_eq (core_spot c p) s)
+                    let is_it : given ≡ true = or-false (spot_eq (core_spot c p) s)
                     ∙ and_from (chip_eq c s.chip) (p == s.core) (ap (λ d. chip_eq d s.chip) (here_chip q c here same) ∙ chip_eq_same s.chip) (grind (arith, nat_tests)) in
                     ap₂ bit_at bits core ∙ (joined.here ∙ sym (cond-true given 1 (bit_at (get_or old.cores.items q 0) p) is_it))
                     )
                 | inr differ ↦ (
-                    let is_not : given ≡ false = or_none (spot_eq (core_spot c p) s) ∙ and_right (chip_eq c s.chip) (p == s.core) (grind (arith, nat_tests)) in
+                    let is_not : given ≡ false = or-false (spot_eq (core_spot c p) s) ∙ and_right (chip_eq c s.chip) (p == s.core) (grind (arith, nat_tests)) in
                     ap (λ n. bit_at n p) bits
                     ∙ (joined.same p differ ∙ (ap (λ i. bit_at (get_or old.cores.items i 0) p) (sym same) ∙ sym (cond-false given 1 (bit_at (get_or old.cores.items q 0) p) is_not)))
                     )
               ]
               )
           | inr other ↦ (
-              let is_not : given ≡ false = or_none (spot_eq (core_spot c p) s) ∙ and_left (chip_eq c s.chip) (p == s.core) (apart q c here other) in
+              let is_not : given ≡ false = or-false (spot_eq (core_spot c p) s) ∙ and_left (chip_eq c s.chip) (p == s.core) (apart q c here other) in
               ap (λ n. bit_at n p) (ap (λ l. get_or l q 0) same_cores ∙ kept q other) ∙ sym (cond-false given 1 (bit_at (get_or old.cores.items q 0) p) is_not)
               )
         ];
@@ -163,14 +160,14 @@ few_push (y ∷ ys) x all low zero = all 0
 few_push (y ∷ ys) x all low (suc q) = few_push ys x (λ k. all (suc k)) low q
 
 -- a vertex more leaves the chips without spots as they were
-pub kept_more : (spots : List Spot) (a b c : Board) (place sdram : ℕ) (r : Placed) → AreKept spots a b → IsFilled place sdram b c r → AreKept (spots ++ r.spot ∷ []) a c
+pub kept_more : (spots : List Spot) (a b c : Board) (place sdram : ℕ) (r : Placed) → AreOthersKept spots a b → IsFilled place sdram b c r → AreOthersKept (spots ++ r.spot ∷ []) a c
 kept_more spots a b c place sdram r kept filled =
     let parts : (d : Chip) → has_spot_on d (spots ++ r.spot ∷ []) ≡ false → (has_spot_on d spots ≡ false) × (has_spot_on d (r.spot ∷ []) ≡ false) = λ d none.
     or_parts (has_spot_on d spots) (has_spot_on d (r.spot ∷ [])) (sym (list_any-append (λ (t : Spot). chip_eq d t.chip) spots (r.spot ∷ [])) ∙ none) in
     let apart : (q : ℕ) (d : Chip) → slice_get a.chips q ≡ Some d → has_spot_on d (r.spot ∷ []) ≡ false → q ≢ place = λ q d at none same.
     (let one : Some d ≡ Some r.spot.chip = sym at ∙ (ap (λ l. slice_get l q) (sym kept.chips) ∙ (ap (slice_get b.chips) same ∙ filled.chip)) in
     let chip : d ≡ r.spot.chip = cc in
-    both_ways _ none (or_none (chip_eq d r.spot.chip) ∙ (ap (λ e. chip_eq e r.spot.chip) chip ∙ chip_eq_same r.spot.chip))) in
+    both_ways _ none (or-false (chip_eq d r.spot.chip) ∙ (ap (λ e. chip_eq e r.spot.chip) chip ∙ chip_eq_same r.spot.chip))) in
     record {
       level = filled.level ∙ kept.level;
       sdram = filled.sdram_is ∙ kept.sdram;
@@ -186,18 +183,6 @@ settled_none b board = record { level = refl; sdram = refl; chips = refl; board 
 
 pub given_nothing : (b : Board) → IsBoard b → AreGiven [] b b
 given_nothing b board = record { settled = settled_none b board; free = λ q c here p low. refl }
-
-or_left_true : (a b : Bool) → a ≡ true → (a || b) ≡ true
-or_left_true true b e = refl
-or_left_true false b e = cc
-
-or_right_true : (a b : Bool) → b ≡ true → (a || b) ≡ true
-or_right_true true b e = refl
-or_right_true false b e = e
-
-or_both_false : (a b : Bool) → a ≡ false → b ≡ false → (a || b) ≡ false
-or_both_false true b e f = cc
-or_both_false false b e f = f
 
 module _ (spots : List Spot) (s : Spot) (a b c : Board) where
   both : (d : Chip) → has_spot_on d (spots ++ s ∷ []) ≡ (has_spot_on d spots || has_spot_on d (s ∷ []))
@@ -218,7 +203,7 @@ module _ (spots : List Spot) (s : Spot) (a b c : Board) where
           | inl last ↦ then.rooms q d there
               ∙ (cond-true (has_spot_on d (s ∷ [])) (room_left (get_or c.cores.items q 0) b.sdram) (get_or b.rooms q 0) last
               ∙ (ap (room_left (get_or c.cores.items q 0)) first.sdram
-              ∙ sym (cond-true all x y (both d ∙ or_right_true (has_spot_on d spots) (has_spot_on d (s ∷ [])) last))))
+              ∙ sym (cond-true all x y (both d ∙ or_right (has_spot_on d spots) (has_spot_on d (s ∷ [])) last))))
           | inr not_last ↦ (
               let read : get_or c.rooms q 0 ≡ get_or b.rooms q 0 =
               then.rooms q d there ∙ cond-false (has_spot_on d (s ∷ [])) (room_left (get_or c.cores.items q 0) b.sdram) (get_or b.rooms q 0) not_last in
@@ -227,11 +212,11 @@ module _ (spots : List Spot) (s : Spot) (a b c : Board) where
                 | inl before ↦ read
                     ∙ (first.rooms q d here
                     ∙ (cond-true (has_spot_on d spots) (room_left (get_or b.cores.items q 0) a.sdram) y before
-                    ∙ (ap (λ n. room_left n a.sdram) (sym cores) ∙ sym (cond-true all x y (both d ∙ or_left_true (has_spot_on d spots) (has_spot_on d (s ∷ [])) before)))))
+                    ∙ (ap (λ n. room_left n a.sdram) (sym cores) ∙ sym (cond-true all x y (both d ∙ or_left (has_spot_on d spots) (has_spot_on d (s ∷ [])) before)))))
                 | inr never ↦ read
                     ∙ (first.rooms q d here
                     ∙ (cond-false (has_spot_on d spots) (room_left (get_or b.cores.items q 0) a.sdram) y never
-                    ∙ sym (cond-false all x y (both d ∙ or_both_false (has_spot_on d spots) (has_spot_on d (s ∷ [])) never not_last))))
+                    ∙ sym (cond-false all x y (both d ∙ or_from (has_spot_on d spots) (has_spot_on d (s ∷ [])) never not_last))))
               ]
               )
         ];
@@ -252,23 +237,23 @@ module _ (spots : List Spot) (s : Spot) (a b c : Board) where
         let mid : ℕ = bit_at (get_or b.cores.items q 0) p in
         elim (cases_Bool (list_any test (s ∷ []))) [
           | inl last ↦ then.free q d there p low
-              ∙ (cond-true (list_any test (s ∷ [])) 1 mid last ∙ sym (cond-true all 1 old (is_all ∙ or_right_true (list_any test spots) (list_any test (s ∷ [])) last)))
+              ∙ (cond-true (list_any test (s ∷ [])) 1 mid last ∙ sym (cond-true all 1 old (is_all ∙ or_right (list_any test spots) (list_any test (s ∷ [])) last)))
           | inr not_last ↦ then.free q d there p low
               ∙ (cond-false (list_any test (s ∷ [])) 1 mid not_last
               ∙ (first.free q d here p low
               ∙ elim (cases_Bool (list_any test spots)) [
-                | inl before ↦ cond-true (list_any test spots) 1 old before ∙ sym (cond-true all 1 old (is_all ∙ or_left_true (list_any test spots) (list_any test (s ∷ [])) before))
-                | inr never ↦ cond-false (list_any test spots) 1 old never ∙ sym (cond-false all 1 old (is_all ∙ or_both_false (list_any test spots) (list_any test (s ∷ [])) never not_last))
+                | inl before ↦ cond-true (list_any test spots) 1 old before ∙ sym (cond-true all 1 old (is_all ∙ or_left (list_any test spots) (list_any test (s ∷ [])) before))
+                | inr never ↦ cond-false (list_any test spots) 1 old never ∙ sym (cond-false all 1 old (is_all ∙ or_from (list_any test spots) (list_any test (s ∷ [])) never not_last))
               ]))
         ];
   }
 
 -- ---- what a board is then
 
-pub kept_same : (spots : List Spot) (b : Board) → AreKept spots b b
+pub kept_same : (spots : List Spot) (b : Board) → AreOthersKept spots b b
 kept_same spots b = record { level = refl; sdram = refl; chips = refl; cores = λ q c here none. refl; rooms = λ q c here none. refl }
 
-pub whole_again : (spots : List Spot) (old mid new : Board) → IsWholeBoard old → AreKept spots old mid → AreSettled spots mid new → IsWholeBoard new
+pub whole_again : (spots : List Spot) (old mid new : Board) → IsWholeBoard old → AreOthersKept spots old mid → AreSettled spots mid new → IsWholeBoard new
 whole_again spots old mid new whole kept settled = record {
   board = settled.board;
   rooms = λ q inside.

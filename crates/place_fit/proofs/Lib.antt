@@ -4,3 +4,4 @@ mod Standing
 mod Giving
 mod SpotLaws
 pub mod Determined
+pub mod UsableSpots

@@ -1,18 +1,19 @@
 -- The spots that a board gives are those of the definition.
-use Rattle.std.proofs.Common.{◌≡◌, ◌≢◌, ℕ, ◌+◌, ◌-◌, ◌^◌, ◌<◌, ◌≤◌, ◌==◌, ◌&&◌, ◌||◌, Bool, true, not, leb, ltb, cond, List, [], ◌∷◌, ◌++◌, length}
+use Rattle.std.proofs.Common.{◌≡◌, ◌≢◌, ℕ, ◌+◌, ◌-◌, ◌^◌, ◌<◌, ◌≤◌, ◌==◌, ◌&&◌, Bool, true, not, leb, ltb, cond, List, [], ◌∷◌, ◌++◌, length}
 use Rattle.std.proofs.Common.{take, filter, get_or, refl, sym, ap, ap₂, ◌∙◌, subst, zero, suc, Option, Some, None, slice_get, MatchOption, inl, inr, arith, All, AllPairs}
 use Rattle.std.proofs.lemmas.Bool.{cases_lt, cases_Bool, cond-true, cond-false, and_from, or_right, le-leb, lt-ltb, both_ways}
 use Rattle.std.proofs.lemmas.List.{length_push, length-take, take-append-le, take_at, take_more, get_or-take}
 use Rattle.std.specs.Int.{bit_at}
 use Rattle.std.specs.List.{AllZip, list_any}
 use Rattle.std.proofs.lemmas.List.Folds.{list_any_at}
-use Rattle.std.proofs.lemmas.List.Elements.{All-filter, All-nil, All-cons, All-head, All-tail}
+use Rattle.std.proofs.lemmas.List.Elements.{All-filter, All-nil, All-cons}
 use Rattle.std.proofs.lemmas.Option.{slice_get_within, slice_get-get_or, get_or_from_slice_get}
+use Rattle.std.proofs.Math.Bool.{and-true}
 use Rattle.spin_base.proofs.Places.{All-at, slice_get_there, slice_get-push_cases, slice_get-append_left, slice_get-pushed}
 use Rattle.spin_base.specs.declared.chips.Chip.{Chip}
 use Rattle.spin_base.specs.declared.chips.Spot.{Spot}
 use Rattle.spin_base.specs.Equality.{spot_eq}
-use Rattle.spin_base.proofs.Equality.{spot_eq_same, spot_eq_true}
+use Rattle.spin_base.proofs.Equality.{spot_eq_same}
 use Rattle.spin_base.specs.declared.chips.Dir.{Dir}
 use Rattle.spin_base.specs.Links.{dir_number, dir_at}
 use Rattle.spin_base.proofs.Spots.{dir_at-dir_number}
@@ -30,9 +31,10 @@ use Rattle.place_fit.specs.Quarters.{curve_place}
 use Rattle.place_fit.proofs.CurveLaws.{at_place}
 use Rattle.place_fit.specs.Boards.{AreFreeOn, AreGiven, AreSettled, IsBoard, IsWithout, IsWholeBoard, IsPlaceWithRoom, HasNoRoomAt, HasNoPlace, IsFilled, IsPutOnCore, IsPutAtLink, IsPut, HasNoSpot}
 use Rattle.place_fit.specs.Placement.{core_spot, need_of, used_on, HasRoom, IsFirstChip, choices, IsCoreFor, HasDeviceRoom, device_spot, IsSpotFor, FindsNoRoom, HasNoRoom, AreFirstSpots, AreFirstMemories, memory_of}
-use Rattle.place_fit.specs.Standing.{ArePlaced, IsTold, Stands}
+use Rattle.place_fit.specs.Standing.{ArePlaced, IsChipTold, Stands}
 use Rattle.place_fit.proofs.Giving.{high_bit, same_curve}
-use Rattle.place_fit.proofs.Standing.{and_last, live_in, free_parts, free_at, bit_of_free, has_room, cores_with_room, room_for, usable_parts}
+use Rattle.place_fit.proofs.UsableSpots.{any_usable}
+use Rattle.place_fit.proofs.Standing.{live_in, free_parts, free_at, bit_of_free, has_room, cores_with_room, room_for, usable_parts}
 use Rattle.place_fit.proofs.Standing.{is_taken, need_of_core, need_of_device, stands_first, stands_more as one_stands_more, stands_device}
 
 -- the first item that passes is the first of those that pass a test, if it passes it
@@ -61,14 +63,14 @@ module _ (m : Description) (vs : List Vertex) (ss : List Spot) (b : Board) (stan
   on_board q c at = ap (λ l. slice_get l q) stands.board.chips ∙ at
 
   -- a place has room exactly where its number says so
-  told_at : (q : ℕ) (c : Chip) → slice_get b.chips q ≡ Some c → IsTold m vs ss c (get_or b.cores.items q 0) (get_or b.rooms q 0)
+  told_at : (q : ℕ) (c : Chip) → slice_get b.chips q ≡ Some c → IsChipTold m vs ss c (get_or b.cores.items q 0) (get_or b.rooms q 0)
   told_at q c at = stands.told q c at
 
   lives : (c : Chip) → HasRoom m vs ss v c → is_live_chip m c ≡ true
   lives c has = (usable_parts m (core_spot c has.core) (free_parts m ss (core_spot c has.core) has.free).0).0
 
   module _ (place : ℕ) (found : IsPlaceWithRoom b v place) (new : Board) (r : Placed) (filled : IsFilled place v.sdram b new r) where
-    here : IsTold m vs ss r.spot.chip (get_or b.cores.items place 0) (get_or b.rooms place 0)
+    here : IsChipTold m vs ss r.spot.chip (get_or b.cores.items place 0) (get_or b.rooms place 0)
     here = stands.told place r.spot.chip filled.chip
 
     has : HasRoom m vs ss v r.spot.chip
@@ -375,14 +377,6 @@ all_on_cores m order vertices spots first all = zip_from_places m vertices spots
 
 -- ---- the cores that are free then
 
-any_usable : (m : Description) (s : Spot) (spots : List Spot) → All (IsUsable m) spots → list_any (spot_eq s) spots ≡ true → is_usable m s ≡ true
-any_usable m s [] usable any = cc
-any_usable m s (t ∷ ts) usable any =
-    elim (cases_Bool (spot_eq s t)) [
-      | inl same ↦ subst (λ x. is_usable m x ≡ true) (sym (spot_eq_true s t same)) (All-head (IsUsable m) t ts usable)
-      | inr differ ↦ any_usable m s ts (All-tail (IsUsable m) t ts usable) (sym (ap (λ x. x || list_any (spot_eq s) ts) differ) ∙ any)
-    ]
-
 module _ (m : Description) (vertices : List Vertex) (spots : List Spot) (memory : List ℕ) (b new : Board) (placed : ArePlaced m vertices spots memory b) where
   pub free_without : (n : Description) → AreSettled spots b new → new.cores.items ≡ b.cores.items → IsWithout spots m n → AreFreeOn n new
   free_without n settled same less = record {
@@ -410,7 +404,7 @@ module _ (m : Description) (vertices : List Vertex) (spots : List Spot) (memory 
                 | inl has ↦ cond-true any 1 old has
                     ∙ sym (cond-true (is_usable m s) 1 0 (any_usable m s spots (cores_usable m (filter (is_live_chip m) (hilbert b.level)) vertices spots placed.first cores) has))
                 | inr none ↦ cond-false any 1 old none
-                    ∙ (told.free p low ∙ ap (λ (t : Bool). cond t 1 0) (ap (λ (t : Bool). is_usable m s && not t) none ∙ and_last (is_usable m s)))
+                    ∙ (told.free p low ∙ ap (λ (t : Bool). cond t 1 0) (ap (λ (t : Bool). is_usable m s && not t) none ∙ and-true (is_usable m s)))
               ]
           | inr high ↦ high_bit m c (get_or new.cores.items q 0) p (given.settled.board.few q) high
         ];

@@ -9,6 +9,7 @@ use Rattle.std.proofs.lemmas.List.Folds.{list_any-append}
 use Rattle.std.proofs.lemmas.Nat.Bits.{bit_at-trailing_zeros, bit_at-zero}
 use Rattle.std.proofs.lemmas.Option.{slice_get_within}
 use Rattle.std.proofs.lemmas.List.{get_or-set_same, get_or-set_other, length_push}
+use Rattle.std.proofs.Math.Bool.{and-true}
 use Rattle.spin_base.proofs.Tests.{or_neither}
 use Rattle.spin_base.specs.declared.chips.Chip.{Chip}
 use Rattle.spin_base.specs.declared.chips.Spot.{Spot}
@@ -26,7 +27,7 @@ use Rattle.place_fit.specs.Curve.{hilbert, IsCurveLevel}
 use Rattle.place_fit.specs.Quarters.{curve_place}
 use Rattle.place_fit.specs.Boards.{AreFreeOn, IsBoard, IsFairBoard, IsFilled, IsParted, IsWholeBoard, room_left}
 use Rattle.place_fit.specs.Placement.{core_spot, need_of, used_on, is_free_core, HasRoom}
-use Rattle.place_fit.specs.Standing.{IsTold, Stands}
+use Rattle.place_fit.specs.Standing.{IsChipTold, Stands}
 use Rattle.place_fit.proofs.CurveLaws.{IsIn, place_at}
 
 pub live_in : (m : Description) (c : Chip) (side : ℕ) → is_live_chip m c ≡ true → m.width ≤ side → m.height ≤ side → IsIn side c
@@ -69,7 +70,7 @@ free_parts m ss s f =
 pub free_from : (m : Description) (ss : List Spot) (s : Spot) → is_usable m s ≡ true → is_taken ss s ≡ false → is_free_core m ss s ≡ true
 free_from m ss s u f = and_from _ _ u (ap not f)
 
-module _ (m : Description) (vs : List Vertex) (ss : List Spot) (c : Chip) (cores room : ℕ) (told : IsTold m vs ss c cores room) where
+module _ (m : Description) (vs : List Vertex) (ss : List Spot) (c : Chip) (cores room : ℕ) (told : IsChipTold m vs ss c cores room) where
   pub free_at : (p : ℕ) → p < 32 → bit_at cores p ≡ 1 → is_free_core m ss (core_spot c p) ≡ true
   free_at p low one = bit_yes (is_free_core m ss (core_spot c p)) (sym (told.free p low) ∙ one)
 
@@ -107,10 +108,6 @@ room_some cores left some = let t : eqb cores 0 ≡ false = grind (arith, nat_te
 room_none : (cores left : ℕ) → cores ≡ 0 → room_left cores left ≡ 0
 room_none cores left none = let t : eqb cores 0 ≡ true = grind (arith, nat_tests) in rw t refl
 
-pub and_last : (a : Bool) → (a && true) ≡ a
-and_last true = refl
-and_last false = refl
-
 pub stands_first : (m : Description) (b : Board) → IsWholeBoard b → AreFreeOn m b → Stands m [] [] b
 stands_first m b whole free = record {
   board = whole.board;
@@ -120,7 +117,7 @@ stands_first m b whole free = record {
   told = λ q c at.
       let room = whole.rooms q (slice_get_within b.chips q c at) in
       record {
-        free = λ p low. free.free q c at p low ∙ ap (λ (t : Bool). cond t 1 0) (sym (and_last (is_usable m (core_spot c p))));
+        free = λ p low. free.free q c at p low ∙ ap (λ (t : Bool). cond t 1 0) (sym (and-true (is_usable m (core_spot c p))));
         full = λ none. room ∙ room_none (get_or b.cores.items q 0) b.sdram none;
         left = λ some. let r = room ∙ room_some (get_or b.cores.items q 0) b.sdram some in omega (arith, r, free.sdram);
       };
@@ -166,7 +163,7 @@ need_of_core v is = ap (λ (o : Option Edge). cond (is_none o) v.sdram 0) is
 pub need_of_device : (v : Vertex) (device : Edge) → v.device ≡ Some device → need_of v ≡ 0
 need_of_device v device is = ap (λ (o : Option Edge). cond (is_none o) v.sdram 0) is
 
-module _ (m : Description) (vs : List Vertex) (ss : List Spot) (same : length vs ≡ length ss) (v : Vertex) (c : Chip) (cores room : ℕ) (told : IsTold m vs ss c cores room) where
+module _ (m : Description) (vs : List Vertex) (ss : List Spot) (same : length vs ≡ length ss) (v : Vertex) (c : Chip) (cores room : ℕ) (told : IsChipTold m vs ss c cores room) where
   -- what is free where a vertex stands there too that takes no core of these
   still_free : (s : Spot) (p : ℕ) → is_taken (ss ++ s ∷ []) (core_spot c p) ≡ is_taken ss (core_spot c p) → p < 32
       → bit_at cores p ≡ cond (is_free_core m (ss ++ s ∷ []) (core_spot c p)) 1 0
@@ -175,7 +172,7 @@ module _ (m : Description) (vs : List Vertex) (ss : List Spot) (same : length vs
   untaken_push : (s : Spot) (p : ℕ) → spot_eq (core_spot c p) s ≡ false → is_taken (ss ++ s ∷ []) (core_spot c p) ≡ is_taken ss (core_spot c p)
   untaken_push s p other = taken_push ss s (core_spot c p) ∙ or_neither (is_taken ss (core_spot c p)) (spot_eq (core_spot c p) s) other
 
-  told_other : (s : Spot) → chip_eq c s.chip ≡ false → IsTold m (vs ++ v ∷ []) (ss ++ s ∷ []) c cores room
+  told_other : (s : Spot) → chip_eq c s.chip ≡ false → IsChipTold m (vs ++ v ∷ []) (ss ++ s ∷ []) c cores room
   told_other s other =
       let used : used_on c (vs ++ v ∷ []) (ss ++ s ∷ []) ≡ used_on c vs ss + 0 =
       used_push c vs ss v s same ∙ ap (λ b. used_on c vs ss + b) (cond-false (chip_eq c s.chip) (need_of v) 0 other) in
@@ -186,7 +183,7 @@ module _ (m : Description) (vs : List Vertex) (ss : List Spot) (same : length vs
       }
 
   -- a device takes no core and no memory
-  told_device : (s : Spot) → 18 ≤ s.core → need_of v ≡ 0 → IsTold m (vs ++ v ∷ []) (ss ++ s ∷ []) c cores room
+  told_device : (s : Spot) → 18 ≤ s.core → need_of v ≡ 0 → IsChipTold m (vs ++ v ∷ []) (ss ++ s ∷ []) c cores room
   told_device s high none =
       let used : used_on c (vs ++ v ∷ []) (ss ++ s ∷ []) ≡ used_on c vs ss + 0 =
       used_push c vs ss v s same ∙ ap (λ b. used_on c vs ss + b) (ap (λ n. cond (chip_eq c s.chip) n 0) none ∙ cond_same (chip_eq c s.chip) 0) in
@@ -207,7 +204,7 @@ module _ (m : Description) (vs : List Vertex) (ss : List Spot) (same : length vs
       }
 
   told_here : (core others : ℕ) → need_of v ≡ v.sdram → v.sdram < room → 0 < cores → IsParted cores core others
-      → IsTold m (vs ++ v ∷ []) (ss ++ core_spot c core ∷ []) c others (room_left others (room - 1 - v.sdram))
+      → IsChipTold m (vs ++ v ∷ []) (ss ++ core_spot c core ∷ []) c others (room_left others (room - 1 - v.sdram))
   told_here core others plain enough some parted =
       let s = core_spot c core in
       let used : used_on c (vs ++ v ∷ []) (ss ++ s ∷ []) ≡ used_on c vs ss + v.sdram =
@@ -231,7 +228,7 @@ module _ (m : Description) (vs : List Vertex) (ss : List Spot) (same : length vs
 
 module _ (m : Description) (vs : List Vertex) (ss : List Spot) (old new : Board) (stands : Stands m vs ss old) (v : Vertex) (place : ℕ) (r : Placed)
     (plain : need_of v ≡ v.sdram) (within : place < length old.chips) (enough : v.sdram < get_or old.rooms place 0) (filled : IsFilled place v.sdram old new r) where
-  here_told : IsTold m vs ss r.spot.chip (get_or old.cores.items place 0) (get_or old.rooms place 0)
+  here_told : IsChipTold m vs ss r.spot.chip (get_or old.cores.items place 0) (get_or old.rooms place 0)
   here_told = stands.told place r.spot.chip filled.chip
 
   here_some : 0 < get_or old.cores.items place 0
@@ -265,15 +262,15 @@ module _ (m : Description) (vs : List Vertex) (ss : List Spot) (old new : Board)
             let at : slice_get old.chips q ≡ Some c = ap (λ l. slice_get l q) (sym filled.chips) ∙ at_new in
             let others = filled.others in
             let room = room_left others (get_or old.rooms place 0 - 1 - v.sdram) in
-            let T : ℕ → ℕ → Type 0 = λ x y. IsTold m (vs ++ v ∷ []) (ss ++ r.spot ∷ []) c x y in
+            let T : ℕ → ℕ → Type 0 = λ x y. IsChipTold m (vs ++ v ∷ []) (ss ++ r.spot ∷ []) c x y in
             elim (cases_eq q place) [
               | inl here ↦ (
                   let same_chip : Some r.spot.chip ≡ Some c = sym filled.chip ∙ (ap (slice_get old.chips) (sym here) ∙ at) in
                   let chip_is : r.spot.chip ≡ c = cc in
                   let told =
                   told_here m vs ss stands.same v r.spot.chip (get_or old.cores.items place 0) (get_or old.rooms place 0) here_told r.spot.core others plain enough here_some filled.parted in
-                  let told_spot = subst (λ s. IsTold m (vs ++ v ∷ []) (ss ++ s ∷ []) r.spot.chip others room) spot_is told in
-                  let told_chip = subst (λ z. IsTold m (vs ++ v ∷ []) (ss ++ r.spot ∷ []) z others room) chip_is told_spot in
+                  let told_spot = subst (λ s. IsChipTold m (vs ++ v ∷ []) (ss ++ s ∷ []) r.spot.chip others room) spot_is told in
+                  let told_chip = subst (λ z. IsChipTold m (vs ++ v ∷ []) (ss ++ r.spot ∷ []) z others room) chip_is told_spot in
                   let core_is : get_or new.cores.items q 0 ≡ others = ap (λ l. get_or l q 0) filled.cores ∙ (ap (λ n. get_or (set old.cores.items place others) n 0) here ∙ get_or-set_same old.cores.items place others 0 (omega (arith, within, b.cores))) in
                   let room_is : get_or new.rooms q 0 ≡ room = ap (λ l. get_or l q 0) filled.rooms ∙ (ap (λ n. get_or (set old.rooms place room) n 0) here ∙ get_or-set_same old.rooms place room 0 (omega (arith, within, b.rooms))) in
                   subst (λ x. T x (get_or new.rooms q 0)) (sym core_is) (subst (T others) (sym room_is) told_chip)

@@ -161,7 +161,7 @@ pub record IsFreed (place core : ℕ) (old new : Board) : Type 0 where
   pub high : 18 ≤ core → new.cores.items ≡ old.cores.items
 
 -- The chips without a spot of these have what they had.
-pub record AreKept (spots : List Spot) (old new : Board) : Type 0 where
+pub record AreOthersKept (spots : List Spot) (old new : Board) : Type 0 where
   pub level : new.level ≡ old.level
   pub sdram : new.sdram ≡ old.sdram
   pub chips : new.chips ≡ old.chips

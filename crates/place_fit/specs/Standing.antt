@@ -12,7 +12,7 @@ use Rattle.place_fit.specs.Curve.{hilbert, IsCurveLevel}
 use Rattle.place_fit.specs.Placement.{is_free_core, used_on, AreFirstSpots, AreFirstMemories}
 
 -- a chip's cores that are free beside these vertices, and its room
-pub record IsTold (m : Description) (vs : List Vertex) (ss : List Spot) (c : Chip) (cores room : ℕ) : Type 0 where
+pub record IsChipTold (m : Description) (vs : List Vertex) (ss : List Spot) (c : Chip) (cores room : ℕ) : Type 0 where
   pub free : AreCores (is_free_core m ss) c cores
   pub full : cores ≡ 0 → room ≡ 0
   pub left : 0 < cores → room + used_on c vs ss ≡ m.sdram + 1
@@ -23,7 +23,7 @@ pub record Stands (m : Description) (vs : List Vertex) (ss : List Spot) (b : Boa
   pub level : IsCurveLevel m b.level
   pub sdram : b.sdram ≡ m.sdram
   pub same : length vs ≡ length ss
-  pub told : (q : ℕ) (c : Chip) → slice_get b.chips q ≡ Some c → IsTold m vs ss c (slice_index b.cores.items q) (slice_index b.rooms q)
+  pub told : (q : ℕ) (c : Chip) → slice_get b.chips q ≡ Some c → IsChipTold m vs ss c (slice_index b.cores.items q) (slice_index b.rooms q)
 
 -- the first vertices, as many as there are spots, stand on the board at these spots, each with its memory
 pub record ArePlaced (m : Description) (vertices : List Vertex) (spots : List Spot) (memory : List ℕ) (b : Board) : Type 0 where

@@ -3,7 +3,7 @@ ghost use Rattle.std.specs.Prelude.{◌≡◌, ◌≢◌, ◌+◌, ◌≤◌, le
 ghost use Rattle.machine_desc.specs.Description.{Description};
 ghost use Rattle.app_graph.specs.declared.graphs.Vertex.{Vertex as AVertex};
 ghost use Rattle.app_graph.specs.ValidGraph.{IsValidGraph};
-ghost use Rattle.place_fit.specs.Boards.{AreFreeOn, AreKept, IsFairBoard, IsWith, IsWithout};
+ghost use Rattle.place_fit.specs.Boards.{AreFreeOn, AreOthersKept, IsFairBoard, IsWith, IsWithout};
 ghost use Rattle.place_fit.specs.Cause.{IsPlacementCause};
 ghost use Rattle.place_fit.specs.Placement.{IsPlacement};
 ghost use Rattle.place_fit.specs.Standing.{ArePlaced, CanPutAll};
@@ -110,7 +110,7 @@ fn put_all(
     ensures placed { (m : Description) → AreFreeOn m board.old → ArePlaced m vertices.now
         spots.new.items memory.new.items board.new }
     ensures fair { IsFairBoard board.new }
-    ensures kept { AreKept spots.new.items board.old board.new }
+    ensures kept { AreOthersKept spots.new.items board.old board.new }
     ensures all { OnOk result (length spots.new.items ≡ length vertices.now) }
     ensures why { (m : Description) → AreFreeOn m board.old → IfErr result
         (IsPlacementCause m vertices.now) }

@@ -2,7 +2,7 @@
 use Rattle.std.proofs.Common.{◌≡◌, ℕ, ◌+◌, ◌-◌, ◌*◌, ◌/◌, ◌%◌, ◌<◌, ◌≤◌, refl, sym, ap, ◌∙◌, subst, arith, inl, inr, List, [], ◌∷◌, ◌++◌, take, Bool, true, false, not, ◌||◌, Option, Some, None}
 use Rattle.std.specs.Prelude.{MatchOption}
 use Rattle.std.specs.List.{All, Contains, list_any, slice_get}
-use Rattle.std.proofs.lemmas.Bool.{and_from, and_parts, both_ways, cases_Bool, leb-true, not-true, or_parts}
+use Rattle.std.proofs.lemmas.Bool.{and_from, and_parts, both_ways, cases_Bool, leb-true, not-true, or_from, or_parts}
 use Rattle.std.proofs.lemmas.List.Elements.{All-weaker}
 use Rattle.std.proofs.lemmas.List.Folds.{list_any-append}
 use Rattle.std.proofs.lemmas.Option.{slice_get-get_or}
@@ -24,6 +24,7 @@ use Rattle.place_fit.specs.Placement.{HasDeviceRoom, IsCoreFor, IsPlacement, dev
 use Rattle.app_loads.specs.declared.loaded.LoadedApp.{LoadedApp}
 use Rattle.app_loads.specs.Host.{Host, all_spots, is_free_spot, is_spot_taken}
 use Rattle.app_loads.specs.Opening.{spot_of, grid_spots}
+use Rattle.app_loads.proofs.SpotsOf.{same_tests}
 use Rattle.spin_apps.specs.Free.{free_machine, unusable_spots}
 
 -- the number of a core gives the core
@@ -97,20 +98,11 @@ usable_on h s free =
     ] in
     let untaken : list_any (spot_eq s) (all_spots h.apps) ≡ false = any_spot (spot_eq s) h.apps ∙ both.1 in
     let clear : list_any (spot_eq s) (unusable_spots m ++ all_spots h.apps) ≡ false =
-    list_any-append (spot_eq s) (unusable_spots m) (all_spots h.apps) ∙ neither (list_any (spot_eq s) (unusable_spots m)) (list_any (spot_eq s) (all_spots h.apps)) not_listed untaken in
+    list_any-append (spot_eq s) (unusable_spots m) (all_spots h.apps) ∙ or_from (list_any (spot_eq s) (unusable_spots m)) (list_any (spot_eq s) (all_spots h.apps)) not_listed untaken in
     and_from _ _ (and_from _ _ inside refl) (and_from _ _ rest.0 (ap not clear))
-  where
-    neither : (a b : Bool) → a ≡ false → b ≡ false → (a || b) ≡ false
-    neither true b e f = cc
-    neither false b e f = f
 
 pub free_is : (h : Host) (s : Spot) → is_usable (free_machine h) s ≡ is_free_spot h s
 free_is h s = same_tests (is_usable (free_machine h) s) (is_free_spot h s) (usable_free h s) (usable_on h s)
-  where
-    same_tests : (a b : Bool) → (a ≡ true → b ≡ true) → (b ≡ true → a ≡ true) → a ≡ b
-    same_tests true b forth back = sym (forth refl)
-    same_tests false true forth back = back refl
-    same_tests false false forth back = refl
 
 -- vertices that are no devices are placed on free cores
 pub placed_usable : (h : Host) (vertices : List Vertex) (spots : List Spot) (memory : List ℕ) → IsPlacement (free_machine h) vertices spots memory →

@@ -1,18 +1,17 @@
 -- The board of free cores, where cores are taken and given back.
 use Rattle.std.proofs.Common.{◌≡◌, ℕ, refl, sym, ap, ◌∙◌, arith, List, [], ◌∷◌, ◌++◌, append_assoc, append-nil, ap₂, nat_le, Bool, true, false, not, ◌&&◌, ◌||◌, cond}
 use Rattle.std.specs.List.{All, list_any}
-use Rattle.std.proofs.lemmas.List.Elements.{All-contains}
 use Rattle.std.proofs.lemmas.List.Folds.{list_any-append}
-use Rattle.spin_base.proofs.Members.{among_contains, any_among}
+use Rattle.std.proofs.Math.Bool.{and-true}
 use Rattle.spin_base.specs.declared.chips.Spot.{Spot}
 use Rattle.spin_base.specs.Equality.{spot_eq}
-use Rattle.spin_base.proofs.Equality.{spot_eq_true}
 use Rattle.machine_desc.specs.Description.{Description}
 use Rattle.machine_desc.specs.Live.{is_live_chip, is_usable, IsUsable}
 use Rattle.mesh_core.specs.State.{State}
 use Rattle.place_fit.specs.Boards.{AreFreeOn, HaveOneGrid, IsWith, IsWithout}
 use Rattle.place_fit.specs.Placement.{core_spot}
 use Rattle.place_fit.specs.declared.boards.Board.{Board}
+use Rattle.place_fit.proofs.UsableSpots.{any_usable}
 use Rattle.app_loads.specs.Applications.{AreApps}
 use Rattle.app_loads.specs.declared.answers.Ended.{Ended}
 use Rattle.app_loads.specs.declared.loaded.LoadedApp.{LoadedApp}
@@ -41,11 +40,7 @@ free_same m n b grid same free = record {
 -- beside no application all usable cores are free
 pub free_bare : (m : Description) (queue : ℕ) (b : Board) → AreFreeOn m b → AreFreeOn (free_machine (bare_host m queue)) b
 free_bare m queue b free =
-    free_same m (free_machine (bare_host m queue)) b (record { width = refl; height = refl; sdram = refl }) (λ s. free_is (bare_host m queue) s ∙ and_last (is_usable m s)) free
-  where
-    and_last : (a : Bool) → (a && true) ≡ a
-    and_last true = refl
-    and_last false = refl
+    free_same m (free_machine (bare_host m queue)) b (record { width = refl; height = refl; sdram = refl }) (λ s. free_is (bare_host m queue) s ∙ and-true (is_usable m s)) free
 
 -- ---- cores taken and given back
 
@@ -64,11 +59,6 @@ but_is h spots s =
 
 pub without_spots : (h : Host) (spots : List Spot) → IsWithout spots (free_machine h) (free_but h spots)
 without_spots h spots = record { grid = record { width = refl; height = refl; sdram = refl }; usable = but_is h spots }
-
-any_usable : (m : Description) (s : Spot) (spots : List Spot) → All (IsUsable m) spots → list_any (spot_eq s) spots ≡ true → is_usable m s ≡ true
-any_usable m s spots usable some =
-    let found = any_among (spot_eq s) spots some in
-    ap (is_usable m) (spot_eq_true s found.0 found.2) ∙ All-contains (IsUsable m) spots found.0 usable (among_contains found.0 spots found.1)
 
 back : (f b a : Bool) → b ≡ (f && not a) → (a ≡ true → f ≡ true) → f ≡ (b || a)
 back f b a is has = by_cases f a has ∙ ap (λ x. x || a) (sym is)

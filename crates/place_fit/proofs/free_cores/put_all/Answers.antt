@@ -3,7 +3,7 @@ use Rattle.std.proofs.lemmas.List.{length_push}
 use Rattle.std.proofs.lemmas.Option.{slice_get_read}
 use Rattle.spin_base.proofs.Places.{All-at}
 use Rattle.app_graph.specs.declared.graphs.Vertex.{Vertex}
-use Rattle.place_fit.specs.Boards.{AreKept}
+use Rattle.place_fit.specs.Boards.{AreOthersKept}
 use Rattle.place_fit.proofs.Giving.{kept_more, kept_same}
 use Rattle.place_fit.proofs.SpotLaws.{none_for_core, placed_more, placed_none, has_no_room, stands_here, stood_on_core}
 use Rattle.place_fit.proofs.Standing.{whole_fair}
@@ -55,7 +55,7 @@ loop-i-preserved c =
     record {
       each_one = ap length pushed ∙ (length_push spots r.spot ∙ ap (λ n. n + 1) inv.each_one);
       fair = c.in-Some.ensures.fair;
-      kept = subst (λ l. AreKept l c.args.board.now c.put_on_core.new.self) (sym pushed)
+      kept = subst (λ l. AreOthersKept l c.args.board.now c.put_on_core.new.self) (sym pushed)
           (kept_more spots c.args.board.now c.loop-i.board c.put_on_core.new.self put.place v.sdram r inv.kept put.filled);
       placed = λ m free.
           let placed = inv.placed m free in
