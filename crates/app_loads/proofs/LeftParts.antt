@@ -31,11 +31,11 @@ not_loaded apps number none = elim (cases_Bool (is_loaded apps number)) [
 found_below : (apps : List LoadedApp) (number at : ℕ) (d : LoadedApp) → position (λ (app : LoadedApp). app.number == number) apps ≡ Some at → at < length apps
 found_below apps number at d is = let found = position_there (λ (a : LoadedApp). a.number == number) apps at d is in slice_get_within apps at found.0 found.1
 
-found_there : (apps : List LoadedApp) (number at : ℕ) (app : LoadedApp) → position (λ (app : LoadedApp). app.number == number) apps ≡ Some at → app ≡ get_or apps at app → slice_get apps at ≡ Some app
+pub found_there : (apps : List LoadedApp) (number at : ℕ) (app : LoadedApp) → position (λ (app : LoadedApp). app.number == number) apps ≡ Some at → app ≡ get_or apps at app → slice_get apps at ≡ Some app
 found_there apps number at app is value = slice_get-get_or apps at app (found_below apps number at app is) ∙ ap Some (sym value)
 
 -- and has the application of the number
-found_number : (apps : List LoadedApp) (number at : ℕ) (app : LoadedApp) → position (λ (app : LoadedApp). app.number == number) apps ≡ Some at → slice_get apps at ≡ Some app → app.number ≡ number
+pub found_number : (apps : List LoadedApp) (number at : ℕ) (app : LoadedApp) → position (λ (app : LoadedApp). app.number == number) apps ≡ Some at → slice_get apps at ≡ Some app → app.number ≡ number
 found_number apps number at app is here =
     let found = position_there (λ (a : LoadedApp). a.number == number) apps at app is in
     ap (λ (a : LoadedApp). a.number) (same_Some _ _ (sym here ∙ found.1)) ∙ eqb-true found.0.number number found.3

@@ -34,6 +34,7 @@ mod Served
 mod Serving
 mod Settling
 mod Spots
+pub mod SpotsOf
 mod Taking
 mod BlockLists
 mod Blocks

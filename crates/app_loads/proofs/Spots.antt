@@ -1,15 +1,16 @@
 -- The usable cores of a machine as a list.
 use Rattle.std.proofs.Common.{◌≡◌, ◌≢◌, ℕ, ◌+◌, ◌*◌, ◌/◌, ◌%◌, refl, sym, ap, ◌∙◌, arith, List, [], ◌∷◌, ◌++◌, map, length, Bool, true, false, cond}
-use Rattle.std.proofs.lemmas.List.{Elements.All-weaker, Kept.AllPairs-filter}
-use Rattle.std.proofs.lemmas.List.FromFn.{filter_of_map_range_with_len_more, get_or-map-range_with_len, length-map-range_with_len}
 use Rattle.std.specs.List.{All, AllPairs, filter, range_with_len, slice_index_or}
-use Rattle.spin_base.proofs.{Members.Contains-from_filter, Places.All-each, Pairs.All-flat_map}
+use Rattle.std.proofs.lemmas.List.Kept.{AllPairs-filter}
+use Rattle.std.proofs.lemmas.List.FromFn.{filter_of_map_range_with_len_more, get_or-map-range_with_len, length-map-range_with_len}
+use Rattle.spin_base.proofs.Members.{Contains-from_filter}
+use Rattle.spin_base.proofs.Places.{All-each}
 use Rattle.spin_base.specs.declared.chips.Spot.{Spot}
 use Rattle.machine_desc.specs.Description.{Description}
-use Rattle.machine_desc.specs.Live.{index_of, chip_of, is_usable, IsSite, IsInside, IsUsable}
-use Rattle.machine_desc.proofs.{Live.index_of-chip_of, Sites.usable_site, Sites.usable_parts, Far.live_inside}
-use Rattle.app_loads.specs.declared.loaded.LoadedApp.{LoadedApp}
-use Rattle.app_loads.specs.{Applications.AreApps, Applications.IsLoadedOn, Host.Host, Host.all_spots, Opening.spot_of, Opening.grid_spots, Opening.usable_spots}
+use Rattle.machine_desc.specs.Live.{index_of, chip_of, is_usable, IsSite}
+use Rattle.machine_desc.proofs.Live.{index_of-chip_of}
+use Rattle.machine_desc.proofs.Sites.{usable_site}
+use Rattle.app_loads.specs.Opening.{spot_of, grid_spots, usable_spots}
 
 -- two numbers of one spot are one number
 same_number : (m : Description) (i j : ℕ) → spot_of m i ≡ spot_of m j → i ≡ j
@@ -48,12 +49,3 @@ one_spot_more m n spot before after is so_far new =
     one : (b : Bool) → is_usable m (spot_of m n) ≡ b → filter (is_usable m) (spot_of m n ∷ []) ≡ cond (is_usable m (spot_of m n)) (spot_of m n ∷ []) []
     one true is' = grind arith
     one false is' = grind arith
-
--- the spots of loaded applications are inside the grid
-pub app_spots_inside : (h : Host) → AreApps h → All (λ (s : Spot). IsInside h.mesh.setup.machine s.chip) (all_spots h.apps)
-app_spots_inside h apps =
-    let m : Description = h.mesh.setup.machine in
-    let P : Spot → Type 0 = λ (s : Spot). IsInside m s.chip in
-    All-flat_map P (λ (app : LoadedApp). app.plan.spots) h.apps
-    (All-weaker (IsLoadedOn m) (λ (app : LoadedApp). All P app.plan.spots)
-    (λ app on. All-weaker (IsUsable m) P (λ s u. live_inside m s.chip (usable_parts m s u).0) app.plan.spots on.plan.usable) h.apps apps.loaded)

@@ -1,9 +1,10 @@
 // The applications of a machine, and what can be asked of them.
-ghost use Rattle.std.specs.Prelude.{◌≡◌, ◌==◌, ◌+◌, ◌≤◌, ◌++◌, ◌∷◌, [], All, IfOk, OnOk, Some, vec_capacity, vec_len};
+ghost use Rattle.std.specs.Prelude.{◌≡◌, ◌==◌, ◌+◌, ◌≤◌, ◌++◌, ◌∷◌, [], Contains, IfOk, OnOk, Some, false, vec_capacity, vec_len};
 ghost use Rattle.std.specs.List.{list_any, remove};
 ghost use Rattle.spin_base.specs.Equality.{spot_eq};
 ghost use Rattle.app_loads.specs.Applications.{AreApps};
-ghost use Rattle.app_loads.specs.Host.{all_spots, is_free_spot, is_loaded, is_spot_taken};
+ghost use Rattle.app_loads.specs.declared.loaded.LoadedApp.{LoadedApp as AnApp};
+ghost use Rattle.app_loads.specs.Host.{is_free_spot, is_loaded, is_spot_taken};
 ghost use Rattle.app_loads.specs.Inner.{HaveRoomForOne, IsInBoth};
 ghost use Rattle.app_loads.specs.Opening.{bare_host};
 
@@ -91,17 +92,22 @@ impl Apps {
         has_number(&self.numbers, number)
     }
 
-    /// Puts the spots of all loaded applications at the back of a list.
+    /// The spots of the application of a number, in the order of its vertices, or none where no application has it.
     ///
     /// # Errors
     ///
     /// `Memory` where memory runs out.
-    pub fn push_spots(&self, spots: &mut Vec<Spot>) -> Result<(), Memory>
-        ensures spots { OnOk result (spots.new.items ≡ spots.old.items ++ all_spots self.now.apps) }
-        ensures inside { All (λ s. IsInside self.now.mesh.setup.machine s.chip)
-            (all_spots self.now.apps) }
+    pub fn spots_of(&self, alloc: Global, number: u32) -> Result<Vec<Spot>, Memory>
+        ensures spots { IfOk result (λ spots. (app : AnApp) → Contains self.now.apps app
+            → app.number ≡ number → spots.items ≡ app.plan.spots) }
+        ensures none { IfOk result (λ spots. is_loaded self.now.apps number ≡ false
+            → spots.items ≡ []) }
     {
-        push_spots(&self.apps, spots)
+        let Some(at) = self.place_of(number) else {
+            return Ok(Vec::new(alloc));
+        };
+        let app = &self.apps[at];
+        Ok(Vec::from_slice(alloc, app.plan.spots.as_slice())?)
     }
 
     /// How many packets all loads so far had together. It takes no memory and constant time.
@@ -111,16 +117,6 @@ impl Apps {
     {
         self.packets
     }
-}
-
-// Puts the spots of all these applications at the back of a list.
-fn push_spots(apps: &[LoadedApp], spots: &mut Vec<Spot>) -> Result<(), Memory>
-    ensures { OnOk result (spots.new.items ≡ spots.old.items ++ all_spots apps.now) }
-{
-    for app in apps {
-        spots.extend_from_slice(app.plan.spots.as_slice())?;
-    }
-    Ok(())
 }
 
 // Puts an item in its place. What was there is dropped here, as a value of any type: so no caller drops a whole mesh.

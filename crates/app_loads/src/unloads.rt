@@ -69,7 +69,7 @@ impl Apps {
     }
 
     // The place of the application of a number, if one has it.
-    fn place_of(&self, number: u32) -> Option<usize>
+    pub(crate) fn place_of(&self, number: u32) -> Option<usize>
         ensures { result ≡ position (λ (app : AnApp). app.number == number) self.now.apps }
     {
         self.apps.iter().position(|app| app.number == number)

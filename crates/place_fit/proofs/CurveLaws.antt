@@ -191,7 +191,7 @@ at_place (suc k) c inside =
       ]
     ]
 
-inside_at : (k i : ℕ) (c : Chip) → slice_get (hilbert k) i ≡ Some c → IsIn (2 ^ k) c
+pub inside_at : (k i : ℕ) (c : Chip) → slice_get (hilbert k) i ≡ Some c → IsIn (2 ^ k) c
 inside_at k i c e =
     let within = slice_get_within (hilbert k) i c e in
     subst (IsIn (2 ^ k)) (get_or_from_slice_get (hilbert k) i c c e) (hilbert_inside k i c within)

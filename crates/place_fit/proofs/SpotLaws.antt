@@ -1,13 +1,15 @@
 -- The spots that a board gives are those of the definition.
-use Rattle.std.proofs.Common.{◌≡◌, ◌≢◌, ℕ, ◌+◌, ◌-◌, ◌^◌, ◌<◌, ◌≤◌, ◌==◌, Bool, true, not, leb, ltb, cond, List, [], ◌∷◌, ◌++◌, length}
+use Rattle.std.proofs.Common.{◌≡◌, ◌≢◌, ℕ, ◌+◌, ◌-◌, ◌^◌, ◌<◌, ◌≤◌, ◌==◌, ◌&&◌, Bool, true, not, leb, ltb, cond, List, [], ◌∷◌, ◌++◌, length}
 use Rattle.std.proofs.Common.{take, filter, get_or, refl, sym, ap, ap₂, ◌∙◌, subst, zero, suc, Option, Some, None, slice_get, MatchOption, inl, inr, arith, All, AllPairs}
-use Rattle.std.proofs.lemmas.Bool.{cases_Bool, cond-true, cond-false, and_from, or_right, le-leb, lt-ltb, both_ways}
-use Rattle.std.proofs.lemmas.List.{length_push, length-take, take-append-le, take_at, get_or-take}
-use Rattle.std.specs.List.{AllZip}
+use Rattle.std.proofs.lemmas.Bool.{cases_lt, cases_Bool, cond-true, cond-false, and_from, or_right, le-leb, lt-ltb, both_ways}
+use Rattle.std.proofs.lemmas.List.{length_push, length-take, take-append-le, take_at, take_more, get_or-take}
+use Rattle.std.specs.Int.{bit_at}
+use Rattle.std.specs.List.{AllZip, list_any}
 use Rattle.std.proofs.lemmas.List.Folds.{list_any_at}
 use Rattle.std.proofs.lemmas.List.Elements.{All-filter, All-nil, All-cons}
 use Rattle.std.proofs.lemmas.Option.{slice_get_within, slice_get-get_or, get_or_from_slice_get}
-use Rattle.spin_base.proofs.Places.{slice_get_there, slice_get-push_cases, slice_get-append_left, slice_get-pushed}
+use Rattle.std.proofs.Math.Bool.{and-true}
+use Rattle.spin_base.proofs.Places.{All-at, slice_get_there, slice_get-push_cases, slice_get-append_left, slice_get-pushed}
 use Rattle.spin_base.specs.declared.chips.Chip.{Chip}
 use Rattle.spin_base.specs.declared.chips.Spot.{Spot}
 use Rattle.spin_base.specs.Equality.{spot_eq}
@@ -24,12 +26,16 @@ use Rattle.app_graph.specs.declared.graphs.Vertex.{Vertex}
 use Rattle.app_graph.specs.ValidGraph.{HaveDifferentDevices}
 use Rattle.place_fit.specs.declared.boards.Board.{Board}
 use Rattle.place_fit.specs.declared.boards.Placed.{Placed}
-use Rattle.place_fit.specs.Curve.{hilbert}
+use Rattle.place_fit.specs.Curve.{hilbert, IsCurveLevel}
 use Rattle.place_fit.specs.Quarters.{curve_place}
 use Rattle.place_fit.proofs.CurveLaws.{at_place}
-use Rattle.place_fit.specs.Boards.{IsPlaceWithRoom, HasNoRoomAt, HasNoPlace, HasFairRooms, IsFilled, IsPutOnCore, IsPutAtLink, IsPut, HasNoSpot}
-use Rattle.place_fit.specs.Placement.{core_spot, need_of, used_on, is_free_core, HasRoom, IsFirstChip, choices, IsCoreFor, HasDeviceRoom, device_spot, IsSpotFor, FindsNoRoom, AreFirstSpots, AreFirstMemories, memory_of}
-use Rattle.place_fit.proofs.Standing.{live_in, Stands, IsTold, free_parts, free_from, has_room, core_with_room, room_for, least_core, usable_parts, is_taken, need_of_core, need_of_device, stands_more as one_stands_more, stands_device}
+use Rattle.place_fit.specs.Boards.{AreFreeOn, AreGiven, AreSettled, IsBoard, IsWithout, IsWholeBoard, IsPlaceWithRoom, HasNoRoomAt, HasNoPlace, IsFilled, IsPutOnCore, IsPutAtLink, IsPut, HasNoSpot}
+use Rattle.place_fit.specs.Placement.{core_spot, need_of, used_on, HasRoom, IsFirstChip, choices, IsCoreFor, HasDeviceRoom, device_spot, IsSpotFor, FindsNoRoom, HasNoRoom, AreFirstSpots, AreFirstMemories, memory_of}
+use Rattle.place_fit.specs.Standing.{ArePlaced, IsChipTold, Stands}
+use Rattle.place_fit.proofs.Giving.{high_bit, same_curve}
+use Rattle.place_fit.proofs.UsableSpots.{any_usable}
+use Rattle.place_fit.proofs.Standing.{live_in, free_parts, free_at, bit_of_free, has_room, cores_with_room, room_for, usable_parts}
+use Rattle.place_fit.proofs.Standing.{is_taken, need_of_core, need_of_device, stands_first, stands_more as one_stands_more, stands_device}
 
 -- the first item that passes is the first of those that pass a test, if it passes it
 first_from_place : (P : Chip → Type 0) (test : Chip → Bool) (xs : List Chip) (q : ℕ) (c : Chip) → slice_get xs q ≡ Some c → P c → test c ≡ true
@@ -53,28 +59,22 @@ first_has P [] c f = absurd f
 first_has P (x ∷ xs) c f = elim f [ inl here ↦ subst P here.1 here.0 | inr later ↦ first_has P xs c later.1 ]
 
 module _ (m : Description) (vs : List Vertex) (ss : List Spot) (b : Board) (stands : Stands m vs ss b) (v : Vertex) where
-  order : List Chip
-  order = filter (is_live_chip m) (hilbert b.level)
-
   on_board : (q : ℕ) (c : Chip) → slice_get (hilbert b.level) q ≡ Some c → slice_get b.chips q ≡ Some c
   on_board q c at = ap (λ l. slice_get l q) stands.board.chips ∙ at
 
   -- a place has room exactly where its number says so
-  told_at : (q : ℕ) (c : Chip) → slice_get b.chips q ≡ Some c → IsTold m vs ss c (get_or b.cores.items q 0) (get_or b.rooms q 0)
+  told_at : (q : ℕ) (c : Chip) → slice_get b.chips q ≡ Some c → IsChipTold m vs ss c (get_or b.cores.items q 0) (get_or b.rooms q 0)
   told_at q c at = stands.told q c at
 
   lives : (c : Chip) → HasRoom m vs ss v c → is_live_chip m c ≡ true
   lives c has = (usable_parts m (core_spot c has.core) (free_parts m ss (core_spot c has.core) has.free).0).0
 
-  module _ (place : ℕ) (found : IsPlaceWithRoom b v place) (new : Board) (r : Placed) (filled : IsFilled m place v.sdram b new r) where
-    core : ℕ
-    core = get_or b.cores.items place 0
-
-    here : IsTold m vs ss r.spot.chip (get_or b.cores.items place 0) (get_or b.rooms place 0)
+  module _ (place : ℕ) (found : IsPlaceWithRoom b v place) (new : Board) (r : Placed) (filled : IsFilled place v.sdram b new r) where
+    here : IsChipTold m vs ss r.spot.chip (get_or b.cores.items place 0) (get_or b.rooms place 0)
     here = stands.told place r.spot.chip filled.chip
 
     has : HasRoom m vs ss v r.spot.chip
-    has = has_room m vs ss r.spot.chip (get_or b.cores.items place 0) (get_or b.rooms place 0) here v found.enough
+    has = has_room m vs ss r.spot.chip (get_or b.cores.items place 0) (get_or b.rooms place 0) here v (stands.board.few place) found.enough
 
     by_choice : (at : Option Chip) → MatchOption at ((q : ℕ) → q < place → get_or b.rooms q 0 ≤ v.sdram) (λ c. slice_get b.chips place ≡ Some c)
         → IsFirstChip (HasRoom m vs ss v) (choices (filter (is_live_chip m) (hilbert b.level)) at) r.spot.chip
@@ -87,24 +87,27 @@ module _ (m : Description) (vs : List Vertex) (ss : List Spot) (b : Board) (stan
         inl (subst (HasRoom m vs ss v) one has, sym one)
 
     pub spot_for : IsCoreFor m (filter (is_live_chip m) (hilbert b.level)) vs ss v r.spot
-    spot_for =
-        let some = core_with_room m vs ss r.spot.chip (get_or b.cores.items place 0) (get_or b.rooms place 0) here v.sdram found.enough in
-        let free : is_free_core m ss (core_spot r.spot.chip (get_or b.cores.items place 0)) ≡ true =
-        free_from m ss (core_spot r.spot.chip (get_or b.cores.items place 0)) (here.next some) (here.after (get_or b.cores.items place 0) (here.next some) (omega arith)) in
-        record {
-          chip = by_choice v.at found.first;
-          free = subst (λ n. is_free_core m ss (core_spot r.spot.chip n) ≡ true) (sym filled.core) free;
-          least = λ p may. let low = least_core m vs ss r.spot.chip (get_or b.cores.items place 0) (get_or b.rooms place 0) here p may in omega (arith, low, filled.core);
-        }
+    spot_for = record {
+      chip = by_choice v.at found.first;
+      free = free_at m vs ss r.spot.chip (get_or b.cores.items place 0) (get_or b.rooms place 0) here r.spot.core (let low = filled.parted.low in omega (arith, low)) filled.parted.had;
+      least = λ p may. elim (cases_lt p r.spot.core) [
+        | inl before ↦ absurd (
+            let one = bit_of_free m vs ss r.spot.chip (get_or b.cores.items place 0) (get_or b.rooms place 0) here p may in
+            let none = filled.parted.none p before in
+            omega (arith, one, none)
+            )
+        | inr from ↦ from
+      ];
+    }
 
     pub memory_is : need_of v ≡ v.sdram → r.memory ≡ memory_of vs ss v r.spot
     memory_is plain =
-        let some = core_with_room m vs ss r.spot.chip (get_or b.cores.items place 0) (get_or b.rooms place 0) here v.sdram found.enough in
+        let some = cores_with_room m vs ss r.spot.chip (get_or b.cores.items place 0) (get_or b.rooms place 0) here v.sdram found.enough in
         let left = here.left some in
-        let used : m.sdram + 1 - get_or b.rooms place 0 ≡ used_on r.spot.chip vs ss = omega (arith, left) in
+        let used : b.sdram + 1 - get_or b.rooms place 0 ≡ used_on r.spot.chip vs ss = omega (arith, left, stands.sdram) in
         filled.memory ∙ (ap (cond (v.sdram == 0) 0) used ∙ ap (λ n. cond (n == 0) 0 (used_on r.spot.chip vs ss)) (sym plain))
 
-  none_by : (at : Option Chip) → MatchOption at (All (λ room. room ≤ v.sdram) b.rooms) (HasNoRoomAt m b v.sdram)
+  none_by : (at : Option Chip) → MatchOption at (All (λ room. room ≤ v.sdram) b.rooms) (HasNoRoomAt b v.sdram)
       → All (λ c. HasRoom m vs ss v c → ⊥) (choices (filter (is_live_chip m) (hilbert b.level)) at)
   none_by None none =
       All-filter (is_live_chip m) (λ c. HasRoom m vs ss v c → ⊥) (hilbert b.level) (λ q d inside room.
@@ -118,22 +121,14 @@ module _ (m : Description) (vs : List Vertex) (ss : List Spot) (b : Board) (stan
       let live = lives c room in
       let at = at_chip c live in
       let more = room_for m vs ss c (get_or b.cores.items at.0 0) (get_or b.rooms at.0 0) (told_at at.0 c at.1) v room in
-      omega (arith, more, none live at.0 at.1))
+      omega (arith, more, none at.0 at.1))
       (All-nil (λ z. HasRoom m vs ss v z → ⊥))
     where
       at_chip : (c : Chip) → is_live_chip m c ≡ true → (q : ℕ) × (slice_get b.chips q ≡ Some c)
-      at_chip c live = (curve_place b.level c, on_board (curve_place b.level c) c (at_place b.level c (live_in m c (2 ^ b.level) live stands.board.wide stands.board.high)))
+      at_chip c live = (curve_place b.level c, on_board (curve_place b.level c) c (at_place b.level c (live_in m c (2 ^ b.level) live stands.level.wide stands.level.high)))
 
-  pub none_for : HasNoPlace m b v → All (λ c. HasRoom m vs ss v c → ⊥) (choices (filter (is_live_chip m) (hilbert b.level)) v.at)
+  pub none_for : HasNoPlace b v → All (λ c. HasRoom m vs ss v c → ⊥) (choices (filter (is_live_chip m) (hilbert b.level)) v.at)
   none_for none = none_by v.at none
-
-  -- where a place has room, it has a free core, and no more room than the chip's memory
-  pub fair : HasFairRooms m b
-  fair q inside some =
-      let (c, at) = slice_get_there b.chips q inside in
-      let here = told_at q c at in
-      let core = core_with_room m vs ss c (get_or b.cores.items q 0) (get_or b.rooms q 0) here 0 some in
-      (core, (let l = here.left core in omega (arith, l)))
 
   -- what holds of the vertex once it is put at its spot
   pub record HasStood (new : Board) (r : Placed) : Type 0 where
@@ -142,15 +137,15 @@ module _ (m : Description) (vs : List Vertex) (ss : List Spot) (b : Board) (stan
     pub stands_more : Stands m (vs ++ v ∷ []) (ss ++ r.spot ∷ []) new
     pub level : new.level ≡ b.level
 
-  module _ (new : Board) (r : Placed) where
-    stood_on_core : v.device ≡ None → IsPutOnCore m b new v r → HasStood new r
+  module _ (new : Board) (r : Placed) (board : IsBoard new) where
+    pub stood_on_core : v.device ≡ None → IsPutOnCore b new v r → HasStood new r
     stood_on_core is put =
         let plain = need_of_core v is in
         let right = spot_for put.place put.found new r put.filled in
         record {
           spot = subst (λ o. MatchOption o (IsCoreFor m (filter (is_live_chip m) (hilbert b.level)) vs ss v r.spot) (λ device. HasDeviceRoom m device × (r.spot ≡ device_spot device))) (sym is) right;
           memory = memory_is put.place put.found new r put.filled plain;
-          stands_more = one_stands_more m vs ss b new stands v put.place r plain put.found.within put.found.enough put.filled;
+          stands_more = one_stands_more m vs ss b new stands v put.place r plain put.found.within put.found.enough put.filled board;
           level = put.filled.level;
         }
 
@@ -168,17 +163,21 @@ module _ (m : Description) (vs : List Vertex) (ss : List Spot) (b : Board) (stan
     pub stood : IsPut m b new v r → HasStood new r
     stood = by_device v.device refl
       where
-        by_device : (o : Option Edge) → v.device ≡ o → MatchOption o (IsPutOnCore m b new v r) (λ device. IsPutAtLink m b new device r) → HasStood new r
+        by_device : (o : Option Edge) → v.device ≡ o → MatchOption o (IsPutOnCore b new v r) (λ device. IsPutAtLink m b new device r) → HasStood new r
         by_device None is put = stood_on_core is put
         by_device (Some device) is put = stood_at_link device is put
 
   pub finds_none : HasNoSpot m b v → FindsNoRoom m (filter (is_live_chip m) (hilbert b.level)) vs ss v
   finds_none = by_device v.device
     where
-      by_device : (o : Option Edge) → MatchOption o (HasNoPlace m b v) (λ device. HasDeviceRoom m device → ⊥)
+      by_device : (o : Option Edge) → MatchOption o (HasNoPlace b v) (λ device. HasDeviceRoom m device → ⊥)
           → MatchOption o (All (λ c. HasRoom m vs ss v c → ⊥) (choices (filter (is_live_chip m) (hilbert b.level)) v.at)) (λ device. HasDeviceRoom m device → ⊥)
       by_device None none = none_for none
       by_device (Some device) none = none
+
+  pub none_for_core : v.device ≡ None → HasNoPlace b v → FindsNoRoom m (filter (is_live_chip m) (hilbert b.level)) vs ss v
+  none_for_core is none =
+      subst (λ o. MatchOption o (All (λ c. HasRoom m vs ss v c → ⊥) (choices (filter (is_live_chip m) (hilbert b.level)) v.at)) (λ device. HasDeviceRoom m device → ⊥)) (sym is) (none_for none)
 
 -- ---- one more
 
@@ -227,6 +226,45 @@ module _ (vertices : List Vertex) (i : ℕ) (v : Vertex) (is : slice_get vertice
               ∙ (ap (λ k. memory_of (take k vertices) spots w t) (sym at) ∙ ap (λ e. memory_of (take j vertices) e w t) (sym all))))
               )
         ];
+  }
+
+-- ---- the vertices so far
+
+pub placed_none : (m : Description) (vertices : List Vertex) (b : Board) → IsWholeBoard b → AreFreeOn m b → ArePlaced m vertices [] [] b
+placed_none m vertices b whole free = record {
+  stands = stands_first m b whole free;
+  first = none_yet m (filter (is_live_chip m) (hilbert b.level)) vertices;
+  memories = no_memory_yet vertices;
+}
+
+module _ (m : Description) (vertices : List Vertex) (i : ℕ) (v : Vertex) (is : slice_get vertices i ≡ Some v) (spots : List Spot) (here : length spots ≡ i) (memory : List ℕ)
+    (b : Board) (placed : ArePlaced m vertices spots memory b) where
+  pub stands_here : Stands m (take i vertices) spots b
+  stands_here = subst (λ n. Stands m (take n vertices) spots b) here placed.stands
+
+  pub placed_more : (new : Board) (r : Placed) → HasStood m (take i vertices) spots b stands_here v new r → ArePlaced m vertices (spots ++ r.spot ∷ []) (memory ++ r.memory ∷ []) new
+  placed_more new r stood =
+      let taken : take (i + 1) vertices ≡ take i vertices ++ v ∷ [] =
+      take_more vertices i v (slice_get_within vertices i v is) ∙ ap (λ w. take i vertices ++ w ∷ []) (get_or_from_slice_get vertices i v v is) in
+      let long : length (spots ++ r.spot ∷ []) ≡ i + 1 = length_push spots r.spot ∙ ap (λ n. n + 1) here in
+      let all : take (length (spots ++ r.spot ∷ [])) vertices ≡ take i vertices ++ v ∷ [] = ap (λ n. take n vertices) long ∙ taken in
+      record {
+        stands = subst (λ vs. Stands m vs (spots ++ r.spot ∷ []) new) (sym all) stood.stands_more;
+        first = subst (λ k. AreFirstSpots m (filter (is_live_chip m) (hilbert k)) vertices (spots ++ r.spot ∷ [])) (sym stood.level)
+            (spots_more vertices i v is spots here r.spot m (filter (is_live_chip m) (hilbert b.level)) placed.first stood.spot);
+        memories = memories_more vertices i v is spots here r.spot memory r.memory placed.memories stood.memory;
+      }
+
+  pub has_no_room : FindsNoRoom m (filter (is_live_chip m) (hilbert b.level)) (take i vertices) spots v → HasNoRoom m vertices i
+  has_no_room none = record {
+    order = filter (is_live_chip m) (hilbert b.level);
+    is_order = record { level = b.level; is_level = placed.stands.level; live = refl };
+    spots = spots;
+    before = placed.first;
+    here = here;
+    vertex = v;
+    is = is;
+    none = none;
   }
 
 -- ---- what follows for the layers above
@@ -307,6 +345,14 @@ module _ (m : Description) (order : List Chip) (vertices : List Vertex) (spots :
     pub not_twice : ⊥
     not_twice = by_device one.vertex.device other.vertex.device refl refl one.spot other.spot
 
+  pub cores_usable : All (λ (v : Vertex). v.device ≡ None) vertices → All (IsUsable m) spots
+  cores_usable none j d inside =
+      let at = vertex_at j (get_or spots j d) (slice_get-get_or spots j d inside) in
+      let s = get_or spots j d in
+      let core = subst (λ o. MatchOption o (IsCoreFor m order (take j vertices) (take j spots) at.vertex s) (λ device. HasDeviceRoom m device × (s ≡ device_spot device)))
+      (All-at (λ (v : Vertex). v.device ≡ None) vertices j at.vertex none at.is) at.spot in
+      (free_parts m (take j spots) (get_or spots j d) core.free).0
+
   pub all_differ : AllPairs HaveDifferentDevices vertices → AllPairs (λ a b. a ≢ b) spots
   all_differ devices i j d ord inside same =
       not_twice devices i j (get_or spots i d) ord (slice_get-get_or spots i d (omega arith)) (slice_get-get_or spots j d inside ∙ ap Some (sym same))
@@ -328,3 +374,38 @@ all_on_cores m order vertices spots first all = zip_from_places m vertices spots
     let at = first.each i v s is_v is_s in
     let core = subst (λ o. MatchOption o (IsCoreFor m order (take i vertices) (take i spots) v s) (λ device. HasDeviceRoom m device × (s ≡ device_spot device))) none at in
     (free_parts m (take i spots) s core.free).0)
+
+-- ---- the cores that are free then
+
+module _ (m : Description) (vertices : List Vertex) (spots : List Spot) (memory : List ℕ) (b new : Board) (placed : ArePlaced m vertices spots memory b) where
+  pub free_without : (n : Description) → AreSettled spots b new → new.cores.items ≡ b.cores.items → IsWithout spots m n → AreFreeOn n new
+  free_without n settled same less = record {
+    level = same_curve m n b.level new.level less.grid settled.level placed.stands.level;
+    sdram = settled.sdram ∙ (placed.stands.sdram ∙ sym less.grid.sdram);
+    free = λ q c at_new p low.
+        let at : slice_get b.chips q ≡ Some c = ap (λ l. slice_get l q) (sym settled.chips) ∙ at_new in
+        let told = placed.stands.told q c at in
+        ap (λ l. bit_at (get_or l q 0) p) same ∙ (told.free p low ∙ ap (λ (t : Bool). cond t 1 0) (sym (less.usable (core_spot c p))));
+  }
+
+  pub free_back : All (λ (v : Vertex). v.device ≡ None) vertices → AreGiven spots b new → AreFreeOn m new
+  free_back cores given = record {
+    level = subst (IsCurveLevel m) (sym given.settled.level) placed.stands.level;
+    sdram = given.settled.sdram ∙ placed.stands.sdram;
+    free = λ q c at_new p low.
+        let at : slice_get b.chips q ≡ Some c = ap (λ l. slice_get l q) (sym given.settled.chips) ∙ at_new in
+        let told = placed.stands.told q c at in
+        let s : Spot = core_spot c p in
+        let any : Bool = list_any (spot_eq s) spots in
+        let old : ℕ = bit_at (get_or b.cores.items q 0) p in
+        elim (cases_lt p 18) [
+          | inl core ↦ given.free q c at p core
+              ∙ elim (cases_Bool any) [
+                | inl has ↦ cond-true any 1 old has
+                    ∙ sym (cond-true (is_usable m s) 1 0 (any_usable m s spots (cores_usable m (filter (is_live_chip m) (hilbert b.level)) vertices spots placed.first cores) has))
+                | inr none ↦ cond-false any 1 old none
+                    ∙ (told.free p low ∙ ap (λ (t : Bool). cond t 1 0) (ap (λ (t : Bool). is_usable m s && not t) none ∙ and-true (is_usable m s)))
+              ]
+          | inr high ↦ high_bit m c (get_or new.cores.items q 0) p (given.settled.board.few q) high
+        ];
+  }

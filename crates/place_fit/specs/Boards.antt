@@ -1,40 +1,95 @@
--- How far the chips of a machine are filled, as the private functions say it.
-use Rattle.std.specs.Prelude.{◌≡◌, ℕ, ◌+◌, ◌-◌, ◌^◌, ◌<◌, ◌≤◌, ◌==◌, nat_lt, true, false, length, Some, MatchOption, All, slice_get, slice_set, slice_index, if◌then◌else◌}
+-- How far the chips of a machine are filled, and which cores a board has.
+use Rattle.std.specs.Prelude.{◌≡◌, ◌≢◌, ℕ, ◌+◌, ◌-◌, ◌^◌, ◌<◌, ◌≤◌, ◌==◌, ◌&&◌, ◌||◌, Bool, false, not, List, length, Some, MatchOption, All, slice_get, slice_set, slice_index, if◌then◌else◌}
+use Rattle.std.specs.Int.{bit_at}
+use Rattle.std.specs.List.{list_any}
 use Rattle.spin_base.specs.declared.chips.Chip.{Chip}
+use Rattle.spin_base.specs.declared.chips.Spot.{Spot}
+use Rattle.spin_base.specs.Equality.{chip_eq, spot_eq}
 use Rattle.machine_desc.specs.declared.trees.Edge.{Edge}
 use Rattle.machine_desc.specs.Description.{Description}
-use Rattle.machine_desc.specs.Live.{is_usable, is_live_chip}
+use Rattle.machine_desc.specs.Live.{is_usable}
 use Rattle.app_graph.specs.declared.graphs.Vertex.{Vertex}
 use Rattle.place_fit.specs.declared.boards.Board.{Board}
 use Rattle.place_fit.specs.declared.boards.Placed.{Placed}
-use Rattle.place_fit.specs.Curve.{hilbert}
+use Rattle.place_fit.specs.Curve.{hilbert, IsCurveLevel}
 use Rattle.place_fit.specs.Placement.{core_spot, HasDeviceRoom, device_spot}
 
--- the chips of the curve, whose square holds the grid, with a core and a room beside each
-pub record IsBoard (m : Description) (level : ℕ) (b : Board) : Type 0 where
-  pub same : b.level ≡ level
-  pub small : level ≤ 6
-  pub wide : m.width ≤ 2 ^ level
-  pub high : m.height ≤ 2 ^ level
-  pub chips : b.chips ≡ hilbert level
+-- ---- which cores a board has
+
+-- The bits below 32 are 1 at those cores of a chip that pass a test.
+abbrev pub AreCores : (Spot → Bool) → Chip → ℕ → Type 0
+AreCores test c cores = (p : ℕ) → p < 32 → bit_at cores p ≡ (if test (core_spot c p) then 1 else 0)
+
+-- A board has the cores that are usable on a machine: of each chip of the curve whose square holds the grid. A chip has the
+-- machine's memory.
+pub record AreFreeOn (m : Description) (b : Board) : Type 0 where
+  pub level : IsCurveLevel m b.level
+  pub sdram : b.sdram ≡ m.sdram
+  pub free : (q : ℕ) (c : Chip) → slice_get b.chips q ≡ Some c → AreCores (is_usable m) c (slice_index b.cores.items q)
+
+-- two machines with one grid, and as much memory of each chip
+pub record HaveOneGrid (m n : Description) : Type 0 where
+  pub width : n.width ≡ m.width
+  pub height : n.height ≡ m.height
+  pub sdram : n.sdram ≡ m.sdram
+
+-- The second machine has the usable cores of the first but for these spots.
+pub record IsWithout (spots : List Spot) (m n : Description) : Type 0 where
+  pub grid : HaveOneGrid m n
+  pub usable : (s : Spot) → is_usable n s ≡ (is_usable m s && not (list_any (spot_eq s) spots))
+
+-- The second machine has the usable cores of the first, and these spots.
+pub record IsWith (spots : List Spot) (m n : Description) : Type 0 where
+  pub grid : HaveOneGrid m n
+  pub usable : (s : Spot) → is_usable n s ≡ (is_usable m s || list_any (spot_eq s) spots)
+
+-- ---- what a board keeps
+
+-- the chips of the curve, with free cores and a room beside each
+pub record IsBoard (b : Board) : Type 0 where
+  pub small : b.level ≤ 6
+  pub chips : b.chips ≡ hilbert b.level
   pub cores : length b.cores.items ≡ length b.chips
   pub rooms : length b.rooms ≡ length b.chips
+  pub few : (q : ℕ) → slice_index b.cores.items q < 2 ^ 18
 
--- the least usable core of a chip from a number on, or 18
-pub record IsNextCore (m : Description) (c : Chip) (from next : ℕ) : Type 0 where
-  pub low : from ≤ next
-  pub high : next ≤ 18
-  pub none : (p : ℕ) → from ≤ p → p < next → is_usable m (core_spot c p) ≡ false
-  pub usable : next < 18 → is_usable m (core_spot c next) ≡ true
+-- a place of a board
+pub record IsPlaceOf (b : Board) (place : ℕ) : Type 0 where
+  pub board : IsBoard b
+  pub within : place < length b.chips
 
--- the room of a chip whose least free core is this one, and of whose memory so many bytes are left
-abbrev pub first_room : ℕ → ℕ → ℕ
-first_room core left = if nat_lt core 18 then left + 1 else 0
+-- the room of a chip with these free cores, of whose memory so many bytes are left
+abbrev pub room_left : ℕ → ℕ → ℕ
+room_left cores left = if cores == 0 then 0 else left + 1
 
--- no vertex stands on a chip
-abbrev pub IsEmptyBoard : Description → Board → Type 0
-IsEmptyBoard m b = (q : ℕ) (c : Chip) → slice_get b.chips q ≡ Some c →
-    IsNextCore m c 0 (slice_index b.cores.items q) × (slice_index b.rooms q ≡ first_room (slice_index b.cores.items q) m.sdram)
+-- a board whose chips have all their memory
+pub record IsWholeBoard (b : Board) : Type 0 where
+  pub board : IsBoard b
+  pub rooms : (q : ℕ) → q < length b.chips → slice_index b.rooms q ≡ room_left (slice_index b.cores.items q) b.sdram
+
+-- a board where a chip with room has a free core, and at most the memory of a chip
+pub record IsFairBoard (b : Board) : Type 0 where
+  pub board : IsBoard b
+  pub rooms : (q : ℕ) → q < length b.chips → 0 < slice_index b.rooms q → (0 < slice_index b.cores.items q) × (slice_index b.rooms q ≤ b.sdram + 1)
+
+-- ---- bits
+
+-- the least of some cores, and the others
+pub record IsParted (cores least others : ℕ) : Type 0 where
+  pub low : least < 18
+  pub had : bit_at cores least ≡ 1
+  pub none : (p : ℕ) → p < least → bit_at cores p ≡ 0
+  pub few : others < 2 ^ 18
+  pub gone : bit_at others least ≡ 0
+  pub same : (p : ℕ) → p < 32 → p ≢ least → bit_at others p ≡ bit_at cores p
+
+-- some cores, and one
+pub record IsJoined (cores core all : ℕ) : Type 0 where
+  pub few : all < 2 ^ 18
+  pub here : bit_at all core ≡ 1
+  pub same : (p : ℕ) → p ≢ core → bit_at all p ≡ bit_at cores p
+
+-- ---- one vertex more
 
 -- the place of the chip for a vertex: it has room, and is the first that has, or the chip that the vertex names
 pub record IsPlaceWithRoom (b : Board) (v : Vertex) (place : ℕ) : Type 0 where
@@ -42,48 +97,38 @@ pub record IsPlaceWithRoom (b : Board) (v : Vertex) (place : ℕ) : Type 0 where
   pub enough : v.sdram < slice_index b.rooms place
   pub first : MatchOption v.at ((q : ℕ) → q < place → slice_index b.rooms q ≤ v.sdram) (λ c. slice_get b.chips place ≡ Some c)
 
--- the chip is not live, or has too little room
-abbrev pub HasNoRoomAt : Description → Board → ℕ → Chip → Type 0
-HasNoRoomAt m b sdram c = is_live_chip m c ≡ true → (q : ℕ) → slice_get b.chips q ≡ Some c → slice_index b.rooms q ≤ sdram
+-- the chip is not on the board, or has too little room
+abbrev pub HasNoRoomAt : Board → ℕ → Chip → Type 0
+HasNoRoomAt b sdram c = (q : ℕ) → slice_get b.chips q ≡ Some c → slice_index b.rooms q ≤ sdram
 
-abbrev pub HasNoPlace : Description → Board → Vertex → Type 0
-HasNoPlace m b v = MatchOption v.at (All (λ room. room ≤ v.sdram) b.rooms) (HasNoRoomAt m b v.sdram)
-
--- a vertex that needs so many bytes was put on the least free core of the chip at this place
-pub record IsFilled (m : Description) (place sdram : ℕ) (old new : Board) (r : Placed) : Type 0 where
-  pub level : new.level ≡ old.level
-  pub chips : new.chips ≡ old.chips
-  pub chip : slice_get old.chips place ≡ Some r.spot.chip
-  pub core : r.spot.core ≡ slice_index old.cores.items place
-  pub memory : r.memory ≡ (if sdram == 0 then 0 else (m.sdram + 1 - slice_index old.rooms place))
-  pub next : ℕ
-  pub is_next : IsNextCore m r.spot.chip (r.spot.core + 1) next
-  pub cores : new.cores.items ≡ slice_set old.cores.items place next
-  pub rooms : new.rooms ≡ slice_set old.rooms place (first_room next (slice_index old.rooms place - 1 - sdram))
-
--- where a place has room, its chip has a free core, and the room is at most one more than the chip's memory
-abbrev pub HasFairRooms : Description → Board → Type 0
-HasFairRooms m b = (q : ℕ) → q < length b.chips → 0 < slice_index b.rooms q →
-    (slice_index b.cores.items q < 18) × (slice_index b.rooms q ≤ m.sdram + 1)
-
--- a board whose places have such rooms
-pub record IsFairBoard (m : Description) (b : Board) : Type 0 where
-  pub board : IsBoard m b.level b
-  pub rooms : HasFairRooms m b
+abbrev pub HasNoPlace : Board → Vertex → Type 0
+HasNoPlace b v = MatchOption v.at (All (λ room. room ≤ v.sdram) b.rooms) (HasNoRoomAt b v.sdram)
 
 -- a place of a board where a vertex that needs so many bytes may stand: its chip has a free core, and room
-pub record IsFreePlace (m : Description) (b : Board) (place sdram : ℕ) : Type 0 where
-  pub board : IsBoard m b.level b
+pub record IsFreePlace (b : Board) (place sdram : ℕ) : Type 0 where
+  pub board : IsBoard b
   pub within : place < length b.chips
-  pub free : slice_index b.cores.items place < 18
+  pub free : 0 < slice_index b.cores.items place
   pub enough : sdram < slice_index b.rooms place
-  pub few : slice_index b.rooms place ≤ m.sdram + 1
+  pub few : slice_index b.rooms place ≤ b.sdram + 1
+
+-- a vertex that needs so many bytes was put on the least free core of the chip at this place
+pub record IsFilled (place sdram : ℕ) (old new : Board) (r : Placed) : Type 0 where
+  pub level : new.level ≡ old.level
+  pub sdram_is : new.sdram ≡ old.sdram
+  pub chips : new.chips ≡ old.chips
+  pub chip : slice_get old.chips place ≡ Some r.spot.chip
+  pub memory : r.memory ≡ (if sdram == 0 then 0 else (old.sdram + 1 - slice_index old.rooms place))
+  pub others : ℕ
+  pub parted : IsParted (slice_index old.cores.items place) r.spot.core others
+  pub cores : new.cores.items ≡ slice_set old.cores.items place others
+  pub rooms : new.rooms ≡ slice_set old.rooms place (room_left others (slice_index old.rooms place - 1 - sdram))
 
 -- a vertex that is no device was put on a place with room
-pub record IsPutOnCore (m : Description) (old new : Board) (v : Vertex) (r : Placed) : Type 0 where
+pub record IsPutOnCore (old new : Board) (v : Vertex) (r : Placed) : Type 0 where
   pub place : ℕ
   pub found : IsPlaceWithRoom old v place
-  pub filled : IsFilled m place v.sdram old new r
+  pub filled : IsFilled place v.sdram old new r
 
 -- a device was put at its link, and the board stays as it was
 pub record IsPutAtLink (m : Description) (old new : Board) (device : Edge) (r : Placed) : Type 0 where
@@ -93,7 +138,48 @@ pub record IsPutAtLink (m : Description) (old new : Board) (device : Edge) (r : 
   pub same : new ≡ old
 
 abbrev pub IsPut : Description → Board → Board → Vertex → Placed → Type 0
-IsPut m old new v r = MatchOption v.device (IsPutOnCore m old new v r) (λ device. IsPutAtLink m old new device r)
+IsPut m old new v r = MatchOption v.device (IsPutOnCore old new v r) (λ device. IsPutAtLink m old new device r)
 
 abbrev pub HasNoSpot : Description → Board → Vertex → Type 0
-HasNoSpot m b v = MatchOption v.device (HasNoPlace m b v) (λ device. HasDeviceRoom m device → ⊥)
+HasNoSpot m b v = MatchOption v.device (HasNoPlace b v) (λ device. HasDeviceRoom m device → ⊥)
+
+-- ---- cores and memory given back
+
+-- whether one of these spots is on the chip
+abbrev pub has_spot_on : Chip → List Spot → Bool
+has_spot_on c spots = list_any (λ (s : Spot). chip_eq c s.chip) spots
+
+-- The core of the chip at a place is free, if the chip has that core.
+pub record IsFreed (place core : ℕ) (old new : Board) : Type 0 where
+  pub level : new.level ≡ old.level
+  pub sdram : new.sdram ≡ old.sdram
+  pub chips : new.chips ≡ old.chips
+  pub rooms : new.rooms ≡ old.rooms
+  pub board : IsBoard new
+  pub others : (q : ℕ) → q ≢ place → slice_index new.cores.items q ≡ slice_index old.cores.items q
+  pub low : core < 18 → IsJoined (slice_index old.cores.items place) core (slice_index new.cores.items place)
+  pub high : 18 ≤ core → new.cores.items ≡ old.cores.items
+
+-- The chips without a spot of these have what they had.
+pub record AreOthersKept (spots : List Spot) (old new : Board) : Type 0 where
+  pub level : new.level ≡ old.level
+  pub sdram : new.sdram ≡ old.sdram
+  pub chips : new.chips ≡ old.chips
+  pub cores : (q : ℕ) (c : Chip) → slice_get old.chips q ≡ Some c → has_spot_on c spots ≡ false → slice_index new.cores.items q ≡ slice_index old.cores.items q
+  pub rooms : (q : ℕ) (c : Chip) → slice_get old.chips q ≡ Some c → has_spot_on c spots ≡ false → slice_index new.rooms q ≡ slice_index old.rooms q
+
+-- The chips of these spots have all their memory, and others what they had.
+pub record AreSettled (spots : List Spot) (old new : Board) : Type 0 where
+  pub level : new.level ≡ old.level
+  pub sdram : new.sdram ≡ old.sdram
+  pub chips : new.chips ≡ old.chips
+  pub board : IsBoard new
+  pub rooms : (q : ℕ) (c : Chip) → slice_get old.chips q ≡ Some c →
+      slice_index new.rooms q ≡ (if has_spot_on c spots then room_left (slice_index new.cores.items q) old.sdram else slice_index old.rooms q)
+  pub cores : (q : ℕ) (c : Chip) → slice_get old.chips q ≡ Some c → has_spot_on c spots ≡ false → slice_index new.cores.items q ≡ slice_index old.cores.items q
+
+-- And these spots are free.
+pub record AreGiven (spots : List Spot) (old new : Board) : Type 0 where
+  pub settled : AreSettled spots old new
+  pub free : (q : ℕ) (c : Chip) → slice_get old.chips q ≡ Some c → (p : ℕ) → p < 18 →
+      bit_at (slice_index new.cores.items q) p ≡ (if list_any (spot_eq (core_spot c p)) spots then 1 else bit_at (slice_index old.cores.items q) p)

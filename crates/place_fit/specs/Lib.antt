@@ -7,3 +7,4 @@ pub mod Curve
 pub mod Placement
 pub mod Quarters
 pub mod RoomTree
+pub mod Standing

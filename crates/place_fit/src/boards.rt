@@ -1,6 +1,7 @@
 // How far the chips of a machine are filled.
-ghost use Rattle.std.specs.Prelude.{◌≡◌, ℕ, ◌+◌, ◌-◌, ◌==◌, ◌^◌, ◌<◌, ◌≤◌, Some, length, slice_get, slice_set, slice_index, if◌then◌else◌, nat_lt, IfOk, IfSome, IfNone};
-ghost use Rattle.place_fit.specs.Boards.{IsBoard, IsEmptyBoard, IsNextCore, IsPlaceWithRoom, HasNoPlace, HasNoRoomAt, IsFairBoard, IsFreePlace, IsFilled, IsPut, IsPutOnCore, HasNoSpot, first_room};
+ghost use Rattle.std.specs.Prelude.{◌≡◌, ℕ, ◌==◌, ◌^◌, ◌<◌, ◌≤◌, ◌∷◌, [], Some, length, slice_get, slice_index, slice_set, if◌then◌else◌, IfOk, IfSome, IfNone};
+ghost use Rattle.machine_desc.specs.Live.{is_usable};
+ghost use Rattle.place_fit.specs.Boards.{AreCores, AreFreeOn, AreGiven, AreSettled, IsBoard, IsWholeBoard, IsFairBoard, IsParted, IsJoined, IsPlaceOf, IsPlaceWithRoom, HasNoPlace, HasNoRoomAt, IsFreePlace, IsFilled, IsFreed, IsPut, IsPutOnCore, HasNoSpot, room_left};
 ghost use Rattle.place_fit.specs.Curve.{IsCurveLevel};
 ghost use Rattle.place_fit.specs.Placement.{HasDeviceRoom, device_spot};
 
@@ -11,13 +12,14 @@ use machine_desc::{Edge, Machine};
 use spin_base::{CORES, Chip, Memory, Seq, Spot};
 use std::alloc::Global;
 
-// The chips of the curve of a level. Beside each, its least free core, or 18; and how much room it has, which is one
-// more than the bytes that are left of its memory, and 0 where no core is free.
+// The chips of the curve of a level, and the bytes of memory of each. Beside each, its free cores, as bits; and how much room it
+// has, which is one more than the bytes that are left of its memory, and 0 where no core is free.
 #[derive(Drop)]
 pub struct Board {
     pub level: u32,
+    pub sdram: u32,
     pub chips: Seq<Chip>,
-    pub cores: Vec<u8>,
+    pub cores: Vec<u32>,
     pub rooms: Rooms,
 }
 
@@ -28,23 +30,24 @@ pub struct Placed {
     pub memory: u64,
 }
 
-// The board on which no vertex stands.
-pub fn empty_board(alloc: Global, machine: &Machine) -> Result<Board, Memory>
-    ensures level { IfOk result (λ b. IsCurveLevel machine.now b.level) }
-    ensures board { IfOk result (λ b. IsBoard machine.now b.level b) }
-    ensures empty { IfOk result (IsEmptyBoard machine.now) }
+// The board of the usable cores of a machine.
+pub fn whole_board(alloc: Global, machine: &Machine) -> Result<Board, Memory>
+    ensures whole { IfOk result IsWholeBoard }
+    ensures free { IfOk result (AreFreeOn machine.now) }
 {
     let level = level_of(machine);
     let chips = curve(alloc, level)?;
+    let sdram = machine.sdram();
     let mut cores = Vec::new(alloc);
     let mut rooms = Rooms::new(alloc, 2 * level)?;
     for (place, chip) in chips.as_slice().iter().enumerate() {
-        let core = next_core(machine, *chip, 0);
-        cores.push(core)?;
-        rooms.set(place, room_with(core, machine.sdram()));
+        let free = usable_cores(machine, *chip);
+        cores.push(free)?;
+        rooms.set(place, room_left(free, sdram));
     }
     Ok(Board {
         level,
+        sdram,
         chips,
         cores,
         rooms,
@@ -68,73 +71,91 @@ fn level_of(machine: &Machine) -> u32
     6
 }
 
-// The room of a chip with this least free core, of whose memory so many bytes are left.
-fn room_with(core: u8, left: u32) -> u64
-    ensures { result ≡ first_room core left }
+// The cores of a chip that are usable, as bits.
+fn usable_cores(machine: &Machine, chip: Chip) -> u32
+    ensures cores { AreCores (is_usable machine.now) chip result }
+    ensures few { result < 2 ^ 18 }
 {
-    if core < CORES { u64::from(left) + 1 } else { 0 }
-}
-
-// The least usable core of a chip from a number on, or 18.
-fn next_core(machine: &Machine, chip: Chip, from: u8) -> u8
-    requires { from ≤ 18 }
-    ensures { IsNextCore machine.now chip from result }
-{
-    for core in from..CORES {
+    let mut cores = 0;
+    for core in 0..CORES {
         if machine.usable(Spot { chip, core }) {
-            return core;
+            cores = joined(cores, core);
         }
     }
-    CORES
+    cores
+}
+
+// These cores, and one.
+fn joined(cores: u32, core: u8) -> u32
+    requires { (core < 18) × (cores < 2 ^ 18) }
+    ensures { IsJoined cores core result }
+{
+    cores | 1 << core
+}
+
+// The least of these cores, and the others.
+fn parted(cores: u32) -> (u8, u32)
+    requires { (0 < cores) × (cores < 2 ^ 18) }
+    ensures { IsParted cores result.0 result.1 }
+{
+    let least = cores.trailing_zeros();
+    (least as u8, cores & !(1 << least))
+}
+
+// The room of a chip with these free cores, of whose memory so many bytes are left.
+fn room_left(cores: u32, left: u32) -> u64
+    ensures { result ≡ room_left cores left }
+{
+    if cores == 0 { 0 } else { u64::from(left) + 1 }
 }
 
 impl Board {
     // Puts a vertex on the board: a device at its link, and any other on the least free core of the chip that is found.
     pub fn put(&mut self, machine: &Machine, vertex: &Vertex) -> Option<Placed>
-        requires { IsFairBoard machine.now self.old }
+        requires { IsFairBoard self.old }
         ensures placed { IfSome result (IsPut machine.now self.old self.new vertex.now) }
+        ensures fair { IsFairBoard self.new }
         ensures none { IfNone result (HasNoSpot machine.now self.old vertex.now) }
     {
         match vertex.device {
             Some(device) => at_link(machine, device),
-            None => self.put_on_core(machine, vertex),
+            None => self.put_on_core(vertex),
         }
     }
 
     // Puts a vertex on the least free core of the chip that is found for it.
-    fn put_on_core(&mut self, machine: &Machine, vertex: &Vertex) -> Option<Placed>
-        requires { IsFairBoard machine.now self.old }
-        ensures placed { IfSome result (IsPutOnCore machine.now self.old self.new vertex.now) }
-        ensures none { IfNone result (HasNoPlace machine.now self.old vertex.now) }
+    pub fn put_on_core(&mut self, vertex: &Vertex) -> Option<Placed>
+        requires { IsFairBoard self.old }
+        ensures placed { IfSome result (IsPutOnCore self.old self.new vertex.now) }
+        ensures fair { IsFairBoard self.new }
+        ensures none { IfNone result (HasNoPlace self.old vertex.now) }
+        ensures kept { IfNone result (self.new ≡ self.old) }
     {
-        let place = self.find(machine, vertex)?;
-        Some(self.fill(machine, place, vertex.sdram))
+        let place = self.find(vertex)?;
+        Some(self.fill(place, vertex.sdram))
     }
 
     // The place of the chip on which a vertex stands: the first with room, or that of the chip that it names.
-    fn find(&self, machine: &Machine, vertex: &Vertex) -> Option<usize>
-        requires { IsBoard machine.now self.now.level self.now }
+    fn find(&self, vertex: &Vertex) -> Option<usize>
+        requires { IsBoard self.now }
         ensures found { IfSome result (IsPlaceWithRoom self.now vertex.now) }
-        ensures none { IfNone result (HasNoPlace machine.now self.now vertex.now) }
+        ensures none { IfNone result (HasNoPlace self.now vertex.now) }
     {
         match vertex.at {
             None => self.rooms.first_above(u64::from(vertex.sdram)),
-            Some(chip) => self.named(machine, chip, vertex.sdram),
+            Some(chip) => self.named(chip, vertex.sdram),
         }
     }
 
     // The place of a chip, if it has room.
-    fn named(&self, machine: &Machine, chip: Chip, sdram: u32) -> Option<usize>
-        requires { IsBoard machine.now self.now.level self.now }
+    fn named(&self, chip: Chip, sdram: u32) -> Option<usize>
+        requires { IsBoard self.now }
         ensures within { IfSome result (λ place. place < length self.now.chips) }
         ensures enough { IfSome result (λ place. sdram < slice_index self.now.rooms place) }
         ensures there { IfSome result (λ place. slice_get self.now.chips place ≡ Some chip) }
-        ensures none { IfNone result (HasNoRoomAt machine.now self.now sdram chip) }
+        ensures none { IfNone result (HasNoRoomAt self.now sdram chip) }
     {
-        if !machine.live(chip) {
-            return None;
-        }
-        let place = place_on_curve(self.level, chip);
+        let place = self.place_of(chip)?;
         if self.rooms.get(place) > u64::from(sdram) {
             Some(place)
         } else {
@@ -142,23 +163,102 @@ impl Board {
         }
     }
 
-    // Puts a vertex that needs so many bytes on the least free core of the chip at a place.
-    fn fill(&mut self, machine: &Machine, place: usize, sdram: u32) -> Placed
-        requires { IsFreePlace machine.now self.old place sdram }
-        ensures { IsFilled machine.now place sdram self.old self.new result }
+    // The place of a chip, if the board has it.
+    fn place_of(&self, chip: Chip) -> Option<usize>
+        requires { IsBoard self.now }
+        ensures within { IfSome result (λ place. place < length self.now.chips) }
+        ensures there { IfSome result (λ place. slice_get self.now.chips place ≡ Some chip) }
+        ensures none { IfNone result ((q : ℕ) → slice_get self.now.chips q ≡ Some chip → ⊥) }
     {
-        let total = machine.sdram();
+        let side = 1 << self.level;
+        if chip.x < side && chip.y < side {
+            Some(place_on_curve(self.level, chip))
+        } else {
+            None
+        }
+    }
+
+    // Puts a vertex that needs so many bytes on the least free core of the chip at a place.
+    fn fill(&mut self, place: usize, sdram: u32) -> Placed
+        requires { IsFreePlace self.old place sdram }
+        ensures { IsFilled place sdram self.old self.new result }
+    {
+        let total = self.sdram;
         let chip = *self.chips.get(place);
-        let core = self.cores[place];
+        let (core, others) = parted(self.cores[place]);
         let left = self.rooms.get(place) - 1;
-        let next = next_core(machine, chip, core + 1);
-        self.cores[place] = next;
+        self.cores[place] = others;
         self.rooms
-            .set(place, room_with(next, (left - u64::from(sdram)) as u32));
+            .set(place, room_left(others, (left - u64::from(sdram)) as u32));
         Placed {
             spot: Spot { chip, core },
             memory: begin_of(sdram, u64::from(total) - left),
         }
+    }
+
+    // The chips of these spots have all their memory.
+    pub fn settle(&mut self, spots: &[Spot])
+        requires { IsBoard self.old }
+        ensures settled { AreSettled spots.now self.old self.new }
+        ensures same { self.new.cores.items ≡ self.old.cores.items }
+    {
+        for spot in spots {
+            self.settle_one(*spot);
+        }
+    }
+
+    // The chip of the spot has all its memory.
+    fn settle_one(&mut self, spot: Spot)
+        requires { IsBoard self.old }
+        ensures settled { AreSettled (spot ∷ []) self.old self.new }
+        ensures same { self.new.cores.items ≡ self.old.cores.items }
+    {
+        if let Some(place) = self.place_of(spot.chip) {
+            self.make_whole(place);
+        }
+    }
+
+    // These cores are free, and their chips have all their memory.
+    pub fn give(&mut self, spots: &[Spot])
+        requires { IsBoard self.old }
+        ensures { AreGiven spots.now self.old self.new }
+    {
+        for spot in spots {
+            self.give_one(*spot);
+        }
+    }
+
+    // The core is free, and its chip has all its memory.
+    fn give_one(&mut self, spot: Spot)
+        requires { IsBoard self.old }
+        ensures { AreGiven (spot ∷ []) self.old self.new }
+    {
+        if let Some(place) = self.place_of(spot.chip) {
+            self.free_core(place, spot.core);
+            self.make_whole(place);
+        }
+    }
+
+    // The core of the chip at a place is free, if the chip has that core.
+    fn free_core(&mut self, place: usize, core: u8)
+        requires { IsPlaceOf self.old place }
+        ensures { IsFreed place core self.old self.new }
+    {
+        if core < CORES {
+            self.cores[place] = joined(self.cores[place], core);
+        }
+    }
+
+    // The chip at a place has all its memory.
+    fn make_whole(&mut self, place: usize)
+        requires { IsPlaceOf self.old place }
+        ensures { self.new ≡ record self.old {
+          rooms = slice_set self.old.rooms place
+              (room_left (slice_index self.old.cores.items place) self.old.sdram);
+        } }
+    {
+        self.rooms
+            .set(place, room_left(self.cores[place], self.sdram));
     }
 }
 

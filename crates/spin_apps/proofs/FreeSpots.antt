@@ -1,41 +1,31 @@
 -- The cores that are free, as a machine.
-use Rattle.std.proofs.Common.{◌≡◌, ℕ, ◌+◌, ◌-◌, ◌*◌, ◌/◌, ◌%◌, ◌<◌, ◌≤◌, refl, sym, ap, ◌∙◌, subst, arith, inl, inr, List, [], ◌∷◌, ◌++◌, map, take, Bool, true, false}
-use Rattle.std.proofs.Common.{not, ◌||◌, cond, Option, Some, None}
-use Rattle.std.proofs.lemmas.Bool.{and_from, and_parts, cases_Bool, leb-true, ltb-true, not-true, or_parts}
-use Rattle.std.proofs.lemmas.List.FromFn.{filter_of_map_range_with_len_more, get_or-map-range_with_len, length-map-range_with_len}
-use Rattle.std.proofs.lemmas.{List.Elements.All-append, List.Elements.All-weaker, List.Folds.list_any-append, Option.slice_get-get_or}
+use Rattle.std.proofs.Common.{◌≡◌, ℕ, ◌+◌, ◌-◌, ◌*◌, ◌/◌, ◌%◌, ◌<◌, ◌≤◌, refl, sym, ap, ◌∙◌, subst, arith, inl, inr, List, [], ◌∷◌, ◌++◌, take, Bool, true, false, not, ◌||◌, Option, Some, None}
 use Rattle.std.specs.Prelude.{MatchOption}
-use Rattle.std.specs.List.{All, Contains, filter, list_any, range_with_len, slice_get}
-use Rattle.spin_base.proofs.Members.{Contains-at, Contains-filter, Contains-from_filter, among_any, contains_among}
-use Rattle.spin_base.proofs.{Places.All-at, Places.All-each, Places.slice_get_there, Ranges.slice_get-map_range, Equality.spot_eq_same}
+use Rattle.std.specs.List.{All, Contains, list_any, slice_get}
+use Rattle.std.proofs.lemmas.Bool.{and_from, and_parts, both_ways, cases_Bool, leb-true, not-true, or_from, or_parts}
+use Rattle.std.proofs.lemmas.List.Elements.{All-weaker}
+use Rattle.std.proofs.lemmas.List.Folds.{list_any-append}
+use Rattle.std.proofs.lemmas.Option.{slice_get-get_or}
+use Rattle.spin_base.proofs.Members.{Contains-at, Contains-filter, Contains-from_filter, among_any, among_contains, any_among, contains_among}
+use Rattle.spin_base.proofs.Places.{All-at, All-each, slice_get_there}
+use Rattle.spin_base.proofs.Ranges.{slice_get-map_range}
 use Rattle.spin_base.specs.declared.chips.Spot.{Spot}
 use Rattle.spin_base.specs.Equality.{spot_eq}
+use Rattle.spin_base.proofs.Equality.{spot_eq_same, spot_eq_true}
 use Rattle.machine_desc.specs.declared.trees.Edge.{Edge}
 use Rattle.machine_desc.specs.Description.{Description}
 use Rattle.machine_desc.specs.Live.{index_of, chip_of, is_usable, IsInside, IsSite, IsUsable}
-use Rattle.machine_desc.proofs.{Far.index_below, Live.chip_of-inside, Same.same_spot, Sites.usable_site}
+use Rattle.machine_desc.proofs.Far.{index_below}
+use Rattle.machine_desc.proofs.Same.{same_spot}
+use Rattle.machine_desc.proofs.Sites.{usable_site}
 use Rattle.app_graph.specs.declared.graphs.Vertex.{Vertex}
 use Rattle.mesh_core.proofs.Moves.{chip_of-index_of}
 use Rattle.place_fit.specs.Placement.{HasDeviceRoom, IsCoreFor, IsPlacement, device_spot}
 use Rattle.app_loads.specs.declared.loaded.LoadedApp.{LoadedApp}
 use Rattle.app_loads.specs.Host.{Host, all_spots, is_free_spot, is_spot_taken}
 use Rattle.app_loads.specs.Opening.{spot_of, grid_spots}
+use Rattle.app_loads.proofs.SpotsOf.{same_tests}
 use Rattle.spin_apps.specs.Free.{free_machine, unusable_spots}
-
--- those of one spot more that pass a test
-pub one_spot_more : (p : Spot → Bool) (m : Description) (n : ℕ) (spot : Spot) (before after : List Spot) → spot ≡ spot_of m n →
-    before ≡ filter p (map (spot_of m) (range_with_len 0 n)) → after ≡ before ++ filter p (spot ∷ []) →
-    after ≡ filter p (map (spot_of m) (range_with_len 0 (n + 1)))
-one_spot_more p m n spot before after is so_far new =
-    new
-    ∙ (ap (λ l. l ++ filter p (spot ∷ [])) so_far
-    ∙ (ap (λ s. filter p (map (spot_of m) (range_with_len 0 n)) ++ filter p (s ∷ [])) is
-    ∙ (ap (λ l. filter p (map (spot_of m) (range_with_len 0 n)) ++ l) (one (p (spot_of m n)) refl)
-    ∙ sym (filter_of_map_range_with_len_more p (spot_of m) 0 n n (omega arith)))))
-  where
-    one : (b : Bool) → p (spot_of m n) ≡ b → filter p (spot_of m n ∷ []) ≡ cond (p (spot_of m n)) (spot_of m n ∷ []) []
-    one true is' = grind arith
-    one false is' = grind arith
 
 -- the number of a core gives the core
 spot_is : (m : Description) (s : Spot) → IsInside m s.chip → 1 ≤ s.core → s.core ≤ 17 → spot_of m (17 * index_of m s.chip + (s.core - 1)) ≡ s
@@ -56,30 +46,6 @@ on_grid m s inside low high =
     let less : k < 17 * n = omega (arith, low, high, below) in
     let from_zero : 0 + k ≡ k = omega arith in
     Contains-at (grid_spots m) k s (slice_get-map_range (spot_of m) 0 (17 * n) k less ∙ (ap (λ j. Some (spot_of m j)) from_zero ∙ ap Some (spot_is m s inside low high)))
-
--- the cores of the grid that pass a test are inside it
-pub grid_inside : (p : Spot → Bool) (m : Description) → All (λ (s : Spot). IsInside m s.chip) (filter p (grid_spots m))
-grid_inside p m = All-each (λ (s : Spot). IsInside m s.chip) (filter p (grid_spots m)) (λ s has.
-    let on = (Contains-from_filter p (grid_spots m) s has).0 in
-    let n : ℕ = m.width * m.height in
-    let k : ℕ = on.0 in
-    let within = on.1 in
-    let long = length-map-range_with_len (spot_of m) 0 (17 * n) in
-    let below : k < 17 * n = omega (arith, within, long) in
-    let is : spot_of m k ≡ s = sym (get_or-map-range_with_len (spot_of m) 0 (17 * n) k k s below (omega arith)) ∙ on.2 in
-    let chip : k / 17 < n = omega (arith, below) in
-    subst (λ (t : Spot). IsInside m t.chip) is (chip_of-inside m (k / 17) chip))
-
--- the dead cores of the free machine are inside the grid
-pub dead_inside : (h : Host) (wide high : ℕ) → wide ≡ h.mesh.setup.machine.width → high ≡ h.mesh.setup.machine.height →
-    All (λ (s : Spot). IsInside h.mesh.setup.machine s.chip) (all_spots h.apps) →
-    All (λ (s : Spot). (s.chip.x < wide) × (s.chip.y < high)) (free_machine h).dead_cores
-dead_inside h wide high is_wide is_high inside =
-    let m : Description = h.mesh.setup.machine in
-    All-weaker (λ (s : Spot). IsInside m s.chip) (λ (s : Spot). (s.chip.x < wide) × (s.chip.y < high))
-    (λ s is. let parts = and_parts _ _ is in (subst (λ n. s.chip.x < n) (sym is_wide) (ltb-true _ _ parts.0), subst (λ n. s.chip.y < n) (sym is_high) (ltb-true _ _ parts.1)))
-    (free_machine h).dead_cores
-    (All-append (λ (s : Spot). IsInside m s.chip) (unusable_spots m) (all_spots h.apps) (grid_inside (λ (s : Spot). not (is_usable m s)) m) inside)
 
 -- whether one of the spots of applications passes a test
 any_spot : (p : Spot → Bool) (apps : List LoadedApp) → list_any p (all_spots apps) ≡ list_any (λ (app : LoadedApp). list_any p app.plan.spots) apps
@@ -112,18 +78,49 @@ usable_free h s usable =
 pub free_parts : (h : Host) (s : Spot) → is_free_spot h s ≡ true → IsUsable h.mesh.setup.machine s × (is_spot_taken h.apps s ≡ false)
 free_parts h s free = let parts = and_parts _ _ free in (parts.0, not-true _ parts.1)
 
+-- What is free is usable there.
+usable_on : (h : Host) (s : Spot) → is_free_spot h s ≡ true → IsUsable (free_machine h) s
+usable_on h s free =
+    let m : Description = h.mesh.setup.machine in
+    let both = free_parts h s free in
+    let parts = and_parts _ _ both.0 in
+    let inside : IsInside m s.chip = (and_parts _ _ parts.0).0 in
+    let rest = and_parts _ _ parts.1 in
+    let not_listed : list_any (spot_eq s) (unusable_spots m) ≡ false = elim (cases_Bool (list_any (spot_eq s) (unusable_spots m))) [
+      | inl some ↦ (
+          let found = any_among (spot_eq s) (unusable_spots m) some in
+          let t : Spot = found.0 in
+          let dead = (Contains-from_filter (λ (x : Spot). not (is_usable m x)) (grid_spots m) t (among_contains t (unusable_spots m) found.1)).1 in
+          let never : is_usable m s ≡ false = ap (is_usable m) (spot_eq_true s t found.2) ∙ not-true _ dead in
+          absurd (both_ways _ never both.0)
+          )
+      | inr none ↦ none
+    ] in
+    let untaken : list_any (spot_eq s) (all_spots h.apps) ≡ false = any_spot (spot_eq s) h.apps ∙ both.1 in
+    let clear : list_any (spot_eq s) (unusable_spots m ++ all_spots h.apps) ≡ false =
+    list_any-append (spot_eq s) (unusable_spots m) (all_spots h.apps) ∙ or_from (list_any (spot_eq s) (unusable_spots m)) (list_any (spot_eq s) (all_spots h.apps)) not_listed untaken in
+    and_from _ _ (and_from _ _ inside refl) (and_from _ _ rest.0 (ap not clear))
+
+pub free_is : (h : Host) (s : Spot) → is_usable (free_machine h) s ≡ is_free_spot h s
+free_is h s = same_tests (is_usable (free_machine h) s) (is_free_spot h s) (usable_free h s) (usable_on h s)
+
 -- vertices that are no devices are placed on free cores
-pub placed_free : (h : Host) (vertices : List Vertex) (spots : List Spot) (memory : List ℕ) → IsPlacement (free_machine h) vertices spots memory →
-    All (λ (v : Vertex). v.device ≡ None) vertices → All (λ s. is_free_spot h s ≡ true) spots
-placed_free h vertices spots memory placed none =
-    All-each (λ s. is_free_spot h s ≡ true) spots (λ s has.
+pub placed_usable : (h : Host) (vertices : List Vertex) (spots : List Spot) (memory : List ℕ) → IsPlacement (free_machine h) vertices spots memory →
+    All (λ (v : Vertex). v.device ≡ None) vertices → All (IsUsable (free_machine h)) spots
+placed_usable h vertices spots memory placed none =
+    All-each (IsUsable (free_machine h)) spots (λ s has.
     let at : slice_get spots has.0 ≡ Some s = slice_get-get_or spots has.0 s has.1 ∙ ap Some has.2 in
     let of = slice_get_there vertices has.0 (subst (λ n. has.0 < n) placed.all has.1) in
     let core : IsCoreFor (free_machine h) placed.order (take has.0 vertices) (take has.0 spots) of.0 s =
-    subst (λ (o : Option Edge). MatchOption o (IsCoreFor (free_machine h) placed.order (take has.0 vertices) (take has.0 spots) of.0 s)
-    (λ device. HasDeviceRoom (free_machine h) device × (s ≡ device_spot device)))
-    (All-at (λ (v : Vertex). v.device ≡ None) vertices has.0 of.0 none of.1) (placed.first.each has.0 of.0 s of.1 at) in
-    usable_free h s (and_parts _ _ core.free).0)
+    subst (λ (o : Option Edge). MatchOption o (IsCoreFor (free_machine h) placed.order (take has.0 vertices) (take has.0 spots) of.0 s) (λ device. HasDeviceRoom (free_machine h) device × (s ≡ device_spot device)))
+    (All-at (λ (v : Vertex). v.device ≡ None) vertices has.0 of.0 none of.1) (placed.first.each has.0 of.0 s of.1 at)
+    in
+    (and_parts _ _ core.free).0)
+
+pub placed_free : (h : Host) (vertices : List Vertex) (spots : List Spot) (memory : List ℕ) → IsPlacement (free_machine h) vertices spots memory →
+    All (λ (v : Vertex). v.device ≡ None) vertices → All (λ s. is_free_spot h s ≡ true) spots
+placed_free h vertices spots memory placed none =
+    All-weaker (IsUsable (free_machine h)) (λ s. is_free_spot h s ≡ true) (usable_free h) spots (placed_usable h vertices spots memory placed none)
 
 -- so they are usable on the host's machine, and no loaded application's
 pub free_usable : (h : Host) (spots : List Spot) → All (λ s. is_free_spot h s ≡ true) spots → All (IsUsable h.mesh.setup.machine) spots

@@ -1,7 +1,7 @@
 mod Chain
 mod FreeSpots
 mod Joined
-mod NoVertices
+mod Keeping
 mod OneLine
 mod OneRefusal
 mod OneText

@@ -1,26 +1,40 @@
 -- The plan of a job on free cores.
-use Rattle.std.proofs.Common.{◌≡◌, ℕ, ◌+◌, ◌^◌, ◌<◌, refl, sym, ap, ◌∙◌, subst, arith, inl, inr, List, [], ◌∷◌, ◌++◌, length, map, take, false, Some}
-use Rattle.std.proofs.lemmas.{Bool.cases_lt, List.length-map, List.Elements.All-push, List.Elements.All-weaker}
-use Rattle.std.proofs.lemmas.Slice.Zip.{AllZip-long, all_zipped_more}
+use Rattle.std.proofs.Common.{◌≡◌, ℕ, ◌+◌, ◌^◌, ◌<◌, refl, sym, ap, ◌∙◌, subst, arith, inl, inr, List, [], ◌∷◌, ◌++◌, length, map, take, false, Some, Result, Ok, Err, IfOk}
 use Rattle.std.specs.List.{All, AllZip, Contains, slice_get}
+use Rattle.std.proofs.lemmas.Bool.{cases_lt}
+use Rattle.std.proofs.lemmas.List.{length-map}
+use Rattle.std.proofs.lemmas.List.Elements.{All-push, All-weaker}
+use Rattle.std.proofs.lemmas.Slice.Zip.{AllZip-long, all_zipped_more}
 use Rattle.spin_base.proofs.Members.{Contains-at}
 use Rattle.spin_base.proofs.Places.{All-each, AllZip-at_first, one_item_at, slice_get_there, take_more_at}
-use Rattle.spin_base.specs.declared.{blocks.Block.Block, chips.Spot.Spot, copies.Packet.Packet}
-use Rattle.machine_desc.specs.{Description.Description, RoutingTree.IsRoutingTree}
-use Rattle.machine_desc.specs.declared.nets.NetPlan.{NetPlan}
-use Rattle.app_graph.specs.declared.graphs.{Net.Net, Vertex.Vertex}
-use Rattle.app_graph.specs.{RunPart.IsPacketOf as IsRunPacket, RunPart.key_count_of, ValidGraph.IsValidNet}
+use Rattle.spin_base.specs.declared.blocks.Block.{Block}
+use Rattle.spin_base.specs.declared.chips.Spot.{Spot}
+use Rattle.spin_base.specs.declared.copies.Packet.{Packet}
+use Rattle.machine_desc.specs.Description.{Description}
+use Rattle.machine_desc.specs.RoutingTree.{IsRoutingTree}
+use Rattle.app_graph.specs.declared.graphs.Net.{Net}
+use Rattle.app_graph.specs.declared.graphs.Vertex.{Vertex}
 use Rattle.app_graph.proofs.Keys.{keys_of-at}
+use Rattle.app_graph.specs.RunPart.{IsPacketOf as IsRunPacket, key_count_of}
+use Rattle.app_graph.specs.ValidGraph.{IsValidNet}
+use Rattle.machine_desc.specs.declared.nets.NetPlan.{NetPlan}
 use Rattle.net_plans.specs.CutOffTargets.{HasNoneCutOff, IsFirstNetCutOff}
 use Rattle.net_plans.specs.NetPlans.{IsPlannedNet}
-use Rattle.app_loads.specs.declared.plans.{AppNet.AppNet, AppPlan.AppPlan}
+use Rattle.app_loads.specs.declared.plans.AppNet.{AppNet}
+use Rattle.app_loads.specs.declared.plans.AppPlan.{AppPlan}
 use Rattle.app_loads.specs.Host.{Host, is_spot_taken}
 use Rattle.app_loads.specs.Plans.{IsAppNet, IsPacketOfApp, IsPlan, MayLoad}
 use Rattle.job_requests.specs.Valid.{IsValidJob}
+use Rattle.app_loads.specs.declared.answers.LoadRefusal.TheVariants.{Loaded, MemoryOut, KeysOut, RowsOut}
 use Rattle.job_requests.specs.declared.steps.AppJob.{AppJob}
-use Rattle.spin_apps.specs.declared.hosts.LoadAnswer.TheVariants.{NoRoom, CutOff}
+use Rattle.spin_apps.specs.declared.hosts.LoadAnswer.{LoadAnswer}
+use Rattle.spin_apps.specs.declared.hosts.LoadAnswer.TheVariants.{Done, NoRoom, CutOff, Refused}
+use Rattle.spin_apps.specs.Answers.{IsLoadAnswer}
+use Rattle.spin_apps.specs.Hosting.{IsTaken}
 use Rattle.spin_apps.specs.Free.{free_machine}
-use Rattle.spin_apps.specs.Making.{IsPlaced, unplaced, unrouted, unrouted_net}
+use Rattle.spin_apps.specs.declared.plans.PlanErr.{PlanErr}
+use Rattle.spin_apps.specs.declared.plans.PlanErr.TheVariants as plans
+use Rattle.spin_apps.specs.Making.{IsNoPlanOn, IsPlaced, unplaced, unrouted, unrouted_net}
 use Rattle.spin_apps.specs.Plans.{IsNetFor, IsPlanFor, IsWhyUnplanned}
 use Rattle.spin_apps.proofs.FreeSpots.{free_usable, placed_free}
 use Rattle.link_detours.specs.declared.repairs.RepairErr.{RepairErr}
@@ -28,7 +42,9 @@ use Rattle.link_detours.specs.declared.repairs.RepairErr.TheVariants as repairs
 use Rattle.net_plans.specs.Cause.{IsNetCause, IsCauseOne}
 use Rattle.net_plans.specs.declared.nets.NetErr.{NetErr}
 use Rattle.net_plans.specs.declared.nets.NetErr.TheVariants as nets
-use Rattle.place_fit.specs.{Cause.IsPlacementCause as IsPlaceCause, Placement.HasNoRoom}
+use Rattle.place_fit.specs.Cause.{IsPlacementCause as IsPlaceCause}
+use Rattle.place_fit.specs.Boards.{AreFreeOn}
+use Rattle.place_fit.specs.declared.boards.Board.{Board}
 use Rattle.place_fit.specs.declared.placing.PlaceErr.{PlaceErr}
 use Rattle.place_fit.specs.declared.placing.PlaceErr.TheVariants as places
 
@@ -102,14 +118,14 @@ packets_are m spots nets apps packets are all = All-weaker (IsRunPacket nets) (I
         let net = slice_get_there nets p.net is.0 in
         let app = AllZip-at_first (IsNetFor m spots) nets apps are p.net net.0 net.1 in
         let keys : app.0.keys ≡ key_count_of nets p.net = app.2.keys ∙ keys_of-at nets p.net net.0 net.1 in
-        (app.0, app.1, omega (arith, keys, is.1))
+        let below = is.1 in
+        (app.0, app.1, omega (arith, keys, below))
 
 -- nets of a graph with so many vertices are nets on so many spots
 pub nets_on : (n : ℕ) (spots : List Spot) (nets : List Net) → length spots ≡ n → All (IsValidNet n) nets → All (IsValidNet (length spots)) nets
 nets_on n spots nets same valid = subst (λ k. All (IsValidNet k) nets) (sym same) valid
 
-module _ {h : Host} {m : Description} {job : AppJob} {spots : List Spot} {sdram : List ℕ} {packets : List Packet}
-    (apps : List AppNet) (machine : h.mesh.setup.machine ≡ m) (placed : IsPlaced h job spots)
+module _ {h : Host} {m : Description} {job : AppJob} {spots : List Spot} {sdram : List ℕ} {packets : List Packet} (apps : List AppNet) (machine : h.mesh.setup.machine ≡ m) (placed : IsPlaced h job spots)
     (bytes : sdram ≡ map (λ (v : Vertex). v.sdram) job.graph.vertices) (are : AllZip (IsNetFor m spots) job.graph.nets apps) (copied : packets ≡ job.run.packets) where
   abbrev made : AppPlan
   made = record { spots = spots; sdram = sdram; nets = apps; packets = packets }
@@ -135,9 +151,13 @@ module _ {h : Host} {m : Description} {job : AppJob} {spots : List Spot} {sdram 
 
 -- ---- refusals
 
-pub why_unplaced : (h : Host) (free : Description) (job : AppJob) (e : PlaceErr) → free ≡ free_machine h → IsPlaceCause free job.graph.vertices e → IsWhyUnplanned h job (unplaced e)
-why_unplaced h free job (places.NoRoom vertex) is none = subst (λ (x : Description). HasNoRoom x job.graph.vertices vertex) is none
-why_unplaced h free job places.Memory is none = tt
+pub why_unplaced : (h : Host) (job : AppJob) (e : PlaceErr) → IsPlaceCause (free_machine h) job.graph.vertices e → IsWhyUnplanned h job (unplaced e)
+why_unplaced h job (places.NoRoom vertex) none = none
+why_unplaced h job places.Memory none = tt
+
+-- want of memory, where the board is as it was
+pub no_memory : (h : Host) (job : AppJob) (free : Board) (e : PlanErr) → e ≡ plans.Memory → AreFreeOn (free_machine h) free → IsNoPlanOn h job free e
+no_memory h job free e is same = record { why = subst (IsWhyUnplanned h job) (sym is) tt; free = same }
 
 pub why_unrouted : {h : Host} {m : Description} {job : AppJob} {spots : List Spot} (e : NetErr) → h.mesh.setup.machine ≡ m → IsPlaced h job spots → IsNetCause m spots job.graph.nets e →
     IsWhyUnplanned h job (unrouted e)
@@ -161,3 +181,19 @@ may_load h job plan planned valid free numbers = record {
   free = free;
   numbers = (let same = ap length planned.packets in omega (arith, same, numbers));
 }
+
+-- what a plan of the job is answered is what the job is answered
+taken_answer : (h : Host) (number : ℕ) (job : AppJob) (plan : AppPlan) (answer : LoadAnswer) (new : Host) → IsPlanFor h job plan → IsTaken h number plan answer new →
+    IsLoadAnswer h number job answer new
+taken_answer h number job plan Done new planned taken = record { plan = plan; is = planned; loaded = taken }
+taken_answer h number job plan (NoRoom vertex) new planned taken = absurd taken
+taken_answer h number job plan (CutOff net target) new planned taken = absurd taken
+taken_answer h number job plan (Refused Loaded) new planned taken = taken
+taken_answer h number job plan (Refused (MemoryOut vertex)) new planned taken = record { plan = plan; is = planned; due = taken.0; same = taken.1 }
+taken_answer h number job plan (Refused (KeysOut net)) new planned taken = record { plan = plan; is = planned; due = taken.0; same = taken.1 }
+taken_answer h number job plan (Refused (RowsOut chip)) new planned taken = record { plan = plan; is = planned; due = taken.0; same = taken.1 }
+
+pub taken_answers : {E : Type 0} (r : Result LoadAnswer E) (h : Host) (number : ℕ) (job : AppJob) (plan : AppPlan) (new : Host) → IsPlanFor h job plan →
+    IfOk r (λ a. IsTaken h number plan a new) → IfOk r (λ a. IsLoadAnswer h number job a new)
+taken_answers (Ok a) h number job plan new planned taken = taken_answer h number job plan a new planned taken
+taken_answers (Err e) h number job plan new planned taken = tt

@@ -1,10 +1,21 @@
 -- A host after what was done on it.
 use Rattle.std.proofs.Common.{◌≡◌, ℕ, List, ◌++◌, Option, Some, refl, sym, subst, ap, Result, Ok, Err, IfOk, OnOk, OnErr}
+use Rattle.machine_desc.specs.Description.{Description}
 use Rattle.mesh_core.specs.State.{State}
-use Rattle.app_loads.specs.{Applications.AreApps, Host.Host, Loading.HasLoaded, Unloading.HasUnloaded}
-use Rattle.app_loads.specs.declared.{answers.Ended.Ended, plans.AppPlan.AppPlan}
+use Rattle.place_fit.specs.Boards.{AreFreeOn}
+use Rattle.place_fit.specs.declared.boards.Board.{Board}
+use Rattle.app_loads.specs.Applications.{AreApps}
+use Rattle.app_loads.specs.Host.{Host}
+use Rattle.app_loads.specs.Loading.{HasLoaded}
+use Rattle.app_loads.specs.Unloading.{HasUnloaded}
+use Rattle.app_loads.specs.declared.answers.Ended.{Ended}
+use Rattle.app_loads.specs.declared.plans.AppPlan.{AppPlan}
 use Rattle.job_requests.specs.declared.steps.Step.TheVariants.{Run}
-use Rattle.spin_apps.specs.{Answers.HasDrained, Hosting.HasAddedLine, Lines.run_line}
+use Rattle.spin_apps.specs.Answers.{HasDrained}
+use Rattle.spin_apps.specs.Free.{free_but, free_machine}
+use Rattle.spin_apps.specs.Hosting.{HasAddedLine}
+use Rattle.spin_apps.specs.Lines.{run_line}
+use Rattle.spin_apps.proofs.Keeping.{loaded_free}
 
 loaded_machine : (old new : Host) (number : ℕ) (plan : AppPlan) → HasLoaded old number plan new → new.mesh.setup.machine ≡ old.mesh.setup.machine
 loaded_machine old new number plan loaded = ap (λ (s : State). s.setup.machine) loaded.mesh
@@ -29,3 +40,10 @@ pub told_run : {X E : Type 0} (r : Result X E) (before : Option Host) (old new :
 told_run (Ok u) before old new text longer is drained apps told =
     subst (λ (h : Option Host). HasAddedLine Run h text longer (Some new)) (sym is) (record { told = run_line; longer = told; answers = (refl, (new, refl, drained)); apps = apps })
 told_run (Err e) before old new text longer is drained apps told = tt
+
+-- a board after a load, or after its refusal
+pub free_after_load : (old new : Host) (number : ℕ) (plan : AppPlan) (b : Board) → HasLoaded old number plan new → AreFreeOn (free_but old plan.spots) b → AreFreeOn (free_machine new) b
+free_after_load old new number plan b loaded taken = subst (λ (m : Description). AreFreeOn m b) (sym (loaded_free old new number plan loaded)) taken
+
+pub free_after_refusal : (old new : Host) (b : Board) → new ≡ old → AreFreeOn (free_machine old) b → AreFreeOn (free_machine new) b
+free_after_refusal old new b same free = subst (λ (h : Host). AreFreeOn (free_machine h) b) (sym same) free

@@ -22,3 +22,7 @@ free_machine h = record {
   dead_cores = unusable_spots h.mesh.setup.machine ++ all_spots h.apps;
   dead_links = [];
 }
+
+-- the same where these spots are taken too
+abbrev pub free_but : Host → List Spot → Description
+free_but h spots = record (free_machine h) { dead_cores = (free_machine h).dead_cores ++ spots }

@@ -1,6 +1,9 @@
 -- A machine with its applications, as the private functions say it.
 use Rattle.std.specs.Prelude.{◌≡◌, ℕ, ◌+◌, ◌^◌, ◌<◌, ◌≤◌, ◌++◌, All, List, [], length, Option, Some, None, IfSome, IsOk, Result, is_some, true}
 use Rattle.link_detours.specs.LiveRoads.{AreRoadsOf}
+use Rattle.machine_desc.specs.Live.{IsUsable}
+use Rattle.place_fit.specs.Boards.{AreFreeOn}
+use Rattle.place_fit.specs.declared.boards.Board.{Board}
 use Rattle.job_requests.specs.declared.steps.AppJob.{AppJob}
 use Rattle.job_requests.specs.declared.steps.Step.{Step}
 use Rattle.job_requests.specs.declared.steps.Step.TheVariants.{Load, Unload, Run}
@@ -9,24 +12,25 @@ use Rattle.app_loads.specs.Applications.{AreApps}
 use Rattle.app_loads.specs.declared.plans.AppPlan.{AppPlan}
 use Rattle.app_loads.specs.Host.{Host}
 use Rattle.app_loads.specs.Loading.{HasLoaded, IsLoadRefusal}
+use Rattle.app_loads.specs.Plans.{MayLoad}
 use Rattle.spin_base.specs.declared.wants.Memory.{Memory}
 use Rattle.spin_apps.specs.declared.answers.Answered.{Answered}
 use Rattle.spin_apps.specs.declared.hosts.Hosted.TheInside.{Inside}
 use Rattle.spin_apps.specs.declared.hosts.LoadAnswer.{LoadAnswer}
 use Rattle.spin_apps.specs.declared.hosts.LoadAnswer.TheVariants.{Done, NoRoom, CutOff, Refused}
 use Rattle.spin_apps.specs.Answers.{Answers, host_at}
-use Rattle.spin_apps.specs.Free.{unusable_spots}
+use Rattle.spin_apps.specs.Free.{free_but, free_machine}
 
 -- what is seen is the host of the applications
 abbrev pub hosted_of : Inside → Host
 hosted_of s = s.apps
 
--- The machine, its live links and the cores that are not usable are those of the host.
+-- The machine, its live links and the free cores are those of the host.
 pub record IsHosted (s : Inside) : Type 0 where
   pub apps : AreApps s.apps
   pub machine : s.apps.mesh.setup.machine ≡ s.machine
   pub roads : AreRoadsOf s.machine s.roads
-  pub unusable : s.unusable.items ≡ unusable_spots s.machine
+  pub free : AreFreeOn (free_machine s.apps) s.free
 
 -- what may be answered where a plan is loaded
 abbrev pub IsTaken : Host → ℕ → AppPlan → LoadAnswer → Host → Type 0
@@ -34,6 +38,12 @@ IsTaken h number plan Done new = HasLoaded h number plan new
 IsTaken h number plan (NoRoom vertex) new = ⊥
 IsTaken h number plan (CutOff net target) new = ⊥
 IsTaken h number plan (Refused refusal) new = IsLoadRefusal h number plan refusal × (new ≡ h)
+
+-- a plan may be loaded, and its cores, which are free on the host, are taken from the board
+pub record CanTakePlan (h : Host) (plan : AppPlan) (free : Board) : Type 0 where
+  pub may : MayLoad h plan
+  pub usable : All (IsUsable (free_machine h)) plan.spots
+  pub taken : AreFreeOn (free_but h plan.spots) free
 
 -- a text has got the line of a step, and all that applications keep holds of the state after it
 pub record HasAddedLine (step : Step) (before : Option Host) (old new : List ℕ) (after : Option Host) : Type 0 where

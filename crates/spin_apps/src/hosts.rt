@@ -1,18 +1,24 @@
 // A machine with its applications, and what it answers.
-ghost use Rattle.std.specs.Prelude.{◌≡◌, ◌≤◌, IfOk, OnOk};
+ghost use Rattle.std.specs.Prelude.{◌≡◌, ◌≤◌, ℕ, IfOk, OnOk, false};
 ghost use Rattle.app_loads.specs.Applications.{AreApps};
+ghost use Rattle.app_loads.specs.Host.{Host, is_loaded};
+ghost use Rattle.app_loads.specs.Loading.{IsWhyNotLoaded};
 ghost use Rattle.app_loads.specs.Opening.{bare_host};
-ghost use Rattle.app_loads.specs.Plans.{MayLoad};
+ghost use Rattle.app_loads.specs.declared.plans.AppPlan.{AppPlan as APlan};
+ghost use Rattle.job_requests.specs.declared.steps.AppJob.{AppJob as AJob};
+ghost use Rattle.place_fit.specs.Boards.{AreFreeOn};
 ghost use Rattle.spin_apps.specs.Answers.{HasDrained, IsLoadAnswer, IsUnloadAnswer};
-ghost use Rattle.spin_apps.specs.Hosting.{HasNumbersFor, IsTaken};
+ghost use Rattle.spin_apps.specs.Free.{free_machine};
+ghost use Rattle.spin_apps.specs.Hosting.{CanTakePlan, HasNumbersFor, IsTaken};
+ghost use Rattle.spin_apps.specs.Plans.{IsWhyUnplanned};
 
-use crate::free::unusable_spots;
 use crate::plans::{PlanErr, plan_of};
 use app_loads::{AppPlan, Apps, LoadErr, LoadRefusal, UnloadErr};
 use job_requests::AppJob;
 use link_detours::Roads;
 use machine_desc::Machine;
-use spin_base::{Chip, Memory, Spot};
+use place_fit::FreeCores;
+use spin_base::{Chip, Memory};
 use std::alloc::Global;
 use std::marker::Model;
 
@@ -40,12 +46,12 @@ pub enum UnloadAnswer {
     Waiting { packet: u32 },
 }
 
-// A machine, its live links and the cores that are not usable, and the applications on it.
+// A machine, its live links, the applications on it, and the cores that are free beside them.
 #[derive(Drop)]
 pub(crate) struct Hosted {
     pub(crate) machine: Machine,
     pub(crate) roads: Roads,
-    pub(crate) unusable: Vec<Spot>,
+    pub(crate) free: FreeCores,
     pub(crate) apps: Apps,
 }
 
@@ -68,13 +74,13 @@ impl Hosted {
         ensures { IfOk result (λ hosted. hosted ≡ bare_host machine.now queue) }
     {
         let roads = Roads::of(alloc, machine)?;
-        let unusable = unusable_spots(alloc, machine)?;
+        let free = FreeCores::of(alloc, machine)?;
         let machine = machine.copy(alloc)?;
         let apps = Apps::new(alloc, &machine, queue)?;
         Ok(Hosted {
             machine,
             roads,
-            unusable,
+            free,
             apps,
         })
     }
@@ -100,24 +106,9 @@ impl Hosted {
         if self.apps.loaded(number) {
             return Ok(LoadAnswer::Refused(LoadRefusal::Loaded));
         }
-        match plan_of(alloc, self, job) {
-            Ok(plan) => self.take(alloc, number, &plan),
-            Err(PlanErr::NoRoom { vertex }) => Ok(LoadAnswer::NoRoom { vertex }),
-            Err(PlanErr::CutOff { net, target }) => Ok(LoadAnswer::CutOff { net, target }),
-            Err(PlanErr::Memory) => Err(Memory),
-        }
-    }
-
-    // Loads a plan under a number.
-    fn take(&mut self, alloc: Global, number: u32, plan: &AppPlan) -> Result<LoadAnswer, Memory>
-        requires { MayLoad self.old plan.now }
-        ensures taken { IfOk result (λ a. IsTaken self.old number plan.now a self.new) }
-        ensures apps { AreApps self.new }
-    {
-        match self.apps.load(alloc, number, plan) {
-            Ok(()) => Ok(LoadAnswer::Done),
-            Err(LoadErr::Refused(refusal)) => Ok(LoadAnswer::Refused(refusal)),
-            Err(LoadErr::Memory) => Err(Memory),
+        match plan_of(alloc, &self.machine, &self.roads, &mut self.free, job) {
+            Ok(plan) => take(alloc, &mut self.apps, &mut self.free, number, &plan),
+            Err(e) => unplanned(e),
         }
     }
 
@@ -126,11 +117,15 @@ impl Hosted {
         ensures answer { IfOk result (λ a. IsUnloadAnswer self.old number a self.new) }
         ensures apps { AreApps self.new }
     {
+        let spots = self.apps.spots_of(alloc, number)?;
         match self.apps.unload(alloc, number) {
-            Ok(ended) => Ok(UnloadAnswer::Got {
-                delivered: ended.delivered.len(),
-                dumped: ended.dumped.len(),
-            }),
+            Ok(ended) => {
+                self.free.give(&spots);
+                Ok(UnloadAnswer::Got {
+                    delivered: ended.delivered.len(),
+                    dumped: ended.dumped.len(),
+                })
+            }
             Err(UnloadErr::NotLoaded) => Ok(UnloadAnswer::NotLoaded),
             Err(UnloadErr::Waiting { packet }) => Ok(UnloadAnswer::Waiting { packet }),
             Err(UnloadErr::Memory) => Err(Memory),
@@ -143,5 +138,51 @@ impl Hosted {
         ensures apps { AreApps self.new }
     {
         self.apps.drain(alloc)
+    }
+}
+
+// Loads a plan under a number, whose cores were taken. After a refusal they are free again.
+fn take(
+    alloc: Global,
+    apps: &mut Apps,
+    free: &mut FreeCores,
+    number: u32,
+    plan: &AppPlan,
+) -> Result<LoadAnswer, Memory>
+    requires { CanTakePlan apps.old plan.now free.old }
+    ensures taken { IfOk result (λ a. IsTaken apps.old number plan.now a apps.new) }
+    ensures apps { AreApps apps.new }
+    ensures machine { apps.new.mesh.setup.machine ≡ apps.old.mesh.setup.machine }
+    ensures free { AreFreeOn (free_machine apps.new) free.new }
+{
+    match apps.load(alloc, number, plan) {
+        Ok(()) => Ok(LoadAnswer::Done),
+        Err(e) => {
+            free.give(plan.spots.as_slice());
+            refused(e)
+        }
+    }
+}
+
+// What a load is answered that is refused.
+fn refused(e: LoadErr) -> Result<LoadAnswer, Memory>
+    ensures { (h : Host) (number : ℕ) (plan : APlan) → IsWhyNotLoaded h number plan e → IfOk result
+        (λ a. IsTaken h number plan a h) }
+{
+    match e {
+        LoadErr::Refused(refusal) => Ok(LoadAnswer::Refused(refusal)),
+        LoadErr::Memory => Err(Memory),
+    }
+}
+
+// What a load is answered that has no plan.
+fn unplanned(e: PlanErr) -> Result<LoadAnswer, Memory>
+    ensures { (h : Host) (number : ℕ) (job : AJob) → is_loaded h.apps number ≡ false
+        → IsWhyUnplanned h job e → IfOk result (λ a. IsLoadAnswer h number job a h) }
+{
+    match e {
+        PlanErr::NoRoom { vertex } => Ok(LoadAnswer::NoRoom { vertex }),
+        PlanErr::CutOff { net, target } => Ok(LoadAnswer::CutOff { net, target }),
+        PlanErr::Memory => Err(Memory),
     }
 }

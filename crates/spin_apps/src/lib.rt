@@ -5,7 +5,6 @@
 #![tactic(auto)]
 
 mod answers;
-mod free;
 mod hosts;
 mod laws;
 mod lines;

@@ -1,25 +1,25 @@
 // The plan by which a job is loaded.
-ghost use Rattle.std.specs.Prelude.{◌≡◌, All, IfOk, IfErr, false, map};
+ghost use Rattle.std.specs.Prelude.{◌≡◌, All, IfOk, IfErr, map};
 ghost use Rattle.std.specs.List.{AllZip};
 ghost use Rattle.machine_desc.specs.Live.{IsUsable};
 ghost use Rattle.app_graph.specs.declared.graphs.Vertex.{Vertex as VertexOf};
 ghost use Rattle.net_plans.specs.Cause.{IsNetCause, IsCauseOne};
 ghost use Rattle.net_plans.specs.CutOffTargets.{HasNoneCutOff};
 ghost use Rattle.job_requests.specs.Valid.{IsValidJob};
-ghost use Rattle.app_loads.specs.Plans.{IsAppNet, IsPlan};
-ghost use Rattle.app_loads.specs.Host.{is_spot_taken};
-ghost use Rattle.spin_apps.specs.Making.{CanRouteNet, CanRouteNets, IsPlaced, unplaced, unrouted, unrouted_net};
-ghost use Rattle.spin_apps.specs.Plans.{IsNetFor, IsPlanFor, IsWhyUnplanned};
+ghost use Rattle.app_loads.specs.Plans.{IsAppNet};
+ghost use Rattle.app_loads.specs.Host.{Host};
+ghost use Rattle.place_fit.specs.Boards.{AreFreeOn};
+ghost use Rattle.spin_apps.specs.Free.{free_machine};
+ghost use Rattle.spin_apps.specs.Making.{ArePlacedOn, CanPlan, CanRouteNet, CanRouteNets, HasFreeCores, IsNoPlanOn, IsPlanOn, unplaced, unrouted, unrouted_net};
+ghost use Rattle.spin_apps.specs.Plans.{IsNetFor};
 
-use crate::free::free_machine;
-use crate::hosts::Hosted;
 use app_graph::{Net, Vertex};
 use app_loads::{AppNet, AppPlan};
 use job_requests::AppJob;
 use link_detours::{RepairErr, Roads};
 use machine_desc::{Machine, NetPlan};
 use net_plans::{NetErr, net_plan};
-use place_fit::{PlaceErr, place};
+use place_fit::{FreeCores, PlaceErr};
 use spin_base::{Block, Chip, Memory, Packet, Seq, Spot};
 use std::alloc::Global;
 
@@ -47,43 +47,46 @@ impl From<Memory> for PlanErr {
     }
 }
 
-// The plan of a job on the cores that are free.
-pub(crate) fn plan_of(alloc: Global, hosted: &Hosted, job: &AppJob) -> Result<AppPlan, PlanErr>
-    requires { IsValidJob job.now }
-    ensures plan { IfOk result (IsPlanFor hosted.now job.now) }
-    ensures valid { IfOk result (IsPlan hosted.now.mesh.setup.machine) }
-    ensures free { IfOk result (λ plan. All (λ s. is_spot_taken hosted.now.apps s
-        ≡ false) plan.spots) }
-    ensures why { IfErr result (IsWhyUnplanned hosted.now job.now) }
+// The plan of a job on the cores that are free, which are then its own. Where there is none, they are as before.
+pub(crate) fn plan_of(
+    alloc: Global,
+    machine: &Machine,
+    roads: &Roads,
+    free: &mut FreeCores,
+    job: &AppJob,
+) -> Result<AppPlan, PlanErr>
+    requires { CanPlan machine.now roads.now free.old job.now }
+    ensures plan { (h : Host) → HasFreeCores h machine.now free.old → IfOk result
+        (IsPlanOn h job.now free.new) }
+    ensures none { (h : Host) → HasFreeCores h machine.now free.old → IfErr result
+        (IsNoPlanOn h job.now free.new) }
 {
-    let machine = &hosted.machine;
     let sdram = bytes_of(alloc, &job.graph.vertices)?;
     let packets = copied(alloc, &job.run.packets)?;
-    let spots = placed(alloc, hosted, job)?;
-    match app_nets(alloc, machine, &hosted.roads, &spots, &job.graph.nets) {
+    let spots = placed(alloc, free, job)?;
+    match app_nets(alloc, machine, roads, &spots, &job.graph.nets) {
         Ok(nets) => Ok(AppPlan {
             spots,
             sdram,
             nets,
             packets,
         }),
-        Err(e) => Err(unrouted(e)),
+        Err(e) => {
+            free.give(spots.as_slice());
+            Err(unrouted(e))
+        }
     }
 }
 
-// The cores of a job's vertices, of those that are free.
-fn placed(alloc: Global, hosted: &Hosted, job: &AppJob) -> Result<Seq<Spot>, PlanErr>
+// The cores of a job's vertices, of those that are free, which are then its own.
+fn placed(alloc: Global, free: &mut FreeCores, job: &AppJob) -> Result<Seq<Spot>, PlanErr>
     requires { IsValidJob job.now }
-    ensures placed { IfOk result (IsPlaced hosted.now job.now) }
-    ensures why { IfErr result (IsWhyUnplanned hosted.now job.now) }
+    ensures placed { (h : Host) → AreFreeOn (free_machine h) free.old → IfOk result
+        (ArePlacedOn h job.now free.new) }
+    ensures none { (h : Host) → AreFreeOn (free_machine h) free.old → IfErr result
+        (IsNoPlanOn h job.now free.new) }
 {
-    if job.graph.vertices.is_empty() {
-        // A look at the applications brings the proof what is known of them.
-        let _apps = &hosted.apps;
-        return Ok(Seq::new(alloc));
-    }
-    let free = free_machine(alloc, hosted)?;
-    match place(alloc, &free, &job.graph) {
+    match free.place(alloc, &job.graph) {
         Ok(placement) => Ok(placement.spots),
         Err(e) => Err(unplaced(e)),
     }

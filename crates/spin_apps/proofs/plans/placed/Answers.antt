@@ -1,24 +1,23 @@
-use Rattle.std.proofs.Common.{sym, subst, rules}
-use Rattle.machine_desc.specs.Description.{Description}
-use Rattle.place_fit.specs.Placement.{IsPlacement}
-use Rattle.spin_apps.specs.{Plans.IsWhyUnplanned, Making.IsPlaced}
-use Rattle.spin_apps.proofs.{NoVertices.placed_none, Planning.why_unplaced}
-use Rattle.app_loads.specs.Applications.{AreApps}
+use Rattle.std.proofs.Common.{sym, subst}
+use Rattle.spin_apps.specs.Free.{free_but, free_machine}
+use Rattle.spin_apps.specs.Plans.{IsWhyUnplanned}
+use Rattle.spin_apps.proofs.FreeSpots.{placed_usable}
+use Rattle.spin_apps.proofs.Keeping.{without_spots}
+use Rattle.spin_apps.proofs.Planning.{why_unplaced}
 use Rattle.spin_apps.proofs.plans.placed.Goals as goal
 
-pub returns-then-is_empty-clause-placed : goal.returns-then-is_empty-clause-placed
-returns-then-is_empty-clause-placed c =
-    subst (IsPlaced c.args.hosted.now c.args.job.now) (sym c.new.ensures)
-    (placed_none c.args.hosted.now c.args.job.now (subst AreApps c.hosted.view_is c.hosted.invariant.apps) (c.is_empty.ensures.0 c.if-is_empty.true))
-
 pub returns-in-Ok-clause-placed : goal.returns-in-Ok-clause-placed
-returns-in-Ok-clause-placed c = record {
-  memory = c.in-Ok.placement.memory;
-  is = subst (λ (m : Description). IsPlacement m c.args.job.now.graph.vertices c.in-Ok.placement.spots c.in-Ok.placement.memory) c.in_ok-free.ensures c.in-Ok.ensures.placed;
-  different = c.in-Ok.ensures.different;
-}
+returns-in-Ok-clause-placed c h free =
+    let placement = c.in-Ok.placement in
+    let is = c.in-Ok.ensures.placed (free_machine h) free in
+    record {
+      placed = record { memory = placement.memory; is = is; different = c.in-Ok.ensures.different (free_machine h) free };
+      usable = placed_usable h c.args.job.now.graph.vertices placement.spots placement.memory is c.requires.cores;
+      taken = c.in-Ok.ensures.taken (free_machine h) (free_but h placement.spots) free (without_spots h placement.spots);
+    }
 
-pub returns-clause-why : goal.returns-clause-why
-returns-clause-why c =
-    subst (IsWhyUnplanned c.args.hosted.now c.args.job.now) (sym c.unplaced.ensures)
-    (why_unplaced c.args.hosted.now c.in_ok-free.free c.args.job.now c.in-Err.e c.in_ok-free.ensures (search rules))
+pub returns-in-Err-clause-none : goal.returns-in-Err-clause-none
+returns-in-Err-clause-none c h free = record {
+  why = subst (IsWhyUnplanned h c.args.job.now) (sym c.unplaced.ensures) (why_unplaced h c.args.job.now c.in-Err.e (c.in-Err.ensures.no_room (free_machine h) free));
+  free = c.in-Err.ensures.refused (free_machine h) free;
+}

@@ -1,37 +1,43 @@
-use Rattle.std.proofs.Common.{◌≡◌, sym, subst, rules}
-use Rattle.app_loads.specs.Host.{Host}
+use Rattle.std.proofs.Common.{List, sym, subst, rules}
+use Rattle.spin_base.specs.declared.chips.Spot.{Spot}
+use Rattle.place_fit.specs.Boards.{IsWith}
+use Rattle.spin_apps.specs.Free.{free_but, free_machine}
 use Rattle.spin_apps.specs.Plans.{IsWhyUnplanned}
 use Rattle.spin_apps.proofs.FreeSpots.{free_sites, free_untaken, placed_free}
+use Rattle.spin_apps.proofs.Keeping.{with_spots}
 use Rattle.spin_apps.proofs.Planning.{nets_on, plan_for, plan_valid, why_unrouted}
 use Rattle.spin_apps.proofs.plans.plan_of.Goals as goal
 
 pub app_nets-requires : goal.app_nets-requires
-app_nets-requires c = record {
-  valid = nets_on _ c.in_ok-spots.spots c.args.job.now.graph.nets c.in_ok-spots.ensures.placed.is.all c.requires.graph.nets;
-  sites = let placed = c.in_ok-spots.ensures.placed in
-      free_sites c.args.hosted.now c.hosted.inside.machine c.in_ok-spots.spots (subst (λ (h : Host). h.mesh.setup.machine ≡ c.hosted.inside.machine) c.hosted.view_is c.hosted.invariant.machine)
-      (placed_free c.args.hosted.now c.args.job.now.graph.vertices c.in_ok-spots.spots placed.memory placed.is c.requires.cores);
-  roads = search;
-  few = search;
-}
+app_nets-requires c =
+    let h = c.requires.host in
+    let on = c.requires.on in
+    let p = c.in_ok-spots.ensures.placed h on.free in
+    record {
+      roads = c.requires.roads;
+      few = c.requires.valid.graph.few_nets;
+      valid = nets_on _ c.in_ok-spots.spots c.args.job.now.graph.nets p.placed.is.all c.requires.valid.graph.nets;
+      sites = free_sites h c.args.machine.now c.in_ok-spots.spots on.machine
+          (placed_free h c.args.job.now.graph.vertices c.in_ok-spots.spots p.placed.memory p.placed.is c.requires.valid.cores);
+    }
 
 pub returns-in-Ok-clause-plan : goal.returns-in-Ok-clause-plan
-returns-in-Ok-clause-plan c =
-    plan_for c.in-Ok.nets (subst (λ (h : Host). h.mesh.setup.machine ≡ c.hosted.inside.machine) c.hosted.view_is c.hosted.invariant.machine)
-    c.in_ok-spots.ensures.placed c.in_ok-sdram.ensures c.in-Ok.ensures.nets c.in_ok-packets.ensures
+returns-in-Ok-clause-plan c h on =
+    let p = c.in_ok-spots.ensures.placed h on.free in
+    record {
+      is = plan_for c.in-Ok.nets on.machine p.placed c.in_ok-sdram.ensures c.in-Ok.ensures.nets c.in_ok-packets.ensures;
+      valid = plan_valid c.in-Ok.nets on.machine p.placed c.in_ok-sdram.ensures c.in-Ok.ensures.nets c.in_ok-packets.ensures c.requires.valid c.in-Ok.ensures.valid;
+      untaken = free_untaken h c.in_ok-spots.spots (placed_free h c.args.job.now.graph.vertices c.in_ok-spots.spots p.placed.memory p.placed.is c.requires.valid.cores);
+      usable = p.usable;
+      taken = p.taken;
+    }
 
-pub returns-in-Ok-clause-valid : goal.returns-in-Ok-clause-valid
-returns-in-Ok-clause-valid c =
-    plan_valid c.in-Ok.nets (subst (λ (h : Host). h.mesh.setup.machine ≡ c.hosted.inside.machine) c.hosted.view_is c.hosted.invariant.machine)
-    c.in_ok-spots.ensures.placed c.in_ok-sdram.ensures c.in-Ok.ensures.nets c.in_ok-packets.ensures c.requires c.in-Ok.ensures.valid
-
-pub returns-in-Ok-clause-free : goal.returns-in-Ok-clause-free
-returns-in-Ok-clause-free c =
-    let placed = c.in_ok-spots.ensures.placed in
-    free_untaken c.args.hosted.now c.in_ok-spots.spots
-    (placed_free c.args.hosted.now c.args.job.now.graph.vertices c.in_ok-spots.spots placed.memory placed.is c.requires.cores)
-
-pub returns-in-Err-clause-why : goal.returns-in-Err-clause-why
-returns-in-Err-clause-why c =
-    subst (IsWhyUnplanned c.args.hosted.now c.args.job.now) (sym c.unrouted.ensures)
-    (why_unrouted c.in-Err.e (subst (λ (h : Host). h.mesh.setup.machine ≡ c.hosted.inside.machine) c.hosted.view_is c.hosted.invariant.machine) c.in_ok-spots.ensures.placed (search rules))
+pub returns-in-Err-clause-none : goal.returns-in-Err-clause-none
+returns-in-Err-clause-none c h on =
+    let p = c.in_ok-spots.ensures.placed h on.free in
+    let spots = c.in_ok-spots.spots in
+    record {
+      why = subst (IsWhyUnplanned h c.args.job.now) (sym c.unrouted.ensures) (why_unrouted c.in-Err.e on.machine p.placed (search rules));
+      free = c.give.ensures (free_but h spots) (free_machine h) p.taken
+          (subst (λ (l : List Spot). IsWith l (free_but h spots) (free_machine h)) (sym c.as_slice.ensures) (with_spots h spots p.usable));
+    }

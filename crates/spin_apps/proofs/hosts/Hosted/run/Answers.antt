@@ -1,13 +1,21 @@
-use Rattle.std.proofs.Common.{ap, ◌∙◌}
+use Rattle.std.proofs.Common.{◌≡◌, ap, ◌∙◌, sym, subst}
+use Rattle.machine_desc.specs.Description.{Description}
 use Rattle.mesh_core.specs.State.{Setup, State}
 use Rattle.mesh_core.proofs.Fixed.{setup_after}
+use Rattle.place_fit.specs.Boards.{AreFreeOn}
+use Rattle.app_loads.specs.Host.{Host}
+use Rattle.spin_apps.proofs.Keeping.{same_free}
 use Rattle.spin_apps.proofs.hosts.Hosted.run.Goals as goal
 
 pub invariant_of-self : goal.invariant_of-self
-invariant_of-self c = record {
-  apps = c.drain.ensures.apps;
-  machine = ap (λ (s : State). s.setup.machine) c.drain.ensures.moved.mesh.is
-      ∙ (ap (λ (u : Setup). u.machine) (setup_after c.self.inside.apps.mesh c.drain.ensures.moved.mesh.events) ∙ c.self.invariant.machine);
-  roads = c.self.invariant.roads;
-  unusable = c.self.invariant.unusable;
-}
+invariant_of-self c =
+    let old = c.self.inside.apps in
+    let new = c.drain.new.self in
+    let moved = c.drain.ensures.moved in
+    let machine : new.mesh.setup.machine ≡ old.mesh.setup.machine = ap (λ (s : State). s.setup.machine) moved.mesh.is ∙ ap (λ (u : Setup). u.machine) (setup_after old.mesh moved.mesh.events) in
+    record {
+      apps = c.drain.ensures.apps;
+      machine = machine ∙ c.self.invariant.machine;
+      roads = c.self.invariant.roads;
+      free = subst (λ (m : Description). AreFreeOn m c.self.inside.free) (sym (same_free new old machine (ap (λ (h : Host). h.apps) moved.others))) c.self.invariant.free;
+    }

@@ -1,11 +1,21 @@
-use Rattle.std.proofs.Common.{◌∙◌}
+use Rattle.std.proofs.Common.{◌≡◌, ◌∙◌, List, sym, subst}
+use Rattle.spin_base.specs.declared.chips.Spot.{Spot}
+use Rattle.place_fit.specs.Boards.{IsWith}
+use Rattle.spin_apps.specs.Free.{free_machine}
+use Rattle.spin_apps.proofs.Keeping.{unloaded_with}
 use Rattle.spin_apps.proofs.Serving.{machine_after_unload}
 use Rattle.spin_apps.proofs.hosts.Hosted.unload.Goals as goal
 
 pub invariant_of-self : goal.invariant_of-self
-invariant_of-self c = record {
-  apps = c.unload.ensures.apps;
-  machine = machine_after_unload c.unload.result c.self.inside.apps c.unload.new.self c.args.number c.unload.ensures.unloaded c.unload.ensures.refused ∙ c.self.invariant.machine;
-  roads = c.self.invariant.roads;
-  unusable = c.self.invariant.unusable;
-}
+invariant_of-self c =
+    let old = c.self.inside.apps in
+    let new = c.unload.new.self in
+    let unloaded = c.in-Ok.ensures.unloaded in
+    let spots : c.deref.result.now ≡ unloaded.app.plan.spots = c.deref.ensures.value ∙ c.in_ok-spots.ensures.spots unloaded.app unloaded.is unloaded.number_is in
+    record {
+      apps = c.unload.ensures.apps;
+      machine = machine_after_unload c.unload.result old new c.args.number c.unload.ensures.unloaded c.unload.ensures.refused ∙ c.self.invariant.machine;
+      roads = c.self.invariant.roads;
+      free = c.give.ensures (free_machine old) (free_machine new) c.self.invariant.free
+          (subst (λ (l : List Spot). IsWith l (free_machine old) (free_machine new)) (sym spots) (unloaded_with old new c.args.number c.in-Ok.ended c.self.invariant.apps unloaded));
+    }

@@ -1,0 +1,106 @@
+-- The application of a number, where its place is asked for.
+use Rattle.std.proofs.Common.{◌≡◌, ◌≢◌, ℕ, ◌==◌, Bool, true, false, not, ◌||◌, List, get_or, refl, sym, ap, ◌∙◌, None, Some, inl, inr}
+use Rattle.std.specs.Prelude.{position}
+use Rattle.std.specs.List.{All, Contains, list_any}
+use Rattle.std.proofs.lemmas.Bool.{both_ways, cases_Bool, eq-eqb, eqb-true, not-true, or_left, or_right}
+use Rattle.std.proofs.lemmas.List.Elements.{All-contains}
+use Rattle.spin_base.proofs.Equality.{spot_eq_true}
+use Rattle.spin_base.proofs.Members.{Among, Contains-filter, among_any, among_at, among_contains, among_filter, any_among, contains_among}
+use Rattle.spin_base.specs.declared.chips.Spot.{Spot}
+use Rattle.spin_base.specs.Equality.{spot_eq}
+use Rattle.machine_desc.specs.Live.{IsUsable}
+use Rattle.app_loads.specs.declared.loaded.LoadedApp.{LoadedApp}
+use Rattle.app_loads.specs.Applications.{AreApps, IsLoadedOn}
+use Rattle.app_loads.specs.Host.{Host, is_loaded, is_spot_taken}
+use Rattle.app_loads.specs.Leaving.{others_than}
+use Rattle.app_loads.proofs.LeftParts.{found_number, found_there, not_loaded}
+use Rattle.app_loads.proofs.Others.{HaveNumbers, across_pairs, only_one}
+pub use Rattle.app_loads.proofs.Others.{same_tests}
+
+-- a number of an application is loaded
+number_loaded : (apps : List LoadedApp) (number : ℕ) (app : LoadedApp) → Contains apps app → app.number ≡ number → is_loaded apps number ≡ true
+number_loaded apps number app has its =
+    among_any (λ (a : LoadedApp). a.number == number) app apps (contains_among app apps has) (eq-eqb app.number number its)
+
+-- where no place is found, no application has the number
+pub no_app : (apps : List LoadedApp) (number : ℕ) → position (λ (a : LoadedApp). a.number == number) apps ≡ None → (app : LoadedApp) → Contains apps app → app.number ≡ number → ⊥
+no_app apps number none app has its = absurd (both_ways _ (not_loaded apps number none) (number_loaded apps number app has its))
+
+module _ (apps : List LoadedApp) (number at : ℕ) (found : LoadedApp) (place : position (λ (a : LoadedApp). a.number == number) apps ≡ Some at) (value : found ≡ get_or apps at found) where
+  -- the application at the place that is found is the only one of the number
+  pub same_as_found : HaveNumbers apps → (app : LoadedApp) → Contains apps app → app.number ≡ number → found ≡ app
+  same_as_found numbers app has its =
+      let there = found_there apps number at found place value in
+      only_one apps numbers found app (among_at apps at found there) (contains_among app apps has) (found_number apps number at found place there ∙ sym its)
+
+  pub found_loaded : is_loaded apps number ≡ false → ⊥
+  found_loaded out =
+      let there = found_there apps number at found place value in
+      both_ways _ out (among_any (λ (a : LoadedApp). a.number == number) found apps (among_at apps at found there) (eq-eqb found.number number (found_number apps number at found place there)))
+
+-- ---- spots with and without an application
+
+or_none : (a b : Bool) → b ≡ false → (a || b) ≡ a
+or_none true b none = refl
+or_none false b none = none
+
+module _ (h : Host) (number : ℕ) (apps : AreApps h) (app : LoadedApp) (has : Contains h.apps app) (its : app.number ≡ number) (s : Spot) where
+  abbrev has_spot : LoadedApp → Bool
+  has_spot a = list_any (spot_eq s) a.plan.spots
+
+  in_apps : Among app h.apps
+  in_apps = contains_among app h.apps has
+
+  among_others : (x : LoadedApp) → Among x h.apps → (x.number == number) ≡ false → Among x (others_than number h.apps)
+  among_others x in_x differ =
+      contains_among x (others_than number h.apps) (Contains-filter (λ (a : LoadedApp). not (a.number == number)) h.apps x (among_contains x h.apps in_x) (ap not differ))
+
+  -- a spot of another application is none of this one
+  other_apart : (x : LoadedApp) → Among x (others_than number h.apps) → has_spot x ≡ true → has_spot app ≡ true → ⊥
+  other_apart x in_x mine yours =
+      let kept = among_filter (λ (a : LoadedApp). not (a.number == number)) x h.apps in_x in
+      let differ : x ≢ app = λ same. both_ways _ (not-true _ kept.1) (eq-eqb x.number number (ap (λ (a : LoadedApp). a.number) same ∙ its)) in
+      let a = any_among (spot_eq s) x.plan.spots mine in
+      let b = any_among (spot_eq s) app.plan.spots yours in
+      across_pairs (λ (c d : Spot). c ≢ d) (λ (c : LoadedApp). c.plan.spots) (λ c d apart same. apart (sym same)) h.apps apps.spots x app kept.0 in_apps differ a.0 b.0
+      (among_contains a.0 x.plan.spots a.1) (among_contains b.0 app.plan.spots b.1)
+      (sym (spot_eq_true s a.0 a.2) ∙ spot_eq_true s b.0 b.2)
+
+  -- a spot is taken where another application has it, or this one
+  taken_by : is_spot_taken h.apps s ≡ (is_spot_taken (others_than number h.apps) s || has_spot app)
+  taken_by = same_tests (is_spot_taken h.apps s) (is_spot_taken (others_than number h.apps) s || has_spot app) forth backward
+    where
+      forth : is_spot_taken h.apps s ≡ true → (is_spot_taken (others_than number h.apps) s || has_spot app) ≡ true
+      forth taken =
+          let found = any_among has_spot h.apps taken in
+          elim (cases_Bool (found.0.number == number)) [
+            | inl same ↦ (
+                let one = only_one h.apps apps.numbers found.0 app found.1 in_apps (eqb-true found.0.number number same ∙ sym its) in
+                or_right (is_spot_taken (others_than number h.apps) s) (has_spot app) (ap has_spot (sym one) ∙ found.2)
+                )
+            | inr differ ↦ or_left (is_spot_taken (others_than number h.apps) s) (has_spot app)
+                (among_any has_spot found.0 (others_than number h.apps) (among_others found.0 found.1 differ) found.2)
+          ]
+
+      backward : (is_spot_taken (others_than number h.apps) s || has_spot app) ≡ true → is_spot_taken h.apps s ≡ true
+      backward either = elim (cases_Bool (has_spot app)) [
+        | inl mine ↦ among_any has_spot app h.apps in_apps mine
+        | inr not_mine ↦ (
+            let other : is_spot_taken (others_than number h.apps) s ≡ true = sym (or_none (is_spot_taken (others_than number h.apps) s) (has_spot app) not_mine) ∙ either in
+            let found = any_among has_spot (others_than number h.apps) other in
+            among_any has_spot found.0 h.apps (among_filter (λ (a : LoadedApp). not (a.number == number)) found.0 h.apps found.1).0 found.2
+            )
+      ]
+
+  pub spots_beside : (is_spot_taken h.apps s ≡ (is_spot_taken (others_than number h.apps) s || has_spot app)) × (has_spot app ≡ true → is_spot_taken (others_than number h.apps) s ≡ false)
+  spots_beside = (
+    taken_by,
+    λ mine. elim (cases_Bool (is_spot_taken (others_than number h.apps) s)) [
+      | inl other ↦ (let found = any_among has_spot (others_than number h.apps) other in absurd (other_apart found.0 found.1 found.2 mine))
+      | inr none ↦ none
+    ],
+  )
+
+-- the spots of an application are usable cores
+pub spots_usable : (h : Host) → AreApps h → (app : LoadedApp) → Contains h.apps app → All (IsUsable h.mesh.setup.machine) app.plan.spots
+spots_usable h apps app has = (All-contains (IsLoadedOn h.mesh.setup.machine) h.apps app apps.loaded has).plan.usable

@@ -1,0 +1,309 @@
+-- Cores and memory given back to a board.
+use Rattle.std.proofs.Common.{◌≡◌, ◌≢◌, ℕ, zero, suc, ◌-◌, ◌^◌, ◌<◌, ◌≤◌, ◌==◌, Bool, true, false, ◌||◌, cond, List, [], ◌∷◌, ◌++◌}
+use Rattle.std.proofs.Common.{length, set, get_or, refl, sym, ap, ap₂, ◌∙◌, subst, Some, slice_get, inl, inr, arith}
+use Rattle.std.specs.Int.{bit_at}
+use Rattle.std.specs.List.{list_any}
+use Rattle.std.proofs.lemmas.Bool.{cases_Bool, cases_eq, cases_lt, and_left, and_right, and_from, both_ways, cond-true, cond-false, or_from, or_left, or_parts, or_right}
+use Rattle.std.proofs.lemmas.Bool.Decides.{nat_tests}
+use Rattle.std.proofs.lemmas.List.{get_or-set_same, get_or-set_other, length-set}
+use Rattle.std.proofs.lemmas.List.Folds.{list_any-append}
+use Rattle.std.proofs.lemmas.Nat.Bits.{bit_at_above}
+use Rattle.std.proofs.lemmas.Option.{slice_get_within}
+use Rattle.std.proofs.Math.Bool.{or-false}
+use Rattle.spin_base.proofs.Places.{slice_get_there}
+use Rattle.spin_base.specs.declared.chips.Chip.{Chip}
+use Rattle.spin_base.specs.declared.chips.Spot.{Spot}
+use Rattle.spin_base.specs.Equality.{chip_eq, spot_eq}
+use Rattle.spin_base.proofs.Equality.{chip_eq_true, chip_eq_same}
+use Rattle.machine_desc.specs.Description.{Description}
+use Rattle.machine_desc.specs.Live.{is_usable}
+use Rattle.place_fit.specs.declared.boards.Board.{Board}
+use Rattle.place_fit.specs.declared.boards.Placed.{Placed}
+use Rattle.place_fit.specs.Curve.{hilbert, IsCurveLevel}
+use Rattle.place_fit.specs.Quarters.{curve_place}
+use Rattle.place_fit.specs.Boards.{AreFreeOn, AreGiven, AreOthersKept, AreSettled, HaveOneGrid, IsBoard, IsFilled, IsFreed, IsJoined, IsWholeBoard, IsWith, has_spot_on, room_left}
+use Rattle.place_fit.specs.Placement.{core_spot}
+use Rattle.place_fit.proofs.CurveLaws.{place_at}
+use Rattle.place_fit.proofs.Standing.{usable_parts}
+
+-- ---- one spot
+
+module _ (old mid new : Board) (s : Spot) (place : ℕ) (was : IsBoard old) (board : IsBoard mid) (level : mid.level ≡ old.level)
+    (sdram : mid.sdram ≡ old.sdram) (chips : mid.chips ≡ old.chips) (rooms : mid.rooms ≡ old.rooms)
+    (at : slice_get old.chips place ≡ Some s.chip) (kept : (q : ℕ) → q ≢ place → get_or mid.cores.items q 0 ≡ get_or old.cores.items q 0)
+    (is : new ≡ record mid { rooms = set mid.rooms place (room_left (get_or mid.cores.items place 0) mid.sdram) }) where
+  on_curve : (q : ℕ) (c : Chip) → slice_get old.chips q ≡ Some c → slice_get (hilbert old.level) q ≡ Some c
+  on_curve q c here = ap (λ l. slice_get l q) (sym was.chips) ∙ here
+
+  apart : (q : ℕ) (c : Chip) → slice_get old.chips q ≡ Some c → q ≢ place → chip_eq c s.chip ≡ false
+  apart q c here other =
+      elim (cases_Bool (chip_eq c s.chip)) [
+        | inl same ↦ absurd (
+            let one : c ≡ s.chip = chip_eq_true c s.chip same in
+            other (sym (place_at old.level q c (on_curve q c here)) ∙ (ap (curve_place old.level) one ∙ place_at old.level place s.chip (on_curve place s.chip at)))
+            )
+        | inr differ ↦ differ
+      ]
+
+  here_chip : (q : ℕ) (c : Chip) → slice_get old.chips q ≡ Some c → q ≡ place → c ≡ s.chip
+  here_chip q c here same =
+      let one : Some c ≡ Some s.chip = sym here ∙ (ap (slice_get old.chips) same ∙ at) in
+      cc
+
+  same_level : new.level ≡ mid.level
+  same_level = ap (λ (b : Board). b.level) is
+
+  same_chips : new.chips ≡ mid.chips
+  same_chips = ap (λ (b : Board). b.chips) is
+
+  same_cores : new.cores.items ≡ mid.cores.items
+  same_cores = ap (λ (b : Board). b.cores.items) is
+
+  new_rooms : new.rooms ≡ set mid.rooms place (room_left (get_or mid.cores.items place 0) mid.sdram)
+  new_rooms = ap (λ (b : Board). b.rooms) is
+
+  new_board : IsBoard new
+  new_board = record {
+    small = subst (λ (n : ℕ). n ≤ 6) (sym same_level) board.small;
+    chips = same_chips ∙ (board.chips ∙ ap hilbert (sym same_level));
+    cores = ap length same_cores ∙ (board.cores ∙ ap length (sym same_chips));
+    rooms = ap length new_rooms ∙ (length-set mid.rooms place (room_left (get_or mid.cores.items place 0) mid.sdram) ∙ (board.rooms ∙ ap length (sym same_chips)));
+    few = λ q. subst (λ (n : ℕ). n < 2 ^ 18) (sym (ap (λ l. get_or l q 0) same_cores)) (board.few q);
+  }
+
+  has_here : (q : ℕ) (c : Chip) → slice_get old.chips q ≡ Some c → q ≡ place → has_spot_on c (s ∷ []) ≡ true
+  has_here q c here same = or-false (chip_eq c s.chip) ∙ (ap (λ d. chip_eq d s.chip) (here_chip q c here same) ∙ chip_eq_same s.chip)
+
+  pub settled_one : AreSettled (s ∷ []) old new
+  settled_one = record {
+    level = same_level ∙ level;
+    sdram = ap (λ (b : Board). b.sdram) is ∙ sdram;
+    chips = same_chips ∙ chips;
+    board = new_board;
+    rooms = λ q c here.
+        let room = room_left (get_or mid.cores.items place 0) mid.sdram in
+        elim (cases_eq q place) [
+          | inl same ↦ (
+              let within : place < length mid.rooms = omega (arith, slice_get_within old.chips place s.chip at, board.rooms, ap length chips) in
+              let read : get_or new.rooms q 0 ≡ room = ap₂ (λ (l : List ℕ) (i : ℕ). get_or l i 0) new_rooms same ∙ get_or-set_same mid.rooms place room 0 within in
+              let cores : get_or mid.cores.items place 0 ≡ get_or new.cores.items q 0 = ap₂ (λ (l : List ℕ) (i : ℕ). get_or l i 0) (sym same_cores) (sym same) in
+              read
+              ∙ (ap₂ room_left cores sdram
+              ∙ sym (cond-true (has_spot_on c (s ∷ [])) (room_left (get_or new.cores.items q 0) old.sdram) (get_or old.rooms q 0) (has_here q c here same)))
+              )
+          | inr other ↦ ap (λ l. get_or l q 0) new_rooms
+              ∙ (get_or-set_other mid.rooms place q room 0 other
+              ∙ (ap (λ l. get_or l q 0) rooms
+              ∙ sym (cond-false (has_spot_on c (s ∷ [])) (room_left (get_or new.cores.items q 0) old.sdram) (get_or old.rooms q 0) (or-false (chip_eq c s.chip) ∙ apart q c here other))))
+        ];
+    cores = λ q c here none.
+        elim (cases_eq q place) [
+          | inl same ↦ absurd (both_ways _ none (has_here q c here same))
+          | inr other ↦ ap (λ l. get_or l q 0) same_cores ∙ kept q other
+        ];
+  }
+
+  -- the spot is no core
+  given_none : mid.cores.items ≡ old.cores.items → 18 ≤ s.core → AreGiven (s ∷ []) old new
+  given_none same high = record {
+    settled = settled_one;
+    free = λ q c here p low.
+        let bits : get_or new.cores.items q 0 ≡ get_or old.cores.items q 0 = ap (λ l. get_or l q 0) (same_cores ∙ same) in
+        let differs : (p == s.core) ≡ false = (let apart : p ≢ s.core = λ e. omega (arith, e, low, high) in grind (arith, nat_tests)) in
+        ap (λ n. bit_at n p) bits
+        ∙ sym (cond-false (list_any (spot_eq (core_spot c p)) (s ∷ [])) 1 (bit_at (get_or old.cores.items q 0) p)
+        (or-false (spot_eq (core_spot c p) s) ∙ and_right (chip_eq c s.chip) (p == s.core) differs));
+  }
+
+  given_one : IsJoined (get_or old.cores.items place 0) s.core (get_or mid.cores.items place 0) → AreGiven (s ∷ []) old new
+  given_one joined = record {
+    settled = settled_one;
+    free = λ q c here p low.
+        let given : Bool = list_any (spot_eq (core_spot c p)) (s ∷ []) in
+        elim (cases_eq q place) [
+          | inl same ↦ (
+              let bits : get_or new.cores.items q 0 ≡ get_or mid.cores.items place 0 = ap₂ (λ (l : List ℕ) (i : ℕ). get_or l i 0) same_cores same in
+              elim (cases_eq p s.core) [
+                | inl core ↦ (
+                    let is_it : given ≡ true = or-false (spot_eq (core_spot c p) s)
+                    ∙ and_from (chip_eq c s.chip) (p == s.core) (ap (λ d. chip_eq d s.chip) (here_chip q c here same) ∙ chip_eq_same s.chip) (grind (arith, nat_tests)) in
+                    ap₂ bit_at bits core ∙ (joined.here ∙ sym (cond-true given 1 (bit_at (get_or old.cores.items q 0) p) is_it))
+                    )
+                | inr differ ↦ (
+                    let is_not : given ≡ false = or-false (spot_eq (core_spot c p) s) ∙ and_right (chip_eq c s.chip) (p == s.core) (grind (arith, nat_tests)) in
+                    ap (λ n. bit_at n p) bits
+                    ∙ (joined.same p differ ∙ (ap (λ i. bit_at (get_or old.cores.items i 0) p) (sym same) ∙ sym (cond-false given 1 (bit_at (get_or old.cores.items q 0) p) is_not)))
+                    )
+              ]
+              )
+          | inr other ↦ (
+              let is_not : given ≡ false = or-false (spot_eq (core_spot c p) s) ∙ and_left (chip_eq c s.chip) (p == s.core) (apart q c here other) in
+              ap (λ n. bit_at n p) (ap (λ l. get_or l q 0) same_cores ∙ kept q other) ∙ sym (cond-false given 1 (bit_at (get_or old.cores.items q 0) p) is_not)
+              )
+        ];
+  }
+
+pub given : (old mid new : Board) (s : Spot) (place : ℕ) → IsBoard old → IsFreed place s.core old mid → slice_get old.chips place ≡ Some s.chip
+    → new ≡ record mid { rooms = set mid.rooms place (room_left (get_or mid.cores.items place 0) mid.sdram) } → AreGiven (s ∷ []) old new
+given old mid new s place was freed at is =
+    elim (cases_lt s.core 18) [
+      | inl low ↦ given_one old mid new s place was freed.board freed.level freed.sdram freed.chips freed.rooms at freed.others is (freed.low low)
+      | inr high ↦ given_none old mid new s place was freed.board freed.level freed.sdram freed.chips freed.rooms at freed.others is (freed.high high) high
+    ]
+
+-- ---- one spot after others
+
+pub few_push : (xs : List ℕ) (x : ℕ) → ((q : ℕ) → get_or xs q 0 < 2 ^ 18) → x < 2 ^ 18 → (q : ℕ) → get_or (xs ++ x ∷ []) q 0 < 2 ^ 18
+few_push [] x all low zero = low
+few_push [] x all low (suc q) = all q
+few_push (y ∷ ys) x all low zero = all 0
+few_push (y ∷ ys) x all low (suc q) = few_push ys x (λ k. all (suc k)) low q
+
+-- a vertex more leaves the chips without spots as they were
+pub kept_more : (spots : List Spot) (a b c : Board) (place sdram : ℕ) (r : Placed) → AreOthersKept spots a b → IsFilled place sdram b c r → AreOthersKept (spots ++ r.spot ∷ []) a c
+kept_more spots a b c place sdram r kept filled =
+    let parts : (d : Chip) → has_spot_on d (spots ++ r.spot ∷ []) ≡ false → (has_spot_on d spots ≡ false) × (has_spot_on d (r.spot ∷ []) ≡ false) = λ d none.
+    or_parts (has_spot_on d spots) (has_spot_on d (r.spot ∷ [])) (sym (list_any-append (λ (t : Spot). chip_eq d t.chip) spots (r.spot ∷ [])) ∙ none) in
+    let apart : (q : ℕ) (d : Chip) → slice_get a.chips q ≡ Some d → has_spot_on d (r.spot ∷ []) ≡ false → q ≢ place = λ q d at none same.
+    (let one : Some d ≡ Some r.spot.chip = sym at ∙ (ap (λ l. slice_get l q) (sym kept.chips) ∙ (ap (slice_get b.chips) same ∙ filled.chip)) in
+    let chip : d ≡ r.spot.chip = cc in
+    both_ways _ none (or-false (chip_eq d r.spot.chip) ∙ (ap (λ e. chip_eq e r.spot.chip) chip ∙ chip_eq_same r.spot.chip))) in
+    record {
+      level = filled.level ∙ kept.level;
+      sdram = filled.sdram_is ∙ kept.sdram;
+      chips = filled.chips ∙ kept.chips;
+      cores = λ q d at none. let p = parts d none in
+          ap (λ l. get_or l q 0) filled.cores ∙ (get_or-set_other b.cores.items place q filled.others 0 (apart q d at p.1) ∙ kept.cores q d at p.0);
+      rooms = λ q d at none. let p = parts d none in
+          ap (λ l. get_or l q 0) filled.rooms ∙ (get_or-set_other b.rooms place q (room_left filled.others (get_or b.rooms place 0 - 1 - sdram)) 0 (apart q d at p.1) ∙ kept.rooms q d at p.0);
+    }
+
+pub settled_none : (b : Board) → IsBoard b → AreSettled [] b b
+settled_none b board = record { level = refl; sdram = refl; chips = refl; board = board; rooms = λ q c here. refl; cores = λ q c here none. refl }
+
+pub given_nothing : (b : Board) → IsBoard b → AreGiven [] b b
+given_nothing b board = record { settled = settled_none b board; free = λ q c here p low. refl }
+
+module _ (spots : List Spot) (s : Spot) (a b c : Board) where
+  both : (d : Chip) → has_spot_on d (spots ++ s ∷ []) ≡ (has_spot_on d spots || has_spot_on d (s ∷ []))
+  both d = list_any-append (λ (t : Spot). chip_eq d t.chip) spots (s ∷ [])
+
+  pub settled_more : AreSettled spots a b → AreSettled (s ∷ []) b c → AreSettled (spots ++ s ∷ []) a c
+  settled_more first then = record {
+    level = then.level ∙ first.level;
+    sdram = then.sdram ∙ first.sdram;
+    chips = then.chips ∙ first.chips;
+    board = then.board;
+    rooms = λ q d here.
+        let there : slice_get b.chips q ≡ Some d = ap (λ l. slice_get l q) first.chips ∙ here in
+        let all : Bool = has_spot_on d (spots ++ s ∷ []) in
+        let x : ℕ = room_left (get_or c.cores.items q 0) a.sdram in
+        let y : ℕ = get_or a.rooms q 0 in
+        elim (cases_Bool (has_spot_on d (s ∷ []))) [
+          | inl last ↦ then.rooms q d there
+              ∙ (cond-true (has_spot_on d (s ∷ [])) (room_left (get_or c.cores.items q 0) b.sdram) (get_or b.rooms q 0) last
+              ∙ (ap (room_left (get_or c.cores.items q 0)) first.sdram
+              ∙ sym (cond-true all x y (both d ∙ or_right (has_spot_on d spots) (has_spot_on d (s ∷ [])) last))))
+          | inr not_last ↦ (
+              let read : get_or c.rooms q 0 ≡ get_or b.rooms q 0 =
+              then.rooms q d there ∙ cond-false (has_spot_on d (s ∷ [])) (room_left (get_or c.cores.items q 0) b.sdram) (get_or b.rooms q 0) not_last in
+              let cores : get_or c.cores.items q 0 ≡ get_or b.cores.items q 0 = then.cores q d there not_last in
+              elim (cases_Bool (has_spot_on d spots)) [
+                | inl before ↦ read
+                    ∙ (first.rooms q d here
+                    ∙ (cond-true (has_spot_on d spots) (room_left (get_or b.cores.items q 0) a.sdram) y before
+                    ∙ (ap (λ n. room_left n a.sdram) (sym cores) ∙ sym (cond-true all x y (both d ∙ or_left (has_spot_on d spots) (has_spot_on d (s ∷ [])) before)))))
+                | inr never ↦ read
+                    ∙ (first.rooms q d here
+                    ∙ (cond-false (has_spot_on d spots) (room_left (get_or b.cores.items q 0) a.sdram) y never
+                    ∙ sym (cond-false all x y (both d ∙ or_from (has_spot_on d spots) (has_spot_on d (s ∷ [])) never not_last))))
+              ]
+              )
+        ];
+    cores = λ q d here none.
+        let parts = or_parts (has_spot_on d spots) (has_spot_on d (s ∷ [])) (sym (both d) ∙ none) in
+        then.cores q d (ap (λ l. slice_get l q) first.chips ∙ here) parts.1 ∙ first.cores q d here parts.0;
+  }
+
+  pub given_more : AreGiven spots a b → AreGiven (s ∷ []) b c → AreGiven (spots ++ s ∷ []) a c
+  given_more first then = record {
+    settled = settled_more first.settled then.settled;
+    free = λ q d here p low.
+        let there : slice_get b.chips q ≡ Some d = ap (λ l. slice_get l q) first.settled.chips ∙ here in
+        let test : Spot → Bool = spot_eq (core_spot d p) in
+        let all : Bool = list_any test (spots ++ s ∷ []) in
+        let is_all : all ≡ (list_any test spots || list_any test (s ∷ [])) = list_any-append test spots (s ∷ []) in
+        let old : ℕ = bit_at (get_or a.cores.items q 0) p in
+        let mid : ℕ = bit_at (get_or b.cores.items q 0) p in
+        elim (cases_Bool (list_any test (s ∷ []))) [
+          | inl last ↦ then.free q d there p low
+              ∙ (cond-true (list_any test (s ∷ [])) 1 mid last ∙ sym (cond-true all 1 old (is_all ∙ or_right (list_any test spots) (list_any test (s ∷ [])) last)))
+          | inr not_last ↦ then.free q d there p low
+              ∙ (cond-false (list_any test (s ∷ [])) 1 mid not_last
+              ∙ (first.free q d here p low
+              ∙ elim (cases_Bool (list_any test spots)) [
+                | inl before ↦ cond-true (list_any test spots) 1 old before ∙ sym (cond-true all 1 old (is_all ∙ or_left (list_any test spots) (list_any test (s ∷ [])) before))
+                | inr never ↦ cond-false (list_any test spots) 1 old never ∙ sym (cond-false all 1 old (is_all ∙ or_from (list_any test spots) (list_any test (s ∷ [])) never not_last))
+              ]))
+        ];
+  }
+
+-- ---- what a board is then
+
+pub kept_same : (spots : List Spot) (b : Board) → AreOthersKept spots b b
+kept_same spots b = record { level = refl; sdram = refl; chips = refl; cores = λ q c here none. refl; rooms = λ q c here none. refl }
+
+pub whole_again : (spots : List Spot) (old mid new : Board) → IsWholeBoard old → AreOthersKept spots old mid → AreSettled spots mid new → IsWholeBoard new
+whole_again spots old mid new whole kept settled = record {
+  board = settled.board;
+  rooms = λ q inside.
+      let (c, at_new) = slice_get_there new.chips q inside in
+      let at_mid : slice_get mid.chips q ≡ Some c = ap (λ l. slice_get l q) (sym settled.chips) ∙ at_new in
+      let at : slice_get old.chips q ≡ Some c = ap (λ l. slice_get l q) (sym kept.chips) ∙ at_mid in
+      let sdram : mid.sdram ≡ new.sdram = sym settled.sdram in
+      settled.rooms q c at_mid
+      ∙ elim (cases_Bool (has_spot_on c spots)) [
+        | inl has ↦ cond-true (has_spot_on c spots) (room_left (get_or new.cores.items q 0) mid.sdram) (get_or mid.rooms q 0) has ∙ ap (room_left (get_or new.cores.items q 0)) sdram
+        | inr none ↦ cond-false (has_spot_on c spots) (room_left (get_or new.cores.items q 0) mid.sdram) (get_or mid.rooms q 0) none
+            ∙ (kept.rooms q c at none
+            ∙ (whole.rooms q (slice_get_within old.chips q c at)
+            ∙ ap₂ room_left (sym (settled.cores q c at_mid none ∙ kept.cores q c at none)) (sym kept.sdram ∙ sdram)))
+      ];
+}
+
+pub same_curve : (m n : Description) (k j : ℕ) → HaveOneGrid m n → j ≡ k → IsCurveLevel m k → IsCurveLevel n j
+same_curve m n k j grid same level = record {
+  wide = omega (arith, subst (λ i. m.width ≤ 2 ^ i) (sym same) level.wide, grid.width);
+  high = omega (arith, subst (λ i. m.height ≤ 2 ^ i) (sym same) level.high, grid.height);
+  least = λ i wide high. let up = level.least i (omega (arith, wide, grid.width)) (omega (arith, high, grid.height)) in omega (arith, up, same);
+}
+
+-- no core from 18 on is usable
+pub high_bit : (m : Description) (c : Chip) (cores p : ℕ) → cores < 2 ^ 18 → 18 ≤ p → bit_at cores p ≡ cond (is_usable m (core_spot c p)) 1 0
+high_bit m c cores p few high =
+    let dead : is_usable m (core_spot c p) ≡ false = elim (cases_Bool (is_usable m (core_spot c p))) [
+      | inl u ↦ absurd (let low = (usable_parts m (core_spot c p) u).1 in omega (arith, low, high))
+      | inr not_usable ↦ not_usable
+    ] in
+    bit_at_above cores 18 p few high ∙ sym (cond-false (is_usable m (core_spot c p)) 1 0 dead)
+
+cond_or : (a b : Bool) → cond b 1 (cond a 1 0) ≡ cond (a || b) (let one : ℕ = 1 in one) 0
+cond_or true true = refl
+cond_or true false = refl
+cond_or false true = refl
+cond_or false false = refl
+
+pub free_with : (spots : List Spot) (m n : Description) (old new : Board) → AreFreeOn m old → IsWith spots m n → AreGiven spots old new → AreFreeOn n new
+free_with spots m n old new free more given = record {
+  level = same_curve m n old.level new.level more.grid given.settled.level free.level;
+  sdram = given.settled.sdram ∙ (free.sdram ∙ sym more.grid.sdram);
+  free = λ q c at_new p low.
+      let at : slice_get old.chips q ≡ Some c = ap (λ l. slice_get l q) (sym given.settled.chips) ∙ at_new in
+      let s : Spot = core_spot c p in
+      elim (cases_lt p 18) [
+        | inl core ↦ given.free q c at p core
+            ∙ (ap (cond (list_any (spot_eq s) spots) 1) (free.free q c at p low)
+            ∙ (cond_or (is_usable m s) (list_any (spot_eq s) spots) ∙ ap (λ (t : Bool). cond t 1 0) (sym (more.usable s))))
+        | inr high ↦ high_bit n c (get_or new.cores.items q 0) p (given.settled.board.few q) high
+      ];
+}

@@ -1,0 +1,10 @@
+use Rattle.std.proofs.Common.{◌≡◌, take}
+use Rattle.place_fit.specs.Boards.{AreSettled}
+use Rattle.place_fit.proofs.boards.Board.settle.Given as goal
+
+-- the chips of the spots so far have all their memory
+abbrev pub invariant-loop-spot : goal.invariant-loop-spot
+invariant-loop-spot l = record {
+  settled : AreSettled (take l.spot-index l.spots) l.fn.self l.self;
+  same : l.self.cores.items ≡ l.fn.self.cores.items;
+}

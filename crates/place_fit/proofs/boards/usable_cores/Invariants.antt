@@ -1,0 +1,13 @@
+use Rattle.std.proofs.Common.{◌≡◌, ℕ, ◌^◌, ◌<◌, ◌≤◌, cond}
+use Rattle.std.specs.Int.{bit_at}
+use Rattle.machine_desc.specs.Live.{is_usable}
+use Rattle.place_fit.specs.Placement.{core_spot}
+use Rattle.place_fit.proofs.boards.usable_cores.Given as goal
+
+-- the bits of the cores so far
+abbrev pub invariant-loop-core : goal.invariant-loop-core
+invariant-loop-core l = record {
+  few : l.cores < 2 ^ 18;
+  so_far : (p : ℕ) → p < l.core → bit_at l.cores p ≡ cond (is_usable l.machine (core_spot l.chip p)) 1 0;
+  rest : (p : ℕ) → l.core ≤ p → bit_at l.cores p ≡ 0;
+}

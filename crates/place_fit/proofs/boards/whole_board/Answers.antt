@@ -1,0 +1,77 @@
+use Rattle.std.proofs.Common.{◌≡◌, ◌+◌, ◌*◌, ◌^◌, ◌<◌, ℕ, List, ◌++◌, ◌∷◌, [], set, get_or, length, Some, slice_get, inl, inr, sym, ap, ◌∙◌, subst, arith}
+use Rattle.std.proofs.lemmas.Bool.{cases_lt}
+use Rattle.std.proofs.lemmas.List.{length-replicate, length_push, length-set, get_or_append_left, get_or_push, get_or-set_same, get_or-set_other}
+use Rattle.std.proofs.lemmas.Nat.{pow-add}
+use Rattle.std.proofs.lemmas.Option.{slice_get_within, get_or_from_slice_get}
+use Rattle.machine_desc.specs.Description.{Description}
+use Rattle.machine_desc.specs.Live.{is_usable}
+use Rattle.spin_base.specs.declared.chips.Chip.{Chip}
+use Rattle.place_fit.specs.Boards.{AreCores, room_left}
+use Rattle.place_fit.proofs.CurveLaws.{hilbert_length}
+use Rattle.place_fit.proofs.Giving.{few_push}
+use Rattle.place_fit.proofs.boards.whole_board.Goals as goal
+
+cores_there : (m : Description) (chips : List Chip) (q i : ℕ) (d e : Chip) (free : ℕ) → q ≡ i → slice_get chips q ≡ Some d
+    → AreCores (is_usable m) (get_or chips i e) free → AreCores (is_usable m) d free
+cores_there m chips q i d e free one at cores =
+    subst (λ (z : Chip). AreCores (is_usable m) z free) (ap (λ n. get_or chips n e) (sym one) ∙ get_or_from_slice_get chips q d e at) cores
+
+pub loop-place-init : goal.loop-place-init
+loop-place-init c =
+    let n = c.level_of-level.result in
+    let both : 2 * n ≡ n + n = omega arith in
+    let wide : 2 ^ (2 * n) ≡ 2 ^ n * 2 ^ n = ap (λ (k : ℕ). 2 ^ k) both ∙ pow-add 2 n n in
+    record {
+      cores = ap length c.new-cores.ensures.items;
+      rooms = ap length c.in_ok-rooms.ensures ∙ (length-replicate (2 ^ (2 * n)) 0 ∙ (wide ∙ (sym (hilbert_length n) ∙ sym (ap length (c.as_slice-chip-items.ensures ∙ c.in_ok-chips.ensures)))));
+      few = λ q. subst (λ (l : List ℕ). get_or l q 0 < 2 ^ 18) (sym c.new-cores.ensures.items) (omega arith);
+      free = λ q d low is. absurd (omega (arith, low));
+      whole = λ q low. absurd (omega (arith, low));
+    }
+
+pub loop-place-preserved : goal.loop-place-preserved
+loop-place-preserved c =
+    let m = c.args.machine.now in
+    let chips = c.as_slice-chip-items.result.now in
+    let i = c.loop-place.place in
+    let old = c.loop-place.cores.items in
+    let rooms = c.loop-place.rooms in
+    let free = c.usable_cores-free.result in
+    let room = c.room_left.result in
+    let v = c.loop-place.invariant in
+    let pushed : c.push.new.self.items ≡ old ++ free ∷ [] = c.in_ok-push.ensures.items in
+    let written : c.set.new.self ≡ set rooms i room = c.set.ensures in
+    let earlier : (q : ℕ) → q < i → get_or (old ++ free ∷ []) q 0 ≡ get_or old q 0 = λ q before. get_or_append_left old (free ∷ []) 0 q (omega (arith, before, v.cores)) in
+    let last : (q : ℕ) → q ≡ i → get_or (old ++ free ∷ []) q 0 ≡ free = λ q one. get_or_push old free 0 q (v.cores ∙ sym one) in
+    record {
+      cores = ap length pushed ∙ (length_push old free ∙ ap (λ n. n + 1) v.cores);
+      rooms = ap length written ∙ (length-set rooms i room ∙ v.rooms);
+      few = λ q. subst (λ (l : List ℕ). get_or l q 0 < 2 ^ 18) (sym pushed) (few_push old free v.few c.usable_cores-free.ensures.few q);
+      free = λ q d low at. subst (λ (l : List ℕ). AreCores (is_usable m) d (get_or l q 0)) (sym pushed) (elim (cases_lt q i) [
+        | inl before ↦ subst (AreCores (is_usable m) d) (sym (earlier q before)) (v.free q d before at)
+        | inr from ↦ (
+            let one : q ≡ i = omega (arith, low, from) in
+            subst (AreCores (is_usable m) d) (sym (last q one)) (cores_there m chips q i d _ free one at c.usable_cores-free.ensures.cores)
+            )
+      ]);
+      whole = λ q low. ap (λ (l : List ℕ). get_or l q 0) written ∙ (elim (cases_lt q i) [
+        | inl before ↦ get_or-set_other rooms i q room 0 (λ e. omega (arith, e, before))
+            ∙ (v.whole q before ∙ ap (λ n. room_left n c.sdram-sdram.result) (sym (ap (λ (l : List ℕ). get_or l q 0) pushed ∙ earlier q before)))
+        | inr from ↦ (
+            let one : q ≡ i = omega (arith, low, from) in
+            ap (λ n. get_or (set rooms i room) n 0) one
+            ∙ (get_or-set_same rooms i room 0 (omega (arith, c.loop-place-test.true, v.rooms))
+            ∙ (c.room_left.ensures ∙ ap (λ n. room_left n c.sdram-sdram.result) (sym (ap (λ (l : List ℕ). get_or l q 0) pushed ∙ last q one))))
+            )
+      ]);
+    }
+
+pub returns-clause-free : goal.returns-clause-free
+returns-clause-free c = record {
+  level = c.level_of-level.ensures.level;
+  sdram = c.sdram-sdram.ensures;
+  free = λ q d is.
+      let e = c.as_slice-chip-items.ensures in
+      let here : slice_get c.as_slice-chip-items.result.now q ≡ Some d = ap (λ l. slice_get l q) e ∙ is in
+      c.loop-place.invariant.free q d (omega (arith, slice_get_within c.as_slice-chip-items.result.now q d here, c.loop-place-test.false)) here;
+}

@@ -1,0 +1,34 @@
+use Rattle.std.proofs.Common.{IfOk, List, sym, subst}
+use Rattle.spin_base.specs.declared.chips.Spot.{Spot}
+use Rattle.place_fit.specs.Boards.{IsWith}
+use Rattle.app_loads.specs.Host.{Host}
+use Rattle.spin_apps.specs.Free.{free_but, free_machine}
+use Rattle.spin_apps.specs.Hosting.{IsTaken}
+use Rattle.spin_apps.proofs.Keeping.{with_spots}
+use Rattle.spin_apps.proofs.Serving.{free_after_load, free_after_refusal, machine_after_load}
+use Rattle.spin_apps.proofs.hosts.take.Goals as goal
+
+pub returns-in-Ok-clause-machine : goal.returns-in-Ok-clause-machine
+returns-in-Ok-clause-machine c =
+    machine_after_load c.load.result c.args.apps.now c.load.new.self c.args.number c.args.plan.now c.load.ensures.loaded c.load.ensures.refused
+
+pub returns-in-Ok-clause-free : goal.returns-in-Ok-clause-free
+returns-in-Ok-clause-free c = free_after_load c.args.apps.now c.load.new.self c.args.number c.args.plan.now c.args.free.now c.in-Ok.ensures.loaded c.requires.taken
+
+pub returns-in-Err-clause-taken : goal.returns-in-Err-clause-taken
+returns-in-Err-clause-taken c =
+    let old = c.args.apps.now in
+    subst (λ (h : Host). IfOk c.refused.result (λ a. IsTaken old c.args.number c.args.plan.now a h)) (sym c.in-Err.ensures.refused)
+    (c.refused.ensures old c.args.number c.args.plan.now c.in-Err.ensures.why)
+
+pub returns-in-Err-clause-machine : goal.returns-in-Err-clause-machine
+returns-in-Err-clause-machine c =
+    machine_after_load c.load.result c.args.apps.now c.load.new.self c.args.number c.args.plan.now c.load.ensures.loaded c.load.ensures.refused
+
+pub returns-in-Err-clause-free : goal.returns-in-Err-clause-free
+returns-in-Err-clause-free c =
+    let old = c.args.apps.now in
+    let spots = c.args.plan.now.spots in
+    free_after_refusal old c.load.new.self c.give.new.self c.in-Err.ensures.refused
+    (c.give.ensures (free_but old spots) (free_machine old) c.requires.taken
+    (subst (λ (l : List Spot). IsWith l (free_but old spots) (free_machine old)) (sym c.as_slice.ensures) (with_spots old spots c.requires.usable)))
