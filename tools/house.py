@@ -5,8 +5,8 @@ stands on, but what another of these stands on.
 
 With --check it compares the picture with what stands there, and docs/promises.md with the sources: what carries a promise has to be
 there, with the clauses that are named; so has what breaks it, and each edit has to break one. The rooms of docs/architecture.md have
-to name each file of code, and the files that docs/definitions.md names have to be there. No count may be above its bound in MOST. The
-status is 1 where something differs.
+to name each file of code. docs/definitions.md has to name, above its last table, each file with a definition on which the programs' calls
+rest (tools/believed.py), and no other. No count may be above its bound in MOST. The status is 1 where something differs.
 
 With --counts it prints the counts of conditions, proofs and definitions, each with its bound.
 
@@ -17,6 +17,8 @@ import glob
 import os
 import re
 import sys
+
+import believed
 
 ROOT = os.path.dirname(os.path.dirname(os.path.realpath(__file__)))
 BEGIN, END = "<!-- made by tools/house.py -->\n", "<!-- end -->\n"
@@ -29,7 +31,7 @@ MOST = {
     "lines of proofs longer than 200 characters": 625,
     "lines of proofs longer than 300 characters": 0,
     "lines of definitions": 13852,
-    "lines of definitions that docs/definitions.md lists": 8562,
+    "lines of definitions on which the programs' calls rest": 4661,
 }
 PROMISES, LAWS = "| promise | carried by | broken by |", "| law or lemma | stands as |"
 
@@ -197,10 +199,15 @@ def files_of_definitions():
     return {it for it in files if os.path.basename(it) != "Lib.antt"}
 
 
-def named_definitions():
-    """The files of definitions that docs/definitions.md names."""
+def wrong_definitions():
+    """Which files of definitions docs/definitions.md should name among those to believe, and which it should not, or nowhere."""
     with open(f"{ROOT}/docs/definitions.md", encoding="utf-8") as text:
-        return set(re.findall(r"`(\w+/specs/[\w/]+\.antt)`", text.read()))
+        above, _, below = text.read().partition("\n## Between crates\n")
+    named, others = (set(re.findall(r"`(\w+/specs/[\w/]+\.antt)`", it)) for it in (above, below))
+    reached = set(believed.by_file())
+    wrong = [f"does not name {it}" for it in sorted(reached - named)] + [f"names {it}, on which no call rests" for it in sorted(named - reached)]
+    wrong += [f"names {it}, which is not there" for it in sorted(others - files_of_definitions())]
+    return [f"docs/definitions.md {it}" for it in wrong]
 
 
 def counts():
@@ -219,7 +226,7 @@ def counts():
         "lines of proofs longer than 200 characters": sum(len(it) > 200 for it in proofs),
         "lines of proofs longer than 300 characters": sum(len(it) > 300 for it in proofs),
         "lines of definitions": lines_of("crates/*/specs/**/*.antt"),
-        "lines of definitions that docs/definitions.md lists": sum(lines_of(f"crates/{it}") for it in named_definitions()),
+        "lines of definitions on which the programs' calls rest": sum(size for names in believed.by_file().values() for _, size in names),
     }
 
 
@@ -261,8 +268,7 @@ def main(words):
         return 0
     if stands != wanted:
         wrong.append("docs/architecture.md is behind the sources: python3 tools/house.py")
-    wrong += [f"docs/definitions.md names {it}, which is not there" for it in sorted(named_definitions() - files_of_definitions())]
-    wrong += wrong_rooms() + wrong_promises()
+    wrong += wrong_definitions() + wrong_rooms() + wrong_promises()
     wrong += [f"{number} {name}, and no more than {MOST[name]} are allowed" for name, number in counts().items() if number > MOST[name]]
     print("\n".join(wrong), end="\n" if wrong else "")
     return 1 if wrong else 0

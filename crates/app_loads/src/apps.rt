@@ -120,7 +120,7 @@ impl Apps {
 }
 
 // Puts an item in its place. What was there is dropped here, as a value of any type: so no caller drops a whole mesh.
-pub fn put<T: Drop>(held: &mut Option<T>, item: T)
+pub(crate) fn put<T: Drop>(held: &mut Option<T>, item: T)
     ensures { held.new ≡ Some item }
 {
     *held = Some(item);
@@ -148,7 +148,7 @@ fn has_spot(app: &LoadedApp, spot: Spot) -> bool
 }
 
 // Makes room for an application and its number.
-pub fn reserve_one(apps: &mut Vec<LoadedApp>, numbers: &mut Vec<u32>) -> Result<(), Memory>
+pub(crate) fn reserve_one(apps: &mut Vec<LoadedApp>, numbers: &mut Vec<u32>) -> Result<(), Memory>
     ensures apps { apps.new.items ≡ apps.old.items }
     ensures numbers { numbers.new.items ≡ numbers.old.items }
     ensures room { OnOk result (vec_len apps.new + 1 ≤ vec_capacity apps.new) }
@@ -160,7 +160,7 @@ pub fn reserve_one(apps: &mut Vec<LoadedApp>, numbers: &mut Vec<u32>) -> Result<
 }
 
 // Puts an application and its number at the back of the lists, which have room for them.
-pub fn add(apps: &mut Vec<LoadedApp>, numbers: &mut Vec<u32>, app: LoadedApp)
+pub(crate) fn add(apps: &mut Vec<LoadedApp>, numbers: &mut Vec<u32>, app: LoadedApp)
     requires { HaveRoomForOne (vec_len apps.old) (vec_capacity apps.old)
         (vec_len numbers.old) (vec_capacity numbers.old) }
     ensures apps { apps.new.items ≡ apps.old.items ++ app ∷ [] }
@@ -171,7 +171,7 @@ pub fn add(apps: &mut Vec<LoadedApp>, numbers: &mut Vec<u32>, app: LoadedApp)
 }
 
 // Takes the application at a place and its number out of the lists.
-pub fn take_out(apps: &mut Vec<LoadedApp>, numbers: &mut Vec<u32>, at: usize)
+pub(crate) fn take_out(apps: &mut Vec<LoadedApp>, numbers: &mut Vec<u32>, at: usize)
     requires { IsInBoth at (vec_len apps.old) (vec_len numbers.old) }
     ensures apps { apps.new.items ≡ remove apps.old.items at }
     ensures numbers { numbers.new.items ≡ remove numbers.old.items at }

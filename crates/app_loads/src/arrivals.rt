@@ -31,7 +31,7 @@ impl Model for Arrivals {
 
 impl Arrivals {
     // One alone.
-    pub fn of(alloc: Global, arrival: Arrival) -> Result<Arrivals, Memory>
+    pub(crate) fn of(alloc: Global, arrival: Arrival) -> Result<Arrivals, Memory>
         ensures { IfOk result (λ arrivals. arrivals ≡ arrival ∷ []) }
     {
         let mut list = Seq::new(alloc);
@@ -41,21 +41,21 @@ impl Arrivals {
     }
 
     // How many there are.
-    pub fn len(&self) -> usize
+    pub(crate) fn len(&self) -> usize
         ensures { result ≡ length self.now }
     {
         self.list.len()
     }
 
     // All, in order.
-    pub fn as_slice(&self) -> &[Arrival]
+    pub(crate) fn as_slice(&self) -> &[Arrival]
         ensures { result.now ≡ self.now }
     {
         self.list.as_slice()
     }
 
     // Puts one at the back, where no other holds the list too.
-    pub fn push(&mut self, arrival: Arrival) -> Result<bool, Memory>
+    pub(crate) fn push(&mut self, arrival: Arrival) -> Result<bool, Memory>
         ensures put { IfOk result (λ put. HasArrived put arrival self.old self.new) }
         ensures refused { OnErr result (self.new ≡ self.old) }
     {
@@ -67,7 +67,7 @@ impl Arrivals {
     }
 
     // The same list, held once more.
-    pub fn share(&self) -> Result<Arrivals, Memory>
+    pub(crate) fn share(&self) -> Result<Arrivals, Memory>
         ensures { IfOk result (λ arrivals. arrivals ≡ self.now) }
     {
         let list = self.list.clone()?;
@@ -75,7 +75,7 @@ impl Arrivals {
     }
 
     // Whether another list has the same, where one is not answered no for nothing.
-    pub fn are_same(&self, others: &Arrivals) -> bool
+    pub(crate) fn are_same(&self, others: &Arrivals) -> bool
         ensures { result ≡ true → others.now ≡ self.now }
     {
         are_same(self.as_slice(), others.as_slice())

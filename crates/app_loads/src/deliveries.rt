@@ -60,7 +60,7 @@ impl Deliveries {
 }
 
 // Puts deliveries at the back of a list.
-pub fn push_all(list: &mut Seq<Delivery>, more: &[Delivery]) -> Result<(), Memory>
+pub(crate) fn push_all(list: &mut Seq<Delivery>, more: &[Delivery]) -> Result<(), Memory>
     ensures { OnOk result (list.new ≡ list.old ++ more.now) }
 {
     for delivery in more {

@@ -45,7 +45,7 @@ impl Model for Group {
 
 impl Group {
     // The group of one delivery.
-    pub fn of(alloc: Global, delivery: Delivery) -> Result<Group, Memory>
+    pub(crate) fn of(alloc: Global, delivery: Delivery) -> Result<Group, Memory>
         ensures { IfOk result (λ group. group.deliveries ≡ delivery ∷ []) }
     {
         let mut sent = Seq::new(alloc);
@@ -60,7 +60,7 @@ impl Group {
     }
 
     // The group of a copy's packet, which came there.
-    pub fn at(alloc: Global, copy: McCopy, arrivals: &Arrivals) -> Result<Group, Memory>
+    pub(crate) fn at(alloc: Global, copy: McCopy, arrivals: &Arrivals) -> Result<Group, Memory>
         ensures all { IfOk result (λ group.
             group.deliveries ≡ deliveries_at arrivals.now (sent_of copy)) }
         ensures arrivals { IfOk result (λ group. group.arrivals ≡ arrivals.now) }
@@ -77,21 +77,21 @@ impl Group {
     }
 
     // How many deliveries it has.
-    pub fn len(&self) -> usize
+    pub(crate) fn len(&self) -> usize
         ensures { result ≡ length self.now.deliveries }
     {
         self.count
     }
 
     // How many deliveries each of its packets has.
-    pub fn width(&self) -> usize
+    pub(crate) fn width(&self) -> usize
         ensures { result ≡ length self.now.arrivals }
     {
         self.arrivals.len()
     }
 
     // Puts a delivery at the back, where it is one of the only packet.
-    pub fn extend(&mut self, delivery: Delivery) -> Result<bool, Memory>
+    pub(crate) fn extend(&mut self, delivery: Delivery) -> Result<bool, Memory>
         ensures put { IfOk result (λ put.
             HasPut put self.old.deliveries (delivery ∷ []) self.new.deliveries) }
         ensures refused { OnErr result (self.new.deliveries ≡ self.old.deliveries) }
@@ -110,14 +110,14 @@ impl Group {
     }
 
     // Where its packets came.
-    pub fn arrivals(&self) -> &Arrivals
+    pub(crate) fn arrivals(&self) -> &Arrivals
         ensures { result.now ≡ self.now.arrivals }
     {
         &self.arrivals
     }
 
     // Holds a list in place of its own, where both are the same. Answers whether it does.
-    pub fn share(&mut self, arrivals: &Arrivals) -> bool
+    pub(crate) fn share(&mut self, arrivals: &Arrivals) -> bool
         ensures { self.new ≡ self.old }
     {
         if !self.arrivals.are_same(arrivals) {
@@ -131,7 +131,7 @@ impl Group {
     }
 
     // Puts another group's deliveries at the back, where it has one packet, which came to the same vertices.
-    pub fn join(&mut self, other: &Group) -> bool
+    pub(crate) fn join(&mut self, other: &Group) -> bool
         ensures { HasPut result self.old.deliveries other.now.deliveries self.new.deliveries }
     {
         let Some(sent) = only(other.sent.as_slice()) else {
@@ -153,7 +153,7 @@ impl Group {
     }
 
     // Whether its last deliveries, so many, are those of the copy's packet.
-    pub fn ends_with(&self, copy: McCopy, count: usize) -> bool
+    pub(crate) fn ends_with(&self, copy: McCopy, count: usize) -> bool
         ensures { result ≡ true → EndsWith self.now (sent_of copy) count }
     {
         let width = self.arrivals.len();
@@ -164,7 +164,7 @@ impl Group {
     }
 
     // Puts the copy's packet at the back, which came to the same vertices.
-    pub fn repeat(&mut self, copy: McCopy) -> Result<(), Memory>
+    pub(crate) fn repeat(&mut self, copy: McCopy) -> Result<(), Memory>
         ensures put { OnOk result (self.new.deliveries
             ≡ self.old.deliveries ++ deliveries_at self.old.arrivals (sent_of copy)) }
         ensures refused { OnErr result (self.new.deliveries ≡ self.old.deliveries) }
@@ -181,7 +181,7 @@ impl Group {
     }
 
     // Whether the least and the greatest packet are the application's: so all are.
-    pub fn is_own(&self, app: &LoadedApp) -> bool
+    pub(crate) fn is_own(&self, app: &LoadedApp) -> bool
         ensures own { result ≡ is_own_group app.now self.now }
         ensures all { result ≡ true
             → All (λ d. is_delivery_of app.now d ≡ true) self.now.deliveries }
@@ -190,7 +190,7 @@ impl Group {
     }
 
     // Whether both come before the application's packets, or both behind them: so none is the application's.
-    pub fn is_others(&self, app: &LoadedApp) -> bool
+    pub(crate) fn is_others(&self, app: &LoadedApp) -> bool
         ensures others { result ≡ is_others_group app.now self.now }
         ensures none { result ≡ true
             → All (λ d. is_delivery_of app.now d ≡ false) self.now.deliveries }
@@ -199,7 +199,7 @@ impl Group {
     }
 
     // Puts the deliveries at the back of a list.
-    pub fn push_to(&self, list: &mut Seq<Delivery>) -> Result<(), Memory>
+    pub(crate) fn push_to(&self, list: &mut Seq<Delivery>) -> Result<(), Memory>
         ensures { OnOk result (list.new ≡ list.old ++ self.now.deliveries) }
     {
         push_packets(self.sent.as_slice(), self.arrivals.as_slice(), list)

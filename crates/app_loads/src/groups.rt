@@ -41,7 +41,7 @@ impl Model for Groups {
 
 impl Groups {
     // No delivery.
-    pub fn new(alloc: Global) -> Groups
+    pub(crate) fn new(alloc: Global) -> Groups
         ensures { result ≡ [] }
     {
         Groups {
@@ -51,14 +51,14 @@ impl Groups {
     }
 
     // How many deliveries there are.
-    pub fn len(&self) -> usize
+    pub(crate) fn len(&self) -> usize
         ensures { result ≡ length (all_grouped self.now) }
     {
         self.count
     }
 
     // Puts a delivery at the back. After a refusal the same were delivered as before.
-    pub fn push(&mut self, alloc: Global, delivery: Delivery) -> Result<(), Memory>
+    pub(crate) fn push(&mut self, alloc: Global, delivery: Delivery) -> Result<(), Memory>
         ensures put { OnOk result (all_grouped self.new ≡ all_grouped self.old ++ delivery ∷ []) }
         ensures refused { OnErr result (all_grouped self.new ≡ all_grouped self.old) }
     {
@@ -71,14 +71,14 @@ impl Groups {
     }
 
     // Joins the last group to the one before, where its only packet came to the same vertices.
-    pub fn join(&mut self)
+    pub(crate) fn join(&mut self)
         ensures { all_grouped self.new ≡ all_grouped self.old }
     {
         join_last(&mut self.groups);
     }
 
     // Whether those behind so many deliveries are those of the copy's packet, which came to the vertices of the last group.
-    pub fn ends_with(&self, copy: McCopy, before: usize) -> bool
+    pub(crate) fn ends_with(&self, copy: McCopy, before: usize) -> bool
         ensures { result ≡ true → drop before (all_grouped self.now)
             ≡ deliveries_at (last_arrivals self.now) (sent_of copy) }
     {
@@ -93,7 +93,7 @@ impl Groups {
     }
 
     // Puts the copy's packet at the back, which came to the vertices of the last group.
-    pub fn repeat(&mut self, copy: McCopy) -> Result<(), Memory>
+    pub(crate) fn repeat(&mut self, copy: McCopy) -> Result<(), Memory>
         ensures put { OnOk result (all_grouped self.new ≡ all_grouped self.old
             ++ deliveries_at (last_arrivals self.old) (sent_of copy)) }
         ensures refused { OnErr result (all_grouped self.new ≡ all_grouped self.old) }
@@ -112,7 +112,7 @@ impl Groups {
     }
 
     // Puts the copy's packet at the back, which came there.
-    pub fn put(&mut self, alloc: Global, copy: McCopy, arrivals: &Arrivals) -> Result<(), Memory>
+    pub(crate) fn put(&mut self, alloc: Global, copy: McCopy, arrivals: &Arrivals) -> Result<(), Memory>
         ensures put { OnOk result (all_grouped self.new ≡ all_grouped self.old
             ++ deliveries_at arrivals.now (sent_of copy)) }
         ensures refused { OnErr result (all_grouped self.new ≡ all_grouped self.old) }
@@ -127,7 +127,7 @@ impl Groups {
     }
 
     // Where the packets of the last group came.
-    pub fn last_arrivals(&self) -> Option<&Arrivals>
+    pub(crate) fn last_arrivals(&self) -> Option<&Arrivals>
         ensures { IfSome result (λ arrivals. arrivals.now ≡ last_arrivals self.now) }
     {
         let count = self.groups.len();
@@ -138,7 +138,7 @@ impl Groups {
     }
 
     // The last group holds a list in place of its own, where both are the same. Answers whether it does.
-    pub fn share(&mut self, arrivals: &Arrivals) -> bool
+    pub(crate) fn share(&mut self, arrivals: &Arrivals) -> bool
         ensures { self.new ≡ self.old }
     {
         let count = self.groups.len();
@@ -149,21 +149,21 @@ impl Groups {
     }
 
     // Puts all deliveries at the back of a list.
-    pub fn push_to(&self, list: &mut Seq<Delivery>) -> Result<(), Memory>
+    pub(crate) fn push_to(&self, list: &mut Seq<Delivery>) -> Result<(), Memory>
         ensures { OnOk result (list.new ≡ list.old ++ all_grouped self.now) }
     {
         push_groups(&self.groups, list)
     }
 
     // Whether it is not known of some group that it has the application's packets alone, or none of them.
-    pub fn mixes(&self, app: &LoadedApp) -> bool
+    pub(crate) fn mixes(&self, app: &LoadedApp) -> bool
         ensures { result ≡ list_any (is_mixed_group app.now) self.now }
     {
         self.groups.iter().any(|group| is_mixed(group, app))
     }
 
     // Room for all groups in each of two lists.
-    pub fn room(&self, alloc: Global) -> Result<Room, Memory>
+    pub(crate) fn room(&self, alloc: Global) -> Result<Room, Memory>
         ensures { IfOk result (HasRoomFor self.now) }
     {
         let count = self.groups.len();
@@ -174,7 +174,7 @@ impl Groups {
     }
 
     // The deliveries of the application's packets, and those of all others.
-    pub fn part(self, app: &LoadedApp, room: Room) -> (Groups, Groups)
+    pub(crate) fn part(self, app: &LoadedApp, room: Room) -> (Groups, Groups)
         requires unmixed { list_any (is_mixed_group app.now) self ≡ false }
         requires holds { HasRoomFor self room }
         ensures own { all_grouped result.0 ≡ filter (is_delivery_of app.now) (all_grouped self) }

@@ -23,7 +23,7 @@ pub struct KnownBlock {
 pub type Known = BTreeMap<u32, KnownBlock>;
 
 // What is known of the block that has the key. Blocks share no key, and each has its keys one after the other: so it is the nearest.
-pub fn known_of(known: &Known, key: u32) -> Option<&KnownBlock>
+pub(crate) fn known_of(known: &Known, key: u32) -> Option<&KnownBlock>
     ensures { IfSome result (λ it. IsKnownOf known.now key it.now) }
 {
     let (_, nearest) = known.range(..=key).next_back()?;
@@ -35,7 +35,7 @@ pub fn known_of(known: &Known, key: u32) -> Option<&KnownBlock>
 }
 
 // The block of the packet's net.
-pub fn block_of(apps: &[LoadedApp], copy: McCopy) -> Option<Block>
+pub(crate) fn block_of(apps: &[LoadedApp], copy: McCopy) -> Option<Block>
     ensures { IfSome result (IsBlockWith apps.now copy.key) }
 {
     let later = apps.partition_point(|app| app.first <= copy.packet);
@@ -52,7 +52,7 @@ pub fn block_of(apps: &[LoadedApp], copy: McCopy) -> Option<Block>
 
 // The last group holds the list of the nearest block that is known, where both are the same: nets of one source may have the same
 // targets.
-pub fn share_near(earlier: &mut Groups, known: &Known, key: u32)
+pub(crate) fn share_near(earlier: &mut Groups, known: &Known, key: u32)
     ensures { earlier.new ≡ earlier.old }
 {
     if let Some((_, it)) = known.range(..key).next_back() {
@@ -66,7 +66,7 @@ pub fn share_near(earlier: &mut Groups, known: &Known, key: u32)
 }
 
 // It is known of a block that packets with its keys come where those of the last group came.
-pub fn remember(earlier: &Groups, known: &mut Known, block: Block) -> Result<(), Memory>
+pub(crate) fn remember(earlier: &Groups, known: &mut Known, block: Block) -> Result<(), Memory>
     ensures { OnOk result ((u : Setup) (v : ℕ) (apps : List AnApp) → AreKnown u v apps known.old →
         Comes u v (last_arrivals earlier.now) block → AreKnown u v apps known.new) }
 {
@@ -78,7 +78,7 @@ pub fn remember(earlier: &Groups, known: &mut Known, block: Block) -> Result<(),
 }
 
 // Whether the block has the key.
-pub fn has_key(block: Block, key: u32) -> bool
+pub(crate) fn has_key(block: Block, key: u32) -> bool
     ensures { result ≡ true → IsKeyOf block key }
 {
     key & block.mask == block.key

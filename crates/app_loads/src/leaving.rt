@@ -26,7 +26,7 @@ pub struct Parted {
 }
 
 // The deliveries and dump records of the application's packets, and those of all others.
-pub fn part(alloc: Global, parts: &MeshParts, app: &LoadedApp) -> Result<Parted, Memory>
+pub(crate) fn part(alloc: Global, parts: &MeshParts, app: &LoadedApp) -> Result<Parted, Memory>
     ensures { IfOk result (IsPartedBy app.now parts.now) }
 {
     let (delivered, others_delivered) = part_deliveries(alloc, parts.delivered.as_slice(), app)?;
@@ -89,7 +89,7 @@ fn push_where<T: Copy>(list: &mut Seq<T>, item: T, belongs: bool) -> Result<(), 
 }
 
 // Whether a packet number is one of the application's.
-pub fn is_packet_of(app: &LoadedApp, packet: u32) -> bool
+pub(crate) fn is_packet_of(app: &LoadedApp, packet: u32) -> bool
     ensures { result ≡ is_packet_of app.now packet }
 {
     packet >= app.first && ((packet - app.first) as usize) < app.plan.packets.len()
@@ -97,7 +97,7 @@ pub fn is_packet_of(app: &LoadedApp, packet: u32) -> bool
 
 // The least number of a packet of the application of which a copy is unsent or waits, if there is one. Where it is known that no
 // copy waits, only the vertices that may have packets unsent are looked at.
-pub fn least_waiting(
+pub(crate) fn least_waiting(
     parts: &MeshParts,
     senders: &Option<Seq<usize>>,
     app: &LoadedApp,

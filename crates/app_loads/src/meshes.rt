@@ -33,7 +33,7 @@ impl Model for KeptMesh {
 
 impl KeptMesh {
     // The mesh, of which no delivery is held apart.
-    pub fn new(alloc: Global, mesh: Mesh) -> KeptMesh
+    pub(crate) fn new(alloc: Global, mesh: Mesh) -> KeptMesh
         ensures { result ≡ mesh }
     {
         KeptMesh {
@@ -43,21 +43,21 @@ impl KeptMesh {
     }
 
     // The machine.
-    pub fn machine(&self) -> &Machine
+    pub(crate) fn machine(&self) -> &Machine
         ensures { result.now ≡ self.now.setup.machine }
     {
         self.mesh.machine()
     }
 
     // The queue behind an output.
-    pub fn behind(&self, chip: Chip, out: Out) -> Queue
+    pub(crate) fn behind(&self, chip: Chip, out: Out) -> Queue
         ensures { queue_named result ≡ behind self.now.setup chip out }
     {
         self.mesh.behind(chip, out)
     }
 
     // One event.
-    pub fn step(&mut self, e: Event) -> Result<Did, Memory>
+    pub(crate) fn step(&mut self, e: Event) -> Result<Did, Memory>
         ensures answer { IfOk result (λ did. did ≡ answer self.old e) }
         ensures moves { OnOk result (self.new ≡ after_event self.old e) }
         ensures err { OnErr result (self.new ≡ self.old) }
@@ -67,7 +67,7 @@ impl KeptMesh {
 }
 
 // The mesh has its deliveries itself again. After a refusal, too, they are the same as before.
-pub fn restore(alloc: Global, mesh: &mut Mesh, earlier: &mut Groups) -> Result<(), Memory>
+pub(crate) fn restore(alloc: Global, mesh: &mut Mesh, earlier: &mut Groups) -> Result<(), Memory>
     ensures all { all_grouped earlier.new ++ mesh.new.delivered
         ≡ all_grouped earlier.old ++ mesh.old.delivered }
     ensures mesh { mesh.new ≡ record mesh.old { delivered = mesh.new.delivered } }
@@ -82,7 +82,7 @@ pub fn restore(alloc: Global, mesh: &mut Mesh, earlier: &mut Groups) -> Result<(
 }
 
 // Holds the deliveries of the mesh apart. After a refusal, too, they are the same as before.
-pub fn keep(alloc: Global, mesh: &mut Mesh, earlier: &mut Groups) -> Result<(), Memory>
+pub(crate) fn keep(alloc: Global, mesh: &mut Mesh, earlier: &mut Groups) -> Result<(), Memory>
     ensures all { all_grouped earlier.new ++ mesh.new.delivered
         ≡ all_grouped earlier.old ++ mesh.old.delivered }
     ensures mesh { mesh.new ≡ record mesh.old { delivered = mesh.new.delivered } }

@@ -20,7 +20,7 @@ use tcam_find::Tcam;
 const CORES: u32 = 17;
 
 // The mesh with a vertex on each usable core, without a copy.
-pub fn bare_mesh(alloc: Global, machine: &Machine, queue: u32) -> Result<Mesh, Memory>
+pub(crate) fn bare_mesh(alloc: Global, machine: &Machine, queue: u32) -> Result<Mesh, Memory>
     requires { 1 ≤ queue }
     ensures bare { IfOk result (λ mesh. mesh ≡ bare_mesh machine.now queue) }
     ensures valid { IfOk result IsMesh }
@@ -81,7 +81,7 @@ fn empty_tables(alloc: Global, count: usize) -> Result<Seq<Tcam>, Memory>
 }
 
 // All regions of the machine, of which nothing is taken.
-pub fn open_regions(alloc: Global, machine: &Machine) -> Result<Vec<Ranges>, Memory>
+pub(crate) fn open_regions(alloc: Global, machine: &Machine) -> Result<Vec<Ranges>, Memory>
     ensures { IfOk result (λ regions. map free_places_in regions.items ≡ open_regions machine.now) }
 {
     let mut regions = Vec::new(alloc);

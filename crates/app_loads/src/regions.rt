@@ -13,7 +13,7 @@ use spin_base::Memory;
 use std::alloc::Global;
 
 // Serves the claims in order. At the first that cannot be served all is given back.
-pub fn take_all(
+pub(crate) fn take_all(
     alloc: Global,
     machine: &Machine,
     regions: &mut [Ranges],
@@ -134,7 +134,7 @@ fn take_fixed(region: &mut Ranges, place: u64, size: u64) -> Result<Option<u64>,
 }
 
 // Makes room in each region to give back those of the ranges that are its own. What is free stays as it is.
-pub fn make_room(alloc: Global, regions: &mut [Ranges], ranges: &[Range]) -> Result<(), Memory>
+pub(crate) fn make_room(alloc: Global, regions: &mut [Ranges], ranges: &[Range]) -> Result<(), Memory>
     requires { AreFewOf (length regions.old) ranges.now }
     ensures room { OnOk result (HaveRoom ranges.now regions.new) }
     ensures same { frees regions.new ≡ frees regions.old }
@@ -163,7 +163,7 @@ fn make_room_for_each(
 }
 
 // Gives ranges back, for which room was made.
-pub fn give_all(regions: &mut [Ranges], ranges: &[Range])
+pub(crate) fn give_all(regions: &mut [Ranges], ranges: &[Range])
     requires { CanGiveAll ranges.now regions.old }
     ensures free { (m : Description) → AreGivenBack m ranges.now regions.old regions.new }
 {

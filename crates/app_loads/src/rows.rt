@@ -24,7 +24,7 @@ use tcam_find::{Room, RoomyTcam, Tcam};
 
 // The original blocks of the application's nets, by the chips' indices, in the order of the rows of their plain tables. So no row is
 // made, and none has a list of aliases.
-pub fn originals_of(
+pub(crate) fn originals_of(
     alloc: Global,
     machine: &Machine,
     app: &LoadedApp,
@@ -94,7 +94,7 @@ fn net_with(alloc: Global, net: &AppNet, block: Block) -> Result<NetPlan, Memory
 }
 
 // Room for the places of each range of entries, in their tables.
-pub fn rooms_for(alloc: Global, machine: &Machine, ranges: &[Range]) -> Result<Vec<Room>, Memory>
+pub(crate) fn rooms_for(alloc: Global, machine: &Machine, ranges: &[Range]) -> Result<Vec<Room>, Memory>
     requires { All (IsRangeWithin machine.now (1 + (chip_count machine.now + chip_count machine.now)))
         ranges.now }
     ensures { IfOk result (λ rooms. HaveRooms machine.now ranges.now rooms.items) }
@@ -119,7 +119,7 @@ fn room_for(alloc: Global, machine: &Machine, range: &Range) -> Result<Room, Mem
 }
 
 // Puts the rows of each chip's original blocks into the range of its table.
-pub fn write_rows(
+pub(crate) fn write_rows(
     alloc: Global,
     machine: &Machine,
     tables: &mut [Tcam],
@@ -186,7 +186,7 @@ fn entry_of(mark: Mark) -> Entry
 }
 
 // Makes the entries of the ranges unused.
-pub fn clear_rows(machine: &Machine, tables: &mut [Tcam], ranges: &[Range])
+pub(crate) fn clear_rows(machine: &Machine, tables: &mut [Tcam], ranges: &[Range])
     requires { CanClear machine.now tables.old ranges.now }
     ensures { AreUnused machine.now ranges.now tables.old tables.new }
 {

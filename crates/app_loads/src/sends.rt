@@ -15,7 +15,7 @@ use spin_base::{Fifo, McCopy, Memory, Out, Seq, Spot};
 use std::alloc::Global;
 
 // Puts the application's packets to the vertices of their nets' sources. After a refusal these have sent none.
-pub fn send(
+pub(crate) fn send(
     alloc: Global,
     setup: &MeshSetup,
     unsent: &mut [Fifo<McCopy>],
@@ -85,7 +85,7 @@ fn clear(alloc: Global, unsent: &mut [Fifo<McCopy>], sources: &[usize])
 }
 
 // The vertices that may have packets unsent, with those of the nets' sources, where they are known and there is memory to add these.
-pub fn with_sources(
+pub(crate) fn with_sources(
     senders: Option<Seq<usize>>,
     mesh: &KeptMesh,
     nets: &[AppNet],

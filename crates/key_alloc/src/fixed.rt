@@ -13,7 +13,7 @@ use spin_base::{Block, Memory};
 use std::alloc::Global;
 
 // All keys but those of the nets' fixed blocks.
-pub fn keys_not_fixed(alloc: Global, nets: &[Net]) -> Result<FreeKeys, Memory>
+pub(crate) fn keys_not_fixed(alloc: Global, nets: &[Net]) -> Result<FreeKeys, Memory>
     requires fixed { All (λ (n : Net). IfSome n.fixed (IsFixedFor n.keys)) nets.now }
     requires apart { AllPairs AreFixedApart nets.now }
     ensures free { IfOk result (AreKeysFreeBeside (fixed_of nets.now)) }

@@ -184,7 +184,7 @@ fn serve(mesh: &mut Mesh, waiting: &mut Vec<Waiting>, chip: Chip, out: Out) -> R
 }
 
 // The vertex takes the packet.
-pub fn collect(mesh: &mut Mesh, vertex: u32) -> Result<(), Memory>
+pub(crate) fn collect(mesh: &mut Mesh, vertex: u32) -> Result<(), Memory>
     ensures taken { OnOk result (mesh.new ≡ after_event mesh.old (Collect vertex)) }
     ensures reached { IsReachedOnward mesh.old mesh.new }
 {

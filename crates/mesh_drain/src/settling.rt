@@ -16,7 +16,7 @@ use spin_base::{Chip, Event, Memory, Out};
 // Moves what waits, until nothing waits. First each vertex takes what waits for it; from then on it takes each copy at once that a
 // router sends to it. So no copy is dropped at an output that leads to a vertex. Each sweep takes every copy that waited before it
 // over one link or more, so there are no more sweeps than a branch has chips.
-pub fn settle(mesh: &mut Mesh) -> Result<(), Memory>
+pub(crate) fn settle(mesh: &mut Mesh) -> Result<(), Memory>
     ensures quiet { OnOk result (NothingWaits mesh.new) }
     ensures moved { IsMoved mesh.old mesh.new }
     ensures links { DropsAtNoVertex mesh.old mesh.new }

@@ -27,7 +27,7 @@ pub struct Router<'a> {
 }
 
 // Where a copy waits, if one does.
-pub fn waiting(mesh: &Mesh) -> Option<Waits>
+pub(crate) fn waiting(mesh: &Mesh) -> Option<Waits>
     ensures some { IfSome result (IsWaiting mesh.now) }
     ensures none { IfNone result (NothingWaits mesh.now) }
 {
@@ -42,7 +42,7 @@ pub fn waiting(mesh: &Mesh) -> Option<Waits>
 }
 
 // Where a copy waits in the hand or at a port of the chip's router, if one does. None waits on a chip that isn't live.
-pub fn waiting_on(mesh: &Mesh, chip: Chip) -> Option<Waits>
+pub(crate) fn waiting_on(mesh: &Mesh, chip: Chip) -> Option<Waits>
     ensures { IfSome result (IsWaiting mesh.now) }
 {
     if !mesh.machine().live(chip) {
@@ -150,7 +150,7 @@ fn waits_at(router: Router, port: Port) -> bool
 }
 
 // Whether a copy waits for a vertex.
-pub fn waits_for(mesh: &Mesh, vertex: u32) -> bool
+pub(crate) fn waits_for(mesh: &Mesh, vertex: u32) -> bool
     requires { vertex < length mesh.now.setup.spots }
     ensures waits { result ≡ true → HasCopies (slice_get mesh.now.cores vertex) }
     ensures clear { result ≡ false → slice_get mesh.now.cores vertex ≡ Some [] }

@@ -134,7 +134,7 @@ pub fn run_out<R: Threads + Wait + Sync, G: Gate>(
     }
 }
 
-// Rounds on the parts of a mesh.
+// Rounds on the parts of a mesh. Where there is nothing to move, no actor is made.
 fn run_parts<R: Threads + Wait + Sync, G: Gate>(
     rt: &R,
     alloc: Global,
@@ -149,6 +149,9 @@ fn run_parts<R: Threads + Wait + Sync, G: Gate>(
     ensures refused { IfErr result (λ b. HasMovingRounds pace.patience pace.turns parts b.0) }
     ensures ready_still { IfErr result (λ b. MayGoOn b.0) }
 {
+    if is_at_rest(&parts) {
+        return Ok(parts);
+    }
     match Layout::of(alloc, &parts, pace.workers) {
         Ok(layout) => run_on(rt, alloc, parts, &layout, pace, gate),
         Err(e) => Err((parts, e)),

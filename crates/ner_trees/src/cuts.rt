@@ -22,7 +22,7 @@ fn next(machine: &Machine, at: Chip, dir: Dir) -> Chip
 
 // The part of a walk after the last of its chips that is in the tree: its links are put into an empty list, and the chip where it
 // starts is the result.
-pub fn new_branch(
+pub(crate) fn new_branch(
     on: &Marks,
     near: Chip,
     walk: &[Dir],
@@ -52,7 +52,7 @@ pub fn new_branch(
 }
 
 // Notes in the table the chips where links lead.
-pub fn mark(on: &mut Marks, links: &[Edge]) -> Result<(), Memory>
+pub(crate) fn mark(on: &mut Marks, links: &[Edge]) -> Result<(), Memory>
     requires { All (λ e. IsInside on.old.machine.now e.chip) links.now }
     ensures machine { on.new.machine.now ≡ on.old.machine.now }
     ensures marked { OnOk result (IsMarkedBy on.old.machine.now on.old.items.items

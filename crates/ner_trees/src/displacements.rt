@@ -14,14 +14,14 @@ pub struct Disp {
 }
 
 // How much a number is above 0.
-pub fn forth(n: i32) -> u32
+pub(crate) fn forth(n: i32) -> u32
     ensures { result ≡ forth n }
 {
     if n > 0 { n.unsigned_abs() } else { 0 }
 }
 
 // How much a number is below 0.
-pub fn back(n: i32) -> u32
+pub(crate) fn back(n: i32) -> u32
     ensures { result ≡ back n }
 {
     if n < 0 { n.unsigned_abs() } else { 0 }

@@ -25,7 +25,7 @@ impl<'m> Marks<'m> {
     ghost use Rattle.machine_desc.specs.Live.{IsInside, index_of};
 
     // No chip is marked.
-    pub fn none(alloc: Global, machine: &'m Machine) -> Result<Marks<'m>, Memory>
+    pub(crate) fn none(alloc: Global, machine: &'m Machine) -> Result<Marks<'m>, Memory>
         ensures machine { IfOk result (λ t. t.machine.now ≡ machine.now) }
         ensures items { IfOk result (λ t.
             t.items.items ≡ replicate (machine.now.width * machine.now.height) false) }
@@ -40,14 +40,14 @@ impl<'m> Marks<'m> {
     }
 
     // The machine whose chips these are.
-    pub fn machine(&self) -> &'m Machine
+    pub(crate) fn machine(&self) -> &'m Machine
         ensures { result.now ≡ self.now.machine.now }
     {
         self.machine
     }
 
     // Whether a chip is marked.
-    pub fn at(&self, chip: Chip) -> bool
+    pub(crate) fn at(&self, chip: Chip) -> bool
         requires { IsInside self.now.machine.now chip }
         ensures { (d : Bool) →
             result ≡ slice_index_or self.now.items.items (index_of self.now.machine.now chip) d }
@@ -56,14 +56,14 @@ impl<'m> Marks<'m> {
     }
 
     // The chips that are marked.
-    pub fn chips(&self) -> &[Chip]
+    pub(crate) fn chips(&self) -> &[Chip]
         ensures { result.now ≡ self.now.chips.items }
     {
         &self.chips
     }
 
     // Marks a chip.
-    pub fn set(&mut self, chip: Chip) -> Result<(), Memory>
+    pub(crate) fn set(&mut self, chip: Chip) -> Result<(), Memory>
         requires { IsInside self.old.machine.now chip }
         ensures machine { self.new.machine.now ≡ self.old.machine.now }
         ensures items { OnOk result (self.new.items.items ≡

@@ -339,7 +339,7 @@ fn nearest_of_all(tree: &GrowingTree, target: Chip) -> Chip
 // The chip of the tree to which a target is joined: the nearest within 20 links, and the root where there is none. Rings
 // round the target are looked through from the target outwards. Once these are longer than the tree, and where a tree has so
 // few of the machine's chips that none near the target is to be expected, all its chips are compared.
-pub fn near_chip(tree: &GrowingTree, target: Chip) -> Chip
+pub(crate) fn near_chip(tree: &GrowingTree, target: Chip) -> Chip
     requires inside { IsInside tree.now.on.machine.now target }
     requires on_is { TellsTree tree.now.on.machine.now tree.now.root
         tree.now.on.items.items tree.now.edges.items }

@@ -12,7 +12,7 @@ use std::alloc::Global;
 use tern_word::{Alias, Row, Table, generality};
 
 // The table of each list.
-pub fn tables_of(alloc: Global, lists: &[Seq<Mark>]) -> Result<Seq<Table>, Memory>
+pub(crate) fn tables_of(alloc: Global, lists: &[Seq<Mark>]) -> Result<Seq<Table>, Memory>
     ensures { IfOk result (λ tables. AllZip IsTableOf lists.now tables) }
 {
     let mut tables = Seq::new(alloc);

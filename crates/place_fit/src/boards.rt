@@ -31,7 +31,7 @@ pub struct Placed {
 }
 
 // The board of the usable cores of a machine.
-pub fn whole_board(alloc: Global, machine: &Machine) -> Result<Board, Memory>
+pub(crate) fn whole_board(alloc: Global, machine: &Machine) -> Result<Board, Memory>
     ensures whole { IfOk result IsWholeBoard }
     ensures free { IfOk result (AreFreeOn machine.now) }
 {
@@ -111,7 +111,7 @@ fn room_left(cores: u32, left: u32) -> u64
 
 impl Board {
     // Puts a vertex on the board: a device at its link, and any other on the least free core of the chip that is found.
-    pub fn put(&mut self, machine: &Machine, vertex: &Vertex) -> Option<Placed>
+    pub(crate) fn put(&mut self, machine: &Machine, vertex: &Vertex) -> Option<Placed>
         requires { IsFairBoard self.old }
         ensures placed { IfSome result (IsPut machine.now self.old self.new vertex.now) }
         ensures fair { IsFairBoard self.new }
@@ -124,7 +124,7 @@ impl Board {
     }
 
     // Puts a vertex on the least free core of the chip that is found for it.
-    pub fn put_on_core(&mut self, vertex: &Vertex) -> Option<Placed>
+    pub(crate) fn put_on_core(&mut self, vertex: &Vertex) -> Option<Placed>
         requires { IsFairBoard self.old }
         ensures placed { IfSome result (IsPutOnCore self.old self.new vertex.now) }
         ensures fair { IsFairBoard self.new }
@@ -197,7 +197,7 @@ impl Board {
     }
 
     // The chips of these spots have all their memory.
-    pub fn settle(&mut self, spots: &[Spot])
+    pub(crate) fn settle(&mut self, spots: &[Spot])
         requires { IsBoard self.old }
         ensures settled { AreSettled spots.now self.old self.new }
         ensures same { self.new.cores.items ≡ self.old.cores.items }
@@ -219,7 +219,7 @@ impl Board {
     }
 
     // These cores are free, and their chips have all their memory.
-    pub fn give(&mut self, spots: &[Spot])
+    pub(crate) fn give(&mut self, spots: &[Spot])
         requires { IsBoard self.old }
         ensures { AreGiven spots.now self.old self.new }
     {

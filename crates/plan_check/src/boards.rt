@@ -7,7 +7,7 @@ use net_tables::marks::{self, set_links, set_targets};
 use spin_base::{Port, Route};
 
 // Writes the port at which packets come in at each chip of the net's tree, and none at other chips.
-pub fn set_ports(machine: &Machine, net: &NetPlan, ports: &mut [Option<Port>])
+pub(crate) fn set_ports(machine: &Machine, net: &NetPlan, ports: &mut [Option<Port>])
     requires routed { IsRouted machine.now net.now }
     requires long { length ports.old ≡ machine.now.width * machine.now.height }
     ensures long { length ports.new ≡ machine.now.width * machine.now.height }
@@ -18,7 +18,7 @@ pub fn set_ports(machine: &Machine, net: &NetPlan, ports: &mut [Option<Port>])
 }
 
 // Writes the outputs that the net's tree wants at each chip.
-pub fn set_routes(machine: &Machine, net: &NetPlan, routes: &mut [Route])
+pub(crate) fn set_routes(machine: &Machine, net: &NetPlan, routes: &mut [Route])
     requires routed { IsRouted machine.now net.now }
     requires long { length routes.old ≡ machine.now.width * machine.now.height }
     ensures long { length routes.new ≡ machine.now.width * machine.now.height }

@@ -29,7 +29,7 @@ pub struct Rows<'a> {
 }
 
 // What is amiss with a block in rows where its packets come in at that port: `None` where all its keys get the wanted route.
-pub fn flaw_in(rows: Rows, block: Block, port: Port, wanted: Route) -> Option<Flaw>
+pub(crate) fn flaw_in(rows: Rows, block: Block, port: Port, wanted: Route) -> Option<Flaw>
     ensures { IsAmiss block rows.entry.entries.now port wanted result }
 {
     match first_to_meet(rows, block) {

@@ -25,7 +25,7 @@ pub struct PlacedTables<'a> {
 }
 
 // Writes, for each chip by its index, the place of the chip's table in the image, and the number of tables where it has none.
-pub fn set_places(image: &Image, places: &mut [u16])
+pub(crate) fn set_places(image: &Image, places: &mut [u16])
     requires valid { IsValid image.now }
     requires long { length places.old ≡ image.now.width * image.now.height }
     ensures long { length places.new ≡ length places.old }
@@ -43,7 +43,7 @@ pub fn set_places(image: &Image, places: &mut [u16])
 }
 
 // The rows of the chip of an index, and none where it has no table.
-pub fn rows_of<'a>(tables: &PlacedTables<'a>, index: usize) -> &'a [Entry]
+pub(crate) fn rows_of<'a>(tables: &PlacedTables<'a>, index: usize) -> &'a [Entry]
     requires { index < length tables.now.places.now }
     ensures { result.now ≡
         rows_of_index tables.now.image.now.height tables.now.image.now.chips index }

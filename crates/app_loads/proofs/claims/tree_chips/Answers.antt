@@ -20,9 +20,9 @@ loop-net-preserved c =
 
 pub returns-clause-same : goal.returns-clause-same
 returns-clause-same c =
-    subst (λ (l : List ℕ). IsPermutation l c.sort.new.self.items)
-    (c.loop-net.invariant ∙ ap (flat_map (tree_places c.args.machine.now)) (take_all c.loop-net.net-index c.args.nets.now c.loop-net-test.false)) c.in_ok-sort.ensures.permutation
+    subst (λ (l : List ℕ). IsPermutation l c.sort_unstable.new.self.items)
+    (c.loop-net.invariant ∙ ap (flat_map (tree_places c.args.machine.now)) (take_all c.loop-net.net-index c.args.nets.now c.loop-net-test.false)) c.sort_unstable.ensures.permutation
 
 pub returns-clause-sorted : goal.returns-clause-sorted
 returns-clause-sorted c i j d before within =
-    IsNonDecreasingBy-from_sort (λ n. n) c.sort.new.self.items c.in_ok-sort.ensures.sorted i j d (omega (arith, before)) within
+    IsNonDecreasingBy-from_sort (λ n. n) c.sort_unstable.new.self.items c.sort_unstable.ensures.sorted i j d (omega (arith, before)) within
