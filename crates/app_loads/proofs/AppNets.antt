@@ -8,8 +8,7 @@ use Rattle.key_alloc.proofs.Ranges.{in_from}
 use Rattle.spin_base.proofs.{Members.Contains-at, Places.All-at, Places.All-each, Places.AllZip-at_first}
 use Rattle.spin_base.specs.declared.{blocks.Block.Block, chips.Spot.Spot}
 use Rattle.machine_desc.specs.{Description.Description, Live.IsInside, Live.IsUsable, RoutingTree.IsRoutingTree}
-use Rattle.machine_desc.specs.declared.nets.NetPlan.{NetPlan}
-use Rattle.machine_desc.specs.{NetsOn.HaveDisjointBlocks, RightTables.IsKeyOf}
+use Rattle.machine_desc.specs.{declared.nets.NetPlan.NetPlan, NetsOn.HaveDisjointBlocks, RightTables.IsKeyOf}
 use Rattle.machine_desc.proofs.{Far.live_inside, Sites.usable_parts}
 use Rattle.range_store.specs.Regions.{in_range}
 use Rattle.tern_word.specs.Ternary.{Matches}

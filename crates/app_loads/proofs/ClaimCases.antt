@@ -5,8 +5,7 @@ use Rattle.std.proofs.lemmas.Bool.{cases_eq, le-leb, leb-true, both_ways, eq-eqb
 use Rattle.std.proofs.lemmas.Nat.{pow_pos}
 use Rattle.std.specs.Prelude.{find, unwrap_or, zip}
 use Rattle.std.specs.List.{slice_get, Contains, flat_map, range_with_len}
-use Rattle.spin_base.specs.Gathered.{gathered}
-use Rattle.spin_base.specs.declared.blocks.Block.{Block}
+use Rattle.spin_base.specs.{Gathered.gathered, declared.blocks.Block.Block}
 use Rattle.spin_base.proofs.Gathering.{among_gathered, gathered_among}
 use Rattle.spin_base.proofs.Members.{Among, among_contains, contains_among, among_left, among_right, among_either}
 use Rattle.spin_base.proofs.Places.{All-at, slice_get_there, zip-first_at}

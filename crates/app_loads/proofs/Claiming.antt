@@ -3,8 +3,7 @@ use Rattle.std.proofs.Common.{◌≡◌, ℕ, zero, suc, ◌+◌, ◌/◌, ◌^�
 use Rattle.std.proofs.Common.{map, take, get_or, length, Some, append_assoc}
 use Rattle.std.proofs.{lemmas.Bool.cases_lt, lemmas.Bool.le-leb, lemmas.Bool.lt-leb, Math.Pow.pow_mono, lemmas.Grind.pow_more, lemmas.List.take_all}
 use Rattle.std.specs.{Prelude.find, Prelude.unwrap_or, Prelude.zip, Int.IsPowerOfTwo, List.flat_map, List.range_with_len, List.slice_get}
-use Rattle.spin_base.specs.Gathered.{gathered}
-use Rattle.spin_base.specs.declared.chips.Spot.{Spot}
+use Rattle.spin_base.specs.{Gathered.gathered, declared.chips.Spot.Spot}
 use Rattle.spin_base.proofs.Gathering.{gathered_more}
 use Rattle.machine_desc.specs.Description.{Description}
 use Rattle.app_loads.specs.declared.{loaded.Claim.Claim, plans.AppNet.AppNet, plans.AppPlan.AppPlan}

@@ -5,8 +5,7 @@ use Rattle.std.specs.List.{filter, Contains}
 use Rattle.spin_base.proofs.Counts.{count_by-append, count_by-map}
 use Rattle.spin_base.proofs.Members.{Among, among_contains, among_filter, contains_among, Contains-filter}
 use Rattle.spin_base.specs.declared.{chips.Spot.Spot, copies.McCopy.McCopy, copies.Delivery.Delivery, copies.DumpRec.DumpRec}
-use Rattle.machine_desc.specs.{Description.Description, Branch.Exit}
-use Rattle.machine_desc.specs.declared.nets.NetPlan.{NetPlan}
+use Rattle.machine_desc.specs.{Description.Description, Branch.Exit, declared.nets.NetPlan.NetPlan}
 use Rattle.machine_desc.specs.{RightTables.IsKeyOf, NetsOn.AreNetsOn, NetsOn.IsWayOn}
 use Rattle.mesh_core.specs.State.{State}
 use Rattle.mesh_core.specs.Trail.{Station, unsent, in_queue, in_hand, at_core, delivered, dumped, Mark, on_trail, is_packet_on_trail, IsUnderWayAt}

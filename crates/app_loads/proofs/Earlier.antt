@@ -12,8 +12,7 @@ use Rattle.spin_base.specs.declared.copies.{Delivery.Delivery, Event.Event}
 use Rattle.spin_base.specs.declared.copies.Event.TheVariants.{Inject, Take, Send, Dump, Collect}
 use Rattle.spin_base.specs.declared.{copies.McCopy.McCopy, routes.Out.Out}
 use Rattle.spin_base.specs.Hops.{onward}
-use Rattle.machine_desc.specs.{Branch.Exit, Live.chip_of, Live.index_of, NetsOn.vertex_at}
-use Rattle.machine_desc.specs.declared.nets.NetPlan.{NetPlan}
+use Rattle.machine_desc.specs.{Branch.Exit, Live.chip_of, Live.index_of, NetsOn.vertex_at, declared.nets.NetPlan.NetPlan}
 use Rattle.mesh_core.specs.Expected.{NothingWaits}
 use Rattle.mesh_core.specs.Ledger.{Label, MeetsLedger, all_hand_marks, core_marks, delivered_marks, dumped_marks, hand_marks, input_marks, marks_at, marks_of, port_of, unsent_marks}
 use Rattle.mesh_core.specs.State.{State, Hand, IsMesh, Queue, behind, input, core, nowhere, queue_at}

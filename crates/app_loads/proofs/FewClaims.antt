@@ -2,8 +2,7 @@
 use Rattle.std.proofs.Common.{◌≡◌, ℕ, ◌+◌, ◌*◌, ◌≤◌, ◌==◌, Bool, true, false, List, [], ◌∷◌, ◌++◌, length, arith, Option, Some, None, if◌then◌else◌, count_by}
 use Rattle.std.proofs.lemmas.{List.length-append, List.FromFn.length-range_with_len, Nat.mul-le, Slice.Zip.AllZip-long, Slice.Zip.length-zip}
 use Rattle.std.specs.{Prelude.zip, List.flat_map, List.range_with_len}
-use Rattle.spin_base.specs.Gathered.{gathered}
-use Rattle.spin_base.specs.declared.blocks.Block.{Block}
+use Rattle.spin_base.specs.{Gathered.gathered, declared.blocks.Block.Block}
 use Rattle.machine_desc.specs.{Description.Description, Description.HasSize, Live.chip_of}
 use Rattle.app_loads.specs.declared.answers.LoadRefusal.TheVariants.{MemoryOut, RowsOut}
 use Rattle.app_loads.specs.declared.{loaded.Claim.Claim, loaded.LoadedApp.LoadedApp, plans.AppNet.AppNet, plans.AppPlan.AppPlan}

@@ -2,8 +2,7 @@
 use Rattle.std.proofs.Common.{◌≡◌, ℕ, List, refl, sym, ap, subst, Option, Some, Result, Ok, Err, OnOk, OnErr}
 use Rattle.std.specs.Prelude.{IfSome}
 use Rattle.spin_base.specs.declared.{copies.Event.Event, wants.Memory.Memory}
-use Rattle.mesh_core.specs.declared.places.Did.{Did}
-use Rattle.mesh_core.specs.{State.State, Step.after_event}
+use Rattle.mesh_core.specs.{declared.places.Did.Did, State.State, Step.after_event}
 use Rattle.app_loads.specs.declared.apps.Apps.TheInside.{Inside}
 use Rattle.app_loads.specs.{Host.Host, Applications.AreApps, Inner.mesh_in, Inner.host_of, Inner.IsHost, Running.AreAlikeInBlocks, Running.HasMovedMesh}
 use Rattle.app_loads.proofs.{Keeping.apps_after, Keeping.apps_kept, OneBlock.alike_in_blocks}

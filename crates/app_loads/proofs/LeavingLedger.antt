@@ -8,8 +8,7 @@ use Rattle.std.specs.List.{filter, All, AllPairs, Contains}
 use Rattle.spin_base.proofs.Members.{Among, among_contains, among_left, among_right, among_map, Contains-first, Contains-later, Contains-from_filter, Contains-filter}
 use Rattle.spin_base.proofs.Gathering.{among_gathered}
 use Rattle.spin_base.specs.declared.{blocks.Entry.Entry, chips.Spot.Spot, copies.McCopy.McCopy, copies.Delivery.Delivery, copies.DumpRec.DumpRec}
-use Rattle.machine_desc.specs.{Description.Description, Live.chip_of, Branch.Exit, RoutingTree.IsRoutingTree}
-use Rattle.machine_desc.specs.declared.nets.NetPlan.{NetPlan}
+use Rattle.machine_desc.specs.{Description.Description, Live.chip_of, Branch.Exit, RoutingTree.IsRoutingTree, declared.nets.NetPlan.NetPlan}
 use Rattle.machine_desc.specs.{RightTables.IsKeyOf, NetsOn.AreNetsOn, NetsOn.IsWayOn}
 use Rattle.mesh_core.specs.State.{State, Hand}
 use Rattle.mesh_core.specs.Trail.{Station, unsent, in_queue, in_hand, at_core, delivered, dumped, Mark, is_on_trail, is_packet_on_trail, IsUnderWayAt}

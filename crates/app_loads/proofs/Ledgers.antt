@@ -8,8 +8,7 @@ use Rattle.spin_base.proofs.Counts.{count_by-cons}
 use Rattle.spin_base.proofs.Exchange.{PutIn, put_in_before, put_in_gathered, count_put_in}
 use Rattle.spin_base.proofs.Members.{Among, among_contains, contains_among, among_left, among_right, among_either, Contains-first, Contains-later}
 use Rattle.spin_base.specs.declared.{chips.Spot.Spot, copies.McCopy.McCopy}
-use Rattle.machine_desc.specs.Branch.{Exit}
-use Rattle.machine_desc.specs.declared.nets.NetPlan.{NetPlan}
+use Rattle.machine_desc.specs.{Branch.Exit, declared.nets.NetPlan.NetPlan}
 use Rattle.machine_desc.specs.{RightTables.IsKeyOf, NetsOn.vertex_at, NetsOn.AreNetsOn, NetsOn.IsWayOn}
 use Rattle.mesh_core.specs.State.{State}
 use Rattle.mesh_core.specs.Trail.{Station, unsent, Mark, is_on_trail, is_packet_on_trail}

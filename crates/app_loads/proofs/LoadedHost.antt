@@ -15,8 +15,7 @@ use Rattle.spin_base.proofs.Places.{All-each, enumerate_more, slice_get_there, s
 use Rattle.spin_base.proofs.{Equality.spot_eq_same, Gathering.gathered_among}
 use Rattle.spin_base.specs.declared.{blocks.Entry.Entry, chips.Chip.Chip, chips.Spot.Spot, copies.McCopy.McCopy, copies.Packet.Packet}
 use Rattle.spin_base.specs.Equality.{spot_eq}
-use Rattle.machine_desc.specs.{Description.Description, Live.IsInside, RoutingTree.IsRoutingTree}
-use Rattle.machine_desc.specs.declared.nets.NetPlan.{NetPlan}
+use Rattle.machine_desc.specs.{Description.Description, Live.IsInside, RoutingTree.IsRoutingTree, declared.nets.NetPlan.NetPlan}
 use Rattle.machine_desc.specs.NetsOn.{AreNetsOn, HaveDisjointBlocks, vertex_at}
 use Rattle.machine_desc.specs.RightTables.{IsKeyOf, table_at}
 use Rattle.range_store.specs.{Views.Region, Regions.AreRuns}

@@ -4,8 +4,7 @@ use Rattle.std.proofs.lemmas.{List.Elements.All-contains, Option.same_Some}
 use Rattle.std.specs.List.{slice_get, Contains}
 use Rattle.spin_base.proofs.Members.{Contains-at, among_contains, contains_among}
 use Rattle.spin_base.specs.declared.blocks.Block.{Block}
-use Rattle.machine_desc.specs.declared.nets.NetPlan.{NetPlan}
-use Rattle.machine_desc.specs.RightTables.{IsKeyOf}
+use Rattle.machine_desc.specs.{declared.nets.NetPlan.NetPlan, RightTables.IsKeyOf}
 use Rattle.app_loads.specs.declared.{loaded.LoadedApp.LoadedApp, plans.AppNet.AppNet}
 use Rattle.app_loads.specs.Applications.{AreApps, IsLoadedOn}
 use Rattle.app_loads.specs.Host.{Host, all_nets, net_with, nets_of, nets_with}

@@ -2,8 +2,7 @@
 use Rattle.std.proofs.Common.{◌≡◌, ℕ, zero, suc, ◌+◌, ◌<◌, ◌≤◌, ◌==◌, Bool, true, false, List, [], ◌∷◌, ◌++◌, refl, sym, ap, ◌∙◌, arith, Option, Some, None, count_by, if◌then◌else◌}
 use Rattle.std.proofs.lemmas.{Bool.eq-eqb, Bool.eqb-true, Bool.ne_eqb, Option.same_Some}
 use Rattle.std.specs.{Prelude.zip, List.flat_map, List.range_with_len, List.slice_get}
-use Rattle.spin_base.specs.Gathered.{gathered}
-use Rattle.spin_base.specs.declared.blocks.Block.{Block}
+use Rattle.spin_base.specs.{Gathered.gathered, declared.blocks.Block.Block}
 use Rattle.spin_base.proofs.{Counts.count_by-append, Counts.count_by-cons, Members.among_at}
 use Rattle.machine_desc.specs.{Description.Description, Live.chip_of}
 use Rattle.tern_word.proofs.BlockLaws.{same_block}

@@ -6,8 +6,7 @@ use Rattle.std.specs.List.{slice_get, All, AllPairs, Contains, filter, flat_map}
 use Rattle.spin_base.proofs.Members.{Among, among_at, among_contains, among_filter, contains_among, Contains-filter, Contains-from_filter, Contains-at}
 use Rattle.spin_base.proofs.Pairs.{AllPairs-append, AllPairs-left, AllPairs-right, AllPairs-across, AllPairs-head, AllPairs-tail}
 use Rattle.spin_base.proofs.Places.{All-each}
-use Rattle.app_loads.specs.declared.loaded.LoadedApp.{LoadedApp}
-use Rattle.app_loads.specs.Leaving.{others_than}
+use Rattle.app_loads.specs.{declared.loaded.LoadedApp.LoadedApp, Leaving.others_than}
 use Rattle.app_loads.proofs.ClaimCases.{among_flat, flat_among}
 
 pub same_tests : (a b : Bool) → (a ≡ true → b ≡ true) → (b ≡ true → a ≡ true) → a ≡ b

@@ -5,9 +5,7 @@ use Rattle.std.proofs.lemmas.List.{length-map, Elements.All-head, Elements.All-t
 use Rattle.std.proofs.lemmas.Option.{slice_get_within, slice_get_past, get_or_from_slice_get}
 use Rattle.std.specs.List.{slice_get, slice_set, All, Contains}
 use Rattle.spin_base.specs.declared.{blocks.Entry.Entry, chips.Spot.Spot, copies.McCopy.McCopy, copies.Packet.Packet}
-use Rattle.machine_desc.specs.{Description.Description, RoutingTree.IsRoutingTree}
-use Rattle.machine_desc.specs.declared.nets.NetPlan.{NetPlan}
-use Rattle.machine_desc.specs.RightTables.{IsKeyOf}
+use Rattle.machine_desc.specs.{Description.Description, RoutingTree.IsRoutingTree, declared.nets.NetPlan.NetPlan, RightTables.IsKeyOf}
 use Rattle.machine_desc.proofs.Branches.{link_on_branch}
 use Rattle.mesh_core.specs.{State.State, Ledger.Asked, Ledger.MeetsLedgerFor, Opened.asked_at, Opened.asked_by, Opened.label_in}
 use Rattle.mesh_core.proofs.AskedPackets.{asked_from}

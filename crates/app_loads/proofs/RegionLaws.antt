@@ -1,8 +1,7 @@
 -- What serving a claim in its region answers, from what the region's calls promise.
 use Rattle.std.proofs.Common.{◌≡◌, ℕ, ◌%◌, ◌<◌, true, false, not, ◌&&◌, List, [], ◌∷◌, ◌++◌, refl, sym, subst, Option, None, Some, IfSome, IfNone, Result, Ok, Err, IfOk}
 use Rattle.spin_base.specs.declared.wants.Memory.{Memory}
-use Rattle.range_store.specs.declared.holes.Hole.{Hole}
-use Rattle.range_store.specs.Views.{Region}
+use Rattle.range_store.specs.{declared.holes.Hole.Hole, Views.Region}
 use Rattle.range_store.specs.Regions.{AreRuns, IsFirstFit, HasNoFit, is_hole_range, is_free, in_range}
 use Rattle.app_loads.specs.declared.loaded.{Claim.Claim, Range.Range}
 use Rattle.app_loads.specs.{Host.Free, Regions.IsFreeBeside, Regions.place_of, Claims.IsLeastOpenRange}

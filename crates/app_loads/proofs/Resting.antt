@@ -5,9 +5,7 @@ use Rattle.std.specs.{Prelude.IfSome, List.slice_get, List.flat_map, List.All, L
 use Rattle.spin_base.proofs.Members.{Among, Contains-at, among_at, among_contains, among_left, among_right, contains_among, position_there}
 use Rattle.spin_base.proofs.Places.{All-at, All-each, slice_get-set_other}
 use Rattle.spin_base.specs.declared.{blocks.Entry.Entry, chips.Spot.Spot, copies.McCopy.McCopy, routes.Out.TheVariants.Core}
-use Rattle.machine_desc.specs.{Description.Description, Outputs.leads_to_spot}
-use Rattle.machine_desc.specs.declared.nets.NetPlan.{NetPlan}
-use Rattle.machine_desc.specs.NetsOn.{vertex_at}
+use Rattle.machine_desc.specs.{Description.Description, Outputs.leads_to_spot, declared.nets.NetPlan.NetPlan, NetsOn.vertex_at}
 use Rattle.machine_desc.proofs.Sites.{usable_parts}
 use Rattle.mesh_core.specs.State.{State, vertex_behind}
 use Rattle.mesh_core.specs.Expected.{IsAtRest, NothingWaits}

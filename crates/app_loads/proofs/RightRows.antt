@@ -13,14 +13,12 @@ use Rattle.spin_base.specs.declared.{blocks.Block.Block, blocks.Entry.Entry, chi
 use Rattle.spin_base.specs.Lookup.{lookup, matches, default_route}
 use Rattle.spin_base.specs.Outputs.{has, IsOutput}
 use Rattle.machine_desc.specs.{Description.Description, Live.index_of, Live.chip_of, Live.IsInside, RoutingTree.IsRoutingTree}
-use Rattle.machine_desc.specs.declared.nets.NetPlan.{NetPlan}
-use Rattle.machine_desc.specs.{NetsOn.HaveDisjointBlocks, Outputs.is_wanted}
+use Rattle.machine_desc.specs.{declared.nets.NetPlan.NetPlan, NetsOn.HaveDisjointBlocks, Outputs.is_wanted}
 use Rattle.machine_desc.specs.RightTables.{IsKeyOf, AreRight, RoutesByTree, table_at}
 use Rattle.machine_desc.proofs.{Far.index_below, Live.chip_of-inside, Live.index_of-chip_of}
 use Rattle.range_store.specs.Regions.{in_range}
 use Rattle.tcam_find.specs.Memory.{unused}
-use Rattle.tern_word.specs.declared.tables.Row.{Row}
-use Rattle.tern_word.specs.{Entries.entry_of, SoundTable.Original}
+use Rattle.tern_word.specs.{declared.tables.Row.Row, Entries.entry_of, SoundTable.Original}
 use Rattle.net_tables.specs.PlainTable.{HasChip, IsOriginalOf, IsPlainTable, row_of}
 use Rattle.net_tables.proofs.{Trees.chips_inside, Trees.comes_in_tree, Whole.has_original, Whole.from_net}
 use Rattle.app_loads.specs.declared.loaded.{LoadedApp.LoadedApp, Range.Range}

@@ -3,17 +3,13 @@ use Rattle.std.proofs.Common.{◌≡◌, ℕ, ◌+◌, ◌≤◌, zero, suc, Lis
 use Rattle.std.specs.List.{slice_get}
 use Rattle.std.proofs.lemmas.List.{length_push}
 use Rattle.std.proofs.lemmas.Option.{same_Some, slice_get_within}
-use Rattle.machine_desc.specs.Description.{Description}
-use Rattle.machine_desc.specs.Live.{index_of}
+use Rattle.machine_desc.specs.{Description.Description, Live.index_of}
 use Rattle.spin_base.proofs.Places.{slice_get-push_cases}
 use Rattle.spin_base.specs.declared.chips.Chip.{Chip}
-use Rattle.app_loads.specs.declared.loaded.Range.{Range}
-use Rattle.app_loads.specs.declared.places.Region.{Region}
-use Rattle.app_loads.specs.declared.places.Region.TheVariants.{Rows}
+use Rattle.app_loads.specs.{declared.loaded.Range.Range, declared.places.Region.Region, declared.places.Region.TheVariants.Rows}
 use Rattle.app_loads.specs.Regions.{IsRangeWithin, IsRegion, chip_count, place_of, region_size}
 use Rattle.app_loads.specs.Writing.{HasRoom}
-use Rattle.app_loads.proofs.Copying.{place_of_no_rows}
-use Rattle.app_loads.proofs.Settling.{rows_size}
+use Rattle.app_loads.proofs.{Copying.place_of_no_rows, Settling.rows_size}
 
 -- a range of entries ends within the table
 pub rows_within : (m : Description) (range : Range) (r : Region) (c : Chip) → r ≡ Rows c → place_of m r ≡ range.region → IsRangeWithin m (1 + (chip_count m + chip_count m)) range → range.place + range.size ≤ 1024

@@ -10,9 +10,7 @@ use Rattle.std.specs.List.{list_any, slice_get, All, AllPairs, flat_map, range_w
 use Rattle.std.specs.Option.{option_map_or}
 use Rattle.spin_base.proofs.{Equality.chip_eq_true, Counts.count_by-append, Counts.count_by-cons, Pairs.AllPairs-head, Pairs.AllPairs-tail}
 use Rattle.spin_base.proofs.Places.{All-at, slice_get_there, take_more_at}
-use Rattle.spin_base.specs.declared.chips.Chip.{Chip}
-use Rattle.spin_base.specs.Equality.{chip_eq}
-use Rattle.spin_base.specs.declared.wants.Memory.{Memory}
+use Rattle.spin_base.specs.{declared.chips.Chip.Chip, Equality.chip_eq, declared.wants.Memory.Memory}
 use Rattle.machine_desc.specs.declared.trees.Edge.{Edge}
 use Rattle.machine_desc.specs.{Description.Description, Live.index_of, Live.chip_of, Live.IsInside, RoutingTree.end_of}
 use Rattle.machine_desc.proofs.Far.{far_inside, index_below, same_index, live_ends, live_inside}

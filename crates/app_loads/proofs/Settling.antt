@@ -16,8 +16,7 @@ use Rattle.spin_base.proofs.Ranges.{slice_get-map_range}
 use Rattle.spin_base.specs.declared.{blocks.Block.Block, blocks.Entry.Entry, chips.Chip.Chip, chips.Spot.Spot}
 use Rattle.spin_base.specs.declared.copies.{Delivery.Delivery, DumpRec.DumpRec, McCopy.McCopy, Packet.Packet}
 use Rattle.spin_base.specs.Equality.{chip_eq}
-use Rattle.machine_desc.specs.declared.trees.Edge.{Edge}
-use Rattle.machine_desc.specs.Description.{Description}
+use Rattle.machine_desc.specs.{declared.trees.Edge.Edge, Description.Description}
 use Rattle.machine_desc.specs.Live.{index_of, chip_of, is_usable, IsInside, IsUsable}
 use Rattle.machine_desc.specs.{RoutingTree.end_of, RoutingTree.IsTreeChip, RightTables.table_at}
 use Rattle.machine_desc.proofs.{Far.index_below, Far.live_inside, Same.chip_eq-from_same, Same.same_spot, Sites.usable_parts}

@@ -6,8 +6,7 @@ use Rattle.std.proofs.lemmas.Bool.{both_ways, cases_Bool, eq-eqb, eqb-true, not-
 use Rattle.std.proofs.lemmas.List.Elements.{All-contains}
 use Rattle.spin_base.proofs.Equality.{spot_eq_true}
 use Rattle.spin_base.proofs.Members.{Among, Contains-filter, among_any, among_at, among_contains, among_filter, any_among, contains_among}
-use Rattle.spin_base.specs.declared.chips.Spot.{Spot}
-use Rattle.spin_base.specs.Equality.{spot_eq}
+use Rattle.spin_base.specs.{declared.chips.Spot.Spot, Equality.spot_eq}
 use Rattle.machine_desc.specs.Live.{IsUsable}
 use Rattle.app_loads.specs.declared.loaded.LoadedApp.{LoadedApp}
 use Rattle.app_loads.specs.Applications.{AreApps, IsLoadedOn}

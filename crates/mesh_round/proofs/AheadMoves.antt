@@ -5,8 +5,7 @@ use Rattle.std.proofs.lemmas.{Bool.cases_order, Bool.eqb-true, List.Sums.sum_by-
 use Rattle.std.specs.List.{sum_by, Contains}
 use Rattle.spin_base.proofs.Members.{Among, among_contains, among_either}
 use Rattle.spin_base.specs.declared.chips.Spot.{Spot}
-use Rattle.machine_desc.specs.NetsOn.{IsWayOn}
-use Rattle.machine_desc.specs.declared.nets.NetPlan.{NetPlan}
+use Rattle.machine_desc.specs.{NetsOn.IsWayOn, declared.nets.NetPlan.NetPlan}
 use Rattle.machine_desc.specs.RightTables.{AreRight, IsKeyOf}
 use Rattle.mesh_core.specs.{State.State, State.IsMesh, Trail.Mark, Ledger.Label, Ledger.MeetsLedger, Ledger.marks_of}
 use Rattle.mesh_core.proofs.{Counting.counted, Law.move_comes, Law.move_counts}

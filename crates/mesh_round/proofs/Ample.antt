@@ -13,8 +13,7 @@ use Rattle.spin_base.proofs.Places.{slice_get_there}
 use Rattle.spin_base.proofs.Equality.{nat_eq_same, chip_eq_same, out_eq_same}
 use Rattle.spin_base.specs.declared.{chips.Chip.Chip, chips.Spot.Spot, routes.Out.Out, copies.McCopy.McCopy, copies.DumpRec.DumpRec, copies.Packet.Packet}
 use Rattle.spin_base.specs.{Equality.chip_eq, Equality.out_eq, Outputs.IsOutput, Hops.last_hop, Hops.onward}
-use Rattle.machine_desc.specs.{Description.Description, Live.chip_of, Live.IsLiveChip, Branch.Exit}
-use Rattle.machine_desc.specs.declared.nets.NetPlan.{NetPlan}
+use Rattle.machine_desc.specs.{Description.Description, Live.chip_of, Live.IsLiveChip, Branch.Exit, declared.nets.NetPlan.NetPlan}
 use Rattle.machine_desc.specs.NetsOn.{AreNetsOn, IsWayOn}
 use Rattle.machine_desc.specs.RightTables.{IsKeyOf, AreRight}
 use Rattle.mesh_core.specs.State.{Setup, State, IsMesh, Queue, input, core, nowhere, behind}

@@ -13,8 +13,7 @@ use Rattle.spin_base.specs.declared.chips.{Chip.Chip, Dir.Dir, Spot.Spot, Port.P
 use Rattle.spin_base.specs.declared.{routes.Out.Out, routes.Out.TheVariants.Link, copies.McCopy.McCopy}
 use Rattle.spin_base.specs.{Links.opposite_of, Equality.chip_eq, Equality.out_eq, Outputs.IsOutput, Hops.last_hop, Hops.onward}
 use Rattle.machine_desc.specs.Live.{far_of, is_live_chip, is_live_link, IsInside, IsLiveChip, IsLiveLink}
-use Rattle.machine_desc.specs.declared.nets.NetPlan.{NetPlan}
-use Rattle.machine_desc.specs.RightTables.{AreRight}
+use Rattle.machine_desc.specs.{declared.nets.NetPlan.NetPlan, RightTables.AreRight}
 use Rattle.machine_desc.proofs.Branches.{exit_leads, ExitLeads}
 use Rattle.machine_desc.proofs.Far.{live_inside, live_ends, live_back, far_back}
 use Rattle.mesh_core.specs.State.{Setup, State, IsMesh, Queue, input, core, nowhere, behind, behind_link, queue_at, vertex_behind}

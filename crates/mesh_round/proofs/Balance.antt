@@ -2,8 +2,7 @@
 use Rattle.std.proofs.Common.{◌≡◌, ℕ, ◌+◌, ◌<◌, suc, List, [], ◌∷◌, ◌++◌, length, Bool, refl, ap, sym, ◌∙◌, subst, arith, count_by, add-one}
 use Rattle.std.proofs.lemmas.List.{map-append, Sums.sum_by-cons}
 use Rattle.std.specs.List.{sum_by, slice_index_or, range_with_len}
-use Rattle.spin_base.specs.Gathered.{gathered}
-use Rattle.spin_base.specs.declared.copies.McCopy.{McCopy}
+use Rattle.spin_base.specs.{Gathered.gathered, declared.copies.McCopy.McCopy}
 use Rattle.spin_base.proofs.Counts.{count_by-append}
 use Rattle.mesh_core.specs.{Trail.Station, Trail.Mark, Ledger.marks_at}
 

@@ -1,8 +1,7 @@
 -- Rounds keep the ledger of copies, since each is a bag of moves.
 use Rattle.std.proofs.Common.{◌≡◌, ℕ, List, Option, refl, sym, subst, ◌∙◌, ap}
 use Rattle.spin_base.specs.declared.copies.Packet.{Packet}
-use Rattle.machine_desc.specs.declared.nets.NetPlan.{NetPlan}
-use Rattle.machine_desc.specs.RightTables.{AreRight}
+use Rattle.machine_desc.specs.{declared.nets.NetPlan.NetPlan, RightTables.AreRight}
 use Rattle.mesh_core.specs.State.{Setup, State, IsMesh}
 use Rattle.mesh_core.specs.Ledger.{Asked, Label, label_of, MeetsLedger, MeetsLedgerFor}
 use Rattle.mesh_core.specs.Opened.{asked_by, MeetsJobLedger}

@@ -3,8 +3,7 @@ use Rattle.std.proofs.Common.{◌≡◌, ℕ, ◌+◌, ◌≤◌, Bool, cond, if
 use Rattle.std.proofs.lemmas.List.Sums.{sum_by-cons}
 use Rattle.std.specs.List.{sum_by, slice_get}
 use Rattle.spin_base.proofs.Members.{Among}
-use Rattle.spin_base.specs.declared.copies.McCopy.{McCopy}
-use Rattle.spin_base.specs.Hops.{last_hop}
+use Rattle.spin_base.specs.{declared.copies.McCopy.McCopy, Hops.last_hop}
 use Rattle.mesh_core.specs.{State.State, Trail.Station, Trail.Mark, Ledger.marks_at}
 use Rattle.mesh_core.proofs.Moves.{mark, IsMoveOf}
 use Rattle.mesh_core.proofs.LedgerLaw.{Moved, count_left, count_come}

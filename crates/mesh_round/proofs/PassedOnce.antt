@@ -1,8 +1,7 @@
 -- In a round a packet passes each place of a trail at most once, and a place that it is still before not at all.
 use Rattle.std.proofs.Common.{◌≡◌, ℕ, ◌+◌, ◌≤◌, ◌==◌, ◌&&◌, not, nat_lt, Bool, true, false, List, [], ◌∷◌, refl, ap, sym, ◌∙◌, subst, arith, inl, inr, count_by}
 use Rattle.std.proofs.lemmas.Bool.{cases_Bool, not-true, and_parts, and_from, eqb-true, eq-eqb, ltb-true, ltb-false}
-use Rattle.machine_desc.specs.declared.nets.NetPlan.{NetPlan}
-use Rattle.machine_desc.specs.{NetsOn.IsWayOn, RightTables.IsKeyOf, RightTables.AreRight}
+use Rattle.machine_desc.specs.{declared.nets.NetPlan.NetPlan, NetsOn.IsWayOn, RightTables.IsKeyOf, RightTables.AreRight}
 use Rattle.mesh_core.specs.State.{Setup, State, IsMesh}
 use Rattle.mesh_core.specs.Trail.{Mark, is_on_trail, is_packet_on_trail}
 use Rattle.mesh_core.specs.Ledger.{marks_of, Label, MeetsLedger}

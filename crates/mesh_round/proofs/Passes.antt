@@ -1,8 +1,7 @@
 -- What holds after rounds and copies put back: the machine is the same, the ledger is kept, and passes may follow each other.
 use Rattle.std.proofs.Common.{◌≡◌, ◌≤◌, ℕ, List, Option, Some, None, refl, sym, subst, ◌∙◌, unwrap_or, arith}
 use Rattle.spin_base.specs.declared.copies.Packet.{Packet}
-use Rattle.machine_desc.specs.declared.nets.NetPlan.{NetPlan}
-use Rattle.machine_desc.specs.RightTables.{AreRight}
+use Rattle.machine_desc.specs.{declared.nets.NetPlan.NetPlan, RightTables.AreRight}
 use Rattle.mesh_core.specs.State.{Setup, State, IsMesh}
 use Rattle.mesh_core.specs.{PutBack.put_back_of, PutBack.after_put_back, Ledger.Label, Ledger.MeetsLedger, Opened.MeetsJobLedger}
 use Rattle.mesh_core.proofs.EventsLaw.{put_back_is, IsMesh-after_put_back, put_back_keeps, put_back_keeps_job}

@@ -2,21 +2,16 @@
 use Rattle.std.proofs.Common.{◌≡◌, List, [], ◌∷◌, ◌++◌, map, refl, sym, ap, ◌∙◌, subst, arith, inl, inr}
 use Rattle.std.specs.List.{All, Contains}
 use Rattle.std.proofs.lemmas.List.Elements.{All-nil, All-cons, All-head, All-tail, All-append}
-use Rattle.spin_base.specs.declared.chips.Chip.{Chip}
-use Rattle.spin_base.specs.declared.chips.Dir.{Dir}
-use Rattle.machine_desc.specs.declared.trees.Edge.{Edge}
-use Rattle.machine_desc.specs.Description.{Description}
+use Rattle.spin_base.specs.{declared.chips.Chip.Chip, declared.chips.Dir.Dir}
+use Rattle.machine_desc.specs.{declared.trees.Edge.Edge, Description.Description}
 use Rattle.machine_desc.specs.Live.{index_of, IsInside}
 use Rattle.machine_desc.specs.RoutingTree.{IsTreeChip}
 use Rattle.machine_desc.proofs.Far.{same_index}
-use Rattle.ner_trees.specs.declared.growths.Join.{Join}
-use Rattle.ner_trees.specs.Geometry.{displacement_of}
-use Rattle.ner_trees.specs.LongestFirst.{ldf_of}
+use Rattle.ner_trees.specs.{declared.growths.Join.Join, Geometry.displacement_of, LongestFirst.ldf_of}
 use Rattle.ner_trees.specs.Growth.{next_of, end_of_walk, links_of, IsNotFarther, IsNear, IsAdded, Grows, IsGrown}
 use Rattle.machine_desc.specs.EdgeOrder.{IsEdgeBefore}
 use Rattle.ner_trees.proofs.Growing.{on_inside, next_inside}
-use Rattle.ner_trees.proofs.Ordered.{same_list}
-use Rattle.ner_trees.proofs.Trees.{link}
+use Rattle.ner_trees.proofs.{Ordered.same_list, Trees.link}
 
 -- the first numbers of two chips that are each not farther than the other
 neither_farther : (m : Description) (t a b : Chip) → IsNotFarther m t a b → IsNotFarther m t b a → index_of m a ≡ index_of m b

@@ -8,9 +8,7 @@ use Rattle.std.proofs.lemmas.Bool.{cases_eq, cases_order, true≢false, and_from
 use Rattle.std.proofs.lemmas.List.{append-nil, append_assoc, take_more, take_all, map_push, get_or-set_same, get_or-set_other, get_or-replicate, length-replicate}
 use Rattle.std.proofs.lemmas.List.Elements.{All-contains, Contains-get_or, Contains-append_cases, Contains-append_left, Contains-append_right, Contains-push, All-append, All-push}
 use Rattle.std.proofs.lemmas.List.Sorted.{IsPermutation-sym, Contains-permutation, length_permutation}
-use Rattle.spin_base.specs.declared.chips.Chip.{Chip}
-use Rattle.spin_base.specs.declared.chips.Dir.{Dir}
-use Rattle.spin_base.specs.Links.{dir_number}
+use Rattle.spin_base.specs.{declared.chips.Chip.Chip, declared.chips.Dir.Dir, Links.dir_number}
 use Rattle.spin_base.proofs.Equality.{dir_eq_true}
 use Rattle.machine_desc.proofs.Same.{same_edge, same_chip}
 use Rattle.machine_desc.specs.declared.trees.Edge.{Edge}

@@ -9,8 +9,7 @@ use Rattle.spin_base.specs.declared.chips.Dir.{Dir}
 use Rattle.spin_base.specs.declared.chips.Dir.TheVariants.{East, NorthEast, North, West, SouthWest, South}
 use Rattle.spin_base.specs.Links.{opposite_of}
 use Rattle.machine_desc.specs.Live.{x_step, y_step}
-use Rattle.ner_trees.specs.declared.displacements.Disp.{Disp}
-use Rattle.ner_trees.specs.declared.walks.Run.{Run}
+use Rattle.ner_trees.specs.{declared.displacements.Disp.Disp, declared.walks.Run.Run}
 use Rattle.ner_trees.specs.Geometry.{length_of, forth, back, disp}
 use Rattle.ner_trees.specs.LongestFirst.{median, link_run_of, put_run, longest_first, run_links, ldf_of, is_ahead, is_back, sum_of}
 use Rattle.ner_trees.proofs.Signed.{length_is, less_median, less_median_second, minus_median}

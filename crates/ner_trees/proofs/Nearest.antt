@@ -1,7 +1,6 @@
 -- The nearest chip of a tree, found by going over its chips.
 use Rattle.std.proofs.Common.{◌≡◌, ℕ, ◌+◌, ◌*◌, ◌%◌, ◌<◌, ◌≤◌, ◌⊎◌, List, [], ◌∷◌, ◌++◌, Bool, true, length, get_or, take, min, refl, sym, ◌∙◌, subst, inl, inr, arith}
-use Rattle.std.proofs.Math.Logic.{∥∥₁_elim}
-use Rattle.std.proofs.Props.{props}
+use Rattle.std.proofs.{Math.Logic.∥∥₁_elim, Props.props}
 use Rattle.std.specs.List.{All, Contains}
 use Rattle.std.proofs.lemmas.Bool.{cases_eq, cases_lt}
 use Rattle.std.proofs.lemmas.List.{take_more}
@@ -14,8 +13,7 @@ use Rattle.machine_desc.specs.Live.{IsInside, index_of}
 use Rattle.machine_desc.specs.RoutingTree.{IsTreeChip}
 use Rattle.machine_desc.proofs.Far.{index_below, same_index}
 use Rattle.spin_base.proofs.Members.{Contains-none, Contains-first, Contains-later, Contains-cases}
-use Rattle.ner_trees.specs.Geometry.{distance_of}
-use Rattle.ner_trees.specs.Growth.{IsNear}
+use Rattle.ner_trees.specs.{Geometry.distance_of, Growth.IsNear}
 use Rattle.ner_trees.specs.Search.{AreAllOn, AreOn, IsLeastNearness, TellsTree, is_on, nearness}
 use Rattle.ner_trees.proofs.Growing.{on_inside}
 

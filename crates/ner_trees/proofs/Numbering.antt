@@ -8,8 +8,7 @@ use Rattle.std.proofs.lemmas.List.Elements.{All-get_or}
 use Rattle.spin_base.specs.declared.chips.Dir.TheVariants.{East}
 use Rattle.spin_base.specs.Links.{all_dirs, dir_at, dir_number}
 use Rattle.spin_base.proofs.Spots.{dir_at-dir_number}
-use Rattle.machine_desc.specs.declared.trees.Edge.{Edge}
-use Rattle.machine_desc.specs.EdgeOrder.{IsEdgeBefore}
+use Rattle.machine_desc.specs.{declared.trees.Edge.Edge, EdgeOrder.IsEdgeBefore}
 use Rattle.machine_desc.proofs.Same.{below_six}
 use Rattle.ner_trees.specs.EdgeNumbers.{edge_number, edge_numbered, IsEdgeNumber}
 

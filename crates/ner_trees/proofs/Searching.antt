@@ -14,8 +14,7 @@ use Rattle.ner_trees.specs.Geometry.{forth, back, ahead_by, displacement_of, dis
 use Rattle.ner_trees.specs.Growth.{IsNotFarther}
 use Rattle.ner_trees.specs.Search.{is_on, is_there, place_at, offset_chip, AtOffsets, AtStep, IsOnWithin, IsNearestOn, IsNoneOn, IsNoneNearer, IsBetter}
 use Rattle.ner_trees.proofs.Axis.{ahead_cases, Reaches}
-use Rattle.ner_trees.proofs.Signed.{length_is}
-use Rattle.ner_trees.proofs.Walking.{reaches}
+use Rattle.ner_trees.proofs.{Signed.length_is, Walking.reaches}
 
 -- a chip of two coordinates is inside where they are
 pub chip_inside : (m : Description) (x y : Option ℕ) → IfSome x (λ n. n < m.width) → IfSome y (λ n. n < m.height) → IfSome (chip_at x y) (IsInside m)

@@ -7,8 +7,7 @@ use Rattle.std.specs.Int.{int_max, int_min}
 use Rattle.spin_base.specs.declared.chips.Chip.{Chip}
 use Rattle.spin_base.specs.declared.chips.Dir.TheVariants.{East, North, SouthWest}
 use Rattle.machine_desc.specs.Description.{Description}
-use Rattle.ner_trees.specs.declared.displacements.Disp.{Disp}
-use Rattle.ner_trees.specs.declared.walks.Run.{Run}
+use Rattle.ner_trees.specs.{declared.displacements.Disp.Disp, declared.walks.Run.Run}
 use Rattle.ner_trees.specs.Geometry.{length_of, forth, back, disp, lesser_disp, ahead_by, on_torus, displacement_of, distance_of}
 use Rattle.ner_trees.specs.LongestFirst.{median, link_run_of, runs_of, longest_first}
 

@@ -1,9 +1,7 @@
 -- A sort of edges by their numbers puts them in their order.
 use Rattle.std.proofs.Common.{◌≡◌, ℕ, ◌<◌, List, true, refl, sym, ◌∙◌, arith, inl, inr, Less, Equal, Greater, Ordering, nat_cmp, is_lt}
 use Rattle.std.specs.Ordering.{ordering_then, MatchOrdering}
-use Rattle.std.specs.Cmp.{IsTotalOrder}
-use Rattle.std.specs.List.{AllPairs}
-use Rattle.std.specs.List.Sorted.{IsSortedByKey}
+use Rattle.std.specs.{Cmp.IsTotalOrder, List.AllPairs, List.Sorted.IsSortedByKey}
 use Rattle.std.proofs.lemmas.Bool.{true≢false}
 use Rattle.std.proofs.lemmas.Cmp.{ranked, nat_cmp_total, on_total, then_total}
 use Rattle.std.proofs.lemmas.List.Sorted.{ranks_by, sorted_far}

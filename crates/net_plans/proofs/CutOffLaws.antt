@@ -1,22 +1,17 @@
 -- Where a net has a plan, none of its targets is cut off; and at most one net and target are the first that are.
 use Rattle.std.proofs.Common.{◌≡◌, ℕ, ◌<◌, List, [], ◌∷◌, map, length, refl, sym, ap, ◌∙◌, subst, inl, inr, Some, Result, Ok, Err, IfOk, IfErr}
 use Rattle.std.specs.List.{All, Contains, slice_get, slice_index_or}
-use Rattle.std.proofs.lemmas.Bool.{cases_order}
-use Rattle.std.proofs.lemmas.List.Elements.{All-contains}
+use Rattle.std.proofs.lemmas.{Bool.cases_order, List.Elements.All-contains}
 use Rattle.std.proofs.lemmas.Option.{slice_get_within, get_or_from_slice_get, slice_get-get_or}
-use Rattle.spin_base.specs.declared.chips.Chip.{Chip}
-use Rattle.spin_base.specs.declared.chips.Spot.{Spot}
-use Rattle.machine_desc.specs.declared.trees.Edge.{Edge}
-use Rattle.machine_desc.specs.Description.{Description}
+use Rattle.spin_base.specs.{declared.chips.Chip.Chip, declared.chips.Spot.Spot}
+use Rattle.machine_desc.specs.{declared.trees.Edge.Edge, Description.Description}
 use Rattle.machine_desc.specs.Live.{far_of, IsLiveLink}
 use Rattle.machine_desc.specs.RoutingTree.{IsPath, IsTreeChip, IsRoutingTree}
 use Rattle.app_graph.specs.declared.graphs.Net.{Net}
 use Rattle.link_detours.specs.Repair.{IsWalkTo, IsFirstTargetCutOff as IsFirstOfList}
-use Rattle.link_detours.specs.Cause.{IsRepairCause}
-use Rattle.link_detours.specs.declared.repairs.RepairErr.{RepairErr}
+use Rattle.link_detours.specs.{Cause.IsRepairCause, declared.repairs.RepairErr.RepairErr}
 use Rattle.link_detours.specs.declared.repairs.RepairErr.TheVariants as repairs
-use Rattle.spin_base.proofs.Members.{Contains-map}
-use Rattle.spin_base.proofs.Places.{All-at}
+use Rattle.spin_base.proofs.{Members.Contains-map, Places.All-at}
 use Rattle.net_plans.specs.declared.nets.NetErr.{NetErr}
 use Rattle.net_plans.specs.declared.nets.NetErr.TheVariants as nets
 use Rattle.net_plans.specs.Cause.{IsNetCause, IsCauseOne, IsRefusedBy}

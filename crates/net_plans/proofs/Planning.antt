@@ -4,16 +4,11 @@ use Rattle.std.specs.List.{All, Contains, slice_get, slice_index_or}
 use Rattle.std.proofs.lemmas.List.{length-append}
 use Rattle.std.proofs.lemmas.List.Elements.{All-contains, All-contains_itself}
 use Rattle.std.proofs.lemmas.Option.{slice_get-get_or}
-use Rattle.spin_base.specs.declared.chips.Chip.{Chip}
-use Rattle.spin_base.specs.declared.chips.Spot.{Spot}
-use Rattle.spin_base.specs.declared.blocks.Block.{Block}
-use Rattle.machine_desc.specs.declared.trees.Edge.{Edge}
-use Rattle.machine_desc.specs.declared.trees.Tree.{Tree}
-use Rattle.machine_desc.specs.Description.{Description}
+use Rattle.spin_base.specs.{declared.chips.Chip.Chip, declared.chips.Spot.Spot, declared.blocks.Block.Block}
+use Rattle.machine_desc.specs.{declared.trees.Edge.Edge, declared.trees.Tree.Tree, Description.Description}
 use Rattle.machine_desc.specs.Live.{IsInside, IsLiveChip, IsSite}
 use Rattle.machine_desc.specs.RoutingTree.{IsTreeChip, IsTreeTo}
-use Rattle.machine_desc.proofs.Far.{live_inside}
-use Rattle.machine_desc.proofs.Sites.{site_parts}
+use Rattle.machine_desc.proofs.{Far.live_inside, Sites.site_parts}
 use Rattle.app_graph.specs.declared.graphs.Net.{Net}
 use Rattle.ner_trees.specs.declared.growths.Grown.{Grown}
 use Rattle.ner_trees.specs.Growth.{IsGrown, distance_sum}

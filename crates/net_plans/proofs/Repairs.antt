@@ -3,13 +3,9 @@ use Rattle.std.proofs.Common.{◌≡◌, ℕ, zero, suc, ◌≤◌, List, [], �
 use Rattle.std.specs.List.{Contains}
 use Rattle.std.proofs.lemmas.List.Elements.{Contains-append_left, Contains-append_right, Contains-append_cases}
 use Rattle.std.proofs.lemmas.Option.{same_Some}
-use Rattle.spin_base.specs.declared.chips.Chip.{Chip}
-use Rattle.spin_base.specs.declared.chips.Dir.{Dir}
+use Rattle.spin_base.specs.{declared.chips.Chip.Chip, declared.chips.Dir.Dir}
 use Rattle.spin_base.specs.Links.{dir_number, opposite_of}
-use Rattle.machine_desc.specs.declared.trees.Edge.{Edge}
-use Rattle.machine_desc.specs.Description.{Description}
-use Rattle.machine_desc.specs.Live.{far_of}
-use Rattle.machine_desc.specs.RoutingTree.{IsTreeChip}
+use Rattle.machine_desc.specs.{declared.trees.Edge.Edge, Description.Description, Live.far_of, RoutingTree.IsTreeChip}
 use Rattle.machine_desc.proofs.Far.{far_back, live_ends, live_inside}
 use Rattle.machine_desc.proofs.Same.{same_dir, same_edge}
 use Rattle.machine_desc.proofs.TreeLemmas.{tree_end, tree_cases}

@@ -1,17 +1,12 @@
 -- Vertices have at most one placement.
 use Rattle.std.proofs.Common.{◌≡◌, ℕ, ◌≤◌, true, List, [], ◌∷◌, length, take, slice_get, Option, Some, None, MatchOption, filter, sym, ap, ◌∙◌, subst, inl, inr, arith, All}
-use Rattle.std.proofs.lemmas.Bool.{cases_lt}
-use Rattle.std.proofs.lemmas.Grind.{same_number_lists}
-use Rattle.std.proofs.lemmas.List.{take_all}
+use Rattle.std.proofs.lemmas.{Bool.cases_lt, Grind.same_number_lists, List.take_all}
 use Rattle.std.proofs.lemmas.List.Elements.{All-head, All-tail}
 use Rattle.std.proofs.lemmas.Option.{slice_get_cases, slice_get_within, get_or_from_slice_get}
 use Rattle.spin_base.proofs.Places.{slice_get_there}
 use Rattle.spin_base.proofs.Determined.{EachFollows, determined_begins}
-use Rattle.spin_base.specs.declared.chips.Chip.{Chip}
-use Rattle.spin_base.specs.declared.chips.Spot.{Spot}
-use Rattle.machine_desc.specs.declared.trees.Edge.{Edge}
-use Rattle.machine_desc.specs.Description.{Description}
-use Rattle.machine_desc.specs.Live.{is_live_chip}
+use Rattle.spin_base.specs.{declared.chips.Chip.Chip, declared.chips.Spot.Spot}
+use Rattle.machine_desc.specs.{declared.trees.Edge.Edge, Description.Description, Live.is_live_chip}
 use Rattle.machine_desc.proofs.Same.{same_spot}
 use Rattle.app_graph.specs.declared.graphs.Vertex.{Vertex}
 use Rattle.place_fit.specs.Curve.{hilbert, IsChipOrder}

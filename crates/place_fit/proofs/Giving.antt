@@ -1,30 +1,23 @@
 -- Cores and memory given back to a board.
 use Rattle.std.proofs.Common.{◌≡◌, ◌≢◌, ℕ, zero, suc, ◌-◌, ◌^◌, ◌<◌, ◌≤◌, ◌==◌, Bool, true, false, ◌||◌, cond, List, [], ◌∷◌, ◌++◌}
 use Rattle.std.proofs.Common.{length, set, get_or, refl, sym, ap, ap₂, ◌∙◌, subst, Some, slice_get, inl, inr, arith}
-use Rattle.std.specs.Int.{bit_at}
-use Rattle.std.specs.List.{list_any}
+use Rattle.std.specs.{Int.bit_at, List.list_any}
 use Rattle.std.proofs.lemmas.Bool.{cases_Bool, cases_eq, cases_lt, and_left, and_right, and_from, both_ways, cond-true, cond-false, or_from, or_left, or_parts, or_right}
 use Rattle.std.proofs.lemmas.Bool.Decides.{nat_tests}
 use Rattle.std.proofs.lemmas.List.{get_or-set_same, get_or-set_other, length-set}
-use Rattle.std.proofs.lemmas.List.Folds.{list_any-append}
-use Rattle.std.proofs.lemmas.Nat.Bits.{bit_at_above}
-use Rattle.std.proofs.lemmas.Option.{slice_get_within}
+use Rattle.std.proofs.lemmas.{List.Folds.list_any-append, Nat.Bits.bit_at_above, Option.slice_get_within}
 use Rattle.std.proofs.Math.Bool.{or-false}
 use Rattle.spin_base.proofs.Places.{slice_get_there}
-use Rattle.spin_base.specs.declared.chips.Chip.{Chip}
-use Rattle.spin_base.specs.declared.chips.Spot.{Spot}
+use Rattle.spin_base.specs.{declared.chips.Chip.Chip, declared.chips.Spot.Spot}
 use Rattle.spin_base.specs.Equality.{chip_eq, spot_eq}
 use Rattle.spin_base.proofs.Equality.{chip_eq_true, chip_eq_same}
-use Rattle.machine_desc.specs.Description.{Description}
-use Rattle.machine_desc.specs.Live.{is_usable}
-use Rattle.place_fit.specs.declared.boards.Board.{Board}
-use Rattle.place_fit.specs.declared.boards.Placed.{Placed}
+use Rattle.machine_desc.specs.{Description.Description, Live.is_usable}
+use Rattle.place_fit.specs.{declared.boards.Board.Board, declared.boards.Placed.Placed}
 use Rattle.place_fit.specs.Curve.{hilbert, IsCurveLevel}
 use Rattle.place_fit.specs.Quarters.{curve_place}
 use Rattle.place_fit.specs.Boards.{AreFreeOn, AreGiven, AreOthersKept, AreSettled, HaveOneGrid, IsBoard, IsFilled, IsFreed, IsJoined, IsWholeBoard, IsWith, has_spot_on, room_left}
 use Rattle.place_fit.specs.Placement.{core_spot}
-use Rattle.place_fit.proofs.CurveLaws.{place_at}
-use Rattle.place_fit.proofs.Standing.{usable_parts}
+use Rattle.place_fit.proofs.{CurveLaws.place_at, Standing.usable_parts}
 
 -- ---- one spot
 

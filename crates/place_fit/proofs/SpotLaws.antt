@@ -10,22 +10,17 @@ use Rattle.std.proofs.lemmas.List.Elements.{All-filter, All-nil, All-cons}
 use Rattle.std.proofs.lemmas.Option.{slice_get_within, slice_get-get_or, get_or_from_slice_get}
 use Rattle.std.proofs.Math.Bool.{and-true}
 use Rattle.spin_base.proofs.Places.{All-at, slice_get_there, slice_get-push_cases, slice_get-append_left, slice_get-pushed}
-use Rattle.spin_base.specs.declared.chips.Chip.{Chip}
-use Rattle.spin_base.specs.declared.chips.Spot.{Spot}
-use Rattle.spin_base.specs.Equality.{spot_eq}
+use Rattle.spin_base.specs.{declared.chips.Chip.Chip, declared.chips.Spot.Spot, Equality.spot_eq}
 use Rattle.spin_base.proofs.Equality.{spot_eq_same}
 use Rattle.spin_base.specs.declared.chips.Dir.{Dir}
 use Rattle.spin_base.specs.Links.{dir_number, dir_at}
 use Rattle.spin_base.proofs.Spots.{dir_at-dir_number}
-use Rattle.machine_desc.specs.declared.trees.Edge.{Edge}
-use Rattle.machine_desc.specs.Description.{Description}
+use Rattle.machine_desc.specs.{declared.trees.Edge.Edge, Description.Description}
 use Rattle.machine_desc.specs.Live.{is_live_chip, is_live_link, is_usable, is_device_place, IsUsable, IsSite}
 use Rattle.machine_desc.proofs.Same.{same_edge, same_dir, below_six}
 use Rattle.machine_desc.proofs.Sites.{usable_site}
-use Rattle.app_graph.specs.declared.graphs.Vertex.{Vertex}
-use Rattle.app_graph.specs.ValidGraph.{HaveDifferentDevices}
-use Rattle.place_fit.specs.declared.boards.Board.{Board}
-use Rattle.place_fit.specs.declared.boards.Placed.{Placed}
+use Rattle.app_graph.specs.{declared.graphs.Vertex.Vertex, ValidGraph.HaveDifferentDevices}
+use Rattle.place_fit.specs.{declared.boards.Board.Board, declared.boards.Placed.Placed}
 use Rattle.place_fit.specs.Curve.{hilbert, IsCurveLevel}
 use Rattle.place_fit.specs.Quarters.{curve_place}
 use Rattle.place_fit.proofs.CurveLaws.{at_place}

@@ -4,25 +4,21 @@ use Rattle.std.proofs.Common.{[], ◌∷◌, ◌++◌, length, set, get_or, refl
 use Rattle.std.specs.Int.{bit_at, trailing_zeros, w32}
 use Rattle.std.specs.List.{list_any}
 use Rattle.std.proofs.lemmas.Bool.{cases_lt, cases_eq, cases_Bool, and_left, and_parts, and_right, and_from, or_left, or_right, not-true, cond-true, cond-false}
-use Rattle.std.proofs.lemmas.Bool.Decides.{nat_tests}
-use Rattle.std.proofs.lemmas.List.Folds.{list_any-append}
+use Rattle.std.proofs.lemmas.{Bool.Decides.nat_tests, List.Folds.list_any-append}
 use Rattle.std.proofs.lemmas.Nat.Bits.{bit_at-trailing_zeros, bit_at-zero}
 use Rattle.std.proofs.lemmas.Option.{slice_get_within}
 use Rattle.std.proofs.lemmas.List.{get_or-set_same, get_or-set_other, length_push}
 use Rattle.std.proofs.Math.Bool.{and-true}
 use Rattle.spin_base.proofs.Tests.{or_neither}
-use Rattle.spin_base.specs.declared.chips.Chip.{Chip}
-use Rattle.spin_base.specs.declared.chips.Spot.{Spot}
+use Rattle.spin_base.specs.{declared.chips.Chip.Chip, declared.chips.Spot.Spot}
 use Rattle.spin_base.specs.Equality.{chip_eq, spot_eq}
 use Rattle.spin_base.proofs.Equality.{chip_eq_true, chip_eq_same}
-use Rattle.machine_desc.specs.declared.trees.Edge.{Edge}
-use Rattle.machine_desc.specs.Description.{Description}
+use Rattle.machine_desc.specs.{declared.trees.Edge.Edge, Description.Description}
 use Rattle.machine_desc.specs.Live.{is_live_chip, is_usable}
 use Rattle.machine_desc.proofs.Far.{live_inside, inside_parts}
 use Rattle.machine_desc.proofs.Same.{same_spot}
 use Rattle.app_graph.specs.declared.graphs.Vertex.{Vertex}
-use Rattle.place_fit.specs.declared.boards.Board.{Board}
-use Rattle.place_fit.specs.declared.boards.Placed.{Placed}
+use Rattle.place_fit.specs.{declared.boards.Board.Board, declared.boards.Placed.Placed}
 use Rattle.place_fit.specs.Curve.{hilbert, IsCurveLevel}
 use Rattle.place_fit.specs.Quarters.{curve_place}
 use Rattle.place_fit.specs.Boards.{AreFreeOn, IsBoard, IsFairBoard, IsFilled, IsParted, IsWholeBoard, room_left}

@@ -3,8 +3,7 @@ use Rattle.std.proofs.Common.{◌≡◌, true, List, ap, ◌∙◌}
 use Rattle.std.specs.List.{All, list_any}
 use Rattle.std.proofs.lemmas.List.Elements.{All-contains}
 use Rattle.spin_base.proofs.Members.{among_contains, any_among}
-use Rattle.spin_base.specs.declared.chips.Spot.{Spot}
-use Rattle.spin_base.specs.Equality.{spot_eq}
+use Rattle.spin_base.specs.{declared.chips.Spot.Spot, Equality.spot_eq}
 use Rattle.spin_base.proofs.Equality.{spot_eq_true}
 use Rattle.machine_desc.specs.Description.{Description}
 use Rattle.machine_desc.specs.Live.{is_usable, IsUsable}

@@ -1,24 +1,18 @@
 -- What is amiss with a net, chip by chip in the order of their indices, and net by net.
 use Rattle.std.proofs.Common.{◌≡◌, ℕ, ◌+◌, ◌*◌, ◌<◌, ◌≤◌, List, [], ◌∷◌, length, get_or, Option, Some, None, refl, sym, ap, ◌∙◌, subst, arith, inl, inr, cond, true, false, Bool, ◌==◌}
 use Rattle.std.specs.Prelude.{All, slice_get}
-use Rattle.std.proofs.lemmas.Bool.{cases_lt}
-use Rattle.std.proofs.lemmas.List.{get_or_default}
+use Rattle.std.proofs.lemmas.{Bool.cases_lt, List.get_or_default}
 use Rattle.std.proofs.lemmas.List.Elements.{All-nil, All-head, All-tail}
 use Rattle.std.proofs.lemmas.Option.{none-some, slice_get-get_or}
-use Rattle.spin_base.specs.declared.blocks.ChipTable.{ChipTable}
-use Rattle.spin_base.specs.declared.blocks.Entry.{Entry}
-use Rattle.spin_base.specs.declared.chips.Chip.{Chip}
-use Rattle.spin_base.specs.declared.chips.Port.{Port}
-use Rattle.spin_base.specs.declared.routes.Route.{Route}
-use Rattle.spin_base.specs.Outputs.{nothing}
+use Rattle.spin_base.specs.{declared.blocks.ChipTable.ChipTable, declared.blocks.Entry.Entry, declared.chips.Chip.Chip}
+use Rattle.spin_base.specs.{declared.chips.Port.Port, declared.routes.Route.Route, Outputs.nothing}
 use Rattle.machine_desc.specs.Description.{Description}
 use Rattle.machine_desc.specs.Live.{IsInside, index_of}
 use Rattle.machine_desc.proofs.Far.{index_below}
 use Rattle.machine_desc.specs.declared.nets.NetPlan.{NetPlan}
 use Rattle.table_load.specs.declared.tables.Image.{Image}
 use Rattle.table_load.specs.Images.{IsRow, IsTable, IsValid}
-use Rattle.table_load.specs.Memories.{rows_of_index}
-use Rattle.table_load.specs.Memories.{table_index}
+use Rattle.table_load.specs.{Memories.rows_of_index, Memories.table_index}
 use Rattle.net_tables.specs.Marks.{IsRouted, TellsPort, TellsPorts, TellsRoutes}
 use Rattle.net_tables.proofs.Trees.{chips_inside, comes_in_tree}
 use Rattle.net_tables.specs.PlainTable.{HasChip}

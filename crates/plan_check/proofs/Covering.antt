@@ -1,13 +1,11 @@
 -- A covered table is sound where the table was, and what holds of all blocks that it serves holds of all that the table served.
 use Rattle.std.proofs.Common.{◌≡◌, ℕ, suc, ◌+◌, ◌-◌, ◌<◌, ◌≤◌, ◌==◌, Bool, true, false, cond, not, List, [], ◌∷◌, length, get_or, take, drop, refl, sym, ap, ◌∙◌, subst, arith, inl, inr, length-take, length-drop, get_or-take, get_or-drop}
-use Rattle.std.specs.Prelude.{All}
-use Rattle.std.specs.List.{flat_map}
+use Rattle.std.specs.{Prelude.All, List.flat_map}
 use Rattle.std.proofs.lemmas.Bool.{cases_Bool, cases_lt, eqb-true, not_from_false}
 use Rattle.std.proofs.lemmas.List.{get_or_default}
 use Rattle.std.proofs.lemmas.List.Elements.{All-nil, All-cons, All-head, All-tail, All-map, All-weaker, All-filter}
 use Rattle.spin_base.specs.declared.routes.Route.{Route}
-use Rattle.tern_word.specs.declared.tables.Alias.{Alias}
-use Rattle.tern_word.specs.declared.tables.Row.{Row}
+use Rattle.tern_word.specs.{declared.tables.Alias.Alias, declared.tables.Row.Row}
 use Rattle.tern_word.specs.SoundTable.{IsSound, Original, served_by, served}
 use Rattle.cover_merge.specs.Merge.{has_row, kept, rows_at, merge_rows, merged_row, insert_place, after, IsLegal}
 use Rattle.cover_merge.proofs.Legal.{legal_from_checks}

@@ -6,10 +6,7 @@ use Rattle.std.proofs.lemmas.Bool.{false_from_ne_true}
 use Rattle.std.proofs.lemmas.List.Elements.{All-head, All-tail}
 use Rattle.std.proofs.lemmas.Option.{get_or_from_slice_get, slice_get_within}
 use Rattle.spin_base.proofs.Places.{All-at}
-use Rattle.spin_base.specs.declared.blocks.Block.{Block}
-use Rattle.spin_base.specs.declared.blocks.Entry.{Entry}
-use Rattle.spin_base.specs.declared.chips.Chip.{Chip}
-use Rattle.spin_base.specs.declared.chips.Port.{Port}
+use Rattle.spin_base.specs.{declared.blocks.Block.Block, declared.blocks.Entry.Entry, declared.chips.Chip.Chip, declared.chips.Port.Port}
 use Rattle.spin_base.specs.declared.routes.Route.{Route}
 use Rattle.spin_base.specs.Lookup.{matches, default_route, lookup}
 use Rattle.spin_base.specs.Outputs.{has}

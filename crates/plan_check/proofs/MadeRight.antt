@@ -7,16 +7,12 @@ use Rattle.std.proofs.lemmas.List.Sorted.{All-permutation, Contains-permutation}
 use Rattle.spin_base.proofs.Members.{Contains-map}
 use Rattle.spin_base.proofs.Pairs.{AllPairs-map, AllPairs-permutation}
 use Rattle.spin_base.proofs.Places.{slice_get_there}
-use Rattle.spin_base.specs.declared.blocks.Block.{Block}
-use Rattle.spin_base.specs.declared.blocks.Entry.{Entry}
-use Rattle.spin_base.specs.declared.chips.Chip.{Chip}
+use Rattle.spin_base.specs.{declared.blocks.Block.Block, declared.blocks.Entry.Entry, declared.chips.Chip.Chip}
 use Rattle.machine_desc.specs.Description.{Description}
 use Rattle.machine_desc.specs.Live.{IsInside, index_of}
 use Rattle.machine_desc.proofs.Far.{index_below}
 use Rattle.machine_desc.specs.declared.nets.NetPlan.{NetPlan}
-use Rattle.tern_word.specs.declared.tables.Alias.{Alias}
-use Rattle.tern_word.specs.declared.tables.Row.{Row}
-use Rattle.tern_word.specs.Entries.{entry_of}
+use Rattle.tern_word.specs.{declared.tables.Alias.Alias, declared.tables.Row.Row, Entries.entry_of}
 use Rattle.tern_word.specs.Ternary.{Intersects, LiesIn}
 use Rattle.tern_word.specs.SoundTable.{IsSound, Original, served_by, served}
 use Rattle.tern_word.proofs.BlockLaws.{Intersects-sym}
@@ -30,8 +26,7 @@ use Rattle.cover_merge.specs.Merge.{rows_at}
 use Rattle.plan_check.specs.declared.verdicts.Verdict.TheVariants.{Right}
 use Rattle.plan_check.specs.MadeImages.{IsFinalAt, IsImageOf}
 use Rattle.plan_check.specs.Verdicts.{GetsRoute, IsVerdict}
-use Rattle.plan_check.proofs.KeptBlocks.{kept_gets}
-use Rattle.plan_check.proofs.Covering.{covered_sound}
+use Rattle.plan_check.proofs.{KeptBlocks.kept_gets, Covering.covered_sound}
 
 -- ---- plain tables are sound
 

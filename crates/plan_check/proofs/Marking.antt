@@ -4,8 +4,7 @@ use Rattle.std.proofs.lemmas.Bool.{cases_eq, cases_lt, false≢true}
 use Rattle.std.proofs.lemmas.List.{get_or-set_same, get_or-set_other, get_or-replicate, get_or_default, length-replicate, length-set}
 use Rattle.spin_base.proofs.Tests.{answers_no}
 use Rattle.spin_base.specs.declared.chips.Chip.{Chip}
-use Rattle.machine_desc.specs.declared.trees.Edge.{Edge}
-use Rattle.machine_desc.specs.Description.{Description}
+use Rattle.machine_desc.specs.{declared.trees.Edge.Edge, Description.Description}
 use Rattle.machine_desc.specs.Live.{IsInside, IsLiveLink, index_of}
 use Rattle.machine_desc.specs.RoutingTree.{end_of}
 use Rattle.machine_desc.proofs.Far.{index_below, same_index, far_inside, live_inside, live_ends}

@@ -4,10 +4,7 @@ use Rattle.std.specs.Prelude.{slice_get}
 use Rattle.std.proofs.lemmas.Bool.{cases_lt}
 use Rattle.std.proofs.lemmas.Option.{slice_get-get_or, slice_get_within}
 use Rattle.spin_base.proofs.Tests.{fails}
-use Rattle.spin_base.specs.declared.blocks.Block.{Block}
-use Rattle.spin_base.specs.declared.blocks.Entry.{Entry}
-use Rattle.spin_base.specs.declared.chips.Port.{Port}
-use Rattle.spin_base.specs.declared.routes.Route.{Route}
+use Rattle.spin_base.specs.{declared.blocks.Block.Block, declared.blocks.Entry.Entry, declared.chips.Port.Port, declared.routes.Route.Route}
 use Rattle.spin_base.specs.Lookup.{default_route}
 use Rattle.plan_check.specs.declared.flaws.Flaw.{Flaw}
 use Rattle.plan_check.specs.declared.flaws.Flaw.TheVariants.{Wrong, Split}

@@ -7,11 +7,8 @@ use Rattle.std.proofs.lemmas.List.{get_or-set_same, get_or-set_other, get_or-rep
 use Rattle.std.proofs.lemmas.List.Elements.{All-nil, All-head, All-map, All-contains, Contains-append_left, Contains-push, Contains-push_cases}
 use Rattle.spin_base.proofs.Members.{Contains-none, Contains-first}
 use Rattle.spin_base.proofs.Pairs.{All-from_map}
-use Rattle.spin_base.specs.declared.chips.Chip.{Chip}
-use Rattle.spin_base.specs.declared.chips.Spot.{Spot}
-use Rattle.spin_base.specs.Links.{dir_number}
-use Rattle.machine_desc.specs.declared.trees.Edge.{Edge}
-use Rattle.machine_desc.specs.Description.{Description}
+use Rattle.spin_base.specs.{declared.chips.Chip.Chip, declared.chips.Spot.Spot, Links.dir_number}
+use Rattle.machine_desc.specs.{declared.trees.Edge.Edge, Description.Description}
 use Rattle.machine_desc.specs.Live.{IsInside, is_inside, IsLiveLink, index_of, chip_of}
 use Rattle.machine_desc.specs.RoutingTree.{end_of, IsTreeChip, IsPath, IsRoutingTree}
 use Rattle.machine_desc.proofs.Far.{index_below, same_index, far_inside, live_inside, live_ends}

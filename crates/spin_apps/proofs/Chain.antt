@@ -7,8 +7,7 @@ use Rattle.std.specs.List.{list_any, slice_get}
 use Rattle.std.specs.Prelude.{is_some, option_map, true}
 use Rattle.machine_desc.specs.Description.{Description}
 use Rattle.job_requests.specs.declared.steps.Step.{Step, TheVariants.Load, TheVariants.Unload, TheVariants.Run}
-use Rattle.job_requests.specs.{Steps.is_load, Valid.HasFirstMachine, Valid.IsValidJob, Valid.IsValidStep}
-use Rattle.job_requests.specs.declared.steps.AppJob.{AppJob}
+use Rattle.job_requests.specs.{Steps.is_load, Valid.HasFirstMachine, Valid.IsValidJob, Valid.IsValidStep, declared.steps.AppJob.AppJob}
 use Rattle.app_loads.specs.{Applications.AreApps, Host.Host}
 use Rattle.app_loads.specs.declared.answers.LoadRefusal.TheVariants.{Loaded, MemoryOut, KeysOut, RowsOut}
 use Rattle.app_loads.specs.Opening.{bare_host}
@@ -17,8 +16,7 @@ use Rattle.spin_apps.specs.declared.hosts.LoadAnswer.TheVariants.{Done, NoRoom, 
 use Rattle.spin_apps.specs.declared.hosts.UnloadAnswer.{UnloadAnswer, TheVariants.Got, TheVariants.NotLoaded, TheVariants.Waiting}
 use Rattle.spin_apps.specs.Answers.{Answers, AreAnswered, AreAnsweredFrom, IsLoadAnswer, IsUnloadAnswer, host_at}
 use Rattle.spin_apps.specs.Hosting.{IsAnsweredBy, HasAddedLine, FindHosts, FindsHost, packet_count_of}
-use Rattle.spin_apps.specs.Lines.{load_line}
-use Rattle.spin_apps.specs.declared.answers.Answered.{Answered}
+use Rattle.spin_apps.specs.{Lines.load_line, declared.answers.Answered.Answered}
 use Rattle.spin_base.specs.declared.wants.Memory.{Memory}
 
 -- What the steps that are left are answered, behind the text so far, is what all steps are answered.

@@ -3,21 +3,15 @@ use Rattle.std.proofs.Common.{◌≡◌, ℕ, ◌+◌, ◌-◌, ◌*◌, ◌/◌
 use Rattle.std.specs.Prelude.{MatchOption}
 use Rattle.std.specs.List.{All, Contains, list_any, slice_get}
 use Rattle.std.proofs.lemmas.Bool.{and_from, and_parts, both_ways, cases_Bool, leb-true, not-true, or_from, or_parts}
-use Rattle.std.proofs.lemmas.List.Elements.{All-weaker}
-use Rattle.std.proofs.lemmas.List.Folds.{list_any-append}
-use Rattle.std.proofs.lemmas.Option.{slice_get-get_or}
+use Rattle.std.proofs.lemmas.{List.Elements.All-weaker, List.Folds.list_any-append, Option.slice_get-get_or}
 use Rattle.spin_base.proofs.Members.{Contains-at, Contains-filter, Contains-from_filter, among_any, among_contains, any_among, contains_among}
 use Rattle.spin_base.proofs.Places.{All-at, All-each, slice_get_there}
 use Rattle.spin_base.proofs.Ranges.{slice_get-map_range}
-use Rattle.spin_base.specs.declared.chips.Spot.{Spot}
-use Rattle.spin_base.specs.Equality.{spot_eq}
+use Rattle.spin_base.specs.{declared.chips.Spot.Spot, Equality.spot_eq}
 use Rattle.spin_base.proofs.Equality.{spot_eq_same, spot_eq_true}
-use Rattle.machine_desc.specs.declared.trees.Edge.{Edge}
-use Rattle.machine_desc.specs.Description.{Description}
+use Rattle.machine_desc.specs.{declared.trees.Edge.Edge, Description.Description}
 use Rattle.machine_desc.specs.Live.{index_of, chip_of, is_usable, IsInside, IsSite, IsUsable}
-use Rattle.machine_desc.proofs.Far.{index_below}
-use Rattle.machine_desc.proofs.Same.{same_spot}
-use Rattle.machine_desc.proofs.Sites.{usable_site}
+use Rattle.machine_desc.proofs.{Far.index_below, Same.same_spot, Sites.usable_site}
 use Rattle.app_graph.specs.declared.graphs.Vertex.{Vertex}
 use Rattle.mesh_core.proofs.Moves.{chip_of-index_of}
 use Rattle.place_fit.specs.Placement.{HasDeviceRoom, IsCoreFor, IsPlacement, device_spot}

@@ -3,24 +3,17 @@ use Rattle.std.proofs.Common.{◌≡◌, ℕ, refl, sym, ap, ◌∙◌, arith, L
 use Rattle.std.specs.List.{All, list_any}
 use Rattle.std.proofs.lemmas.List.Folds.{list_any-append}
 use Rattle.std.proofs.Math.Bool.{and-true}
-use Rattle.spin_base.specs.declared.chips.Spot.{Spot}
-use Rattle.spin_base.specs.Equality.{spot_eq}
+use Rattle.spin_base.specs.{declared.chips.Spot.Spot, Equality.spot_eq}
 use Rattle.machine_desc.specs.Description.{Description}
 use Rattle.machine_desc.specs.Live.{is_live_chip, is_usable, IsUsable}
 use Rattle.mesh_core.specs.State.{State}
 use Rattle.place_fit.specs.Boards.{AreFreeOn, HaveOneGrid, IsWith, IsWithout}
-use Rattle.place_fit.specs.Placement.{core_spot}
-use Rattle.place_fit.specs.declared.boards.Board.{Board}
+use Rattle.place_fit.specs.{Placement.core_spot, declared.boards.Board.Board}
 use Rattle.place_fit.proofs.UsableSpots.{any_usable}
-use Rattle.app_loads.specs.Applications.{AreApps}
-use Rattle.app_loads.specs.declared.answers.Ended.{Ended}
-use Rattle.app_loads.specs.declared.loaded.LoadedApp.{LoadedApp}
+use Rattle.app_loads.specs.{Applications.AreApps, declared.answers.Ended.Ended, declared.loaded.LoadedApp.LoadedApp}
 use Rattle.app_loads.specs.declared.plans.AppPlan.{AppPlan}
 use Rattle.app_loads.specs.Host.{Host, all_spots, is_spot_taken}
-use Rattle.app_loads.specs.Loading.{HasLoaded}
-use Rattle.app_loads.specs.Leaving.{others_than}
-use Rattle.app_loads.specs.Opening.{bare_host}
-use Rattle.app_loads.specs.Unloading.{HasUnloaded}
+use Rattle.app_loads.specs.{Loading.HasLoaded, Leaving.others_than, Opening.bare_host, Unloading.HasUnloaded}
 use Rattle.app_loads.proofs.SpotsOf.{spots_beside, spots_usable}
 use Rattle.spin_apps.specs.Free.{free_but, free_machine, unusable_spots}
 use Rattle.spin_apps.proofs.FreeSpots.{free_is}

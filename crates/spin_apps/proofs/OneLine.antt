@@ -6,16 +6,14 @@ use Rattle.std.specs.List.{All, AllZip, Contains, filter, slice_get}
 use Rattle.spin_base.proofs.Members.{among_any, contains_among}
 use Rattle.spin_base.proofs.Places.{AllZip-at_first, AllZip-at_second, one_item_at}
 use Rattle.spin_base.specs.declared.{blocks.Block.Block, chips.Chip.Chip, chips.Spot.Spot}
-use Rattle.machine_desc.specs.{Description.Description, Live.IsSite}
-use Rattle.machine_desc.specs.declared.nets.NetPlan.{NetPlan}
+use Rattle.machine_desc.specs.{Description.Description, Live.IsSite, declared.nets.NetPlan.NetPlan}
 use Rattle.app_graph.specs.declared.graphs.Net.{Net}
 use Rattle.net_plans.proofs.CutOffLaws.{one_first_net}
 use Rattle.net_plans.proofs.Determined as plans
 use Rattle.net_plans.specs.CutOffTargets.{IsFirstNetCutOff}
 use Rattle.place_fit.proofs.Determined as places
 use Rattle.place_fit.specs.Placement.{HasNoRoom, IsPlacement}
-use Rattle.job_requests.specs.declared.steps.AppJob.{AppJob}
-use Rattle.job_requests.specs.Valid.{IsValidJob}
+use Rattle.job_requests.specs.{declared.steps.AppJob.AppJob, Valid.IsValidJob}
 use Rattle.app_loads.specs.declared.answers.LoadRefusal.{LoadRefusal, TheVariants.Loaded, TheVariants.MemoryOut, TheVariants.KeysOut, TheVariants.RowsOut}
 use Rattle.app_loads.specs.declared.{loaded.LoadedApp.LoadedApp, loaded.Range.Range, plans.AppNet.AppNet, plans.AppPlan.AppPlan}
 use Rattle.app_loads.specs.{Alike.AreAlike, Applications.AreApps, Claims.AreServed, Claims.IsRefusalDue, Claims.claims_of}

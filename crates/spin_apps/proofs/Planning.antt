@@ -1,27 +1,21 @@
 -- The plan of a job on free cores.
 use Rattle.std.proofs.Common.{◌≡◌, ℕ, ◌+◌, ◌^◌, ◌<◌, refl, sym, ap, ◌∙◌, subst, arith, inl, inr, List, [], ◌∷◌, ◌++◌, length, map, take, false, Some, Result, Ok, Err, IfOk}
 use Rattle.std.specs.List.{All, AllZip, Contains, slice_get}
-use Rattle.std.proofs.lemmas.Bool.{cases_lt}
-use Rattle.std.proofs.lemmas.List.{length-map}
+use Rattle.std.proofs.lemmas.{Bool.cases_lt, List.length-map}
 use Rattle.std.proofs.lemmas.List.Elements.{All-push, All-weaker}
 use Rattle.std.proofs.lemmas.Slice.Zip.{AllZip-long, all_zipped_more}
 use Rattle.spin_base.proofs.Members.{Contains-at}
 use Rattle.spin_base.proofs.Places.{All-each, AllZip-at_first, one_item_at, slice_get_there, take_more_at}
-use Rattle.spin_base.specs.declared.blocks.Block.{Block}
-use Rattle.spin_base.specs.declared.chips.Spot.{Spot}
-use Rattle.spin_base.specs.declared.copies.Packet.{Packet}
-use Rattle.machine_desc.specs.Description.{Description}
-use Rattle.machine_desc.specs.RoutingTree.{IsRoutingTree}
-use Rattle.app_graph.specs.declared.graphs.Net.{Net}
-use Rattle.app_graph.specs.declared.graphs.Vertex.{Vertex}
+use Rattle.spin_base.specs.{declared.blocks.Block.Block, declared.chips.Spot.Spot, declared.copies.Packet.Packet}
+use Rattle.machine_desc.specs.{Description.Description, RoutingTree.IsRoutingTree}
+use Rattle.app_graph.specs.{declared.graphs.Net.Net, declared.graphs.Vertex.Vertex}
 use Rattle.app_graph.proofs.Keys.{keys_of-at}
 use Rattle.app_graph.specs.RunPart.{IsPacketOf as IsRunPacket, key_count_of}
 use Rattle.app_graph.specs.ValidGraph.{IsValidNet}
 use Rattle.machine_desc.specs.declared.nets.NetPlan.{NetPlan}
 use Rattle.net_plans.specs.CutOffTargets.{HasNoneCutOff, IsFirstNetCutOff}
 use Rattle.net_plans.specs.NetPlans.{IsPlannedNet}
-use Rattle.app_loads.specs.declared.plans.AppNet.{AppNet}
-use Rattle.app_loads.specs.declared.plans.AppPlan.{AppPlan}
+use Rattle.app_loads.specs.{declared.plans.AppNet.AppNet, declared.plans.AppPlan.AppPlan}
 use Rattle.app_loads.specs.Host.{Host, is_spot_taken}
 use Rattle.app_loads.specs.Plans.{IsAppNet, IsPacketOfApp, IsPlan, MayLoad}
 use Rattle.job_requests.specs.Valid.{IsValidJob}
@@ -29,10 +23,7 @@ use Rattle.app_loads.specs.declared.answers.LoadRefusal.TheVariants.{Loaded, Mem
 use Rattle.job_requests.specs.declared.steps.AppJob.{AppJob}
 use Rattle.spin_apps.specs.declared.hosts.LoadAnswer.{LoadAnswer}
 use Rattle.spin_apps.specs.declared.hosts.LoadAnswer.TheVariants.{Done, NoRoom, CutOff, Refused}
-use Rattle.spin_apps.specs.Answers.{IsLoadAnswer}
-use Rattle.spin_apps.specs.Hosting.{IsTaken}
-use Rattle.spin_apps.specs.Free.{free_machine}
-use Rattle.spin_apps.specs.declared.plans.PlanErr.{PlanErr}
+use Rattle.spin_apps.specs.{Answers.IsLoadAnswer, Hosting.IsTaken, Free.free_machine, declared.plans.PlanErr.PlanErr}
 use Rattle.spin_apps.specs.declared.plans.PlanErr.TheVariants as plans
 use Rattle.spin_apps.specs.Making.{IsNoPlanOn, IsPlaced, unplaced, unrouted, unrouted_net}
 use Rattle.spin_apps.specs.Plans.{IsNetFor, IsPlanFor, IsWhyUnplanned}
@@ -43,9 +34,7 @@ use Rattle.net_plans.specs.Cause.{IsNetCause, IsCauseOne}
 use Rattle.net_plans.specs.declared.nets.NetErr.{NetErr}
 use Rattle.net_plans.specs.declared.nets.NetErr.TheVariants as nets
 use Rattle.place_fit.specs.Cause.{IsPlacementCause as IsPlaceCause}
-use Rattle.place_fit.specs.Boards.{AreFreeOn}
-use Rattle.place_fit.specs.declared.boards.Board.{Board}
-use Rattle.place_fit.specs.declared.placing.PlaceErr.{PlaceErr}
+use Rattle.place_fit.specs.{Boards.AreFreeOn, declared.boards.Board.Board, declared.placing.PlaceErr.PlaceErr}
 use Rattle.place_fit.specs.declared.placing.PlaceErr.TheVariants as places
 
 -- a net with the source, the targets and the tree of a plan

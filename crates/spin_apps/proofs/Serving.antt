@@ -2,19 +2,13 @@
 use Rattle.std.proofs.Common.{◌≡◌, ℕ, List, ◌++◌, Option, Some, refl, sym, subst, ap, Result, Ok, Err, IfOk, OnOk, OnErr}
 use Rattle.machine_desc.specs.Description.{Description}
 use Rattle.mesh_core.specs.State.{State}
-use Rattle.place_fit.specs.Boards.{AreFreeOn}
-use Rattle.place_fit.specs.declared.boards.Board.{Board}
-use Rattle.app_loads.specs.Applications.{AreApps}
-use Rattle.app_loads.specs.Host.{Host}
-use Rattle.app_loads.specs.Loading.{HasLoaded}
-use Rattle.app_loads.specs.Unloading.{HasUnloaded}
-use Rattle.app_loads.specs.declared.answers.Ended.{Ended}
+use Rattle.place_fit.specs.{Boards.AreFreeOn, declared.boards.Board.Board}
+use Rattle.app_loads.specs.{Applications.AreApps, Host.Host, Loading.HasLoaded, Unloading.HasUnloaded, declared.answers.Ended.Ended}
 use Rattle.app_loads.specs.declared.plans.AppPlan.{AppPlan}
 use Rattle.job_requests.specs.declared.steps.Step.TheVariants.{Run}
 use Rattle.spin_apps.specs.Answers.{HasDrained}
 use Rattle.spin_apps.specs.Free.{free_but, free_machine}
-use Rattle.spin_apps.specs.Hosting.{HasAddedLine}
-use Rattle.spin_apps.specs.Lines.{run_line}
+use Rattle.spin_apps.specs.{Hosting.HasAddedLine, Lines.run_line}
 use Rattle.spin_apps.proofs.Keeping.{loaded_free}
 
 loaded_machine : (old new : Host) (number : ℕ) (plan : AppPlan) → HasLoaded old number plan new → new.mesh.setup.machine ≡ old.mesh.setup.machine

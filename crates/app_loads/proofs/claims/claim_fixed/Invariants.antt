@@ -1,7 +1,6 @@
 use Rattle.std.proofs.Common.{◌≡◌, ◌++◌, take}
 use Rattle.spin_base.specs.Gathered.{gathered}
-use Rattle.app_loads.specs.declared.plans.AppNet.{AppNet}
-use Rattle.app_loads.specs.Claims.{fixed_claim}
+use Rattle.app_loads.specs.{declared.plans.AppNet.AppNet, Claims.fixed_claim}
 use Rattle.app_loads.proofs.claims.claim_fixed.Given as goal
 
 abbrev pub invariant-loop-net : goal.invariant-loop-net

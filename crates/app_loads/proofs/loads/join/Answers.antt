@@ -1,8 +1,6 @@
 use Rattle.std.proofs.Common.{subst, sym, List, refl}
 use Rattle.machine_desc.specs.Description.{Description}
-use Rattle.app_loads.specs.declared.loaded.Range.{Range}
-use Rattle.app_loads.specs.Claims.{claims_of}
-use Rattle.app_loads.specs.Plans.{IsPlan}
+use Rattle.app_loads.specs.{declared.loaded.Range.Range, Claims.claims_of, Plans.IsPlan}
 use Rattle.app_loads.specs.Taking.{AreFreeAgain, AreRegionsOf, AreTaken, HaveRoom, IsDueAlways}
 use Rattle.app_loads.proofs.JoinLaws.{can_settle, served_on}
 use Rattle.app_loads.proofs.loads.join.Goals as goal

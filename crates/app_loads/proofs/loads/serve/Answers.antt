@@ -1,6 +1,5 @@
 use Rattle.std.proofs.Common.{◌∙◌, ◌≤◌, sym, subst, List, length}
-use Rattle.app_loads.specs.declared.loaded.Claim.{Claim}
-use Rattle.app_loads.specs.declared.loaded.Range.{Range}
+use Rattle.app_loads.specs.{declared.loaded.Claim.Claim, declared.loaded.Range.Range}
 use Rattle.app_loads.specs.Claims.{AreBlocks, AreServed, claims_of}
 use Rattle.app_loads.specs.Joining.{AreKeyed}
 use Rattle.app_loads.specs.Taking.{AreServedAlways, AreTaken, AreTakenAlways, HaveRoom}

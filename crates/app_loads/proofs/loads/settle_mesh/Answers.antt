@@ -3,8 +3,7 @@ use Rattle.std.specs.List.{All}
 use Rattle.std.proofs.lemmas.List.{with_items_is}
 use Rattle.machine_desc.specs.Description.{Description}
 use Rattle.net_tables.specs.PlainTable.{AreRoutedApart}
-use Rattle.app_loads.specs.Host.{nets_of}
-use Rattle.app_loads.specs.declared.loaded.Range.{Range}
+use Rattle.app_loads.specs.{Host.nets_of, declared.loaded.Range.Range}
 use Rattle.app_loads.specs.Regions.{IsRangeWithin, chip_count}
 use Rattle.app_loads.specs.Writing.{HaveRooms, tables_in}
 use Rattle.mesh_core.specs.State.{State}

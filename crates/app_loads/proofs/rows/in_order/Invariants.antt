@@ -1,6 +1,5 @@
 use Rattle.std.proofs.Common.{◌≡◌, drop, length, take}
-use Rattle.std.specs.List.{AllZip}
-use Rattle.std.specs.Vec.Iter.{into_iter_items}
+use Rattle.std.specs.{List.AllZip, Vec.Iter.into_iter_items}
 use Rattle.net_tables.specs.Marks.{IsTableOf}
 use Rattle.app_loads.specs.Writing.{tables_in}
 use Rattle.app_loads.proofs.rows.in_order.Given as goal

@@ -2,8 +2,7 @@ use Rattle.std.proofs.Common.{List, subst}
 use Rattle.machine_desc.specs.declared.nets.NetPlan.{NetPlan}
 use Rattle.net_tables.specs.Marks.{AreBlocksOf}
 use Rattle.net_tables.proofs.Whole.{all_plain_tables}
-use Rattle.app_loads.specs.Host.{nets_of}
-use Rattle.app_loads.specs.Writing.{tables_in}
+use Rattle.app_loads.specs.{Host.nets_of, Writing.tables_in}
 use Rattle.app_loads.proofs.rows.originals_of.Goals as goal
 
 pub returns : goal.returns

@@ -3,8 +3,7 @@ use Rattle.std.proofs.lemmas.List.Elements.{All-weaker}
 use Rattle.std.specs.Prelude.{IfSome}
 use Rattle.mesh_core.specs.State.{State, IsMesh}
 use Rattle.mesh_drain.specs.Draining.{SendAlone}
-use Rattle.app_loads.specs.declared.loaded.Range.{Range}
-use Rattle.app_loads.specs.{Leaving.IsLeastUnderWay, Regions.IsRangeWithin, Taking.HaveRoom}
+use Rattle.app_loads.specs.{declared.loaded.Range.Range, Leaving.IsLeastUnderWay, Regions.IsRangeWithin, Taking.HaveRoom}
 use Rattle.app_loads.proofs.LeftMesh.{can_clear, parted_whole, taken_still}
 use Rattle.app_loads.proofs.unloads.leave_mesh.Goals as goal
 

@@ -1,7 +1,6 @@
 use Rattle.std.proofs.Common.{◌≡◌, ◌*◌, Some, None, length, get_or, sym, subst, ◌∙◌}
 use Rattle.std.proofs.lemmas.List.{take_all}
-use Rattle.machine_desc.specs.Description.{Description}
-use Rattle.machine_desc.specs.RoutingTree.{end_of}
+use Rattle.machine_desc.specs.{Description.Description, RoutingTree.end_of}
 use Rattle.machine_desc.proofs.Far.{far_inside}
 use Rattle.ner_trees.proofs.Cutting.{marked_more, marked_past}
 use Rattle.ner_trees.proofs.cuts.mark.Goals as goal

@@ -1,7 +1,6 @@
 use Rattle.std.proofs.Common.{◌≡◌, take}
 use Rattle.machine_desc.specs.Live.{IsInside}
-use Rattle.ner_trees.specs.Growth.{end_of_walk}
-use Rattle.ner_trees.specs.Search.{IsCutAt}
+use Rattle.ner_trees.specs.{Growth.end_of_walk, Search.IsCutAt}
 use Rattle.ner_trees.proofs.cuts.new_branch.Given as goal
 
 -- the walk so far is cut at its last chip that is in the tree

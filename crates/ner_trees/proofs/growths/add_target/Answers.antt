@@ -1,12 +1,8 @@
 use Rattle.std.proofs.Common.{◌≡◌, ◌++◌, List, sym, ap, refl, subst, ◌∙◌}
-use Rattle.std.specs.Prelude.{is_ok}
-use Rattle.std.specs.List.{All}
+use Rattle.std.specs.{Prelude.is_ok, List.All}
 use Rattle.spin_base.specs.declared.chips.Dir.{Dir}
-use Rattle.machine_desc.specs.Description.{Description}
-use Rattle.machine_desc.specs.declared.trees.Edge.{Edge}
-use Rattle.machine_desc.specs.Live.{IsInside}
-use Rattle.ner_trees.specs.Geometry.{displacement_of}
-use Rattle.ner_trees.specs.LongestFirst.{ldf_of}
+use Rattle.machine_desc.specs.{Description.Description, declared.trees.Edge.Edge, Live.IsInside}
+use Rattle.ner_trees.specs.{Geometry.displacement_of, LongestFirst.ldf_of}
 use Rattle.ner_trees.specs.Search.{IsCutAt, IsMarkedBy}
 use Rattle.ner_trees.proofs.Growing.{extended_inside, near_on_table, added_is, tells_more}
 use Rattle.ner_trees.proofs.growths.add_target.Goals as goal

@@ -2,8 +2,7 @@ use Rattle.std.proofs.Common.{◌≡◌, ℕ, ◌≤◌, List, length, ap, ◌�
 use Rattle.std.specs.List.{flat_map}
 use Rattle.std.proofs.lemmas.List.{take_all}
 use Rattle.spin_base.specs.declared.chips.Dir.{Dir}
-use Rattle.ner_trees.specs.declared.displacements.Disp.{Disp}
-use Rattle.ner_trees.specs.declared.walks.Run.{Run}
+use Rattle.ner_trees.specs.{declared.displacements.Disp.Disp, declared.walks.Run.Run}
 use Rattle.ner_trees.specs.LongestFirst.{run_links, longest_first, runs_of, ldf_of}
 use Rattle.ner_trees.proofs.LongestFirst.{length-longest_first}
 use Rattle.ner_trees.proofs.walks.walk_anew.Goals as goal

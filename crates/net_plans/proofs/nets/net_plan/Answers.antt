@@ -6,8 +6,7 @@ use Rattle.machine_desc.specs.Live.{IsInside, IsLiveChip}
 use Rattle.machine_desc.specs.RoutingTree.{end_of, IsTreeTo}
 use Rattle.machine_desc.proofs.EdgePlaces.{before_place}
 use Rattle.link_detours.specs.Cause.{IsRepairCause}
-use Rattle.net_plans.specs.Cause.{IsCauseOne}
-use Rattle.net_plans.specs.CutOffTargets.{HasNoneCutOff}
+use Rattle.net_plans.specs.{Cause.IsCauseOne, CutOffTargets.HasNoneCutOff}
 use Rattle.net_plans.proofs.CutOffLaws.{none_cut_off, cause_one, refused_one}
 use Rattle.net_plans.proofs.Planning.{all_inside, source_lives, of_targets, of_chips, routes_targets, some_chip, plan_is}
 use Rattle.spin_base.proofs.Places.{All-at}

@@ -1,10 +1,7 @@
 use Rattle.std.specs.List.{All}
 use Rattle.std.proofs.lemmas.Result.{IfOk-weaker, IfErr-weaker}
-use Rattle.machine_desc.specs.RoutingTree.{IsRoutingTree}
-use Rattle.machine_desc.specs.declared.nets.NetPlan.{NetPlan}
-use Rattle.net_plans.specs.Cause.{IsNetCause}
-use Rattle.net_plans.specs.CutOffTargets.{HasNoneCutOff}
-use Rattle.net_plans.specs.NetPlans.{ArePlanned}
+use Rattle.machine_desc.specs.{RoutingTree.IsRoutingTree, declared.nets.NetPlan.NetPlan}
+use Rattle.net_plans.specs.{Cause.IsNetCause, CutOffTargets.HasNoneCutOff, NetPlans.ArePlanned}
 use Rattle.net_plans.specs.Ways.{HaveWays, IsFirstWithout}
 use Rattle.net_plans.proofs.CutOffLaws.{refused_first}
 use Rattle.net_plans.proofs.Routing.{planned_of, routing_of, reached_of, cause_of}

@@ -1,8 +1,7 @@
 use Rattle.std.proofs.Common.{◌≡◌, ◌-◌, ◌∙◌, List, length, ap, sym, subst, arith}
 use Rattle.std.specs.List.{range_with_len}
 use Rattle.rayon.specs.Numbers.{nat_range}
-use Rattle.rayon.proofs.ListFacts.{IfOk-then}
-use Rattle.rayon.proofs.ToStd.{nat_range-All}
+use Rattle.rayon.proofs.{ListFacts.IfOk-then, ToStd.nat_range-All}
 use Rattle.net_plans.specs.declared.nets.RoutedNet.{RoutedNet}
 use Rattle.net_plans.specs.Ways.{AreRoutedNets, CanRouteAt}
 use Rattle.net_plans.proofs.Routing.{routed_all}

@@ -1,9 +1,7 @@
 use Rattle.std.proofs.Common.{◌≡◌, ◌∙◌, ◌-◌, ◌==◌, ◌&&◌, length, true, Some, ap, sym}
-use Rattle.std.specs.Option.{option_copied}
-use Rattle.std.specs.Prelude.{slice_get}
+use Rattle.std.specs.{Option.option_copied, Prelude.slice_get}
 use Rattle.std.proofs.lemmas.Bool.{and_parts, eqb-true}
-use Rattle.spin_base.proofs.Equality.{same_chip}
-use Rattle.spin_base.proofs.Members.{Contains-at}
+use Rattle.spin_base.proofs.{Equality.same_chip, Members.Contains-at}
 use Rattle.net_plans.specs.Keys.{chip_of_key}
 use Rattle.net_plans.proofs.targets.ends_at.Goals as goal
 

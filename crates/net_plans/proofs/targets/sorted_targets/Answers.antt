@@ -1,6 +1,5 @@
 use Rattle.std.proofs.Common.{map, nat_cmp, sym, subst}
-use Rattle.net_plans.specs.Keys.{spot_numbered}
-use Rattle.net_plans.specs.Targets.{AreTargets}
+use Rattle.net_plans.specs.{Keys.spot_numbered, Targets.AreTargets}
 use Rattle.net_plans.proofs.TargetLaws.{AreOnce, are_targets, ok_is}
 use Rattle.net_plans.proofs.targets.sorted_targets.Goals as goal
 

@@ -3,12 +3,10 @@ use Rattle.std.proofs.lemmas.Bool.{cases_lt}
 use Rattle.std.proofs.lemmas.List.{length-replicate, length_push, length-set, get_or_append_left, get_or_push, get_or-set_same, get_or-set_other}
 use Rattle.std.proofs.lemmas.Nat.{pow-add}
 use Rattle.std.proofs.lemmas.Option.{slice_get_within, get_or_from_slice_get}
-use Rattle.machine_desc.specs.Description.{Description}
-use Rattle.machine_desc.specs.Live.{is_usable}
+use Rattle.machine_desc.specs.{Description.Description, Live.is_usable}
 use Rattle.spin_base.specs.declared.chips.Chip.{Chip}
 use Rattle.place_fit.specs.Boards.{AreCores, room_left}
-use Rattle.place_fit.proofs.CurveLaws.{hilbert_length}
-use Rattle.place_fit.proofs.Giving.{few_push}
+use Rattle.place_fit.proofs.{CurveLaws.hilbert_length, Giving.few_push}
 use Rattle.place_fit.proofs.boards.whole_board.Goals as goal
 
 cores_there : (m : Description) (chips : List Chip) (q i : ℕ) (d e : Chip) (free : ℕ) → q ≡ i → slice_get chips q ≡ Some d

@@ -1,6 +1,5 @@
 use Rattle.std.proofs.Common.{◌≡◌, length}
-use Rattle.place_fit.specs.Boards.{IsFairBoard}
-use Rattle.place_fit.specs.Standing.{ArePlaced}
+use Rattle.place_fit.specs.{Boards.IsFairBoard, Standing.ArePlaced}
 use Rattle.place_fit.proofs.placing.place.Given as goal
 
 -- the vertices so far stand on the board, at their spots

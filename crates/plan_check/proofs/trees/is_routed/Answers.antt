@@ -2,9 +2,7 @@ use Rattle.std.proofs.Common.{◌≡◌, ℕ, ◌<◌, ◌↔◌, IsTrue, List, 
 use Rattle.std.specs.Prelude.{All}
 use Rattle.spin_base.proofs.Tests.{fails, answers_no}
 use Rattle.spin_base.specs.declared.chips.Spot.{Spot}
-use Rattle.machine_desc.specs.declared.trees.Edge.{Edge}
-use Rattle.machine_desc.specs.Description.{Description}
-use Rattle.machine_desc.specs.RoutingTree.{IsRoutingTree}
+use Rattle.machine_desc.specs.{declared.trees.Edge.Edge, Description.Description, RoutingTree.IsRoutingTree}
 use Rattle.plan_check.specs.Marks.{AreMarks, EntersOnce, IsMarkedChip, IsReachedChip}
 use Rattle.plan_check.proofs.TreeLaws.{begins_marked, targets_marked, is_tree_tells, once_of, once_inside, has_inside}
 use Rattle.plan_check.proofs.trees.is_routed.Goals as goal

@@ -1,9 +1,7 @@
 use Rattle.std.proofs.Common.{sym, subst}
 use Rattle.spin_apps.specs.Free.{free_but, free_machine}
 use Rattle.spin_apps.specs.Plans.{IsWhyUnplanned}
-use Rattle.spin_apps.proofs.FreeSpots.{placed_usable}
-use Rattle.spin_apps.proofs.Keeping.{without_spots}
-use Rattle.spin_apps.proofs.Planning.{why_unplaced}
+use Rattle.spin_apps.proofs.{FreeSpots.placed_usable, Keeping.without_spots, Planning.why_unplaced}
 use Rattle.spin_apps.proofs.plans.placed.Goals as goal
 
 pub returns-in-Ok-clause-placed : goal.returns-in-Ok-clause-placed

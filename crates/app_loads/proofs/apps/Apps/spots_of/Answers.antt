@@ -1,8 +1,6 @@
 use Rattle.std.proofs.Common.{◌≡◌, ◌==◌, ◌∙◌, get_or, sym, ap, subst, Some}
 use Rattle.std.specs.Prelude.{position}
-use Rattle.app_loads.specs.declared.loaded.LoadedApp.{LoadedApp}
-use Rattle.app_loads.specs.Applications.{AreApps}
-use Rattle.app_loads.specs.Host.{Host}
+use Rattle.app_loads.specs.{declared.loaded.LoadedApp.LoadedApp, Applications.AreApps, Host.Host}
 use Rattle.app_loads.proofs.SpotsOf.{found_loaded, no_app, same_as_found}
 use Rattle.app_loads.proofs.apps.Apps.spots_of.Goals as goal
 use Rattle.app_loads.proofs.apps.Apps.spots_of.Goals.{After-index-app}

@@ -1,6 +1,5 @@
 use Rattle.std.proofs.Common.{◌≡◌, ◌*◌, ◌%◌, ◌^◌, ◌≤◌, ℕ, slice_get, sym, ap, ap₂, ◌∙◌, arith}
-use Rattle.std.proofs.lemmas.Nat.{one_shl}
-use Rattle.std.proofs.lemmas.Option.{slice_get_within}
+use Rattle.std.proofs.lemmas.{Nat.one_shl, Option.slice_get_within}
 use Rattle.place_fit.proofs.CurveLaws.{at_place, inside_at}
 use Rattle.place_fit.proofs.boards.Board.place_of.Goals as goal
 use Rattle.place_fit.proofs.boards.Board.place_of.Goals.{else-chip-side-via-then-chip-side+else-chip-side-2, else-chip-side-via-else-chip-side}

@@ -1,7 +1,6 @@
 use Rattle.std.proofs.Common.{◌≡◌, ◌≢◌, List, All, AllPairs, None, sym, subst}
 use Rattle.spin_base.specs.declared.chips.Spot.{Spot}
-use Rattle.app_graph.specs.declared.graphs.Vertex.{Vertex}
-use Rattle.app_graph.specs.ValidGraph.{HaveDifferentDevices}
+use Rattle.app_graph.specs.{declared.graphs.Vertex.Vertex, ValidGraph.HaveDifferentDevices}
 use Rattle.place_fit.specs.Boards.{AreFreeOn, AreGiven, AreSettled, IsWithout}
 use Rattle.place_fit.proofs.Giving.{whole_again}
 use Rattle.place_fit.proofs.SpotLaws.{all_differ, free_back, free_without}

@@ -1,8 +1,6 @@
 use Rattle.std.proofs.Common.{◌≡◌, ◌+◌, ◌*◌, ◌^◌, ◌<◌, ◌≤◌, All, get_or, subst, ap, ◌∙◌, arith}
 use Rattle.std.proofs.Math.Pow.{pow_mono}
-use Rattle.std.proofs.lemmas.Nat.{pow_pos}
-use Rattle.std.proofs.lemmas.Grind.{pow_more}
-use Rattle.std.proofs.lemmas.List.{get_or_default}
+use Rattle.std.proofs.lemmas.{Nat.pow_pos, Grind.pow_more, List.get_or_default}
 use Rattle.place_fit.proofs.RoomLaws.{IsFound, none_above, found_left, found_right}
 use Rattle.place_fit.proofs.rooms.Rooms.first_above.Goals as goal
 use Rattle.place_fit.proofs.rooms.Rooms.first_above.Goals.{then-index-need-2, else-index-need-2}

@@ -1,6 +1,5 @@
 use Rattle.std.proofs.Common.{◌≡◌, ◌*◌, ◌%◌, ◌^◌, ℕ, drop, replicate, rules, ap, ◌∙◌, arith}
-use Rattle.std.proofs.lemmas.Nat.{one_shl}
-use Rattle.std.proofs.lemmas.List.{drop-replicate}
+use Rattle.std.proofs.lemmas.{Nat.one_shl, List.drop-replicate}
 use Rattle.place_fit.proofs.rooms.Rooms.new.Goals as goal
 
 pub returns : goal.returns

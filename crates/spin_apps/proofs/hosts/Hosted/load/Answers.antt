@@ -1,8 +1,6 @@
 use Rattle.std.proofs.Common.{◌≡◌, ◌∙◌, false, IfOk, sym, subst}
 use Rattle.app_loads.specs.Host.{Host, is_loaded}
-use Rattle.spin_apps.specs.Answers.{IsLoadAnswer}
-use Rattle.spin_apps.specs.Hosting.{HasNumbersFor}
-use Rattle.spin_apps.specs.Making.{HasFreeCores}
+use Rattle.spin_apps.specs.{Answers.IsLoadAnswer, Hosting.HasNumbersFor, Making.HasFreeCores}
 use Rattle.spin_apps.proofs.Planning.{may_load, taken_answers}
 use Rattle.spin_apps.proofs.hosts.Hosted.load.Goals as goal
 use Rattle.spin_apps.proofs.hosts.Hosted.load.Goals.{After-plan_of}

@@ -2,8 +2,7 @@ use Rattle.std.proofs.Common.{◌≡◌, ◌∙◌, List, sym, subst}
 use Rattle.spin_base.specs.declared.chips.Spot.{Spot}
 use Rattle.place_fit.specs.Boards.{IsWith}
 use Rattle.spin_apps.specs.Free.{free_machine}
-use Rattle.spin_apps.proofs.Keeping.{unloaded_with}
-use Rattle.spin_apps.proofs.Serving.{machine_after_unload}
+use Rattle.spin_apps.proofs.{Keeping.unloaded_with, Serving.machine_after_unload}
 use Rattle.spin_apps.proofs.hosts.Hosted.unload.Goals as goal
 
 pub invariant_of-self : goal.invariant_of-self
