@@ -106,7 +106,7 @@ fn at_rest(parts: MeshParts) -> Result<MeshParts, (MeshParts, Memory)>
     }
 }
 
-/// Rounds, numbered from 1, until nothing waits and nothing is unsent. Numbers stay at the greatest, should it come to that. In the mesh
+/// Rounds, numbered from 1, until nothing waits and nothing is unsent: none where that is so at once. Numbers stay at the greatest, should it come to that. In the mesh
 /// of a job there are at most as many in which a copy moves as copies can move: for each packet one, one for each chip of its net's
 /// tree, and one for each target.
 ///
@@ -128,33 +128,17 @@ pub fn run_out<R: Threads + Wait + Sync, G: Gate>(
     ensures ready { IfErr result (λ b. MayGoOn b.0) }
 {
     rounds_that_move_copies_are_few();
-    match run_parts(rt, alloc, mesh.take_apart(), pace, gate) {
+    let parts = mesh.take_apart();
+    if is_at_rest(&parts) {
+        return Ok(Mesh::put_together(parts));
+    }
+    let layout = match Layout::of(alloc, &parts, pace.workers) {
+        Ok(layout) => layout,
+        Err(e) => return Err((Mesh::put_together(parts), e)),
+    };
+    match run_on(rt, alloc, parts, &layout, pace, gate) {
         Ok(parts) => Ok(Mesh::put_together(parts)),
         Err((parts, e)) => Err((Mesh::put_together(parts), e)),
-    }
-}
-
-// Rounds on the parts of a mesh. Where there is nothing to move, no actor is made.
-fn run_parts<R: Threads + Wait + Sync, G: Gate>(
-    rt: &R,
-    alloc: Global,
-    parts: MeshParts,
-    pace: Pace,
-    gate: &G,
-) -> Result<MeshParts, (MeshParts, Memory)>
-    requires { MayGoOn parts }
-    ensures rounds { IfOk result (HasMovingRounds pace.patience pace.turns parts) }
-    ensures ready { IfOk result MayGoOn }
-    ensures at_rest { IfOk result IsAtRest }
-    ensures refused { IfErr result (λ b. HasMovingRounds pace.patience pace.turns parts b.0) }
-    ensures ready_still { IfErr result (λ b. MayGoOn b.0) }
-{
-    if is_at_rest(&parts) {
-        return Ok(parts);
-    }
-    match Layout::of(alloc, &parts, pace.workers) {
-        Ok(layout) => run_on(rt, alloc, parts, &layout, pace, gate),
-        Err(e) => Err((parts, e)),
     }
 }
 
