@@ -5,8 +5,6 @@ use Rattle.std.specs.Result.{IsErr, IsErrAnd}
 use Rattle.std.proofs.lemmas.Bool.{cond-true, cond-false, lt-ltb, ltb-true}
 use Rattle.std.proofs.lemmas.List.{append-nil, length-append}
 use Rattle.serde_json.specs.Data.{Data}
-use Rattle.serde_json.specs.View.{view}
-use Rattle.serde_json.specs.declared.value.Value.{Value}
 use Rattle.job_text.specs.declared.faults.JobFault.{JobFault}
 use Rattle.job_text.specs.declared.faults.TextErr.{TextErr}
 use Rattle.job_text.specs.declared.faults.TextErr.TheVariants as texts
@@ -54,49 +52,27 @@ fitted_input (Err (texts.Fault f)) result faults value gives is = inl (by_faults
     by_faults (g ∷ gs) same = let it : g ≡ f = cc in is ∙ ap (λ x. Err (refusals.Job x)) (sym it)
     by_faults [] same = cc
 
--- what a text gave, parsed and read
-pub parsed_ok : {A : Type 0} (kind : Data → Result A Refusal) (parsed : Result Value ParseErr) (result : Result A Refusal) (bytes : List ℕ) → IfOk parsed (λ v. json_of bytes ≡ Some (view v)) →
-    MatchResult parsed (λ value. IsOrWantsMemory (kind (view value)) result) (λ error. result ≡ Err (unparsed error)) → IfOk result (λ input. input_from kind (json_of bytes) ≡ Ok input)
-parsed_ok {A = A} kind parsed result bytes value read = by_result result refl
+-- the input of a text that was parsed
+pub read_ok : {A : Type 0} (kind : Data → Result A Refusal) (parsed : Option Data) (d : Data) (result : Result A Refusal) → parsed ≡ Some d → IsOrWantsMemory (kind d) result →
+    IfOk result (λ input. input_from kind parsed ≡ Ok input)
+read_ok kind parsed d (Ok x) is (inl same) = ap (input_from kind) is ∙ sym same
+read_ok kind parsed d (Ok x) is (inr memory) = cc
+read_ok kind parsed d (Err e) is read = tt
+
+pub read_err : {A : Type 0} (kind : Data → Result A Refusal) (parsed : Option Data) (d : Data) (result : Result A Refusal) → parsed ≡ Some d → IsOrWantsMemory (kind d) result →
+    IfErr result (λ r. (input_from kind parsed ≡ Err r) ⊎ (r ≡ refusals.Memory))
+read_err kind parsed d (Ok x) is read = tt
+read_err kind parsed d (Err e) is (inl same) = inl (ap (input_from kind) is ∙ sym same)
+read_err {A} kind parsed d (Err e) is (inr memory) = inr (same_err memory)
   where
-    by_parsed : (x : A) (p : Result Value ParseErr) → IfOk p (λ v. json_of bytes ≡ Some (view v)) → result ≡ Ok x →
-        MatchResult p (λ value. IsOrWantsMemory (kind (view value)) result) (λ error. result ≡ Err (unparsed error)) → input_from kind (json_of bytes) ≡ Ok x
-    by_parsed x (Ok v) is ok (inl same) = ap (input_from kind) is ∙ (sym same ∙ ok)
-    by_parsed x (Ok v) is ok (inr memory) = absurd (ok_err (sym ok ∙ memory))
-      where
-        ok_err : Ok x ≡ Err refusals.Memory → ⊥
-        ok_err e = cc
-    by_parsed x (Err e) is ok refused = absurd (ok_err (sym ok ∙ refused))
-      where
-        ok_err : Ok x ≡ Err (unparsed e) → ⊥
-        ok_err e = cc
+    same_err : ◌≡◌ {A = Result A Refusal} (Err e) (Err refusals.Memory) → e ≡ refusals.Memory
+    same_err same = cc
 
-    by_result : (r : Result A Refusal) → result ≡ r → IfOk r (λ input. input_from kind (json_of bytes) ≡ Ok input)
-    by_result (Ok x) ok = by_parsed x parsed value ok read
-    by_result (Err e) err = tt
-
-pub parsed_err : {A : Type 0} (kind : Data → Result A Refusal) (parsed : Result Value ParseErr) (result : Result A Refusal) (bytes : List ℕ) → IfOk parsed (λ v. json_of bytes ≡ Some (view v)) →
-    (parsed ≡ Err parses.NotJson → json_of bytes ≡ None) →
-    MatchResult parsed (λ value. IsOrWantsMemory (kind (view value)) result) (λ error. result ≡ Err (unparsed error)) →
-    IfErr result (λ r. (input_from kind (json_of bytes) ≡ Err r) ⊎ (r ≡ refusals.Memory))
-parsed_err {A = A} kind parsed result bytes value none read = by_result result refl
-  where
-    the_err : Refusal → Result A Refusal
-    the_err r = Err r
-
-    same_err : (r s : Refusal) → the_err r ≡ the_err s → r ≡ s
-    same_err r s e = cc
-
-    by_parsed : (r : Refusal) (p : Result Value ParseErr) → IfOk p (λ v. json_of bytes ≡ Some (view v)) → (p ≡ Err parses.NotJson → json_of bytes ≡ None) → result ≡ Err r →
-        MatchResult p (λ value. IsOrWantsMemory (kind (view value)) result) (λ error. result ≡ Err (unparsed error)) → (input_from kind (json_of bytes) ≡ Err r) ⊎ (r ≡ refusals.Memory)
-    by_parsed r (Ok v) is none_of err (inl same) = inl (ap (input_from kind) is ∙ (sym same ∙ err))
-    by_parsed r (Ok v) is none_of err (inr memory) = inr (same_err r refusals.Memory (sym err ∙ memory))
-    by_parsed r (Err parses.NotJson) is none_of err refused = inl (ap (input_from kind) (none_of refl) ∙ (sym refused ∙ err))
-    by_parsed r (Err parses.Memory) is none_of err refused = inr (same_err r refusals.Memory (sym err ∙ refused))
-
-    by_result : (r : Result A Refusal) → result ≡ r → IfErr r (λ e. (input_from kind (json_of bytes) ≡ Err e) ⊎ (e ≡ refusals.Memory))
-    by_result (Ok x) ok = tt
-    by_result (Err e) err = by_parsed e parsed value none err read
+-- a text that was not
+pub unparsed_err : {A : Type 0} (kind : Data → Result A Refusal) (parsed : Option Data) (e : ParseErr) → (e ≡ parses.NotJson → parsed ≡ None) →
+    (input_from kind parsed ≡ Err (unparsed e)) ⊎ (unparsed e ≡ refusals.Memory)
+unparsed_err kind parsed parses.NotJson none = inl (ap (input_from kind) (none refl))
+unparsed_err kind parsed parses.Memory none = inr refl
 
 -- ---- sources that tell their bytes
 

@@ -6,6 +6,7 @@
 
 mod kinds;
 mod reading;
+mod texts;
 
 pub use kinds::Input;
 pub use reading::{job_of_text, read_input, read_job, read_request, read_steps};
