@@ -17,7 +17,6 @@ use Rattle.machine_desc.specs.declared.steps.Step.TheVariants.{Back, Stay, Ahead
 use Rattle.machine_desc.specs.Description.{Description}
 use Rattle.machine_desc.specs.Live.{x_step, stepped, IsInside}
 use Rattle.machine_desc.proofs.Far.{far_parts, inside_parts}
-use Rattle.link_detours.specs.declared.sets.Wave.{Wave}
 use Rattle.link_detours.specs.Waves.{IsIn, IsSpread, IsSpreadBut, IsSpreadAt}
 use Rattle.link_detours.proofs.RoadBits.{chip_of_column}
 use Rattle.link_detours.proofs.TurnedWords.{turned_ahead, turned_back, turned_stay}
@@ -62,21 +61,21 @@ spread_but m old new grown near spread told names c inside off (inr by) =
     spread c inside (inr (d, (e, by.1.1, by.1.2, ap (λ w. bit_at w e.y) same ∙ by.1.3)))
 
 -- A set that is spreading: the columns that are left are as they were, and the others have spread.
-pub record Spreading (m : Description) (set : List ℕ) (wave : Wave) (left : ℕ) : Type 0 where
-  pub long : length wave.set.items ≡ m.width
-  pub fits : All (λ w. w < 2 ^ 64) wave.set.items
-  pub rises : (x : ℕ) → get_or set x 0 ≤ get_or wave.set.items x 0
-  pub done : (c : Chip) → IsInside m c → (bit_at left c.x ≡ 1 → ⊥) → IsIn wave.set.items c ↔ IsSpread m set c
-  pub rest : (x : ℕ) → bit_at left x ≡ 1 → get_or wave.set.items x 0 ≡ get_or set x 0
-  pub told : (x : ℕ) → (bit_at wave.grown x ≡ 1 → ⊥) → get_or set x 0 ≡ get_or wave.set.items x 0
-  pub grew : (wave.grown ≡ 0) ⊎ ((x : ℕ) × (get_or set x 0 ≡ get_or wave.set.items x 0 → ⊥))
+pub record Spreading (m : Description) (set words : List ℕ) (grown left : ℕ) : Type 0 where
+  pub long : length words ≡ m.width
+  pub fits : All (λ w. w < 2 ^ 64) words
+  pub rises : (x : ℕ) → get_or set x 0 ≤ get_or words x 0
+  pub done : (c : Chip) → IsInside m c → (bit_at left c.x ≡ 1 → ⊥) → IsIn words c ↔ IsSpread m set c
+  pub rest : (x : ℕ) → bit_at left x ≡ 1 → get_or words x 0 ≡ get_or set x 0
+  pub told : (x : ℕ) → (bit_at grown x ≡ 1 → ⊥) → get_or set x 0 ≡ get_or words x 0
+  pub grew : (grown ≡ 0) ⊎ ((x : ℕ) × (get_or set x 0 ≡ get_or words x 0 → ⊥))
 
-pub spreading_start : (m : Description) (set : List ℕ) (wave : Wave) (near : ℕ) → wave.grown ≡ 0 → wave.set.items ≡ set → length set ≡ m.width → All (λ w. w < 2 ^ 64) set →
-    IsSpreadBut m set near → Spreading m set wave near
-spreading_start m set wave near none same long fits others = record {
+pub spreading_start : (m : Description) (set words : List ℕ) (grown near : ℕ) → grown ≡ 0 → words ≡ set → length set ≡ m.width → All (λ w. w < 2 ^ 64) set →
+    IsSpreadBut m set near → Spreading m set words grown near
+spreading_start m set words grown near none same long fits others = record {
   long = ap length same ∙ long;
   fits = subst (All (λ w. w < 2 ^ 64)) (sym same) fits;
-  rises = λ x. (let is : get_or wave.set.items x 0 ≡ get_or set x 0 = ap (λ s. get_or s x 0) same in omega (arith, is));
+  rises = λ x. (let is : get_or words x 0 ≡ get_or set x 0 = ap (λ s. get_or s x 0) same in omega (arith, is));
   done = λ c inside off. (λ bit. inl (subst (λ s. IsIn s c) same bit), λ by. subst (λ s. IsIn s c) (sym same) (others c inside off by));
   rest = λ x bit. ap (λ s. get_or s x 0) same;
   told = λ x off. ap (λ s. get_or s x 0) (sym same);
@@ -109,34 +108,34 @@ module _ (left x : ℕ) (few : x < 64) (here : bit_at left x ≡ 1) where
     | inr other ↦ (let low : without left x ≤ left = and_le_l left (bit_not w64 (1 * 2 ^ x % 2 ^ bits w64)) in omega (arith, low, other))
   ]
 
-  module _ (m : Description) (set_of : List ℕ) (wave : Wave) (narrow : m.width ≤ 64) (now : Spreading m set_of wave left) where
+  module _ (m : Description) (set_of words : List ℕ) (grown : ℕ) (narrow : m.width ≤ 64) (now : Spreading m set_of words grown left) where
     -- a column is spread
-    pub spreading_more : (new : Wave) → x < m.width → IsSpreadAt m set_of x wave new → Spreading m set_of new (without left x)
-    spreading_more new within at = record {
-      long = ap length at.is ∙ (length-set wave.set.items x at.word ∙ now.long);
-      fits = subst (All (λ w. w < 2 ^ 64)) (sym at.is) (All-set (λ w. w < 2 ^ 64) wave.set.items x at.word at.fits now.fits);
+    pub spreading_more : (new : List ℕ) (more : ℕ) → x < m.width → IsSpreadAt m set_of x words grown new more → Spreading m set_of new more (without left x)
+    spreading_more new more within at = record {
+      long = ap length at.is ∙ (length-set words x at.word ∙ now.long);
+      fits = subst (All (λ w. w < 2 ^ 64)) (sym at.is) (All-set (λ w. w < 2 ^ 64) words x at.word at.fits now.fits);
       rises = λ k. elim (cases_eq k x) [
-        | inl same ↦ (let low : get_or set_of x 0 ≤ at.word = at.rises in subst (λ j. get_or set_of j 0 ≤ get_or new.set.items j 0) (sym same) (subst (λ n. get_or set_of x 0 ≤ n) (sym read) low))
+        | inl same ↦ (let low : get_or set_of x 0 ≤ at.word = at.rises in subst (λ j. get_or set_of j 0 ≤ get_or new j 0) (sym same) (subst (λ n. get_or set_of x 0 ≤ n) (sym read) low))
         | inr other ↦ subst (λ n. get_or set_of k 0 ≤ n) (sym (unread k other)) (now.rises k)
       ];
       done = λ c inside off. elim (cases_eq c.x x) [
         | inl same ↦
             let high : c.y < m.height = (inside_parts m c inside).1 in
-            let is : bit_at (get_or new.set.items c.x 0) c.y ≡ bit_at at.word c.y = ap (λ n. bit_at n c.y) (ap (λ k. get_or new.set.items k 0) same ∙ read) in (
+            let is : bit_at (get_or new c.x 0) c.y ≡ bit_at at.word c.y = ap (λ n. bit_at n c.y) (ap (λ k. get_or new k 0) same ∙ read) in (
               λ bit. subst (λ k. IsSpread m set_of (chip_of_column k c.y)) (sym same) ((at.spread c.y high).0 (sym is ∙ bit)),
               λ by. is ∙ (at.spread c.y high).1 (subst (λ k. IsSpread m set_of (chip_of_column k c.y)) same by),
             )
         | inr other ↦
             let low : c.x < m.width = (inside_parts m c inside).0 in
             let known = now.done c inside (λ bit. off (still c.x (omega (arith, low, narrow)) other bit)) in
-            let is : bit_at (get_or new.set.items c.x 0) c.y ≡ bit_at (get_or wave.set.items c.x 0) c.y = ap (λ n. bit_at n c.y) (unread c.x other) in
+            let is : bit_at (get_or new c.x 0) c.y ≡ bit_at (get_or words c.x 0) c.y = ap (λ n. bit_at n c.y) (unread c.x other) in
             (λ bit. known.0 (sym is ∙ bit), λ by. is ∙ known.1 by)
       ];
       rest = λ k bit. let before = was k bit in unread k before.0 ∙ now.rest k before.1;
       told = λ k off. elim (cases_eq k x) [
         | inl same ↦
-            let unnamed : bit_at new.grown x ≡ 1 → ⊥ = λ bit. off (subst (λ j. bit_at new.grown j ≡ 1) (sym same) bit) in
-            subst (λ j. get_or set_of j 0 ≡ get_or new.set.items j 0) (sym same) (sym (read ∙ at.told unnamed))
+            let unnamed : bit_at more x ≡ 1 → ⊥ = λ bit. off (subst (λ j. bit_at more j ≡ 1) (sym same) bit) in
+            subst (λ j. get_or set_of j 0 ≡ get_or new j 0) (sym same) (sym (read ∙ at.told unnamed))
         | inr other ↦ now.told k (λ bit. off (at.named k bit)) ∙ sym (unread k other)
       ];
       grew = elim at.grew [
@@ -145,21 +144,21 @@ module _ (left x : ℕ) (few : x < 64) (here : bit_at left x ≡ 1) where
           | inr differs ↦ inr (
             differs.0,
             λ same. differs.1 (same ∙ unread differs.0 (λ is.
-                differs.1 (sym (ap (λ j. get_or wave.set.items j 0) is ∙ (now.rest x here ∙ sym (ap (λ j. get_or set_of j 0) is)))))),
+                differs.1 (sym (ap (λ j. get_or words j 0) is ∙ (now.rest x here ∙ sym (ap (λ j. get_or set_of j 0) is)))))),
           )
         ]
         | inr changed ↦ inr (x, λ same. changed (sym (same ∙ read)))
       ];
     }
       where
-        read : get_or new.set.items x 0 ≡ at.word
-        read = ap (λ s. get_or s x 0) at.is ∙ get_or-set_same wave.set.items x at.word 0 (subst (λ n. x < n) (sym now.long) within)
+        read : get_or new x 0 ≡ at.word
+        read = ap (λ s. get_or s x 0) at.is ∙ get_or-set_same words x at.word 0 (subst (λ n. x < n) (sym now.long) within)
 
-        unread : (k : ℕ) → k ≢ x → get_or new.set.items k 0 ≡ get_or wave.set.items k 0
-        unread k other = ap (λ s. get_or s k 0) at.is ∙ get_or-set_other wave.set.items x k at.word 0 other
+        unread : (k : ℕ) → k ≢ x → get_or new k 0 ≡ get_or words k 0
+        unread k other = ap (λ s. get_or s k 0) at.is ∙ get_or-set_other words x k at.word 0 other
 
     -- a place beyond the last column is passed over
-    pub spreading_skip : m.width ≤ x → Spreading m set_of wave (without left x)
+    pub spreading_skip : m.width ≤ x → Spreading m set_of words grown (without left x)
     spreading_skip beyond = record {
       long = now.long;
       fits = now.fits;
@@ -173,14 +172,14 @@ module _ (left x : ℕ) (few : x < 64) (here : bit_at left x ≡ 1) where
     }
 
 -- no column is left
-pub spreading_end : (m : Description) (set : List ℕ) (wave : Wave) (left : ℕ) → left ≡ 0 → Spreading m set wave left →
-    (c : Chip) → IsInside m c → IsIn wave.set.items c ↔ IsSpread m set c
-spreading_end m set wave left none now c inside = now.done c inside (λ bit.
+pub spreading_end : (m : Description) (set words : List ℕ) (grown left : ℕ) → left ≡ 0 → Spreading m set words grown left →
+    (c : Chip) → IsInside m c → IsIn words c ↔ IsSpread m set c
+spreading_end m set words grown left none now c inside = now.done c inside (λ bit.
     let clear : bit_at left c.x ≡ 0 = ap (λ n. bit_at n c.x) none ∙ bit_at-zero c.x in omega (arith, clear, bit))
 
 -- a set that has not changed names no column
-pub spreading_same : (m : Description) (set : List ℕ) (wave : Wave) (left : ℕ) → Spreading m set wave left → set ≡ wave.set.items → wave.grown ≡ 0
-spreading_same m set wave left now same = elim now.grew [
+pub spreading_same : (m : Description) (set words : List ℕ) (grown left : ℕ) → Spreading m set words grown left → set ≡ words → grown ≡ 0
+spreading_same m set words grown left now same = elim now.grew [
   | inl none ↦ none
   | inr differs ↦ absurd (differs.1 (ap (λ s. get_or s differs.0 0) same))
 ]

@@ -1,22 +1,19 @@
 -- How a set of chips spreads over live links, link by link and column by column.
-use Rattle.std.proofs.Common.{◌≡◌, ℕ, ◌+◌, ◌^◌, ◌<◌, ◌≤◌, ◌↔◌, ◌⊎◌, List, [], ◌∷◌, ◌++◌, length, get_or, Some, min, max, sym, ap, ◌∙◌, subst, arith, inl, inr}
+use Rattle.std.proofs.Common.{◌≡◌, ℕ, ◌+◌, ◌<◌, ◌≤◌, ◌↔◌, ◌⊎◌, List, get_or, Some, min, max, sym, ap, ◌∙◌, subst, arith, inl, inr}
 use Rattle.std.specs.Int.{bit_at}
-use Rattle.std.specs.List.{All}
-use Rattle.std.proofs.lemmas.List.Elements.{All-push}
 use Rattle.std.specs.Int.RustNames.{bit_or}
 use lib.Bits.{bit_and}
 use Rattle.std.proofs.lemmas.Bool.{cases_eq}
 use Rattle.std.proofs.lemmas.Nat.{le_or_l}
-use Rattle.std.proofs.lemmas.List.{get_or_append_left, get_or_at, length-append}
 use Rattle.std.proofs.lemmas.Nat.Bits.{bit_at_and, bit_at_or, bit_at-lt}
 use Rattle.spin_base.specs.declared.chips.Chip.{Chip}
 use Rattle.spin_base.specs.declared.chips.Dir.{Dir}
 use Rattle.spin_base.specs.Links.{dir_number}
 use Rattle.machine_desc.specs.Description.{Description}
-use Rattle.machine_desc.specs.Live.{far_of, x_step, y_step, stepped, IsInside, IsLiveLink}
-use Rattle.machine_desc.proofs.Far.{far_parts, live_ends, inside_parts}
+use Rattle.machine_desc.specs.Live.{far_of, x_step, y_step, stepped, IsLiveLink}
+use Rattle.machine_desc.proofs.Far.{far_parts, live_ends}
 use Rattle.machine_desc.proofs.Same.{same_dir}
-use Rattle.link_detours.specs.Waves.{IsIn, LeadsInto, IsSpread}
+use Rattle.link_detours.specs.Waves.{LeadsInto, IsSpread}
 use Rattle.link_detours.proofs.RoadBits.{chip_of_column}
 
 both_set : (a b : ℕ) → a < 2 → b < 2 → min a b ≡ 1 → (a ≡ 1) × (b ≡ 1)
@@ -92,55 +89,3 @@ SpreadTo-more m set x word i leading d at told so_far = record {
   where
     stays : (y : ℕ) → bit_at word y ≡ 1 → bit_at (bit_or word leading) y ≡ 1
     stays y bit = bit_at_or word leading y ∙ set_left (bit_at word y) (bit_at leading y) (bit_at-lt leading y) bit
-
--- the columns so far have spread
-pub record ColumnsTo (m : Description) (set more : List ℕ) (x : ℕ) : Type 0 where
-  pub long : length more ≡ x
-  pub fits : All (λ w. w < 2 ^ 64) more
-  pub rises : (k : ℕ) → k < x → get_or set k 0 ≤ get_or more k 0
-  pub spread : (c : Chip) → IsInside m c → c.x < x → IsIn more c ↔ IsSpread m set c
-
-pub ColumnsTo-none : (m : Description) (set more : List ℕ) → more ≡ [] → ColumnsTo m set more 0
-ColumnsTo-none m set more e = record {
-  long = ap length e;
-  fits = λ k d h. absurd (let none : length more ≡ 0 = ap length e in omega (arith, h, none));
-  rises = λ k below. absurd (omega (arith, below));
-  spread = λ c inside below. absurd (omega (arith, below));
-}
-
-pub ColumnsTo-more : (m : Description) (set more : List ℕ) (x word : ℕ) → word < 2 ^ 64 → get_or set x 0 ≤ word →
-    ((y : ℕ) → bit_at (get_or set x 0) y ≡ 1 → bit_at word y ≡ 1) →
-    ((y : ℕ) (d : Dir) → y < m.height → LeadsInto m set (chip_of_column x y) d → bit_at word y ≡ 1) →
-    ((y : ℕ) → y < m.height → bit_at word y ≡ 1 → IsSpread m set (chip_of_column x y)) →
-    ColumnsTo m set more x → ColumnsTo m set (more ++ word ∷ []) (x + 1)
-ColumnsTo-more m set more x word fits rises old new only so_far = record {
-  long = length-append more (word ∷ []) ∙ ap (λ n. n + 1) so_far.long;
-  fits = All-push (λ w. w < 2 ^ 64) more word so_far.fits fits;
-  rises = λ k below. elim (cases_eq k x) [
-    | inl here ↦ subst (λ n. get_or set k 0 ≤ n) (sym (last k here)) (subst (λ j. get_or set j 0 ≤ word) (sym here) rises)
-    | inr other ↦ subst (λ n. get_or set k 0 ≤ n) (sym (before k (omega (arith, below, other)))) (so_far.rises k (omega (arith, below, other)))
-  ];
-  spread = λ c inside below. elim (cases_eq c.x x) [
-    | inl here ↦
-        let high : c.y < m.height = (inside_parts m c inside).1 in
-        let read : bit_at (get_or (more ++ word ∷ []) c.x 0) c.y ≡ bit_at word c.y = ap (λ n. bit_at n c.y) (last c.x here) in (
-          λ bit. subst (λ k. IsSpread m set (chip_of_column k c.y)) (sym here) (only c.y high (sym read ∙ bit)),
-          λ spread. read ∙ came c.y high (subst (λ k. IsSpread m set (chip_of_column k c.y)) here spread),
-        )
-    | inr other ↦
-        let low : c.x < x = omega (arith, below, other) in
-        let read : bit_at (get_or (more ++ word ∷ []) c.x 0) c.y ≡ bit_at (get_or more c.x 0) c.y = ap (λ n. bit_at n c.y) (before c.x low) in
-        let known = so_far.spread c inside low in
-        (λ bit. known.0 (sym read ∙ bit), λ spread. read ∙ known.1 spread)
-  ];
-}
-  where
-    last : (k : ℕ) → k ≡ x → get_or (more ++ word ∷ []) k 0 ≡ word
-    last k here = get_or_at more word [] 0 k (so_far.long ∙ sym here)
-
-    before : (k : ℕ) → k < x → get_or (more ++ word ∷ []) k 0 ≡ get_or more k 0
-    before k low = get_or_append_left more (word ∷ []) 0 k (subst (λ n. k < n) (sym so_far.long) low)
-
-    came : (y : ℕ) → y < m.height → IsSpread m set (chip_of_column x y) → bit_at word y ≡ 1
-    came y high (inl bit) = old y bit
-    came y high (inr leads) = new y leads.0 high leads.1

@@ -1,9 +1,10 @@
 -- Waves of chips, and the walks that lead back over them.
-use Rattle.std.proofs.Common.{◌≡◌, ℕ, zero, suc, ◌+◌, ◌*◌, ◌-◌, ◌^◌, ◌<◌, ◌≤◌, ◌↔◌, List, [], ◌∷◌, ◌++◌, length, get_or, map, refl, sym, ap, ◌∙◌, subst, arith, inl, inr, add-one, length-append, append_assoc, append-nil}
-use Rattle.std.specs.List.{All, sum_by}
+use Rattle.std.proofs.Common.{◌≡◌, ℕ, zero, suc, ◌+◌, ◌*◌, ◌-◌, ◌^◌, ◌<◌, ◌≤◌, ◌↔◌, List, [], ◌∷◌, ◌++◌, length, get_or, take, drop, refl, sym, ap, ◌∙◌, subst, arith, inl, inr, length-append, append_assoc, append-nil}
+use Rattle.std.specs.List.{All, between, sum_by}
 use Rattle.std.proofs.lemmas.Bool.{cases_eq, cases_lt}
-use Rattle.std.proofs.lemmas.List.{get_or_at, get_or_append_left, map-append, length-map}
+use Rattle.std.proofs.lemmas.List.{take_at, drop_at}
 use Rattle.std.proofs.lemmas.List.Sums.{sum_by-cons, sum_by-le}
+use Rattle.std.proofs.lemmas.Slice.{between_to_end}
 use Rattle.spin_base.specs.declared.chips.Chip.{Chip}
 use Rattle.spin_base.specs.declared.chips.Dir.{Dir}
 use Rattle.spin_base.specs.Links.{dir_number, opposite_of}
@@ -36,13 +37,13 @@ module _ (m : Description) (IsStart : Chip → Type 0) where
 
   -- the next wave is the last one spread
   pub next_wave : (n : ℕ) (set more : List ℕ) → IsWave m IsStart n set → length more ≡ m.width →
-      ((c : Chip) → IsInside m c → IsIn more c ↔ IsSpread m set c) → IsWave m IsStart (n + 1) more
+      ((c : Chip) → IsInside m c → IsIn more c ↔ IsSpread m set c) → IsWave m IsStart (suc n) more
   next_wave n set more wave long spread = record {
     long = long;
     told = λ c inside. (λ bit. within c inside ((spread c inside).0 bit), λ near. (spread c inside).1 (came c inside near.0 near.1 near.2));
   }
     where
-      within : (c : Chip) → IsInside m c → IsSpread m set c → IsWithinLinks m IsStart (n + 1) c
+      within : (c : Chip) → IsInside m c → IsSpread m set c → IsWithinLinks m IsStart (suc n) c
       within c inside (inl bit) = let near = (wave.told c inside).0 bit in (near.0, (let low : near.0 ≤ n = near.1 in omega (arith, low)), near.2)
       within c inside (inr leads) =
           let d : Dir = leads.0 in
@@ -52,7 +53,7 @@ module _ (m : Description) (IsStart : Chip → Type 0) where
           let back = link_turned m e c d leads.1.1 leads.1.2 in
           (suc near.0, (let low : near.0 ≤ n = near.1 in omega (arith, low)), (near.2.0, near.2.1, (e, near.2.2, (opposite_of d, back.0, back.1))))
 
-      came : (c : Chip) → IsInside m c → (k : ℕ) → k ≤ n + 1 → IsReachedBy (LeadsTo m) IsStart k c → IsSpread m set c
+      came : (c : Chip) → IsInside m c → (k : ℕ) → k ≤ suc n → IsReachedBy (LeadsTo m) IsStart k c → IsSpread m set c
       came c inside zero low by = inl ((wave.told c inside).1 (0, omega arith, by))
       came c inside (suc k) low by =
           let b : Chip = by.2.0 in
@@ -89,52 +90,50 @@ module _ (m : Description) (IsStart : Chip → Type 0) where
 
   -- a chip off the wave is not reached so soon
   pub off_wave : (n : ℕ) (set : List ℕ) (c : Chip) → IsInside m c → IsWave m IsStart n set → (IsIn set c → ⊥) →
-      (k : ℕ) → k < n + 1 → IsReachedBy (LeadsTo m) IsStart k c → ⊥
+      (k : ℕ) → k < suc n → IsReachedBy (LeadsTo m) IsStart k c → ⊥
   off_wave n set c inside wave off k below by = off ((wave.told c inside).1 (k, omega (arith, below), by))
 
-  -- no waves, one wave more, and one less
-  pub waves_none : {X : Type 0} (f : X → List ℕ) (xs : List X) → xs ≡ [] → AreWaves m IsStart (map f xs)
-  waves_none f xs e n below = absurd (let none : length xs ≡ 0 = ap length e in let same : length (map f xs) ≡ length xs = length-map xs f in omega (arith, below, none, same))
+  -- the last wave has the last words, and those before it the others
+  pub last_wave : (n : ℕ) (words : List ℕ) → 0 < length words → AreWaves m IsStart n words → (k : ℕ) × (n ≡ suc k) × (m.width ≤ length words)
+      × ((at : ℕ) → at + m.width ≡ length words → AreWaves m IsStart k (take at words) × IsWave m IsStart k (drop at words))
+  last_wave zero words some none = absurd (let is : length words ≡ 0 = ap length none in omega (arith, some, is))
+  last_wave (suc k) words some (before, wave, is, waves, last) =
+      let long : length words ≡ length before + length wave = ap length is ∙ length-append before wave in
+      let wide : length wave ≡ m.width = last.long in (
+        k,
+        refl,
+        omega (arith, long, wide),
+        λ at so. let place : length before ≡ at = omega (arith, long, wide, so) in (
+          subst (λ ws. AreWaves m IsStart k ws) (sym (ap (take at) is ∙ take_at before wave at place)) waves,
+          subst (λ ws. IsWave m IsStart k ws) (sym (ap (drop at) is ∙ drop_at before wave at place)) last,
+        ),
+      )
 
-  pub waves_push : {X : Type 0} (f : X → List ℕ) (xs new : List X) (x : X) → new ≡ xs ++ x ∷ [] → AreWaves m IsStart (map f xs) →
-      IsWave m IsStart (length xs) (f x) → AreWaves m IsStart (map f new)
-  waves_push f xs new x is waves wave = subst (λ sets. AreWaves m IsStart sets) (sym (ap (map f) is ∙ map-append f xs (x ∷ []))) (λ n below. at n below)
-    where
-      at : (n : ℕ) → n < length (map f xs ++ f x ∷ []) → IsWave m IsStart n (get_or (map f xs ++ f x ∷ []) n [])
-      at n below = elim (cases_eq n (length (map f xs))) [
-        | inl here ↦
-            subst (λ set. IsWave m IsStart n set) (sym (get_or_at (map f xs) (f x) [] [] n (sym here)))
-            (subst (λ k. IsWave m IsStart k (f x)) (sym (here ∙ length-map xs f)) wave)
-        | inr other ↦
-            let longer : length (map f xs ++ f x ∷ []) ≡ length (map f xs) + 1 = length-append (map f xs) (f x ∷ []) in
-            let low : n < length (map f xs) = omega (arith, below, longer, other) in
-            subst (λ set. IsWave m IsStart n set) (sym (get_or_append_left (map f xs) (f x ∷ []) [] n low)) (waves n low)
-      ]
-
-  pub waves_pop : {X : Type 0} (f : X → List ℕ) (xs rest : List X) (x : X) → xs ≡ rest ++ x ∷ [] → AreWaves m IsStart (map f xs) →
-      AreWaves m IsStart (map f rest) × IsWave m IsStart (length rest) (f x)
-  waves_pop f xs rest x is waves = (
-    λ n below. subst (λ set. IsWave m IsStart n set) (get_or_append_left (map f rest) (f x ∷ []) [] n below) (all n (omega (arith, longer, below))),
-    subst (λ set. IsWave m IsStart (length rest) set) (get_or_at (map f rest) (f x) [] [] (length rest) (length-map rest f))
-        (all (length rest) (let same : length (map f rest) ≡ length rest = length-map rest f in omega (arith, longer, same))),
-  )
-    where
-      longer : length (map f rest ++ f x ∷ []) ≡ length (map f rest) + 1
-      longer = length-append (map f rest) (f x ∷ [])
-
-      all : AreWaves m IsStart (map f rest ++ f x ∷ [])
-      all = subst (λ sets. AreWaves m IsStart sets) (ap (map f) is ∙ map-append f rest (x ∷ [])) waves
+  -- no words, no waves
+  pub no_waves : (n : ℕ) (words : List ℕ) → 0 < m.width → length words ≡ 0 → AreWaves m IsStart n words → n ≡ 0
+  no_waves zero words wide none waves = refl
+  no_waves (suc k) words wide none (before, wave, is, waves, last) = absurd (
+      let long : length words ≡ length before + length wave = ap length is ∙ length-append before wave in
+      let some : length wave ≡ m.width = last.long in
+      omega (arith, wide, none, long, some))
 
 -- over other words for the same starts
-pub AreWaves-same : (m : Description) (P Q : Chip → Type 0) → ((c : Chip) → P c → Q c) → ((c : Chip) → Q c → P c) → (waves : List (List ℕ)) →
-    AreWaves m P waves → AreWaves m Q waves
-AreWaves-same m P Q on back waves are n below = let wave = are n below in record {
-  long = wave.long;
-  told = λ c inside. (
-    λ bit. let near = (wave.told c inside).0 bit in (near.0, near.1, IsReachedBy-map (LeadsTo m) (LeadsTo m) P Q (λ a b step. step) on near.0 c near.2),
-    λ near. (wave.told c inside).1 (near.0, near.1, IsReachedBy-map (LeadsTo m) (LeadsTo m) Q P (λ a b step. step) back near.0 c near.2),
-  );
-}
+pub AreWaves-same : (m : Description) (P Q : Chip → Type 0) → ((c : Chip) → P c → Q c) → ((c : Chip) → Q c → P c) → (n : ℕ) (words : List ℕ) →
+    AreWaves m P n words → AreWaves m Q n words
+AreWaves-same m P Q on back zero words none = none
+AreWaves-same m P Q on back (suc n) words (before, wave, is, waves, last) = (
+  before,
+  wave,
+  is,
+  AreWaves-same m P Q on back n before waves,
+  record {
+    long = last.long;
+    told = λ c inside. (
+      λ bit. let near = (last.told c inside).0 bit in (near.0, near.1, IsReachedBy-map (LeadsTo m) (LeadsTo m) P Q (λ a b step. step) on near.0 c near.2),
+      λ near. (last.told c inside).1 (near.0, near.1, IsReachedBy-map (LeadsTo m) (LeadsTo m) Q P (λ a b step. step) back near.0 c near.2),
+    );
+  },
+)
 
 module _ (m : Description) (root : Chip) (tree : List Edge) where
   -- the best step from a wave into a chip of the next level comes from a chip of the level before
@@ -173,11 +172,6 @@ module _ (m : Description) (root : Chip) (tree : List Edge) where
       let bit : IsIn set b = (wave.told b (link_inside m b link.0 link.1)).1 (n, omega arith, (by.0, by.1, by.2.1)) in
       none (record { chip = b; dir = link.0 }) (link.1, link.2, bit)
 
-  -- the level, where one wave is taken off
-  pub level_suc : {X : Type 0} (c : Chip) (xs rest : List X) (x : X) → xs ≡ rest ++ x ∷ [] → IsTreeLevel m root tree c (length xs) →
-      IsTreeLevel m root tree c (suc (length rest))
-  level_suc c xs rest x is = subst (λ n. IsTreeLevel m root tree c n) (ap length is ∙ (length-append rest (x ∷ []) ∙ add-one (length rest)))
-
   -- a chip of level 0 is one of the tree
   pub on_tree : (c : Chip) → IsTreeLevel m root tree c 0 → IsTreeChip m root tree c
   on_tree c level = let by = level.reached in subst (λ (x : Chip). IsTreeChip m root tree x) by.2 by.1
@@ -196,6 +190,10 @@ module _ (m : Description) (root : Chip) (tree : List Edge) where
       ((rest : List Edge) → IsDetour m root tree at rest → IsDetour m root tree target (done ++ rest)) →
       IsTreeChip m root tree at → IsDetour m root tree target done
   way_ends target at done way on = subst (λ es. IsDetour m root tree target es) (append-nil done) (way [] on)
+
+-- the words that were put behind others
+pub added_words : (old last new : List ℕ) (from : ℕ) → new ≡ old ++ last → from ≡ length old → between from (length new) new ≡ last
+added_words old last new from is at = between_to_end new from (length new) (omega arith) ∙ (ap (drop from) is ∙ drop_at old last from (sym at))
 
 -- a step by the first link that has one is the best
 pub best_step : (m : Description) (set : List ℕ) (at : Chip) (i : ℕ) (e : Edge) → dir_number e.dir ≡ i → IsStepFrom m set at e →

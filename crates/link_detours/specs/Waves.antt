@@ -1,15 +1,14 @@
 -- Sets of chips as bits, and waves: the chips within so many live links of a start.
-use Rattle.std.specs.Prelude.{◌≡◌, ℕ, ◌^◌, ◌<◌, ◌≤◌, ◌↔◌, List, [], length, slice_index, slice_index_or, slice_set, Some, ◌⊎◌}
+use Rattle.std.specs.Prelude.{◌≡◌, ℕ, ◌^◌, ◌<◌, ◌≤◌, ◌↔◌, List, [], ◌++◌, length, slice_index, slice_set, Some, ◌⊎◌}
+use Rattle.std.proofs.Common.{zero, suc}
 use Rattle.std.specs.Int.{bit_at}
 use Rattle.spin_base.specs.declared.chips.Chip.{Chip}
 use Rattle.spin_base.specs.declared.chips.Dir.{Dir}
 use Rattle.spin_base.specs.Links.{dir_number}
 use Rattle.machine_desc.specs.declared.trees.Edge.{Edge}
 use Rattle.machine_desc.specs.Description.{Description}
-use Rattle.machine_desc.specs.Live.{far_of, IsInside, IsLiveLink, LeadsTo}
-use Rattle.machine_desc.specs.RoutingTree.{end_of}
+use Rattle.machine_desc.specs.{Live.far_of, Live.IsInside, Live.IsLiveLink, Live.LeadsTo, RoutingTree.end_of}
 use Rattle.link_detours.specs.Steps.{IsReachedBy}
-use Rattle.link_detours.specs.declared.sets.Wave.{Wave}
 
 -- A set has one word a column of chips, and bit y of it tells of the chip at y.
 abbrev pub IsIn : List ℕ → Chip → Type 0
@@ -29,15 +28,15 @@ IsSpreadBut m set columns = (c : Chip) → IsInside m c → (bit_at columns c.x 
 
 -- A column's word in place of the old one: the chips of the column in a set, and those from which a live link leads to one of it.
 -- The column is named where it has more than in the set.
-pub record IsSpreadAt (m : Description) (set : List ℕ) (x : ℕ) (old new : Wave) : Type 0 where
+pub record IsSpreadAt (m : Description) (set : List ℕ) (x : ℕ) (old : List ℕ) (columns : ℕ) (new : List ℕ) (more : ℕ) : Type 0 where
   pub word : ℕ
-  pub is : new.set.items ≡ slice_set old.set.items x word
+  pub is : new ≡ slice_set old x word
   pub fits : word < 2 ^ 64
   pub rises : slice_index set x ≤ word
   pub spread : (y : ℕ) → y < m.height → (bit_at word y ≡ 1) ↔ IsSpread m set (record { x = x; y = y })
-  pub named : (k : ℕ) → bit_at old.grown k ≡ 1 → bit_at new.grown k ≡ 1
-  pub told : (bit_at new.grown x ≡ 1 → ⊥) → word ≡ slice_index set x
-  pub grew : (new.grown ≡ old.grown) ⊎ (word ≡ slice_index set x → ⊥)
+  pub named : (k : ℕ) → bit_at columns k ≡ 1 → bit_at more k ≡ 1
+  pub told : (bit_at more x ≡ 1 → ⊥) → word ≡ slice_index set x
+  pub grew : (more ≡ columns) ⊎ (word ≡ slice_index set x → ⊥)
 
 -- at most n live links lead from a start to the chip
 abbrev pub IsWithinLinks : Description → (Chip → Type 0) → ℕ → Chip → Type 0
@@ -48,9 +47,10 @@ pub record IsWave (m : Description) (IsStart : Chip → Type 0) (n : ℕ) (set :
   pub long : length set ≡ m.width
   pub told : (c : Chip) → IsInside m c → (IsIn set c → IsWithinLinks m IsStart n c) × (IsWithinLinks m IsStart n c → IsIn set c)
 
--- the waves in the order of their numbers, from 0 on
-abbrev pub AreWaves : Description → (Chip → Type 0) → List (List ℕ) → Type 0
-AreWaves m IsStart waves = (n : ℕ) → n < length waves → IsWave m IsStart n (slice_index_or waves n [])
+-- the waves of the numbers below n, one behind the other
+abbrev pub AreWaves : Description → (Chip → Type 0) → ℕ → List ℕ → Type 0
+AreWaves m IsStart zero words = words ≡ []
+AreWaves m IsStart (suc n) words = (before : List ℕ) × (wave : List ℕ) × (words ≡ before ++ wave) × AreWaves m IsStart n before × IsWave m IsStart n wave
 
 -- the live link leads into the chip from one of the set
 abbrev pub IsStepFrom : Description → List ℕ → Chip → Edge → Type 0

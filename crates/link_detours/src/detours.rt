@@ -1,5 +1,5 @@
 // Detours: the shortest way over live links from a tree to a chip that it doesn't have.
-ghost use Rattle.std.specs.Prelude.{◌≡◌, ℕ, ◌+◌, ◌*◌, ◌<◌, ◌≤◌, ◌↔◌, List, ◌++◌, length, map, All, IfOk, IfSome, IfNone, IsTrue, true, false};
+ghost use Rattle.std.specs.Prelude.{◌≡◌, ℕ, ◌+◌, ◌*◌, ◌<◌, ◌≤◌, ◌↔◌, List, ◌++◌, length, IfOk, IfSome, IfNone, IsTrue, true, false};
 ghost use Rattle.machine_desc.specs.Live.{IsInside, LeadsTo};
 ghost use Rattle.machine_desc.specs.RoutingTree.{IsTreeChip};
 ghost use Rattle.link_detours.specs.Steps.{Steps, IsReachedBy, IsStepLevel};
@@ -11,7 +11,7 @@ ghost use Rattle.machine_desc.specs.declared.trees.Edge.{Edge};
 
 use crate::grounds::{Edges, Front, Ground, Ring};
 use crate::searches::reached_chips;
-use crate::sets::{empty_set, has, near_columns, put, spread};
+use crate::sets::{has, near_columns, put, spread};
 use crate::tables::link_table;
 use machine_desc::Edge;
 use spin_base::{Chip, Dir, Memory};
@@ -31,15 +31,13 @@ pub fn tree_reach(alloc: Global, root: Chip, links: Edges) -> Result<Vec<bool>, 
     Ok(reach)
 }
 
-// The waves from the chips of a tree, up to the last without the target: there are as many as live links lead to it.
-// `None` exactly where no walk of live links leads to it.
-fn waves(alloc: Global, tree: Front, target: Chip) -> Result<Option<Vec<Vec<u64>>>, Memory>
+// The waves from the chips of a tree, one behind the other, up to the last without the target: there are as many as live
+// links lead to it. `None` exactly where no walk of live links leads to it.
+fn waves(alloc: Global, tree: Front, target: Chip) -> Result<Option<Vec<u64>>, Memory>
     requires { IsInside tree.ground.machine.now target }
-    ensures waves { IfOk result (λ o. IfSome o (λ v. AreWaves tree.entry.ground.machine.now
-        (IsIn tree.entry.set.now) (map (λ w. w.items) v.items))) }
-    ensures level { IfOk result (λ o. IfSome o (λ v.
-        IsStepLevel (LeadsTo tree.entry.ground.machine.now)
-        (IsIn tree.entry.set.now) target (length v.items))) }
+    ensures waves { IfOk result (λ o. IfSome o (λ v. (n : ℕ)
+        × AreWaves tree.entry.ground.machine.now (IsIn tree.entry.set.now) n v.items
+        × IsStepLevel (LeadsTo tree.entry.ground.machine.now) (IsIn tree.entry.set.now) target n)) }
     ensures cut_off { IfOk result (λ o. IfNone o ((n : ℕ)
         → IsReachedBy (LeadsTo tree.entry.ground.machine.now) (IsIn tree.entry.set.now) n target
         → ⊥)) }
@@ -49,16 +47,22 @@ fn waves(alloc: Global, tree: Front, target: Chip) -> Result<Option<Vec<Vec<u64>
         size: ground.machine.width(),
     };
     let mut near = u64::MAX;
-    let mut waves = Vec::new(alloc);
-    let mut last = Vec::from_slice(alloc, tree.set)?;
-    'spreading: while !has(&last, target) {
-        let next = spread(alloc, ground, &last, near)?;
-        if next.grown == 0 {
+    // (each wave has a chip more than the one before it)
+    let mut waves = Vec::with_capacity(alloc, tree.set.len() * ground.machine.chips())?;
+    let mut words = Vec::from_slice(alloc, tree.set)?;
+    let last: &mut [u64] = &mut words;
+    'spreading: while !has(last, target) {
+        let from = waves.len();
+        waves.extend_from_slice(last)?;
+        let front = Front {
+            ground,
+            set: &waves[from..],
+        };
+        let grown = spread(front, near, last);
+        if grown == 0 {
             return Ok(None);
         }
-        near = near_columns(columns, next.grown);
-        waves.push(last)?;
-        last = next.set;
+        near = near_columns(columns, grown);
     }
     Ok(Some(waves))
 }
@@ -106,17 +110,16 @@ fn last_link(front: Front, at: Chip) -> Option<Edge>
 // Adds the links of the way back from a target over the waves, the last first, and the chips into which they lead.
 fn walk_back(
     ground: Ground,
-    mut waves: Vec<Vec<u64>>,
+    waves: &[u64],
     root: Chip,
     tree: &mut [u64],
     whole: &mut Vec<Edge>,
     target: Chip,
 ) -> Result<(), Memory>
     requires inside { IsInside ground.machine.now target }
-    requires waves_are { AreWaves ground.machine.now
-        (IsTreeChip ground.machine.now root whole.old.items) (map (λ w. w.items) waves.items) }
-    requires level { IsTreeLevel ground.machine.now root whole.old.items target
-        (length waves.items) }
+    requires waves { (n : ℕ)
+        × AreWaves ground.machine.now (IsTreeChip ground.machine.now root whole.old.items) n waves.now
+        × IsTreeLevel ground.machine.now root whole.old.items target n }
     requires long { length tree.old ≡ ground.machine.now.width }
     requires chips { (c : Chip) → IsIn tree.old c ↔ IsTreeChip ground.machine.now root
         whole.old.items c }
@@ -126,15 +129,18 @@ fn walk_back(
     ensures chips { IfOk result (λ _. (c : Chip)
         → IsIn tree.new c ↔ IsTreeChip ground.entry.machine.now root whole.new.items c) }
 {
+    let mut left = waves;
     let mut at = target;
-    while let Some(wave) = waves.pop() {
-        let front = Front { ground, set: &wave };
+    'back: while !left.is_empty() {
+        let (before, wave) = left.split_at(left.len() - tree.len());
+        let front = Front { ground, set: wave };
         let Some(edge) = last_link(front, at) else {
             unreachable!();
         };
         put(tree, at);
         whole.push(edge)?;
         at = edge.chip;
+        left = before;
     }
     Ok(())
 }
@@ -168,7 +174,7 @@ pub fn join(
     match found {
         None => Ok(false),
         Some(list) => {
-            walk_back(ground, list, root, tree, whole, target)?;
+            walk_back(ground, &list, root, tree, whole, target)?;
             Ok(true)
         }
     }

@@ -136,13 +136,6 @@ fn spread_word(front: Front, x: usize) -> u64
     word
 }
 
-// A set that has spread from another: its words, and a word that names the columns in which it has more.
-#[derive(Drop)]
-pub struct Wave {
-    pub set: Vec<u64>,
-    pub grown: u64,
-}
-
 // The word with the column named, where it is to be.
 fn with_column(columns: u64, x: u32, named: bool) -> u64
     requires { x < 64 }
@@ -153,47 +146,45 @@ fn with_column(columns: u64, x: u32, named: bool) -> u64
     if named { columns | 1 << x } else { columns }
 }
 
-// Spreads one column of a set.
-fn spread_column(front: Front, x: u32, wave: &mut Wave)
-    requires wave_long { length wave.old.set.items ≡ front.ground.machine.now.width }
+// Puts a column of a set into `next` as it is when it has spread. Answers the columns that have grown, with it if it has.
+fn spread_column(front: Front, x: u32, grown: u64, next: &mut [u64]) -> u64
+    requires next_long { length next.old ≡ front.ground.machine.now.width }
     requires column { x < front.ground.machine.now.width }
     requires few { x < 64 }
-    ensures { IsSpreadAt front.entry.ground.machine.now front.entry.set.now x wave.old wave.new }
+    ensures { IsSpreadAt front.entry.ground.machine.now front.entry.set.now x next.old grown next.new
+        result }
 {
     let place = x as usize;
     let word = spread_word(front, place);
-    wave.grown = with_column(wave.grown, x, word != front.set[place]);
-    wave.set[place] = word;
+    let named = word != front.set[place];
+    next[place] = word;
+    with_column(grown, x, named)
 }
 
-// The set with the chips from which a live link leads to one of it. Only columns that are named are looked at.
-pub fn spread(alloc: Global, ground: Ground, set: &[u64], near: u64) -> Result<Wave, Memory>
-    requires long { length set.now ≡ ground.machine.now.width }
-    requires others { IsSpreadBut ground.machine.now set.now near }
-    ensures long { IfOk result (λ t. length t.set.items ≡ ground.entry.machine.now.width) }
-    ensures fits { IfOk result (λ t. All (λ w. w < 2 ^ 64) t.set.items) }
-    ensures rises { IfOk result (λ t. (x : ℕ) → slice_index set.now x ≤ slice_index t.set.items x) }
-    ensures spread { IfOk result (λ t. (c : Chip) → IsInside ground.entry.machine.now c
-        → IsIn t.set.items c ↔ IsSpread ground.entry.machine.now set.now c) }
-    ensures grown { IfOk result (λ t. (x : ℕ) → (bit_at t.grown x ≡ 1 → ⊥)
-        → slice_index set.now x ≡ slice_index t.set.items x) }
-    ensures grew { IfOk result (λ t. set.now ≡ t.set.items → t.grown ≡ 0) }
+// Puts the chips from which a live link leads to one of a set into `next`, which has those of the set. Answers a word that
+// names the columns in which it has more then. Only columns that `near` names are looked at.
+pub fn spread(front: Front, near: u64, next: &mut [u64]) -> u64
+    requires same { next.old ≡ front.set.now }
+    requires others { IsSpreadBut front.ground.machine.now next.old near }
+    ensures fits { All (λ w. w < 2 ^ 64) next.new }
+    ensures rises { (x : ℕ) → slice_index next.old x ≤ slice_index next.new x }
+    ensures spread { (c : Chip) → IsInside front.entry.ground.machine.now c
+        → IsIn next.new c ↔ IsSpread front.entry.ground.machine.now next.old c }
+    ensures grown { (x : ℕ) → (bit_at result x ≡ 1 → ⊥)
+        → slice_index next.old x ≡ slice_index next.new x }
+    ensures grew { next.old ≡ next.new → result ≡ 0 }
 {
-    let front = Front { ground, set };
-    let mut wave = Wave {
-        set: Vec::from_slice(alloc, set)?,
-        grown: 0,
-    };
-    let width = u32::from(ground.machine.width());
+    let width = u32::from(front.ground.machine.width());
+    let mut grown = 0;
     let mut left = near;
     while left != 0 {
         let x = left.trailing_zeros();
         left &= !(1 << x);
         if x < width {
-            spread_column(front, x, &mut wave);
+            grown = spread_column(front, x, grown, next);
         }
     }
-    Ok(wave)
+    grown
 }
 
 // The columns that a word names, and those beside them on a ring of so many.

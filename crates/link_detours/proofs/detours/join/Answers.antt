@@ -1,4 +1,4 @@
-use Rattle.std.proofs.Common.{◌<◌, ◌≤◌, [], refl, sym, subst, arith, inl, append-nil, length, map, Vec, Global, ℕ}
+use Rattle.std.proofs.Common.{◌<◌, ◌≤◌, [], refl, sym, subst, arith, inl, append-nil}
 use Rattle.spin_base.specs.declared.chips.Chip.{Chip}
 use Rattle.machine_desc.specs.Live.{LeadsTo}
 use Rattle.machine_desc.specs.RoutingTree.{IsTreeChip}
@@ -18,18 +18,16 @@ has-requires-clause-bit c =
 pub returns-then-has-clause-joined : goal.returns-then-has-clause-joined
 returns-then-has-clause-joined c = λ _. ([], sym (append-nil c.args.whole.now.items), (c.requires.chips c.args.target).0 (c.has.ensures.0 c.if-has.true))
 
-pub walk_back-requires-clause-waves_are : goal.walk_back-requires-clause-waves_are
-walk_back-requires-clause-waves_are c =
-    AreWaves-same c.args.ground.machine.now (IsIn c.args.tree.now) (IsTreeChip c.args.ground.machine.now c.args.root c.args.whole.now.items)
-    (λ x. (c.requires.chips x).0) (λ x. (c.requires.chips x).1) (map (λ (w : Vec ℕ Global). w.items) c.in-Some.list.items)
-    (rw c.in-Some.is at c.in_ok-found.ensures.waves)
-
-pub walk_back-requires-clause-level : goal.walk_back-requires-clause-level
-walk_back-requires-clause-level c =
-    IsLevel-same (LeadsTo c.args.ground.machine.now) (LeadsTo c.args.ground.machine.now) (IsIn c.args.tree.now)
-    (IsTreeChip c.args.ground.machine.now c.args.root c.args.whole.now.items) (λ a b step. step) (λ a b step. step)
-    (λ x. (c.requires.chips x).0) (λ x. (c.requires.chips x).1) c.args.target (length c.in-Some.list.items)
-    (rw c.in-Some.is at c.in_ok-found.ensures.level)
+pub walk_back-requires-clause-waves : goal.walk_back-requires-clause-waves
+walk_back-requires-clause-waves c =
+    let found = rw (c.in-Some.is, ← c.deref.ensures.value) at c.in_ok-found.ensures.waves in (
+      found.0,
+      AreWaves-same c.args.ground.machine.now (IsIn c.args.tree.now) (IsTreeChip c.args.ground.machine.now c.args.root c.args.whole.now.items)
+          (λ x. (c.requires.chips x).0) (λ x. (c.requires.chips x).1) found.0 c.deref.result.now found.1,
+      IsLevel-same (LeadsTo c.args.ground.machine.now) (LeadsTo c.args.ground.machine.now) (IsIn c.args.tree.now)
+          (IsTreeChip c.args.ground.machine.now c.args.root c.args.whole.now.items) (λ a b step. step) (λ a b step. step)
+          (λ x. (c.requires.chips x).0) (λ x. (c.requires.chips x).1) c.args.target found.0 found.2,
+    )
 
 pub returns-in-None-clause-cut_off : goal.returns-in-None-clause-cut_off
 returns-in-None-clause-cut_off c = λ _ walk along.

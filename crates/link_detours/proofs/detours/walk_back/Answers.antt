@@ -1,19 +1,20 @@
-use Rattle.std.proofs.Common.{◌≡◌, ℕ, ◌<◌, ◌≤◌, [], ◌∷◌, ◌++◌, length, Vec, Global, sym, ap, ◌∙◌, subst, arith, rules, append-nil}
-use Rattle.std.proofs.lemmas.Grind.{common_steps}
+use Rattle.std.proofs.Common.{◌≡◌, ℕ, ◌-◌, ◌<◌, ◌≤◌, suc, [], ◌∷◌, ◌++◌, length, sym, ◌∙◌, subst, arith, rules, append-nil}
 use Rattle.machine_desc.specs.RoutingTree.{IsTreeChip}
 use Rattle.machine_desc.proofs.Far.{inside_parts}
 use Rattle.link_detours.specs.Repair.{IsTreeLevel}
-use Rattle.link_detours.specs.Waves.{IsBestStep}
+use Rattle.link_detours.specs.Waves.{AreWaves, IsBestStep, IsWave}
 use Rattle.link_detours.proofs.Reaching.{link_inside}
 use Rattle.link_detours.proofs.Putting.{TellsTree, TellsTree-push}
-use Rattle.link_detours.proofs.Waving.{waves_pop, step_level, last_link_is, some_step, on_tree, way_more, way_ends, level_suc}
+use Rattle.link_detours.proofs.Waving.{last_wave, no_waves, step_level, last_link_is, some_step, on_tree, way_more, way_ends}
+use Rattle.link_detours.proofs.detours.walk_back.Goals.{After-split_at}
 use Rattle.link_detours.proofs.detours.walk_back.Goals as goal
 
-pub loop-wave-init : goal.loop-wave-init
-loop-wave-init c = record {
+pub back-init : goal.back-init
+back-init c = record {
   inside = c.requires.inside;
-  waves = c.requires.waves_are;
-  level = c.requires.level;
+  count = c.requires.waves.0;
+  waves = c.requires.waves.1;
+  level = c.requires.waves.2;
   long = c.requires.long;
   chips = c.requires.chips;
   done = [];
@@ -21,58 +22,71 @@ loop-wave-init c = record {
   way = λ rest detour. detour;
 }
 
+pub overflow_sub-left : goal.overflow_sub-left
+overflow_sub-left c =
+    let some : 0 < length c.back.left.now = search rules in
+    let last = last_wave c.args.ground.machine.now (IsTreeChip c.args.ground.machine.now c.args.root c.args.whole.now.items) c.back.invariant.count c.back.left.now
+    some c.back.invariant.waves in
+    omega (arith, last.2, c.back.invariant.long)
+
+-- the level of the chip, the waves before the last, and the last
+taken : (c : After-split_at) → (k : ℕ) × IsTreeLevel c.args.ground.machine.now c.args.root c.args.whole.now.items c.back.at (suc k)
+    × AreWaves c.args.ground.machine.now (IsTreeChip c.args.ground.machine.now c.args.root c.args.whole.now.items) k c.split_at.result.0.now
+    × IsWave c.args.ground.machine.now (IsTreeChip c.args.ground.machine.now c.args.root c.args.whole.now.items) k c.split_at.result.1.now
+taken c =
+    let some : 0 < length c.back.left.now = search rules in
+    let last = last_wave c.args.ground.machine.now (IsTreeChip c.args.ground.machine.now c.args.root c.args.whole.now.items) c.back.invariant.count c.back.left.now
+    some c.back.invariant.waves in
+    let parts = last.3 (length c.back.left.now - length c.back.tree) (omega (arith, last.2, c.back.invariant.long)) in (
+      last.0,
+      subst (λ n. IsTreeLevel c.args.ground.machine.now c.args.root c.args.whole.now.items c.back.at n) last.1 c.back.invariant.level,
+      rw c.split_at.ensures.front parts.0,
+      rw c.split_at.ensures.back parts.1,
+    )
+
 pub invariant_of-front : goal.invariant_of-front
-invariant_of-front c = record {
-  long = ap length c.deref.ensures.value ∙ (waves_pop c.args.ground.machine.now (IsTreeChip c.args.ground.machine.now c.args.root c.args.whole.now.items) (λ (w : Vec ℕ Global). w.items)
-      c.loop-wave.waves.items c.pop.new.self.items c.in-Some.wave c.in-Some.ensures.items c.loop-wave.invariant.waves).1.long;
-}
+invariant_of-front c = record { long = (taken (goal.at.invariant_of-front c).After-split_at).3.long }
 
 pub unreachable-requires : goal.unreachable-requires
 unreachable-requires c =
-    let popped = waves_pop c.args.ground.machine.now (IsTreeChip c.args.ground.machine.now c.args.root c.args.whole.now.items) (λ (w : Vec ℕ Global). w.items)
-    c.loop-wave.waves.items c.pop.new.self.items c.in-Some.wave c.in-Some.ensures.items c.loop-wave.invariant.waves in
-    let level = level_suc c.args.ground.machine.now c.args.root c.args.whole.now.items c.loop-wave.at c.loop-wave.waves.items c.pop.new.self.items c.in-Some.wave
-    c.in-Some.ensures.items c.loop-wave.invariant.level in
-    some_step c.args.ground.machine.now c.args.root c.args.whole.now.items (length c.pop.new.self.items) c.in-Some.wave.items c.loop-wave.at popped.1 level
-    (rw c.deref.ensures.value at c.in_default-last_link.ensures.none)
+    let now = taken (goal.at.unreachable-requires c).After-split_at in
+    some_step c.args.ground.machine.now c.args.root c.args.whole.now.items now.0 c.split_at.result.1.now c.back.at now.3 now.1 c.in_default.ensures.none
 
 pub put-requires-clause-bit : goal.put-requires-clause-bit
 put-requires-clause-bit c =
-    let low : c.loop-wave.at.y < c.args.ground.machine.now.height = (inside_parts c.args.ground.machine.now c.loop-wave.at c.loop-wave.invariant.inside).1 in
+    let low : c.back.at.y < c.args.ground.machine.now.height = (inside_parts c.args.ground.machine.now c.back.at c.back.invariant.inside).1 in
     let few : c.args.ground.machine.now.height ≤ 64 = c.args.ground.roads_are.few in omega (arith, low, few)
 
-pub loop-wave-preserved : goal.loop-wave-preserved
-loop-wave-preserved c =
-    let popped = waves_pop c.args.ground.machine.now (IsTreeChip c.args.ground.machine.now c.args.root c.args.whole.now.items) (λ (w : Vec ℕ Global). w.items)
-    c.loop-wave.waves.items c.pop.new.self.items c.in-Some.wave c.in-Some.ensures.items c.loop-wave.invariant.waves in
-    let level = level_suc c.args.ground.machine.now c.args.root c.args.whole.now.items c.loop-wave.at c.loop-wave.waves.items c.pop.new.self.items c.in-Some.wave
-    c.in-Some.ensures.items c.loop-wave.invariant.level in
-    let best : IsBestStep c.args.ground.machine.now c.in-Some.wave.items c.loop-wave.at c.in-Some-last_link.edge =
-    rw c.deref.ensures.value at c.in-Some-last_link.ensures.found in
-    let last = last_link_is c.args.ground.machine.now c.args.root c.args.whole.now.items (length c.pop.new.self.items) c.in-Some.wave.items c.loop-wave.at
-    c.in-Some-last_link.edge popped.1 level best in
-    let way = way_more c.args.ground.machine.now c.args.root c.args.whole.now.items c.args.target c.loop-wave.at c.loop-wave.whole.items
-    c.loop-wave.invariant.done c.in-Some-last_link.edge c.loop-wave.invariant.added c.loop-wave.invariant.way last in
+pub back-preserved : goal.back-preserved
+back-preserved c =
+    let now = taken (goal.at.back-preserved c).After-split_at in
+    let best : IsBestStep c.args.ground.machine.now c.split_at.result.1.now c.back.at c.in-Some.edge = c.in-Some.ensures.found in
+    let last = last_link_is c.args.ground.machine.now c.args.root c.args.whole.now.items now.0 c.split_at.result.1.now c.back.at c.in-Some.edge now.3 now.1 best in
+    let way = way_more c.args.ground.machine.now c.args.root c.args.whole.now.items c.args.target c.back.at c.back.whole.items
+    c.back.invariant.done c.in-Some.edge c.back.invariant.added c.back.invariant.way last in
     record {
-      inside = link_inside c.args.ground.machine.now c.in-Some-last_link.edge.chip c.in-Some-last_link.edge.dir best.0.0;
-      waves = popped.0;
-      level = step_level c.args.ground.machine.now c.args.root c.args.whole.now.items (length c.pop.new.self.items) c.in-Some.wave.items c.loop-wave.at
-          c.in-Some-last_link.edge popped.1 level best;
+      inside = link_inside c.args.ground.machine.now c.in-Some.edge.chip c.in-Some.edge.dir best.0.0;
+      count = now.0;
+      waves = now.2;
+      level = step_level c.args.ground.machine.now c.args.root c.args.whole.now.items now.0 c.split_at.result.1.now c.back.at c.in-Some.edge now.3 now.1 best;
       long = search rules;
       chips = subst (λ es. TellsTree c.args.ground.machine.now c.args.root es c.put.new.set) (sym c.in_ok-push.ensures.items)
-          (TellsTree-push c.args.ground.machine.now c.args.root c.loop-wave.whole.items c.loop-wave.tree c.put.new.set c.in-Some-last_link.edge c.loop-wave.at
-          best.0.1 c.put.ensures.here c.put.ensures.others c.loop-wave.invariant.chips);
-      done = c.loop-wave.invariant.done ++ c.in-Some-last_link.edge ∷ [];
+          (TellsTree-push c.args.ground.machine.now c.args.root c.back.whole.items c.back.tree c.put.new.set c.in-Some.edge c.back.at
+          best.0.1 c.put.ensures.here c.put.ensures.others c.back.invariant.chips);
+      done = c.back.invariant.done ++ c.in-Some.edge ∷ [];
       added = c.in_ok-push.ensures.items ∙ way.0;
       way = way.1;
     }
 
 pub returns-clause-joined : goal.returns-clause-joined
 returns-clause-joined c =
-    let none : length c.loop-wave.waves.items ≡ 0 = first_of (search rules, grind (arith, common_steps)) in
-    let on = on_tree c.args.ground.machine.now c.args.root c.args.whole.now.items c.loop-wave.at
-    (subst (λ n. IsTreeLevel c.args.ground.machine.now c.args.root c.args.whole.now.items c.loop-wave.at n) none c.loop-wave.invariant.level) in (
-      c.loop-wave.invariant.done,
-      c.loop-wave.invariant.added,
-      way_ends c.args.ground.machine.now c.args.root c.args.whole.now.items c.args.target c.loop-wave.at c.loop-wave.invariant.done c.loop-wave.invariant.way on,
+    let low : c.back.at.x < c.args.ground.machine.now.width = (inside_parts c.args.ground.machine.now c.back.at c.back.invariant.inside).0 in
+    let none : length c.back.left.now ≡ 0 = search rules in
+    let ends = no_waves c.args.ground.machine.now (IsTreeChip c.args.ground.machine.now c.args.root c.args.whole.now.items) c.back.invariant.count c.back.left.now
+    (omega (arith, low)) none c.back.invariant.waves in
+    let on = on_tree c.args.ground.machine.now c.args.root c.args.whole.now.items c.back.at
+    (subst (λ n. IsTreeLevel c.args.ground.machine.now c.args.root c.args.whole.now.items c.back.at n) ends c.back.invariant.level) in (
+      c.back.invariant.done,
+      c.back.invariant.added,
+      way_ends c.args.ground.machine.now c.args.root c.args.whole.now.items c.args.target c.back.at c.back.invariant.done c.back.invariant.way on,
     )

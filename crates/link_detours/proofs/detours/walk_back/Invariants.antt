@@ -1,4 +1,4 @@
-use Rattle.std.proofs.Common.{◌≡◌, List, ◌++◌, map, length}
+use Rattle.std.proofs.Common.{◌≡◌, ℕ, List, ◌++◌, length}
 use Rattle.machine_desc.specs.declared.trees.Edge.{Edge}
 use Rattle.machine_desc.specs.Live.{IsInside}
 use Rattle.machine_desc.specs.RoutingTree.{IsTreeChip}
@@ -9,11 +9,12 @@ use Rattle.link_detours.proofs.detours.walk_back.Given as goal
 
 -- the waves that are left lead back from this chip; what was added leads from the target to it, and a detour from here
 -- completes it
-abbrev pub invariant-loop-wave : goal.invariant-loop-wave
-invariant-loop-wave l = record {
+abbrev pub invariant-back : goal.invariant-back
+invariant-back l = record {
   inside : IsInside l.ground.machine.now l.at;
-  waves : AreWaves l.ground.machine.now (IsTreeChip l.ground.machine.now l.fn.root l.fn.whole.items) (map (λ w. w.items) l.waves.items);
-  level : IsTreeLevel l.ground.machine.now l.fn.root l.fn.whole.items l.at (length l.waves.items);
+  count : ℕ;
+  waves : AreWaves l.ground.machine.now (IsTreeChip l.ground.machine.now l.fn.root l.fn.whole.items) count l.left;
+  level : IsTreeLevel l.ground.machine.now l.fn.root l.fn.whole.items l.at count;
   long : length l.tree ≡ l.ground.machine.now.width;
   chips : TellsTree l.ground.machine.now l.fn.root l.whole.items l.tree;
   done : List Edge;
@@ -22,5 +23,5 @@ invariant-loop-wave l = record {
       IsDetour l.ground.machine.now l.fn.root l.fn.whole.items l.fn.target (done ++ rest);
 }
 
-abbrev pub decreases-loop-wave : goal.decreases-loop-wave
-decreases-loop-wave l = length l.waves.items
+abbrev pub decreases-back : goal.decreases-back
+decreases-back l = length l.left

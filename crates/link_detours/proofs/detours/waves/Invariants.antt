@@ -1,4 +1,4 @@
-use Rattle.std.proofs.Common.{ℕ, ◌*◌, ◌-◌, ◌<◌, map, length}
+use Rattle.std.proofs.Common.{ℕ, ◌*◌, ◌-◌, ◌<◌}
 use Rattle.std.specs.List.{sum_by}
 use Rattle.machine_desc.specs.Live.{LeadsTo}
 use Rattle.link_detours.specs.Steps.{IsReachedBy}
@@ -8,12 +8,13 @@ use Rattle.link_detours.proofs.detours.waves.Given as goal
 -- the waves so far and the next of them, the columns in which it can spread, and the target is in none of those so far
 abbrev pub invariant-spreading : goal.invariant-spreading
 invariant-spreading l = record {
-  waves : AreWaves l.tree.ground.machine.now (IsIn l.tree.set.now) (map (λ w. w.items) l.waves.items);
-  wave : IsWave l.tree.ground.machine.now (IsIn l.tree.set.now) (length l.waves.items) l.last.items;
-  near : IsSpreadBut l.tree.ground.machine.now l.last.items l.near;
-  off : (k : ℕ) → k < length l.waves.items → IsReachedBy (LeadsTo l.tree.ground.machine.now) (IsIn l.tree.set.now) k l.target → ⊥;
+  count : ℕ;
+  waves : AreWaves l.tree.ground.machine.now (IsIn l.tree.set.now) count l.waves.items;
+  wave : IsWave l.tree.ground.machine.now (IsIn l.tree.set.now) count l.last;
+  near : IsSpreadBut l.tree.ground.machine.now l.last l.near;
+  off : (k : ℕ) → k < count → IsReachedBy (LeadsTo l.tree.ground.machine.now) (IsIn l.tree.set.now) k l.target → ⊥;
 }
 
 -- each wave has a greater sum
 abbrev pub decreases-spreading : goal.decreases-spreading
-decreases-spreading l = l.tree.ground.machine.now.width * 18446744073709551615 - sum_by (λ n. n) l.last.items
+decreases-spreading l = l.tree.ground.machine.now.width * 18446744073709551615 - sum_by (λ n. n) l.last

@@ -18,13 +18,13 @@ pub loop-left-preserved-then-x-width : goal.loop-left-preserved-then-x-width
 loop-left-preserved-then-x-width c =
     let low = bit_at-trailing_zeros w64 c.loop-left.left (omega (arith, c.loop-left-test.true)) c.loop-left.auto.left-fits.fits in
     let x = trailing_zeros w64 c.loop-left.left in
-    let within : x < c.args.ground.machine.now.width = omega (arith, c.if-x-width.true, c.from-width.ensures, c.width.ensures.value) in
-    spreading_more c.loop-left.left x low.0 low.1 c.args.ground.machine.now c.args.set.now c.loop-left.wave c.width.ensures.size.width_to_64 c.loop-left.invariant
-    c.spread_column.new.wave within c.spread_column.ensures
+    let within : x < c.args.front.ground.machine.now.width = omega (arith, c.if-x-width.true, c.from-width.ensures, c.width.ensures.value) in
+    spreading_more c.loop-left.left x low.0 low.1 c.args.front.ground.machine.now c.args.next.now c.loop-left.next c.loop-left.grown c.width.ensures.size.width_to_64 c.loop-left.invariant
+    c.spread_column-grown.new.next c.spread_column-grown.result within (rw (← c.requires.same) at c.spread_column-grown.ensures)
 
 pub loop-left-preserved : goal.loop-left-preserved
 loop-left-preserved c =
     let low = bit_at-trailing_zeros w64 c.loop-left.left (omega (arith, c.loop-left-test.true)) c.loop-left.auto.left-fits.fits in
     let x = trailing_zeros w64 c.loop-left.left in
-    let beyond : c.args.ground.machine.now.width ≤ x = omega (arith, c.if-x-width.false, c.from-width.ensures, c.width.ensures.value) in
-    spreading_skip c.loop-left.left x low.0 low.1 c.args.ground.machine.now c.args.set.now c.loop-left.wave c.width.ensures.size.width_to_64 c.loop-left.invariant beyond
+    let beyond : c.args.front.ground.machine.now.width ≤ x = omega (arith, c.if-x-width.false, c.from-width.ensures, c.width.ensures.value) in
+    spreading_skip c.loop-left.left x low.0 low.1 c.args.front.ground.machine.now c.args.next.now c.loop-left.next c.loop-left.grown c.width.ensures.size.width_to_64 c.loop-left.invariant beyond
