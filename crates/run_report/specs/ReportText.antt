@@ -91,6 +91,15 @@ abbrev pub did_word : Did → List ℕ
 did_word Moved = codes "moved"
 did_word Idle = codes "idle"
 
+-- the digits of a number before its last one: none where the number has no tens
+abbrev pub tens_digits : ℕ → List ℕ
+tens_digits zero = []
+tens_digits (suc n) = decimal (suc n)
+
+-- what the lines of events begin with whose numbers have that many tens, and differ in the last digit alone
+abbrev pub event_front : ℕ → List ℕ
+event_front tens = codes "event " ++ tens_digits tens
+
 -- the number of an event, from 1, and whether it was enabled
 abbrev pub event_line : ℕ → Did → List ℕ
 event_line number did = line (codes "event" ∷ decimal number ∷ did_word did ∷ [])

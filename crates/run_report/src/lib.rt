@@ -13,6 +13,7 @@
 
 mod causes;
 mod digits;
+mod fronts;
 pub mod laws;
 mod lines;
 mod lists;

@@ -1,11 +1,12 @@
 // The text of a report.
-ghost use Rattle.std.specs.Prelude.{◌≡◌, ◌<◌, ◌^◌, [], ◌++◌, ◌∷◌, OnOk, IfOk, codes, decimal};
+ghost use Rattle.std.specs.Prelude.{◌≡◌, ◌<◌, ◌/◌, ◌^◌, take, [], ◌++◌, ◌∷◌, ◌+◌, OnOk, IfOk, codes, decimal};
 ghost use Rattle.std.specs.List.{flat_map};
 ghost use Rattle.mesh_core.specs.declared.places.Place.TheVariants.{InQueue, Hand, CoreQueue};
 ghost use Rattle.run_report.specs.Named.{named_delivery};
-ghost use Rattle.run_report.specs.ReportText.{report_text, listed_text, row_total, word, hex, payload_word, place_line, keys_line, row_line, table_head, table_lines, did_word, event_line, event_lines, got_line, dump_line, wait_line, end_line, out_letters, port_letters, dir_letters};
+ghost use Rattle.run_report.specs.ReportText.{report_text, listed_text, row_total, word, hex, payload_word, place_line, keys_line, row_line, table_head, table_lines, did_word, event_front, event_line, event_lines, got_line, dump_line, wait_line, end_line, out_letters, port_letters, dir_letters};
 
 use crate::digits::{route_digits, word_digits};
+use crate::fronts::EventFront;
 use crate::named::{NamedDeliveries, name_at};
 use crate::reports::Report;
 use itoa::Buffer;
@@ -15,6 +16,9 @@ use spin_base::{
     Seq, Spot,
 };
 use std::alloc::Global;
+
+// How many bytes of memory are taken at once for each line of an event or a delivery.
+const LINE_ROOM: usize = 32;
 
 /// The text of a report: one line an item, each ended by a line feed, its words one space apart.
 ///
@@ -29,7 +33,8 @@ use std::alloc::Global;
 pub fn text_of(alloc: Global, report: &Report) -> Result<Seq<u8>, Memory>
     ensures { IfOk result (λ text. text ≡ report_text report.now) }
 {
-    let mut text = Vec::new(alloc);
+    let lines = report.did.len().saturating_add(report.delivered.len());
+    let mut text = Vec::with_capacity(alloc, lines.saturating_mul(LINE_ROOM))?;
     put_report(&mut text, report)?;
     Ok(Seq::from_vec(text))
 }
@@ -195,28 +200,48 @@ fn put_events(text: &mut Vec<u8>, answers: &[Did]) -> Result<(), Memory>
     ensures { OnOk result (text.new.items
         ≡ text.old.items ++ event_lines answers.now) }
 {
+    let mut front = EventFront::of(0);
     for (before, did) in answers.iter().enumerate() {
-        put_event(text, before + 1, *did)?;
+        front.advance(before);
+        put_event(text, &front, before + 1, *did)?;
     }
     Ok(())
 }
 
-fn put_event(text: &mut Vec<u8>, number: usize, did: Did) -> Result<(), Memory>
+// Puts the line of an event at the end. The front is that of its number.
+fn put_event(text: &mut Vec<u8>, front: &EventFront, number: usize, did: Did) -> Result<(), Memory>
+    requires front { take front.now.len front.now.bytes ≡ event_front (number / 10) }
     ensures { OnOk result (text.new.items ≡ text.old.items ++ event_line number did) }
 {
-    put(text, "event ")?;
-    put_number(text, number as u64, b' ')?;
-    put(text, did_end(did))
+    put_front(text, front)?;
+    put_did(text, (number % 10) as u8, did)?;
+    Ok(())
 }
 
-// Whether an event was enabled, as the end of its line.
-fn did_end(did: Did) -> &'static str
-    ensures { result.now ≡ did_word did ++ 10 ∷ [] }
+// Puts what the lines of ten events begin with at the end. The whole array goes to the end, and what is no part of the
+// front is taken away: so few instructions copy it, whatever its length.
+fn put_front(text: &mut Vec<u8>, front: &EventFront) -> Result<(), Memory>
+    ensures { OnOk result (text.new.items
+        ≡ text.old.items ++ take front.now.len front.now.bytes) }
 {
+    let end = text.len() + usize::from(front.len);
+    text.extend_from_slice(&front.bytes)?;
+    text.truncate(end);
+    Ok(())
+}
+
+// Puts the last digit of an event's number at the end, and whether the event was enabled.
+fn put_did(text: &mut Vec<u8>, digit: u8, did: Did) -> Result<(), Memory>
+    requires { digit < 10 }
+    ensures { OnOk result (text.new.items
+        ≡ text.old.items ++ (48 + digit) ∷ (32 ∷ (did_word did ++ 10 ∷ []))) }
+{
+    let digit = b'0' + digit;
     match did {
-        Did::Moved => "moved\n",
-        Did::Idle => "idle\n",
+        Did::Moved => text.extend_from_slice(&[digit, b' ', b'm', b'o', b'v', b'e', b'd', b'\n'])?,
+        Did::Idle => text.extend_from_slice(&[digit, b' ', b'i', b'd', b'l', b'e', b'\n'])?,
     }
+    Ok(())
 }
 
 fn put_gots(text: &mut Vec<u8>, delivered: &NamedDeliveries) -> Result<(), Memory>

@@ -1,8 +1,11 @@
-use Rattle.std.proofs.Common.{◌≡◌, ◌++◌, take}
+use Rattle.std.proofs.Common.{◌≡◌, ◌++◌, ◌/◌, take}
 use Rattle.spin_base.specs.Gathered.{gathered}
-use Rattle.run_report.specs.ReportText.{event_line}
+use Rattle.run_report.specs.ReportText.{event_line, event_front}
 use Rattle.run_report.proofs.texts.put_events.Given as goal
 
--- the lines so far are written
+-- the lines so far are written, and the front is that of the last number
 abbrev pub invariant-loop-before : goal.invariant-loop-before
-invariant-loop-before l = l.text.items ≡ l.fn.text.items ++ gathered event_line 1 (take l.before l.answers)
+invariant-loop-before l = record {
+  lines : l.text.items ≡ l.fn.text.items ++ gathered event_line 1 (take l.before l.answers);
+  front : take l.front.len l.front.bytes ≡ event_front (l.before / 10);
+}

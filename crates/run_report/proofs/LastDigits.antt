@@ -1,0 +1,30 @@
+-- The last digit of a number, those before it, and lines that differ in it alone.
+use Rattle.std.proofs.Common.{◌≡◌, ◌∙◌, refl, sym, ap, arith, ℕ, zero, suc, ◌+◌, ◌/◌, ◌%◌, ◌^◌, ◌<◌, List, [], ◌∷◌, ◌++◌, append_assoc, take, length, codes}
+use Rattle.std.specs.Fmt.{decimal}
+use Rattle.std.proofs.Math.Seq.{take-append-add}
+use Rattle.std.proofs.lemmas.Fmt.{decimal_digit, decimal_step}
+use Rattle.mesh_core.specs.declared.places.Did.{Did}
+use Rattle.run_report.specs.ReportText.{tens_digits, event_front, event_line, did_word}
+
+with_tens : (n tens : ℕ) → n < 2 ^ 64 → n / 10 ≡ tens → tens_digits tens ++ (48 + n % 10) ∷ [] ≡ decimal n
+with_tens n zero small is =
+    let last : n % 10 ≡ n = omega (arith, is) in
+    ap (λ d. (48 + d) ∷ []) last ∙ sym (decimal_digit n (omega (arith, is)))
+with_tens n (suc tens) small is =
+    ap (λ m. decimal m ++ (48 + n % 10) ∷ []) (sym is) ∙ sym (decimal_step n (omega (arith, is)) small)
+
+-- the front of an event's tens, then its last digit, and whether it was enabled
+pub line_put : (n digit : ℕ) (did : Did) (old front sofar new : List ℕ) → n < 2 ^ 64 → digit ≡ n % 10 → front ≡ event_front (n / 10) →
+    sofar ≡ old ++ front → new ≡ sofar ++ (48 + digit) ∷ (32 ∷ (did_word did ++ 10 ∷ [])) → new ≡ old ++ event_line n did
+line_put n digit did old front sofar new small is fronted begun ended =
+    let rest : List ℕ = 32 ∷ (did_word did ++ 10 ∷ []) in
+    let last : List ℕ = (48 + n % 10) ∷ [] in
+    ended ∙ ap (λ d. sofar ++ (48 + d) ∷ rest) is ∙ ap (λ l. l ++ (last ++ rest)) (begun ∙ ap (λ f. old ++ f) fronted)
+    ∙ append_assoc old (event_front (n / 10)) (last ++ rest)
+    ∙ ap (λ l. old ++ (codes "event " ++ l)) (sym (append_assoc (tens_digits (n / 10)) last rest) ∙ ap (λ l. l ++ rest) (with_tens n (n / 10) small refl))
+
+-- a list to which more than is wanted was put, cut back
+pub cut_back : {X : Type 0} (old more now : List X) (count len end : ℕ) → count ≡ length old → end ≡ count + len → now ≡ old ++ more → take end now ≡ old ++ take len more
+cut_back old more now count len end counted ends put =
+    let is : end ≡ length old + len = omega (arith, counted, ends) in
+    ap (λ k. take k now) is ∙ ap (take (length old + len)) put ∙ take-append-add old more len
