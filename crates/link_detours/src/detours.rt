@@ -18,7 +18,7 @@ use spin_base::{Chip, Dir, Memory};
 use std::alloc::Global;
 
 // A table that marks the chips that the edges join to the root.
-pub fn tree_reach(alloc: Global, root: Chip, links: Edges) -> Result<Vec<bool>, Memory>
+pub(crate) fn tree_reach(alloc: Global, root: Chip, links: Edges) -> Result<Vec<bool>, Memory>
     requires { IsInside links.machine.now root }
     ensures long { IfOk result (λ t. length t.items ≡ links.entry.machine.now.width *
         links.entry.machine.now.height) }
@@ -147,7 +147,7 @@ fn walk_back(
 
 // Adds the detour to a target that the tree doesn't have, and to the set of the tree's chips those of the detour. `false`
 // exactly where no walk of live links joins root and target.
-pub fn join(
+pub(crate) fn join(
     alloc: Global,
     ground: Ground,
     root: Chip,

@@ -13,7 +13,7 @@ use spin_base::{Chip, Memory};
 use std::alloc::Global;
 
 // The edges that are live links.
-pub fn live_edges(alloc: Global, ground: Ground, edges: &[Edge]) -> Result<Vec<Edge>, Memory>
+pub(crate) fn live_edges(alloc: Global, ground: Ground, edges: &[Edge]) -> Result<Vec<Edge>, Memory>
     ensures { IfOk result (λ v. v.items
         ≡ filter (λ e. is_live_link ground.entry.machine.now e.chip e.dir) edges.now) }
 {
@@ -27,7 +27,7 @@ pub fn live_edges(alloc: Global, ground: Ground, edges: &[Edge]) -> Result<Vec<E
 }
 
 // The edges that begin at a chip that the table marks.
-pub fn reached_edges(alloc: Global, marks: &[bool], links: Edges) -> Result<Vec<Edge>, Memory>
+pub(crate) fn reached_edges(alloc: Global, marks: &[bool], links: Edges) -> Result<Vec<Edge>, Memory>
     requires { length marks.now ≡ links.machine.now.width * links.machine.now.height }
     ensures { IfOk result (λ v. v.items
         ≡ filter (λ e. is_marked links.entry.machine.now marks.now e.chip) links.entry.list.now) }
@@ -42,7 +42,7 @@ pub fn reached_edges(alloc: Global, marks: &[bool], links: Edges) -> Result<Vec<
 }
 
 // The same links, each from its other end.
-pub fn turned_edges(alloc: Global, links: Edges) -> Result<Vec<Edge>, Memory>
+pub(crate) fn turned_edges(alloc: Global, links: Edges) -> Result<Vec<Edge>, Memory>
     ensures { IfOk result (λ v. v.items ≡ filter_map (other_end_of links.entry.machine.now)
         links.entry.list.now) }
 {

@@ -14,7 +14,7 @@ use spin_base::{Chip, Memory};
 use std::alloc::Global;
 
 // The edges at or below whose far end a target stands, in order: a search from the targets up the tree finds them.
-pub fn pruned(alloc: Global, whole: Edges, targets: &[Chip]) -> Result<Vec<Edge>, Memory>
+pub(crate) fn pruned(alloc: Global, whole: Edges, targets: &[Chip]) -> Result<Vec<Edge>, Memory>
     requires { All (IsInside whole.machine.now) targets.now }
     ensures left { IfOk result (λ v. (e : Edge)
         → Contains v.items e

@@ -61,7 +61,7 @@ impl Roads {
 }
 
 // Whether the bit of this place is set.
-pub fn bit_is_set(word: u64, y: u8) -> bool
+pub(crate) fn bit_is_set(word: u64, y: u8) -> bool
     requires { y < 64 }
     ensures { (result ≡ true) ↔ (bit_at word y ≡ 1) }
 {

@@ -15,7 +15,7 @@ use spin_base::{Chip, Dir, Memory};
 use std::alloc::Global;
 
 // Whether the set has the chip.
-pub fn has(set: &[u64], c: Chip) -> bool
+pub(crate) fn has(set: &[u64], c: Chip) -> bool
     requires column { c.x < length set.now }
     requires bit { c.y < 64 }
     ensures { IsTrue result ↔ IsIn set.now c }
@@ -24,7 +24,7 @@ pub fn has(set: &[u64], c: Chip) -> bool
 }
 
 // Puts the chip into the set.
-pub fn put(set: &mut [u64], c: Chip)
+pub(crate) fn put(set: &mut [u64], c: Chip)
     requires column { c.x < length set.old }
     requires bit { c.y < 64 }
     ensures here { IsIn set.new c }
@@ -35,7 +35,7 @@ pub fn put(set: &mut [u64], c: Chip)
 }
 
 // A set without chips.
-pub fn empty_set(alloc: Global, machine: &Machine) -> Result<Vec<u64>, Memory>
+pub(crate) fn empty_set(alloc: Global, machine: &Machine) -> Result<Vec<u64>, Memory>
     ensures long { IfOk result (λ v. length v.items ≡ machine.now.width) }
     ensures empty { IfOk result (λ v. (c : Chip) → IsIn v.items c → ⊥) }
 {
@@ -44,7 +44,7 @@ pub fn empty_set(alloc: Global, machine: &Machine) -> Result<Vec<u64>, Memory>
 }
 
 // Puts the chips of the tree that these edges make into an empty set.
-pub fn put_tree(ground: Ground, set: &mut [u64], root: Chip, edges: &[Edge])
+pub(crate) fn put_tree(ground: Ground, set: &mut [u64], root: Chip, edges: &[Edge])
     requires root_inside { IsInside ground.machine.now root }
     requires inside { All (λ e. IsInside ground.machine.now e.chip) edges.now }
     requires long { length set.old ≡ ground.machine.now.width }
@@ -163,7 +163,7 @@ fn spread_column(front: Front, x: u32, grown: u64, next: &mut [u64]) -> u64
 
 // Puts the chips from which a live link leads to one of a set into `next`, which has those of the set. Answers a word that
 // names the columns in which it has more then. Only columns that `near` names are looked at.
-pub fn spread(front: Front, near: u64, next: &mut [u64]) -> u64
+pub(crate) fn spread(front: Front, near: u64, next: &mut [u64]) -> u64
     requires same { next.old ≡ front.set.now }
     requires others { IsSpreadBut front.ground.machine.now next.old near }
     ensures fits { All (λ w. w < 2 ^ 64) next.new }
@@ -188,7 +188,7 @@ pub fn spread(front: Front, near: u64, next: &mut [u64]) -> u64
 }
 
 // The columns that a word names, and those beside them on a ring of so many.
-pub fn near_columns(ring: Ring, columns: u64) -> u64
+pub(crate) fn near_columns(ring: Ring, columns: u64) -> u64
     ensures { (wrap : Bool) (step : Step) (x k : ℕ) → x < ring.size
         → stepped wrap ring.size step x ≡ Some k
         → bit_at columns k ≡ 1 → bit_at result x ≡ 1 }

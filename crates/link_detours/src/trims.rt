@@ -17,7 +17,7 @@ use spin_base::{Chip, Memory};
 use std::alloc::Global;
 
 // The edges at or below whose far end a target stands, in order. Where those are all and in order, no search is made.
-pub fn trimmed(
+pub(crate) fn trimmed(
     alloc: Global,
     machine: &Machine,
     root: Chip,

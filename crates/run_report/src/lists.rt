@@ -10,7 +10,7 @@ use spin_base::{Block, Memory, Name, Seq, Spot};
 use std::alloc::Global;
 
 // Each vertex with its core.
-pub fn placed_of(
+pub(crate) fn placed_of(
     alloc: Global,
     vertices: &Seq<Vertex>,
     spots: &Seq<Spot>,
@@ -27,7 +27,7 @@ pub fn placed_of(
 }
 
 // Each net with its keys.
-pub fn keys_of(
+pub(crate) fn keys_of(
     alloc: Global,
     given: &Seq<Net>,
     nets: &Seq<NetPlan>,

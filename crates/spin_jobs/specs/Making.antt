@@ -1,15 +1,12 @@
 -- What the private functions make.
-use Rattle.std.specs.Prelude.{◌≡◌, ℕ, List, [], Some, Ok, Result}
-use Rattle.spin_base.specs.declared.wants.Memory.{Memory}
+use Rattle.std.specs.Prelude.{◌≡◌, ℕ, List, []}
 use Rattle.mesh_core.specs.State.{State}
 use Rattle.mesh_core.specs.Step.{after_events, answers_of}
 use Rattle.mesh_core.specs.declared.places.Did.{Did}
 use Rattle.spin_words.specs.declared.commands.JobWord.{JobWord}
 use Rattle.job_readers.specs.declared.jobs.Job.{Job}
 use Rattle.par_compile.specs.declared.compiling.Plan.{Plan}
-use Rattle.run_report.specs.declared.causes.Refusal.{Refusal}
 use Rattle.run_report.specs.ReportText.{report_text, summary_text}
-use Rattle.spin_jobs.specs.declared.outcomes.Made.{Made}
 use Rattle.spin_jobs.specs.declared.outcomes.Reported.{Reported}
 use Rattle.spin_jobs.specs.declared.outcomes.WordOutput.{WordOutput}
 use Rattle.spin_jobs.specs.declared.outcomes.Parts.{Parts}
@@ -36,19 +33,7 @@ pub record IsTracedTo (job : Job) (plan : Plan) (before after : State) (made : R
 abbrev pub IsOutputAs : (Job → Plan → Parts → List ℕ → Type 0) → JobWithPlan → WordOutput → Type 0
 IsOutputAs P p told = P p.job p.plan (parts_with p.job p.plan told.mesh told.report) told.text
 
--- the mesh with what was made of it
-pub record IsOutputOf (mesh : State) (made : Result Reported Memory) (told : WordOutput) : Type 0 where
-  pub of : Reported
-  pub is : made ≡ Ok of
-  pub told_is : told ≡ record { mesh = Some mesh; report = Some of.report; text = of.text }
-
 -- the plan of a job, and what a word makes of it
 pub record IsMadeWith (word : JobWord) (job : Job) (planned : Plan × WordOutput) : Type 0 where
   pub planned_is : IsThePlan job planned.0
   pub makes : Makes word job planned.0 (parts_with job planned.0 planned.1.mesh planned.1.report) planned.1.text
-
--- the job with these
-pub record IsMadeFrom (job : Job) (planned : Result (Plan × WordOutput) Refusal) (made : Made) : Type 0 where
-  pub of : Plan × WordOutput
-  pub is : planned ≡ Ok of
-  pub made_is : made ≡ record { parts = parts_with job of.0 of.1.mesh of.1.report; text = of.1.text }

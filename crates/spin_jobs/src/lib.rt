@@ -15,4 +15,4 @@ mod runs;
 mod words;
 
 pub use outcomes::{Made, Parts};
-pub use words::made_of_job;
+pub use plans::made_of_job;

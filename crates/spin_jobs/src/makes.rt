@@ -2,7 +2,7 @@
 ghost use Rattle.std.specs.Prelude.{◌≡◌, ◌<◌, ◌^◌, [], IfOk};
 ghost use Rattle.run_report.specs.ReportText.{row_total};
 ghost use Rattle.job_gen.specs.Generated.{gen_job};
-ghost use Rattle.spin_jobs.specs.Making.{IsReportedAs, IsSummarised, IsOutputAs, IsOutputOf, IsTracedTo};
+ghost use Rattle.spin_jobs.specs.Making.{IsReportedAs, IsSummarised, IsOutputAs, IsTracedTo};
 ghost use Rattle.spin_jobs.specs.Planned.{setup_of};
 ghost use Rattle.spin_jobs.specs.Words.{Images, IsReported, IsTraced, Lists, Reports, Summarises, TellsRun};
 
@@ -32,8 +32,12 @@ pub(crate) fn generated<R: Threads + Wait + Sync, G: Gate>(
 {
     deliveries_are_as_many_as_expected();
     let mesh = run_job(rt, alloc, planned, gate)?;
-    let made = summarised(alloc, number, planned, &mesh);
-    told(mesh, made)
+    let made = summarised(alloc, number, planned, &mesh)?;
+    Ok(WordOutput {
+        mesh: Some(mesh),
+        report: Some(made.report),
+        text: made.text,
+    })
 }
 
 // The report of a mesh to which no event led, and its summary.
@@ -65,8 +69,12 @@ pub(crate) fn trace(alloc: Global, planned: &PlannedJob<'_>) -> Result<WordOutpu
     // Read, so that what holds of each planned job is known here.
     let _job = planned.job;
     let mut mesh = open_job(alloc, planned)?;
-    let made = traced(alloc, planned, &mut mesh);
-    told(mesh, made)
+    let made = traced(alloc, planned, &mut mesh)?;
+    Ok(WordOutput {
+        mesh: Some(mesh),
+        report: Some(made.report),
+        text: made.text,
+    })
 }
 
 // The report of a mesh after all events of the job, one by one, and the report's text.
@@ -119,8 +127,12 @@ pub(crate) fn output_at_rest(
     requires setup { mesh.setup ≡ setup_of planned.now.job planned.now.plan }
     ensures { IfOk result (IsOutputAs (λ job plan. TellsRun job plan mesh []) planned.now) }
 {
-    let made = reported(alloc, planned, &mesh, Seq::new(alloc));
-    told(mesh, made)
+    let made = reported(alloc, planned, &mesh, Seq::new(alloc))?;
+    Ok(WordOutput {
+        mesh: Some(mesh),
+        report: Some(made.report),
+        text: made.text,
+    })
 }
 
 // The report of a mesh after events with these answers, and the report's text.
@@ -136,20 +148,6 @@ fn reported(
     let report = report(alloc, planned, mesh, did)?;
     let text = text_of(alloc, &report)?;
     Ok(Reported { report, text })
-}
-
-// The mesh with what was made of it.
-fn told(mesh: Mesh, made: Result<Reported, Memory>) -> Result<WordOutput, Memory>
-    ensures { IfOk result (IsOutputOf mesh made) }
-{
-    match made {
-        Ok(made) => Ok(WordOutput {
-            mesh: Some(mesh),
-            report: Some(made.report),
-            text: made.text,
-        }),
-        Err(memory) => Err(memory),
-    }
 }
 
 // The report of a job's plan, of a mesh, and of the answers to the events that led there.

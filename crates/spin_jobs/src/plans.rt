@@ -1,21 +1,83 @@
-// The plan of a job.
-ghost use Rattle.std.specs.Prelude.{◌≡◌, ◌⊎◌, IfOk, IfErr};
+// The plan of a job, and what a word makes of it.
+ghost use Rattle.std.specs.Prelude.{◌≡◌, ◌⊎◌, ℕ, IfOk, IfErr};
 ghost use Rattle.app_graph.specs.RunPart.{IsRunOf};
 ghost use Rattle.app_graph.specs.ValidGraph.{IsValidGraph};
+ghost use Rattle.job_gen.specs.Generated.{gen_job};
 ghost use Rattle.par_compile.specs.Compiled.{IsCompileCause};
+ghost use Rattle.spin_words.specs.declared.commands.JobWord.TheVariants.{Gen};
 ghost use Rattle.run_report.specs.declared.causes.Refusal.TheVariants.{Memory as NoMemory};
+ghost use Rattle.spin_jobs.specs.Making.{IsMadeWith};
 ghost use Rattle.spin_jobs.specs.Planned.{IsThePlan};
 ghost use Rattle.spin_jobs.specs.Unplanned.{HasNoPlan, IsNameIn, refusal_of};
+ghost use Rattle.spin_jobs.specs.Words.{IsMadeOf};
 
+use crate::outcomes::{Made, Parts, WordOutput};
+use crate::planned_jobs::PlannedJob;
+use crate::words::make;
 use job_readers::Job;
 use par_compile::{CompileErr, CompileRequest, Plan, compile};
 use run_report::Refusal;
 use spin_base::{Gate, Memory, Name};
+use spin_words::JobWord;
 use std::alloc::Global;
+use std::sync::Wait;
 use std::thread::Threads;
 
+/// What a word makes of a job: its plan, and of the plan what the word asks for. The job of `gen N` is that of the number. Plan and
+/// rounds are made by as many workers as the job says, and may wait for the gate.
+///
+/// # Errors
+///
+/// `NoRoom`, `KeysOut`, `CutOff` or `TableLong`, with what it names, where the job has no plan. `Memory` where memory runs out.
+pub fn made_of_job<R: Threads + Wait + Sync, G: Gate>(
+    rt: &R,
+    alloc: Global,
+    word: JobWord,
+    job: Job,
+    gate: &G,
+) -> Result<Made, Refusal>
+    requires graph { IsValidGraph job.graph }
+    requires run { IsRunOf job.graph job.run }
+    requires generated { (number : ℕ) → word ≡ Gen number → job ≡ gen_job number }
+    ensures made { IfOk result (λ made. IsMadeOf word job made.parts made.text) }
+    ensures err { IfErr result (λ r. HasNoPlan job r ⊎ (r ≡ NoMemory)) }
+{
+    let (plan, told) = planned(rt, alloc, word, &job, gate)?;
+    Ok(Made {
+        parts: Parts {
+            job: Some(job),
+            plan: Some(plan),
+            mesh: told.mesh,
+            report: told.report,
+        },
+        text: told.text,
+    })
+}
+
+// The plan of a job, and what a word makes of it.
+fn planned<R: Threads + Wait + Sync, G: Gate>(
+    rt: &R,
+    alloc: Global,
+    word: JobWord,
+    job: &Job,
+    gate: &G,
+) -> Result<(Plan, WordOutput), Refusal>
+    requires graph { IsValidGraph job.now.graph }
+    requires run { IsRunOf job.now.graph job.now.run }
+    requires generated { (number : ℕ) → word ≡ Gen number → job.now ≡ gen_job number }
+    ensures made { IfOk result (IsMadeWith word job.now) }
+    ensures err { IfErr result (λ r. HasNoPlan job.now r ⊎ (r ≡ NoMemory)) }
+{
+    let plan = plan_of(rt, alloc, job, gate)?;
+    let planned = PlannedJob { job, plan: &plan };
+    match make(rt, alloc, word, &planned, gate) {
+        Ok(told) => Ok((plan, told)),
+        Err(Memory) => Err(Refusal::Memory),
+    }
+}
+
 // The plan of a job, made by as many workers as the job says.
-pub(crate) fn plan_of<R: Threads + Sync, G: Gate>(
+fn plan_of<R: Threads + Sync, G: Gate>(
     rt: &R,
     alloc: Global,
     job: &Job,

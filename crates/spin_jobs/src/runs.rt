@@ -1,5 +1,5 @@
 // The mesh of a job: opened, after all its packets, or after all its events.
-ghost use Rattle.std.specs.Prelude.{◌≡◌, ◌≤◌, IfOk, Ok, OnOk, []};
+ghost use Rattle.std.specs.Prelude.{◌≡◌, ◌≤◌, IfOk, OnOk, []};
 ghost use Rattle.app_graph.specs.RunPart.{IsRunOf};
 ghost use Rattle.mesh_core.specs.State.{State, IsMesh};
 ghost use Rattle.mesh_core.specs.Step.{after_events, answers_of};
@@ -44,8 +44,10 @@ pub(crate) fn run_job<R: Threads + Wait + Sync, G: Gate>(
     // Read, so that what holds of each planned job is known here.
     let _job = planned.job;
     let mesh = open_job(alloc, planned)?;
-    let ran = run_out(rt, alloc, mesh, pace_of(planned, workers_of(planned)), gate);
-    mesh_alone(ran)
+    match run_out(rt, alloc, mesh, pace_of(planned, workers_of(planned)), gate) {
+        Ok(mesh) => Ok(mesh),
+        Err((_, memory)) => Err(memory),
+    }
 }
 
 // The mesh of a job after all its packets, with dumped copies put back between rounds until none is left.
@@ -64,8 +66,10 @@ pub(crate) fn reinject_job<R: Threads + Wait + Sync, G: Gate>(
     // Read, so that what holds of each planned job is known here.
     let _job = planned.job;
     let mesh = open_job(alloc, planned)?;
-    let ran = reinject(rt, alloc, mesh, pace_of(planned, 1), gate);
-    mesh_alone(ran)
+    match reinject(rt, alloc, mesh, pace_of(planned, 1), gate) {
+        Ok(mesh) => Ok(mesh),
+        Err((_, memory)) => Err(memory),
+    }
 }
 
 // How many workers share the chips of a run: those that the job asks for, and no more than a round has turns. So for each turn at most
@@ -94,16 +98,6 @@ fn pace_of(planned: &PlannedJob<'_>, workers: u32) -> Pace
         patience: run.patience,
         workers,
         turns: run.turns,
-    }
-}
-
-// The mesh of a run that came to its end.
-fn mesh_alone(ran: Result<Mesh, (Mesh, Memory)>) -> Result<Mesh, Memory>
-    ensures { IfOk result (λ mesh. ran ≡ Ok mesh) }
-{
-    match ran {
-        Ok(mesh) => Ok(mesh),
-        Err((_, memory)) => Err(memory),
     }
 }
 
