@@ -24,7 +24,11 @@ pub const ALL_KEYS: u64 = 4_294_967_296;
 
 // The claims of a plan, in the order in which they are served: memory vertex by vertex, the fixed blocks of its nets, the blocks of
 // its other nets, and entries chip by chip.
-pub(crate) fn claims_of(alloc: Global, machine: &Machine, plan: &AppPlan) -> Result<Vec<Claim>, Memory>
+pub(crate) fn claims_of(
+    alloc: Global,
+    machine: &Machine,
+    plan: &AppPlan,
+) -> Result<Vec<Claim>, Memory>
     requires { IsPlan machine.now plan.now }
     ensures claims { IfOk result (λ claims. claims.items ≡ claims_of machine.now plan.now) }
     ensures few { IfOk result (λ claims. length claims.items ≤ 262144) }

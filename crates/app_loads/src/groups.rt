@@ -112,7 +112,12 @@ impl Groups {
     }
 
     // Puts the copy's packet at the back, which came there.
-    pub(crate) fn put(&mut self, alloc: Global, copy: McCopy, arrivals: &Arrivals) -> Result<(), Memory>
+    pub(crate) fn put(
+        &mut self,
+        alloc: Global,
+        copy: McCopy,
+        arrivals: &Arrivals,
+    ) -> Result<(), Memory>
         ensures put { OnOk result (all_grouped self.new ≡ all_grouped self.old
             ++ deliveries_at arrivals.now (sent_of copy)) }
         ensures refused { OnErr result (all_grouped self.new ≡ all_grouped self.old) }

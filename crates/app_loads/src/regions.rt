@@ -134,7 +134,11 @@ fn take_fixed(region: &mut Ranges, place: u64, size: u64) -> Result<Option<u64>,
 }
 
 // Makes room in each region to give back those of the ranges that are its own. What is free stays as it is.
-pub(crate) fn make_room(alloc: Global, regions: &mut [Ranges], ranges: &[Range]) -> Result<(), Memory>
+pub(crate) fn make_room(
+    alloc: Global,
+    regions: &mut [Ranges],
+    ranges: &[Range],
+) -> Result<(), Memory>
     requires { AreFewOf (length regions.old) ranges.now }
     ensures room { OnOk result (HaveRoom ranges.now regions.new) }
     ensures same { frees regions.new ≡ frees regions.old }

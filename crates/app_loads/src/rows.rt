@@ -94,7 +94,11 @@ fn net_with(alloc: Global, net: &AppNet, block: Block) -> Result<NetPlan, Memory
 }
 
 // Room for the places of each range of entries, in their tables.
-pub(crate) fn rooms_for(alloc: Global, machine: &Machine, ranges: &[Range]) -> Result<Vec<Room>, Memory>
+pub(crate) fn rooms_for(
+    alloc: Global,
+    machine: &Machine,
+    ranges: &[Range],
+) -> Result<Vec<Room>, Memory>
     requires { All (IsRangeWithin machine.now (1 + (chip_count machine.now + chip_count machine.now)))
         ranges.now }
     ensures { IfOk result (λ rooms. HaveRooms machine.now ranges.now rooms.items) }

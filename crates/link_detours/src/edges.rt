@@ -27,7 +27,11 @@ pub(crate) fn live_edges(alloc: Global, ground: Ground, edges: &[Edge]) -> Resul
 }
 
 // The edges that begin at a chip that the table marks.
-pub(crate) fn reached_edges(alloc: Global, marks: &[bool], links: Edges) -> Result<Vec<Edge>, Memory>
+pub(crate) fn reached_edges(
+    alloc: Global,
+    marks: &[bool],
+    links: Edges,
+) -> Result<Vec<Edge>, Memory>
     requires { length marks.now ≡ links.machine.now.width * links.machine.now.height }
     ensures { IfOk result (λ v. v.items
         ≡ filter (λ e. is_marked links.entry.machine.now marks.now e.chip) links.entry.list.now) }

@@ -26,7 +26,11 @@ fn flagged_far(machine: &Machine, flags: &[bool], c: Chip, d: Dir) -> Option<Chi
 }
 
 // A table that marks the seeds, and no other chip.
-pub(crate) fn seed_table(alloc: Global, machine: &Machine, seeds: &[Chip]) -> Result<Vec<bool>, Memory>
+pub(crate) fn seed_table(
+    alloc: Global,
+    machine: &Machine,
+    seeds: &[Chip],
+) -> Result<Vec<bool>, Memory>
     requires { All (IsInside machine.now) seeds.now }
     ensures long { IfOk result (λ t. length t.items ≡ machine.now.width * machine.now.height) }
     ensures seeds { IfOk result (λ t. (c : Chip) → IsInside machine.now c
