@@ -27,10 +27,10 @@ ALONE = r"\((Tests alone|No command)"
 MOST = {
     "conditions a function, in hundredths": 65,
     "conditions of one function": 5,
-    "lines of proofs": 84429,
-    "lines of proofs longer than 200 characters": 625,
+    "lines of proofs": 84059,
+    "lines of proofs longer than 200 characters": 620,
     "lines of proofs longer than 300 characters": 0,
-    "lines of definitions": 13861,
+    "lines of definitions": 13846,
     "lines of definitions on which the programs' calls rest": 4661,
 }
 PROMISES, LAWS = "| promise | carried by | broken by |", "| law or lemma | stands as |"
