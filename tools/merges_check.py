@@ -104,6 +104,12 @@ def table_of(draw):
     return sorted(rows, key=lambda row: (model.generality(row.block), row.block.key))
 
 
+def far_table():
+    """32 rows of one route, of which the last one's key lies far from the others, and two rows whose merge would have that key too."""
+    blocks = [model.Block(key, model.ALL_ONES) for key in (*range(31), 64, 65, 66)]
+    return [model.Row(block, 1 + (block.key > 64), [(block, model.LOCAL)]) for block in blocks]
+
+
 def merges_of(table, target):
     """The places of each merge, by the model."""
     found = []
@@ -139,6 +145,11 @@ def main():
     passed = failed = merges = 0
     with tempfile.TemporaryDirectory(prefix="merges-check-") as room:
         program = program_in(room)
+        if answer(program, far_table(), 0) == [list(range(32))] == merges_of(far_table(), 0):
+            passed += 1
+        else:
+            failed += 1
+            print("the table with a far key: its 32 rows are to be joined, and no others")
         for seed in range(asked.first, asked.first + asked.tables):
             draw = random.Random(seed)
             table, target = table_of(draw), draw.choice((0, 0, 1, 10))
