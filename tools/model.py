@@ -637,11 +637,11 @@ def busiest_job():
     return job_with({"width": 5, "height": 7}, vertices, nets, 65536)
 
 
-def full_job(routes, target=MOST_ROWS):
-    """A chip at which the nets have these routes, to eleven vertices."""
-    names = [f"v{i}" for i in range(11)]
-    nets = [{"name": f"n{i}", "source": "v0", "targets": [it for j, it in enumerate(names) if route >> j & 1]} for i, route in enumerate(routes)]
-    return job_with({"width": 1, "height": 1}, [{"name": name} for name in names], nets, target=target)
+def full_job(routes, target=MOST_ROWS, chips=1):
+    """Chips in a row, at each of which the nets have these routes, to eleven vertices."""
+    vertices = [{"name": f"v{i}", "at": [i // 11, 0]} for i in range(11 * chips)]
+    nets = [{"name": f"n{i}", "source": "v0", "targets": [f"v{j}" for j in range(11 * chips) if route >> j % 11 & 1]} for i, route in enumerate(routes)]
+    return job_with({"width": chips, "height": 1}, vertices, nets, target=target)
 
 
 def limit_jobs():
@@ -649,6 +649,7 @@ def limit_jobs():
     yield "widest", widest_job()
     yield "busiest", busiest_job()
     yield "full", full_job(range(1, 1025))
+    yield "two that are full", full_job(range(1, 1025), chips=2)
     yield "one row too many", full_job(range(1, 1026))
     yield "one row too many, and two are joined", full_job([1, *range(1, 1025)])
     yield "as many rows as the target", full_job([1, 1, 2, 2, 3, 3], 6)
