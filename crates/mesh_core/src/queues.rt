@@ -20,7 +20,7 @@ pub enum Queue {
 pub fn empty_queues(alloc: Global, count: usize) -> Result<Vec<Fifo<McCopy>>, Memory>
     ensures { IfOk result (λ v. v.items ≡ replicate count []) }
 {
-    let mut queues = Vec::new(alloc);
+    let mut queues = Vec::with_capacity(alloc, count)?;
     for _ in 0..count {
         queues.push(Fifo::new(alloc))?;
     }

@@ -25,7 +25,11 @@ pub(crate) fn short_table(alloc: Global, marks: Seq<Mark>, target: u32) -> Resul
 fn kept_entries(alloc: Global, marks: &[Mark]) -> Result<Seq<Entry>, Memory>
     ensures { IfOk result (λ entries. entries ≡ kept_entries marks.now) }
 {
-    let mut entries = Seq::new(alloc);
+    let turning = marks
+        .iter()
+        .filter(|mark| !goes_straight(mark.port, mark.route))
+        .count();
+    let mut entries = Seq::from_vec(Vec::with_capacity(alloc, turning)?);
     for mark in marks {
         keep(*mark, &mut entries)?;
     }
