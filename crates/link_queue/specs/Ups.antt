@@ -19,6 +19,11 @@ pub record ListPlaced (cap : ℕ) (list : List McCopy) (v : Known) : Type 0 wher
   pub takes : v.takes ≡ true
   pub cap_is : v.cap ≡ cap
 
+-- the seat sends and takes
+pub record HasBothEnds (v : Known) : Type 0 where
+  pub sends : v.sends ≡ true
+  pub takes : v.takes ≡ true
+
 -- what the joined seat had not taken is all here
 pub record Emptied (cap : ℕ) (v : Known) (list : List McCopy) : Type 0 where
   pub balance : put_of v ≡ v.took ++ list

@@ -1,10 +1,10 @@
 // A link brought up with its first list, and brought down to what it still holds.
-ghost use Rattle.std.specs.Prelude.{◌≡◌, ℕ, ◌+◌, ◌<◌, ◌≤◌, [], ◌++◌, length, All, IfOk, IfErr, true};
+ghost use Rattle.std.specs.Prelude.{◌≡◌, ℕ, ◌+◌, ◌<◌, ◌≤◌, [], ◌++◌, length, All, IfOk, IfErr};
 ghost use Rattle.crossbeam_queue.specs.Passes.{view, IsPassOf, ruled_capacity};
 ghost use Rattle.link_queue.specs.Ends.{IsTx, IsRx, cap_of, sending, taking};
 ghost use Rattle.link_queue.specs.Steps.{newborn, told, popped};
 ghost use Rattle.link_queue.specs.TheRule.{put_of, IsFullNote};
-ghost use Rattle.link_queue.specs.Ups.{ListPlaced, Emptied, NoNotes};
+ghost use Rattle.link_queue.specs.Ups.{HasBothEnds, ListPlaced, Emptied, NoNotes};
 
 use crate::known::Known;
 use crate::links::{
@@ -104,8 +104,7 @@ fn empty<R: Wait>(
     mut room: Room<McCopy>,
 ) -> Seq<McCopy>
     requires pass { IsPassOf queue.now pass.old }
-    requires sends { (view pass.old).sends ≡ true }
-    requires takes { (view pass.old).takes ≡ true }
+    requires both { HasBothEnds (view pass.old) }
     requires empty { room.items ≡ [] }
     requires spare { ruled_capacity queue.now ≤ room.spare }
     ensures { Emptied (ruled_capacity queue.now) (view pass.old) result }

@@ -43,8 +43,7 @@ pub fn check(machine: &Machine, nets: &Seq<NetPlan>, image: &Image) -> Verdict
     requires few { length nets.now < 2 ^ 32 }
     requires routed { All (IsRouted machine.now) nets.now }
     requires valid { IsValid image.now }
-    requires width { image.now.width ≡ machine.now.width }
-    requires height { image.now.height ≡ machine.now.height }
+    requires size { (image.now.width ≡ machine.now.width) × (image.now.height ≡ machine.now.height) }
     ensures verdict { IsVerdict machine.now nets.now image.now result }
     ensures right { result ≡ Right → (memories : List (List Entry)) → IsLoaded image.now memories
         → AreRight machine.now memories nets.now }

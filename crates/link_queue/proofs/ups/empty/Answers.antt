@@ -2,7 +2,7 @@ use Rattle.link_queue.proofs.StepLemmas.{empties, balanced}
 use Rattle.link_queue.proofs.ups.empty.Goals as goal
 
 pub len_as-held-requires-clause-rule : goal.len_as-held-requires-clause-rule
-len_as-held-requires-clause-rule g c = balanced _ _ c.requires.takes c.requires.sends
+len_as-held-requires-clause-rule g c = balanced _ _ c.requires.both.takes c.requires.both.sends
 
 pub pop_as-requires-clause-rule : goal.pop_as-requires-clause-rule
 pop_as-requires-clause-rule g c =
