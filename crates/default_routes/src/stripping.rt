@@ -36,7 +36,7 @@ pub fn strip(alloc: Global, rows: &[Row]) -> Result<Seq<u32>, Memory>
 }
 
 // The final table of the entries of the rows at these places.
-pub fn final_at(alloc: Global, rows: &[Row], places: &[u32]) -> Result<Final, Memory>
+pub(crate) fn final_at(alloc: Global, rows: &[Row], places: &[u32]) -> Result<Final, Memory>
     requires { All (λ s. s < length rows.now) places.now }
     ensures { IfOk result (λ f. f.entries ≡ map entry_of (rows_at rows.now places.now)) }
 {

@@ -17,7 +17,7 @@ impl Grid {
     ghost use Rattle.machine_desc.specs.Tables.{IsOn, IsCoreOn, IsEdgeOn, chip_place, core_place, edge_place, chip_total, TellsChips, TellsCores, TellsLinks};
 
     // The number of chips.
-    pub fn chips(self) -> usize
+    pub(crate) fn chips(self) -> usize
         ensures total { result ≡ chip_total self }
         ensures few { result ≤ 4096 }
     {
@@ -25,7 +25,7 @@ impl Grid {
     }
 
     // The place of a chip in a table with a place for each chip.
-    pub fn chip_place(self, chip: Chip) -> usize
+    pub(crate) fn chip_place(self, chip: Chip) -> usize
         requires { IsOn self chip }
         ensures place { result ≡ chip_place self chip }
         ensures below { result < chip_total self }
@@ -35,7 +35,7 @@ impl Grid {
     }
 
     // The place of a core in a table with 18 places for each chip.
-    pub fn spot_place(self, spot: Spot) -> usize
+    pub(crate) fn spot_place(self, spot: Spot) -> usize
         requires { IsCoreOn self spot }
         ensures place { result ≡ core_place self spot }
         ensures below { result < chip_total self * 18 }
@@ -44,7 +44,7 @@ impl Grid {
     }
 
     // The place of a link in a table with six places for each chip.
-    pub fn edge_place(self, edge: Edge) -> usize
+    pub(crate) fn edge_place(self, edge: Edge) -> usize
         requires { IsEdgeOn self edge }
         ensures place { result ≡ edge_place self edge }
         ensures below { result < chip_total self * 6 }
@@ -53,7 +53,7 @@ impl Grid {
     }
 
     // A table that has for each chip whether it is listed.
-    pub fn chip_table(self, alloc: Global, listed: &[Chip]) -> Result<Vec<bool>, Memory>
+    pub(crate) fn chip_table(self, alloc: Global, listed: &[Chip]) -> Result<Vec<bool>, Memory>
         requires { All (IsOn self) listed.now }
         ensures told { IfOk result (λ t. TellsChips self t.items listed.now) }
         ensures long { IfOk result (λ t. length t.items ≡ chip_total self) }
@@ -66,7 +66,7 @@ impl Grid {
     }
 
     // A table that has for each core 0 to 17 of each chip whether it is listed.
-    pub fn core_table(self, alloc: Global, listed: &[Spot]) -> Result<Vec<bool>, Memory>
+    pub(crate) fn core_table(self, alloc: Global, listed: &[Spot]) -> Result<Vec<bool>, Memory>
         requires { All (λ s. IsOn self s.chip) listed.now }
         ensures told { IfOk result (λ t. TellsCores self t.items listed.now) }
         ensures long { IfOk result (λ t. length t.items ≡ chip_total self * 18) }
@@ -81,7 +81,7 @@ impl Grid {
     }
 
     // A table that has for each link of each chip whether it is listed.
-    pub fn link_table(self, alloc: Global, listed: &[Edge]) -> Result<Vec<bool>, Memory>
+    pub(crate) fn link_table(self, alloc: Global, listed: &[Edge]) -> Result<Vec<bool>, Memory>
         requires { All (IsEdgeOn self) listed.now }
         ensures told { IfOk result (λ t. TellsLinks self t.items listed.now) }
         ensures long { IfOk result (λ t. length t.items ≡ chip_total self * 6) }

@@ -15,7 +15,7 @@ impl Step {
     ghost use Rattle.machine_desc.specs.Live.{x_step, y_step, stepped};
 
     // How far the link leads along x.
-    pub fn along_x(link: Dir) -> Step
+    pub(crate) fn along_x(link: Dir) -> Step
         ensures { result ≡ x_step link }
     {
         match link {
@@ -26,7 +26,7 @@ impl Step {
     }
 
     // How far the link leads along y.
-    pub fn along_y(link: Dir) -> Step
+    pub(crate) fn along_y(link: Dir) -> Step
         ensures { result ≡ y_step link }
     {
         match link {
@@ -37,7 +37,7 @@ impl Step {
     }
 
     // The coordinate that the step leads to from `n`, on an axis of so many places.
-    pub fn from(self, wrap: bool, places: u8, n: u8) -> Option<u8>
+    pub(crate) fn from(self, wrap: bool, places: u8, n: u8) -> Option<u8>
         requires inside { n < places }
         requires small { places ≤ 64 }
         ensures { result ≡ stepped wrap places self n }

@@ -97,7 +97,7 @@ fn place_of(outs: &Outs, out: Out) -> Option<usize>
 }
 
 // So many hands that hold nothing.
-pub fn empty_hands(alloc: Global, count: usize) -> Result<Vec<Option<Hand>>, Memory>
+pub(crate) fn empty_hands(alloc: Global, count: usize) -> Result<Vec<Option<Hand>>, Memory>
     ensures { IfOk result (λ v. v.items ≡ replicate count None) }
 {
     let mut hands = Vec::new(alloc);
@@ -108,7 +108,7 @@ pub fn empty_hands(alloc: Global, count: usize) -> Result<Vec<Option<Hand>>, Mem
 }
 
 // The chip's router has served an output.
-pub fn serve(hands: &mut [Option<Hand>], chip: usize, out: Out)
+pub(crate) fn serve(hands: &mut [Option<Hand>], chip: usize, out: Out)
     requires { chip < length hands.old }
     ensures { hands.new ≡ hands_after hands.old chip out (slice_get hands.old chip) }
 {

@@ -17,7 +17,7 @@ pub enum Queue {
 }
 
 // So many empty queues.
-pub fn empty_queues(alloc: Global, count: usize) -> Result<Vec<Fifo<McCopy>>, Memory>
+pub(crate) fn empty_queues(alloc: Global, count: usize) -> Result<Vec<Fifo<McCopy>>, Memory>
     ensures { IfOk result (λ v. v.items ≡ replicate count []) }
 {
     let mut queues = Vec::with_capacity(alloc, count)?;
@@ -28,7 +28,7 @@ pub fn empty_queues(alloc: Global, count: usize) -> Result<Vec<Fifo<McCopy>>, Me
 }
 
 // Whether the queue holds less than the capacity.
-pub fn has_room(queues: &[Fifo<McCopy>], place: usize, capacity: u32) -> bool
+pub(crate) fn has_room(queues: &[Fifo<McCopy>], place: usize, capacity: u32) -> bool
     requires { place < length queues.now }
     ensures { result ≡ has_room capacity (slice_get queues.now place) }
 {
@@ -36,7 +36,7 @@ pub fn has_room(queues: &[Fifo<McCopy>], place: usize, capacity: u32) -> bool
 }
 
 // The copy at the queue's front.
-pub fn front(queues: &[Fifo<McCopy>], place: usize) -> Option<McCopy>
+pub(crate) fn front(queues: &[Fifo<McCopy>], place: usize) -> Option<McCopy>
     requires { place < length queues.now }
     ensures { result ≡ front_of (slice_get queues.now place) }
 {
@@ -44,7 +44,7 @@ pub fn front(queues: &[Fifo<McCopy>], place: usize) -> Option<McCopy>
 }
 
 // Puts a copy at the queue's back.
-pub fn push_at(queues: &mut [Fifo<McCopy>], place: usize, copy: McCopy) -> Result<(), Memory>
+pub(crate) fn push_at(queues: &mut [Fifo<McCopy>], place: usize, copy: McCopy) -> Result<(), Memory>
     requires { place < length queues.old }
     ensures ok { OnOk result (queues.new
         ≡ push_at queues.old place copy (slice_get queues.old place)) }
@@ -54,7 +54,7 @@ pub fn push_at(queues: &mut [Fifo<McCopy>], place: usize, copy: McCopy) -> Resul
 }
 
 // Takes the front copy off the queue.
-pub fn drop_front(queues: &mut [Fifo<McCopy>], place: usize)
+pub(crate) fn drop_front(queues: &mut [Fifo<McCopy>], place: usize)
     requires { place < length queues.old }
     ensures { queues.new ≡ drop_front queues.old place (slice_get queues.old place) }
 {
@@ -62,7 +62,7 @@ pub fn drop_front(queues: &mut [Fifo<McCopy>], place: usize)
 }
 
 // Puts a copy at the back of the queue behind an output.
-pub fn push_behind(
+pub(crate) fn push_behind(
     inputs: &mut [Fifo<McCopy>],
     cores: &mut [Fifo<McCopy>],
     queue: Queue,

@@ -179,7 +179,7 @@ pub fn every_setup_has_sites(setup: &MeshSetup)
 }
 
 // The place of an input queue in the list of them.
-pub fn queue_place(machine: &Machine, c: Chip, port: Port) -> usize
+pub(crate) fn queue_place(machine: &Machine, c: Chip, port: Port) -> usize
     requires { IsInsideGrid machine.now c }
     ensures place { result ≡ place_of_queue machine.now c port }
     ensures below { result < 7 * (machine.now.width * machine.now.height) }

@@ -11,7 +11,7 @@ use std::alloc::Global;
 pub const SPOTS: usize = 24;
 
 // The vertex on each spot, at the spot's place.
-pub fn vertex_table(
+pub(crate) fn vertex_table(
     alloc: Global,
     machine: &Machine,
     spots: &[Spot],
@@ -28,7 +28,7 @@ pub fn vertex_table(
 }
 
 // The place of a spot in the table.
-pub fn spot_place(machine: &Machine, spot: Spot) -> usize
+pub(crate) fn spot_place(machine: &Machine, spot: Spot) -> usize
     requires inside { IsInside machine.now spot.chip }
     requires numbered { spot.core < 24 }
     ensures place { result ≡ spot_place machine.now spot }
