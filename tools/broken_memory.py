@@ -10,9 +10,10 @@ asked for, and refuses the Nth time, or each time from the Nth on: memory (mallo
 
 A refused run may write two things: the example's own report with the example's own status, or the line `out of memory` with
 status 9. Where nothing was read yet, status 9 may come without the line: there was no memory for the command's words. Anything else is
-wrong: a part of a report, another status, the end by a signal, a byte on standard error, no end at all.
+wrong: a part of a report, another status, the end by a signal, a byte on standard error, no end at all. Words that are no command are
+always told how the program is used, once there was memory for them.
 
-Each N is tried of three examples, and of three small jobs: one compiled, whose image is that of tools/model.py, and two run with
+Each N is tried of four examples, and of three small jobs: one compiled, whose image is that of tools/model.py, and two run with
 short queues, by two workers on two chips and by four on four, whose report may be any that tools/stress_runs.py finds right. Of
 other jobs with threads, whose count may differ from run to run, a sample of N is tried, and each of their threads: two examples,
 and the generated job of tools/gen_reference.py, compiled and run. Its report is what the program writes where nothing is refused.
@@ -39,12 +40,14 @@ import stress_runs
 ROOT = os.path.dirname(os.path.dirname(os.path.realpath(__file__)))
 MOST_SECONDS = 600
 SHOWN = 20
-EVERY = ("one_chip", "check_right", "apps_unsent")
+EVERY = ("one_chip", "check_right", "apps_unsent", "usage_word_more")
 THREADED = ("ample_queues", "reinject_fan_out")
 GENERATED = ("compile", "run")
 COMPILED, SHORT, FOUR = "compile of two_chips", "run of two_chips with short queues", "run of four chips by four workers"
 SAMPLE = 60
 SAMPLE_OF_ALL = 2000
+# The status of words that are no command.
+USAGE = 1
 
 # The counts stand in a file that library and script share: so they are there however the program ends.
 LIBRARY = r"""
@@ -287,7 +290,7 @@ class Trials:
 
     def judge(self, case, refusal, came):
         own = is_own(case, came)
-        line = (came.status, came.text, came.error) == (9, b"out of memory\n", b"")
+        line = case.status != USAGE and (came.status, came.text, came.error) == (9, b"out of memory\n", b"")
         if not came.refused:
             self.told(own, "never came to it", case, refusal, came)
         elif (came.status, came.text, came.error, came.reads) == (9, b"", b"", 0):

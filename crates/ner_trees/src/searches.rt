@@ -353,7 +353,7 @@ pub(crate) fn near_chip(tree: &GrowingTree, target: Chip) -> Chip
     let few = tree.on.machine().chips() / 64;
     for chips in 0..21 {
         let far = usize::from(chips);
-        if edges < few + 3 * far * far {
+        if edges <= few + 3 * far * far {
             return nearest_of_all(tree, target);
         }
         if let Some(chip) = nearest_on_ring(search, Radius { chips }) {
