@@ -1,5 +1,5 @@
 -- The live links of a machine, as bits.
-use Rattle.std.specs.Prelude.{◌≡◌, ℕ, ◌+◌, ◌*◌, ◌≤◌, ◌↔◌, List, length, slice_index}
+use Rattle.std.specs.Prelude.{◌≡◌, ◌+◌, ◌*◌, ◌≤◌, ◌↔◌, length, slice_index}
 use Rattle.std.specs.Int.{bit_at}
 use Rattle.spin_base.specs.{declared.chips.Chip.Chip, declared.chips.Dir.Dir, Links.dir_number}
 use Rattle.machine_desc.specs.{Description.Description, Live.IsInside, Live.IsLiveLink}
