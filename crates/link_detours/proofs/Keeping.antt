@@ -2,7 +2,7 @@
 use Rattle.std.proofs.Common.{◌≡◌, ◌≢◌, ℕ, zero, suc, ◌+◌, ◌<◌, Bool, true, List, [], ◌∷◌, ◌++◌, length, get_or, take, Some, sym, ap, ◌∙◌, subst, arith, inl, inr, ◌↔◌}
 use Rattle.std.specs.List.{Contains, All, AllPairs, filter, slice_get}
 use Rattle.std.proofs.lemmas.Bool.{cases_order}
-use Rattle.std.proofs.lemmas.List.{get_or_default, append-nil, take_more, get_or-take, length-take}
+use Rattle.std.proofs.lemmas.List.{get_or_default, take_more, get_or-take, length-take}
 use Rattle.std.proofs.lemmas.List.Elements.{All-contains, All-push, All-weaker, Contains-get_or}
 use Rattle.std.proofs.lemmas.Option.{get_or_from_slice_get, slice_get_within}
 use Rattle.spin_base.specs.declared.chips.Chip.{Chip}
@@ -136,13 +136,6 @@ joined_more m root kept whole after chips more targets i d walk within is detour
           (All-weaker (IsTreeChip m root whole) (IsTreeChip m root (whole ++ walk)) (more_chips m root whole walk) (take i targets) so_far.on_tree)
           (steps_on_tree m root (whole ++ walk) there.0 t there.1));
     })
-
--- a target that is in the tree is passed over
-pub joined_past : (m : Description) (root : Chip) (kept : List Edge) (whole : List Edge) (chips : List ℕ) (targets : List Chip) (i : ℕ)
-    (d : Chip) → i < length targets → IsTreeChip m root whole (get_or targets i d) →
-    JoinedSoFar m root kept whole chips (take i targets) → JoinedSoFar m root kept whole chips (take (i + 1) targets)
-joined_past m root kept whole chips targets i d within on so_far =
-    joined_more m root kept whole whole chips chips targets i d [] within (sym (append-nil whole)) on so_far.long so_far.told so_far
 
 -- the first target that is cut off
 pub first_cut_off : (m : Description) (root : Chip) (kept : List Edge) (whole : List Edge) (chips : List ℕ) (targets : List Chip) (i : ℕ)

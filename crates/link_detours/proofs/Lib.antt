@@ -5,7 +5,6 @@ mod Putting
 mod Reaching
 mod RoadBits
 mod Searching
-mod Seeding
 mod Spreading
 mod Stepping
 mod Tabling

@@ -1,5 +1,5 @@
 -- Words that name columns: those in which a set has more, and those beside them.
-use Rattle.std.proofs.Common.{◌≡◌, ℕ, Bool, ◌≢◌, ◌+◌, ◌-◌, ◌*◌, ◌%◌, ◌^◌, ◌<◌, ◌≤◌, ◌↔◌, List, length, get_or, Some, ◌⊎◌, max, min, sym, ap, ◌∙◌, subst, arith, inl, inr}
+use Rattle.std.proofs.Common.{◌≡◌, ℕ, Bool, ◌≢◌, ◌+◌, ◌-◌, ◌*◌, ◌%◌, ◌^◌, ◌<◌, ◌≤◌, ◌↔◌, List, length, get_or, Some, ◌⊎◌, min, sym, ap, ◌∙◌, subst, arith, inl, inr}
 use Rattle.std.specs.Int.{bit_at, bit_not, w64}
 use Rattle.std.specs.Int.RustNames.{bit_or}
 use lib.Bits.{bit_and}
@@ -9,7 +9,7 @@ use Rattle.std.proofs.lemmas.Bool.{cases_eq}
 use Rattle.std.proofs.lemmas.List.{ext_get_or, get_or-set_same, get_or-set_other, length-set}
 use Rattle.std.proofs.lemmas.Nat.{and_le_l}
 use Rattle.std.proofs.lemmas.List.Elements.{All-set}
-use Rattle.std.proofs.lemmas.Nat.Bits.{bit_at_and, bit_at_or, bit_at_ones, bit_at-lt, bit_at-zero, bit_at_clear_same, bit_at_clear_other}
+use Rattle.std.proofs.lemmas.Nat.Bits.{bit_at_and, bit_at_ones, bit_at-lt, bit_at-zero, bit_at_clear_same, bit_at_clear_other}
 use Rattle.spin_base.specs.declared.chips.Chip.{Chip}
 use Rattle.spin_base.specs.declared.chips.Dir.{Dir}
 use Rattle.machine_desc.specs.declared.steps.Step.{Step}
@@ -19,20 +19,8 @@ use Rattle.machine_desc.specs.Live.{x_step, stepped, IsInside}
 use Rattle.machine_desc.proofs.Far.{far_parts, inside_parts}
 use Rattle.link_detours.specs.Waves.{IsIn, IsSpread, IsSpreadBut, IsSpreadAt}
 use Rattle.link_detours.proofs.RoadBits.{chip_of_column}
+use Rattle.link_detours.proofs.Spreading.{or_left, or_right}
 use Rattle.link_detours.proofs.TurnedWords.{turned_ahead, turned_back, turned_stay}
-
--- a bit of one of two words, or of both
-max_left : (a b : ℕ) → b < 2 → a ≡ 1 → max a b ≡ 1
-max_left a b p q = omega (arith, p, q)
-
-max_right : (a b : ℕ) → a < 2 → b ≡ 1 → max a b ≡ 1
-max_right a b p q = omega (arith, p, q)
-
-pub or_left : (a b y : ℕ) → bit_at a y ≡ 1 → bit_at (bit_or a b) y ≡ 1
-or_left a b y bit = bit_at_or a b y ∙ max_left (bit_at a y) (bit_at b y) (bit_at-lt b y) bit
-
-or_right : (a b y : ℕ) → bit_at b y ≡ 1 → bit_at (bit_or a b) y ≡ 1
-or_right a b y bit = bit_at_or a b y ∙ max_right (bit_at a y) (bit_at b y) (bit_at-lt a y) bit
 
 -- the columns from which a step leads to one that is named
 pub beside : (columns up down width : ℕ) →

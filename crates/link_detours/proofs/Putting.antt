@@ -11,11 +11,21 @@ use Rattle.std.proofs.lemmas.Nat.Bits.{bit_at_set_same, bit_at_set_other, bit_at
 use Rattle.spin_base.specs.declared.chips.Chip.{Chip}
 use Rattle.machine_desc.specs.declared.trees.Edge.{Edge}
 use Rattle.machine_desc.specs.Description.{Description}
+use Rattle.machine_desc.specs.Live.{IsInside}
 use Rattle.machine_desc.specs.RoutingTree.{end_of, IsTreeChip}
+use Rattle.machine_desc.proofs.Far.{inside_parts}
 use Rattle.machine_desc.proofs.Same.{same_chip}
 use Rattle.machine_desc.proofs.TreeLemmas.{tree_end, tree_cases, more_chips}
-use Rattle.link_detours.specs.Waves.{IsIn}
+use Rattle.link_detours.specs.LiveRoads.{AreRoadsOf}
+use Rattle.link_detours.specs.declared.roads.Roads.{Roads}
+use Rattle.link_detours.specs.Waves.{IsIn, HasBitOf}
 use Rattle.link_detours.proofs.Searching.{cases_chip}
+
+-- a chip inside the grid has a bit in a set of the machine's chips
+pub bit_of : (m : Description) (roads : Roads) (set : List ℕ) (c : Chip) → AreRoadsOf m roads → length set ≡ m.width → IsInside m c → HasBitOf set c
+bit_of m roads set c are long inside =
+    let parts = inside_parts m c inside in
+    (omega (arith, parts.0, long), omega (arith, parts.1, are.few))
 
 -- the set after a chip is put into it
 pub put_here : (old : List ℕ) (c : Chip) (place : ℕ) → place ≡ c.x → c.x < length old → c.y < 64 →

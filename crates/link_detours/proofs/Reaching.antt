@@ -1,5 +1,5 @@
 -- What tables of flagged links and of marked chips say of trees.
-use Rattle.std.proofs.Common.{◌≡◌, ℕ, zero, suc, Bool, true, List, [], ◌∷◌, get_or, Some, refl, sym, subst, arith, inl, inr, ◌↔◌}
+use Rattle.std.proofs.Common.{◌≡◌, ℕ, zero, suc, Bool, true, List, [], ◌∷◌, get_or, Some, refl, sym, subst, arith, ◌↔◌}
 use Rattle.std.specs.List.{Contains, All}
 use Rattle.std.proofs.lemmas.List.Elements.{All-contains, Contains-get_or}
 use Rattle.spin_base.specs.declared.chips.Chip.{Chip}
@@ -8,16 +8,13 @@ use Rattle.spin_base.specs.Links.{opposite_of}
 use Rattle.machine_desc.specs.declared.trees.Edge.{Edge}
 use Rattle.machine_desc.specs.Description.{Description}
 use Rattle.machine_desc.specs.Live.{far_of, IsInside, IsLiveLink}
-use Rattle.machine_desc.specs.RoutingTree.{IsTreeChip}
-use Rattle.machine_desc.proofs.Far.{live_ends, live_inside, live_back, far_inside, far_back, opposite_of-opposite}
+use Rattle.machine_desc.proofs.Far.{live_ends, live_inside, live_back, far_back, opposite_of-opposite}
 use Rattle.link_detours.specs.Steps.{Steps, IsReachedBy}
 use Rattle.machine_desc.specs.Flags.{is_flagged}
 use Rattle.link_detours.specs.Usable.{FlaggedStep, is_marked}
 use Rattle.link_detours.specs.Repair.{EdgeStep}
 use Rattle.link_detours.specs.Whole.{IsWholeTree}
 use Rattle.link_detours.proofs.Stepping.{Steps-map}
-use Rattle.machine_desc.proofs.TreeLemmas.{tree_cases}
-use Rattle.link_detours.proofs.Wholes.{steps_on_tree}
 
 -- a live link begins inside the grid
 pub link_inside : (m : Description) (c : Chip) (d : Dir) → IsLiveLink m c d → IsInside m c
@@ -74,18 +71,7 @@ reach_edges m root table edges marks flags inside reached c c_inside = (
   ),
 )
 
--- the chips of a whole tree are those that its edges join to the root
-pub whole_reach : (m : Description) (root : Chip) (tree : List Edge) → IsWholeTree m root tree → (c : Chip) →
-    ((n : ℕ) × Steps (EdgeStep m tree) n root c) ↔ IsTreeChip m root tree c
-whole_reach m root tree is c = (λ way. steps_on_tree m root tree way.0 c way.1, λ on. is.reached c on)
-
--- the chips and edges of a whole tree are inside the grid
-pub whole_inside : (m : Description) (root : Chip) (tree : List Edge) → IsWholeTree m root tree → IsInside m root → (c : Chip) → IsTreeChip m root tree c → IsInside m c
-whole_inside m root tree is inside c on = elim (tree_cases m root tree c on) [
-  | inl at ↦ subst (λ (x : Chip). IsInside m x) (sym at) inside
-  | inr into ↦ far_inside m into.0.chip c into.0.dir (link_inside m into.0.chip into.0.dir (is.live into.0 into.1)) into.2
-]
-
+-- the edges of a whole tree begin inside the grid
 pub edges_inside : (m : Description) (root : Chip) (tree : List Edge) → IsWholeTree m root tree → All (λ e. IsInside m e.chip) tree
 edges_inside m root tree is k d h =
     link_inside m (get_or tree k d).chip (get_or tree k d).dir (is.live (get_or tree k d) (Contains-get_or tree k d h))

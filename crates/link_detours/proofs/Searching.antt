@@ -7,9 +7,11 @@ use Rattle.std.proofs.lemmas.List.Elements.{All-push, All-contains, Contains-get
 use Rattle.std.proofs.lemmas.List.Sums.{sum_by-set}
 use Rattle.spin_base.specs.declared.chips.Chip.{Chip}
 use Rattle.spin_base.specs.declared.chips.Dir.{Dir}
+use Rattle.spin_base.specs.declared.chips.Dir.TheVariants.{East}
 use Rattle.spin_base.specs.Equality.{chip_eq}
 use Rattle.spin_base.specs.Links.{dir_number, all_dirs}
 use Rattle.spin_base.proofs.Equality.{chip_eq_true}
+use Rattle.spin_base.proofs.Spots.{dir_number-dir_at}
 use Rattle.machine_desc.specs.Description.{Description}
 use Rattle.machine_desc.specs.Live.{far_of, index_of, IsInside}
 use Rattle.machine_desc.proofs.Far.{far_inside, same_index, index_below}
@@ -300,6 +302,10 @@ flagged_parts m table c e d h = elim (cases_Bool (is_flagged m table c d)) [
   | inr clear ↦ let none : Some e ≡ None = h ∙ cond-false (is_flagged m table c d) (far_of m c d) None clear in cc
 ]
 
+-- and that is inside
+pub flagged_inside : (m : Description) (table : List Bool) (c e : Chip) (d : Dir) → IsInside m c → Some e ≡ cond (is_flagged m table c d) (far_of m c d) None → IsInside m e
+flagged_inside m table c e d inside h = far_inside m c e d inside (flagged_parts m table c e d h).1
+
 -- a flagged link that leads somewhere gives a chip
 pub flagged_none : (m : Description) (table : List Bool) (c e : Chip) (d : Dir) →
     None ≡ cond (is_flagged m table c d) (far_of m c d) None → is_flagged m table c d ≡ true → far_of m c d ≡ Some e → ⊥
@@ -307,10 +313,4 @@ flagged_none m table c e d h flagged leads =
     let some : None ≡ Some e = h ∙ (cond-true (is_flagged m table c d) (far_of m c d) None flagged ∙ leads) in cc
 
 pub dir_number_at : (i : ℕ) (d : Dir) → i < 6 → dir_number (get_or all_dirs i d) ≡ i
-dir_number_at zero d h = refl
-dir_number_at (suc zero) d h = refl
-dir_number_at (suc (suc zero)) d h = refl
-dir_number_at (suc (suc (suc zero))) d h = refl
-dir_number_at (suc (suc (suc (suc zero)))) d h = refl
-dir_number_at (suc (suc (suc (suc (suc zero))))) d h = refl
-dir_number_at (suc (suc (suc (suc (suc (suc i)))))) d h = absurd (omega (arith, h))
+dir_number_at i d h = ap dir_number (get_or_default all_dirs i d East h) ∙ dir_number-dir_at i h

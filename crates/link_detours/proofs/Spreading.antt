@@ -25,11 +25,18 @@ set_both a b p q = omega (arith, p, q)
 one_set : (a b : ℕ) → a < 2 → b < 2 → max a b ≡ 1 → (a ≡ 1) ⊎ (b ≡ 1)
 one_set a b p q h = elim (cases_eq a 1) [ inl is ↦ inl is | inr other ↦ inr (omega (arith, p, q, h, other)) ]
 
-set_left : (a b : ℕ) → b < 2 → a ≡ 1 → max a b ≡ 1
-set_left a b p q = omega (arith, p, q)
+-- a bit of one of two words, or of both
+max_left : (a b : ℕ) → b < 2 → a ≡ 1 → max a b ≡ 1
+max_left a b p q = omega (arith, p, q)
 
-set_right : (a b : ℕ) → a < 2 → b ≡ 1 → max a b ≡ 1
-set_right a b p q = omega (arith, p, q)
+max_right : (a b : ℕ) → a < 2 → b ≡ 1 → max a b ≡ 1
+max_right a b p q = omega (arith, p, q)
+
+pub or_left : (a b y : ℕ) → bit_at a y ≡ 1 → bit_at (bit_or a b) y ≡ 1
+or_left a b y bit = bit_at_or a b y ∙ max_left (bit_at a y) (bit_at b y) (bit_at-lt b y) bit
+
+pub or_right : (a b y : ℕ) → bit_at b y ≡ 1 → bit_at (bit_or a b) y ≡ 1
+or_right a b y bit = bit_at_or a b y ∙ max_right (bit_at a y) (bit_at b y) (bit_at-lt a y) bit
 
 -- the bits of the chips whose link leads, live, to a chip of the set
 pub leading_told : (m : Description) (set : List ℕ) (x y beyond column turned road : ℕ) (d : Dir) →
@@ -72,13 +79,12 @@ pub SpreadTo-more : (m : Description) (set : List ℕ) (x word i leading : ℕ) 
     SpreadTo m set x word i → SpreadTo m set x (bit_or word leading) (i + 1)
 SpreadTo-more m set x word i leading d at told so_far = record {
   rises = let low : get_or set x 0 ≤ word = so_far.rises in let high : word ≤ bit_or word leading = le_or_l word leading in omega (arith, low, high);
-  old = λ y bit. stays y (so_far.old y bit);
+  old = λ y bit. or_left word leading y (so_far.old y bit);
   new = λ y f inside below leads. elim (cases_eq (dir_number f) i) [
     | inl here ↦
         let same : f ≡ d = same_dir f d (here ∙ sym at) in
-        bit_at_or word leading y ∙ set_right (bit_at word y) (bit_at leading y) (bit_at-lt word y)
-        ((told y inside).1 (subst (λ (o : Dir). LeadsInto m set (chip_of_column x y) o) same leads))
-    | inr other ↦ stays y (so_far.new y f inside (omega (arith, below, other)) leads)
+        or_right word leading y ((told y inside).1 (subst (λ (o : Dir). LeadsInto m set (chip_of_column x y) o) same leads))
+    | inr other ↦ or_left word leading y (so_far.new y f inside (omega (arith, below, other)) leads)
   ];
   only = λ y inside bit.
       elim (one_set (bit_at word y) (bit_at leading y) (bit_at-lt word y) (bit_at-lt leading y) (sym (bit_at_or word leading y) ∙ bit)) [
@@ -86,6 +92,3 @@ SpreadTo-more m set x word i leading d at told so_far = record {
         | inr here ↦ inr (d, (told y inside).0 here)
       ];
 }
-  where
-    stays : (y : ℕ) → bit_at word y ≡ 1 → bit_at (bit_or word leading) y ≡ 1
-    stays y bit = bit_at_or word leading y ∙ set_left (bit_at word y) (bit_at leading y) (bit_at-lt leading y) bit

@@ -1,15 +1,16 @@
 -- The repaired tree: what is kept of a tree whose links may be dead, and how its targets are joined again.
-use Rattle.std.specs.Prelude.{◌≡◌, ℕ, ◌<◌, ◌≤◌, List, [], ◌∷◌, ◌++◌, Some, Contains, AllPairs, ◌↔◌, slice_get}
+use Rattle.std.specs.Prelude.{◌≡◌, ◌≢◌, ℕ, ◌<◌, ◌≤◌, List, [], ◌∷◌, ◌++◌, Some, All, Contains, AllPairs, ◌↔◌, slice_get}
 use Rattle.std.proofs.Common.{suc}
-use Rattle.spin_base.specs.declared.chips.Chip.{Chip}
-use Rattle.spin_base.specs.declared.chips.Dir.{Dir}
-use Rattle.spin_base.specs.Links.{dir_number}
-use Rattle.machine_desc.specs.declared.trees.Edge.{Edge}
-use Rattle.machine_desc.specs.Description.{Description}
-use Rattle.machine_desc.specs.Live.{far_of, IsLiveLink, LeadsTo, IsLiveWalk}
-use Rattle.machine_desc.specs.RoutingTree.{end_of, IsTreeChip}
+use Rattle.spin_base.specs.{declared.chips.Chip.Chip, declared.chips.Dir.Dir, Links.dir_number}
+use Rattle.machine_desc.specs.{declared.trees.Edge.Edge, Description.Description, Flags.link_place, RoutingTree.end_of, RoutingTree.IsTreeChip}
+use Rattle.machine_desc.specs.Live.{far_of, IsLiveChip, IsLiveLink, LeadsTo, IsLiveWalk}
 use Rattle.link_detours.specs.Steps.{Steps, IsStepLevel}
-use Rattle.machine_desc.specs.Flags.{link_place}
+
+-- A tree of which links may be dead: its root lives, no edge leads into the root, and no two lead into one chip.
+pub record IsTreeWithDeadLinks (m : Description) (root : Chip) (edges : List Edge) : Type 0 where
+  pub root_lives : IsLiveChip m root
+  pub none_into_root : All (λ e. end_of m e ≢ Some root) edges
+  pub one_into_each : AllPairs (λ e f. (c : Chip) → end_of m e ≡ Some c → end_of m f ≢ Some c) edges
 
 -- a step by an edge of the list
 abbrev pub EdgeStep : Description → List Edge → Chip → Chip → Type 0

@@ -2,17 +2,28 @@
 use Rattle.std.specs.Prelude.{◌≡◌, ℕ, ◌^◌, ◌<◌, ◌≤◌, ◌↔◌, List, [], ◌++◌, length, slice_index, slice_set, Some, ◌⊎◌}
 use Rattle.std.proofs.Common.{zero, suc}
 use Rattle.std.specs.Int.{bit_at}
-use Rattle.spin_base.specs.declared.chips.Chip.{Chip}
-use Rattle.spin_base.specs.declared.chips.Dir.{Dir}
-use Rattle.spin_base.specs.Links.{dir_number}
-use Rattle.machine_desc.specs.declared.trees.Edge.{Edge}
-use Rattle.machine_desc.specs.Description.{Description}
-use Rattle.machine_desc.specs.{Live.far_of, Live.IsInside, Live.IsLiveLink, Live.LeadsTo, RoutingTree.end_of}
+use Rattle.spin_base.specs.{declared.chips.Chip.Chip, declared.chips.Dir.Dir, Links.dir_number}
+use Rattle.machine_desc.specs.{declared.trees.Edge.Edge, Description.Description}
+use Rattle.machine_desc.specs.{Live.far_of, Live.IsInside, Live.IsLiveLink, Live.LeadsTo, RoutingTree.end_of, RoutingTree.IsTreeChip}
 use Rattle.link_detours.specs.Steps.{IsReachedBy}
 
 -- A set has one word a column of chips, and bit y of it tells of the chip at y.
 abbrev pub IsIn : List ℕ → Chip → Type 0
 IsIn set c = bit_at (slice_index set c.x) c.y ≡ 1
+
+-- the set has a bit for the chip
+abbrev pub HasBitOf : List ℕ → Chip → Type 0
+HasBitOf set c = (c.x < length set) × (c.y < 64)
+
+-- a set of a machine's chips that has none
+pub record IsEmptySet (m : Description) (set : List ℕ) : Type 0 where
+  pub long : length set ≡ m.width
+  pub none : (c : Chip) → IsIn set c → ⊥
+
+-- a set of a machine's chips that has those of a tree
+pub record IsSetOfTree (m : Description) (root : Chip) (tree : List Edge) (set : List ℕ) : Type 0 where
+  pub long : length set ≡ m.width
+  pub told : (c : Chip) → IsIn set c ↔ IsTreeChip m root tree c
 
 -- the chip's link leads, live, to a chip of the set
 abbrev pub LeadsInto : Description → List ℕ → Chip → Dir → Type 0

@@ -1,12 +1,8 @@
 -- Trees over live links whose every chip is reached from the root in one way, whatever they lead to.
-use Rattle.std.specs.Prelude.{◌≡◌, ◌≢◌, ℕ, List, Some, Any, Contains, ◌⊎◌}
+use Rattle.std.specs.Prelude.{◌≡◌, ◌≢◌, ℕ, ◌<◌, List, length, Some, All, Any, Contains, ◌⊎◌}
 use Rattle.spin_base.specs.declared.chips.Chip.{Chip}
-use Rattle.machine_desc.specs.declared.trees.Edge.{Edge}
-use Rattle.machine_desc.specs.Description.{Description}
-use Rattle.machine_desc.specs.Live.{IsLiveLink}
-use Rattle.machine_desc.specs.RoutingTree.{end_of, IsTreeChip}
-use Rattle.link_detours.specs.Steps.{Steps}
-use Rattle.link_detours.specs.Repair.{EdgeStep}
+use Rattle.machine_desc.specs.{declared.trees.Edge.Edge, Description.Description, Live.IsInside, Live.IsLiveLink, RoutingTree.end_of, RoutingTree.IsTreeChip}
+use Rattle.link_detours.specs.{Steps.Steps, Repair.EdgeStep}
 
 -- all edges are live, each chip is reached from the root, and there is one way to it
 pub record IsWholeTree (m : Description) (root : Chip) (tree : List Edge) : Type 0 where
@@ -15,6 +11,12 @@ pub record IsWholeTree (m : Description) (root : Chip) (tree : List Edge) : Type
   pub none_into_root : (e : Edge) → Contains tree e → end_of m e ≢ Some root
   pub begins : (e : Edge) → Contains tree e → IsTreeChip m root tree e.chip
   pub one_into : (e f : Edge) (c : Chip) → Contains tree e → Contains tree f → end_of m e ≡ Some c → end_of m f ≡ Some c → e ≡ f
+
+-- targets on the machine, one at least, all of them in the tree
+pub record HasTargets (m : Description) (root : Chip) (tree : List Edge) (targets : List Chip) : Type 0 where
+  pub some_target : 0 < length targets
+  pub inside : All (IsInside m) targets
+  pub on_tree : All (IsTreeChip m root tree) targets
 
 -- a target stands at the chip, or an edge begins there
 abbrev pub GoesOnFrom : List Edge → List Chip → Chip → Type 0

@@ -5,11 +5,11 @@ ghost use Rattle.machine_desc.specs.RoutingTree.{IsTreeChip};
 ghost use Rattle.link_detours.specs.Steps.{Steps, IsReachedBy, IsStepLevel};
 ghost use Rattle.link_detours.specs.Usable.{is_marked};
 ghost use Rattle.link_detours.specs.Repair.{EdgeStep, IsTreeLevel, IsDetour, IsCutOff};
-ghost use Rattle.link_detours.specs.Waves.{IsIn, AreWaves, IsStepFrom, IsBestStep};
+ghost use Rattle.link_detours.specs.Waves.{IsIn, IsSetOfTree, AreWaves, IsStepFrom, IsBestStep};
 ghost use Rattle.spin_base.specs.declared.chips.Chip.{Chip};
 ghost use Rattle.machine_desc.specs.declared.trees.Edge.{Edge};
 
-use crate::grounds::{Edges, Front, Ground, Ring};
+use crate::grounds::{Edges, Flagged, Front, Ground, Ring};
 use crate::searches::reached_chips;
 use crate::sets::{has, near_columns, put, spread};
 use crate::tables::link_table;
@@ -27,7 +27,11 @@ pub(crate) fn tree_reach(alloc: Global, root: Chip, links: Edges) -> Result<Vec<
         ↔ ((n : ℕ) × Steps (EdgeStep links.entry.machine.now links.entry.list.now) n root c)) }
 {
     let table = link_table(alloc, links)?;
-    let reach = reached_chips(alloc, links.machine, &table, &[root])?;
+    let flagged = Flagged {
+        machine: links.machine,
+        flags: &table,
+    };
+    let reach = reached_chips(alloc, flagged, &[root])?;
     Ok(reach)
 }
 
@@ -120,9 +124,7 @@ fn walk_back(
     requires waves { (n : ℕ)
         × AreWaves ground.machine.now (IsTreeChip ground.machine.now root whole.old.items) n waves.now
         × IsTreeLevel ground.machine.now root whole.old.items target n }
-    requires long { length tree.old ≡ ground.machine.now.width }
-    requires chips { (c : Chip) → IsIn tree.old c ↔ IsTreeChip ground.machine.now root
-        whole.old.items c }
+    requires set { IsSetOfTree ground.machine.now root whole.old.items tree.old }
     ensures joined { IfOk result (λ _. (walk : List Edge)
         × (whole.new.items ≡ whole.old.items ++ walk)
         × IsDetour ground.entry.machine.now root whole.old.items target walk) }
@@ -156,9 +158,7 @@ pub(crate) fn join(
     target: Chip,
 ) -> Result<bool, Memory>
     requires inside { IsInside ground.machine.now target }
-    requires long { length tree.old ≡ ground.machine.now.width }
-    requires chips { (c : Chip) → IsIn tree.old c ↔ IsTreeChip ground.machine.now root
-        whole.old.items c }
+    requires set { IsSetOfTree ground.machine.now root whole.old.items tree.old }
     ensures joined { IfOk result (λ b. IsTrue b
         → (walk : List Edge) × (whole.new.items ≡ whole.old.items ++ walk)
         × IsDetour ground.entry.machine.now root whole.old.items target walk) }

@@ -7,7 +7,7 @@ ghost use Rattle.link_detours.specs.Usable.{is_marked, other_end_of};
 ghost use Rattle.spin_base.specs.declared.chips.Chip.{Chip};
 ghost use Rattle.machine_desc.specs.declared.trees.Edge.{Edge};
 
-use crate::grounds::{Edges, Ground};
+use crate::grounds::{Edges, Ground, MarkedEdges};
 use machine_desc::Edge;
 use spin_base::{Chip, Memory};
 use std::alloc::Global;
@@ -26,19 +26,16 @@ pub(crate) fn live_edges(alloc: Global, ground: Ground, edges: &[Edge]) -> Resul
     Ok(live)
 }
 
-// The edges that begin at a chip that the table marks.
-pub(crate) fn reached_edges(
-    alloc: Global,
-    marks: &[bool],
-    links: Edges,
-) -> Result<Vec<Edge>, Memory>
-    requires { length marks.now ≡ links.machine.now.width * links.machine.now.height }
+// The edges that begin at a marked chip.
+pub(crate) fn reached_edges(alloc: Global, marked: MarkedEdges) -> Result<Vec<Edge>, Memory>
     ensures { IfOk result (λ v. v.items
-        ≡ filter (λ e. is_marked links.entry.machine.now marks.now e.chip) links.entry.list.now) }
+        ≡ filter (λ e. is_marked marked.entry.edges.machine.now marked.entry.marks.now e.chip)
+        marked.entry.edges.list.now) }
 {
+    let links = marked.edges;
     let mut reached = Vec::with_capacity(alloc, links.list.len())?;
     for edge in links.list {
-        if marks[links.machine.index(edge.chip) as usize] {
+        if marked.marks[links.machine.index(edge.chip) as usize] {
             reached.push(*edge)?;
         }
     }

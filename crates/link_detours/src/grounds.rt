@@ -1,5 +1,5 @@
 // What searches go over, with what is known of it.
-ghost use Rattle.std.specs.Prelude.{◌≡◌, ◌<◌, ◌≤◌, All, length};
+ghost use Rattle.std.specs.Prelude.{◌≡◌, ◌*◌, ◌<◌, ◌≤◌, All, length};
 ghost use Rattle.machine_desc.specs.Live.{IsInside, is_live_link};
 ghost use Rattle.link_detours.specs.LiveRoads.{AreRoadsOf};
 
@@ -42,12 +42,37 @@ pub struct Front<'a> {
     pub ghost long: { length set.now ≡ ground.machine.now.width },
 }
 
+// A column of a front.
+#[derive(Clone, Copy)]
+pub struct Column<'a> {
+    pub front: Front<'a>,
+    pub x: u32,
+    pub ghost within: { x < front.ground.machine.now.width },
+    pub ghost few: { x < 64 },
+}
+
 // Edges that begin inside a machine's grid.
 #[derive(Clone, Copy)]
 pub struct Edges<'a> {
     pub machine: &'a Machine,
     pub list: &'a [Edge],
     pub ghost inside: { All (λ e. IsInside machine.now e.chip) list.now },
+}
+
+// Edges, and a mark for each chip of their machine.
+#[derive(Clone, Copy)]
+pub struct MarkedEdges<'a> {
+    pub edges: Edges<'a>,
+    pub marks: &'a [bool],
+    pub ghost long: { length marks.now ≡ edges.machine.now.width * edges.machine.now.height },
+}
+
+// A flag for each link of a machine.
+#[derive(Clone, Copy)]
+pub struct Flagged<'a> {
+    pub machine: &'a Machine,
+    pub flags: &'a [bool],
+    pub ghost long: { length flags.now ≡ machine.now.width * machine.now.height * 6 },
 }
 
 // The number of places of a ring of rows or columns.

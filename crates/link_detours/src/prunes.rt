@@ -6,7 +6,7 @@ ghost use Rattle.spin_base.specs.declared.chips.Chip.{Chip};
 ghost use Rattle.machine_desc.specs.declared.trees.Edge.{Edge};
 
 use crate::edges::{reached_edges, turned_edges};
-use crate::grounds::Edges;
+use crate::grounds::{Edges, Flagged, MarkedEdges};
 use crate::searches::reached_chips;
 use crate::tables::{in_place_order, link_table};
 use machine_desc::Edge;
@@ -29,8 +29,16 @@ pub(crate) fn pruned(alloc: Global, whole: Edges, targets: &[Chip]) -> Result<Ve
         list: &turned,
     };
     let table = link_table(alloc, links)?;
-    let marks = reached_chips(alloc, machine, &table, targets)?;
-    let wanted = reached_edges(alloc, &marks, links)?;
+    let flagged = Flagged {
+        machine,
+        flags: &table,
+    };
+    let marks = reached_chips(alloc, flagged, targets)?;
+    let marked = MarkedEdges {
+        edges: links,
+        marks: &marks,
+    };
+    let wanted = reached_edges(alloc, marked)?;
     let found = Edges {
         machine,
         list: &wanted,

@@ -1,8 +1,8 @@
 // Trees joined again round dead links.
-ghost use Rattle.std.specs.Prelude.{◌≡◌, ◌≢◌, ℕ, ◌*◌, ◌<◌, ◌↔◌, Some, length, All, AllPairs, IfOk, IfErr, Contains};
+ghost use Rattle.std.specs.Prelude.{◌≡◌, ◌<◌, ◌↔◌, length, All, IfOk, IfErr, Contains};
 ghost use Rattle.machine_desc.specs.Live.{IsInside, IsLiveChip};
-ghost use Rattle.machine_desc.specs.RoutingTree.{end_of, IsTreeChip, IsTreeTo};
-ghost use Rattle.link_detours.specs.Repair.{IsKeptEdge, Joins, IsRepaired, AreInPlaceOrder};
+ghost use Rattle.machine_desc.specs.RoutingTree.{IsTreeChip, IsTreeTo};
+ghost use Rattle.link_detours.specs.Repair.{IsTreeWithDeadLinks, IsKeptEdge, Joins, IsRepaired, AreInPlaceOrder};
 ghost use Rattle.link_detours.specs.Whole.{IsWholeTree};
 ghost use Rattle.link_detours.specs.Cause.{IsRepairCause};
 ghost use Rattle.link_detours.specs.declared.repairs.RepairErr.TheVariants.{Memory as NoMemory};
@@ -11,7 +11,7 @@ ghost use Rattle.machine_desc.specs.declared.trees.Edge.{Edge};
 
 use crate::detours::{join, tree_reach};
 use crate::edges::{live_edges, reached_edges};
-use crate::grounds::{Edges, Ground};
+use crate::grounds::{Edges, Ground, MarkedEdges};
 use crate::sets::{empty_set, put_tree};
 use crate::trims::trimmed;
 use machine_desc::{Edge, Tree};
@@ -48,12 +48,7 @@ pub fn repair(
     tree: &Tree,
     targets: &Seq<Chip>,
 ) -> Result<Tree, RepairErr>
-    requires root_lives { IsLiveChip ground.machine.now tree.now.root }
-    requires none_into_root { All (λ e. end_of ground.machine.now e ≢ Some tree.now.root)
-        tree.now.edges }
-    requires one_into_each { AllPairs (λ e f. (c : Chip) → end_of ground.machine.now e ≡ Some c
-        → end_of ground.machine.now f ≢ Some c)
-        tree.now.edges }
+    requires tree { IsTreeWithDeadLinks ground.machine.now tree.now.root tree.now.edges }
     requires some_target { 0 < length targets.now }
     requires targets_inside { All (IsInside ground.machine.now) targets.now }
     ensures root { IfOk result (λ t. t.root ≡ tree.now.root) }
@@ -88,10 +83,7 @@ fn kept_edges(
     root: Chip,
     edges: &[Edge],
 ) -> Result<Vec<Edge>, Memory>
-    requires root_lives { IsLiveChip ground.machine.now root }
-    requires none_into_root { All (λ e. end_of ground.machine.now e ≢ Some root) edges.now }
-    requires one_into_each { AllPairs (λ e f. (c : Chip) → end_of ground.machine.now e ≡ Some c
-        → end_of ground.machine.now f ≢ Some c) edges.now }
+    requires { IsTreeWithDeadLinks ground.machine.now root edges.now }
     ensures kept { IfOk result (λ v. (e : Edge)
         → Contains v.items e ↔ IsKeptEdge ground.entry.machine.now root edges.now e) }
     ensures is_whole { IfOk result (λ v. IsWholeTree ground.entry.machine.now root v.items) }
@@ -102,7 +94,11 @@ fn kept_edges(
         list: &live,
     };
     let reach = tree_reach(alloc, root, links)?;
-    let kept = reached_edges(alloc, &reach, links)?;
+    let marked = MarkedEdges {
+        edges: links,
+        marks: &reach,
+    };
+    let kept = reached_edges(alloc, marked)?;
     Ok(kept)
 }
 

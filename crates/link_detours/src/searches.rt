@@ -6,20 +6,20 @@ ghost use Rattle.machine_desc.specs.Flags.{is_flagged};
 ghost use Rattle.link_detours.specs.Usable.{FlaggedStep, is_marked};
 ghost use Rattle.spin_base.specs.declared.chips.Chip.{Chip};
 
+use crate::grounds::Flagged;
 use crate::tables::link_place;
 use machine_desc::Machine;
 use spin_base::{Chip, Dir, Memory};
 use std::alloc::Global;
 
 // The chip to which the link leads, where the table flags the link.
-fn flagged_far(machine: &Machine, flags: &[bool], c: Chip, d: Dir) -> Option<Chip>
-    requires inside { IsInside machine.now c }
-    requires long { length flags.now ≡ machine.now.width * machine.now.height * 6 }
-    ensures { result
-        ≡ (if is_flagged machine.now flags.now c d then far_of machine.now c d else None) }
+fn flagged_far(table: Flagged, c: Chip, d: Dir) -> Option<Chip>
+    requires { IsInside table.machine.now c }
+    ensures { result ≡ (if is_flagged table.entry.machine.now table.entry.flags.now c d
+        then far_of table.entry.machine.now c d else None) }
 {
-    if flags[link_place(machine, c, d)] {
-        machine.far(c, d)
+    if table.flags[link_place(table.machine, c, d)] {
+        table.machine.far(c, d)
     } else {
         None
     }
@@ -46,24 +46,25 @@ pub(crate) fn seed_table(
 // A table that marks the chips to which flagged links lead from a seed.
 pub(crate) fn reached_chips(
     alloc: Global,
-    machine: &Machine,
-    flags: &[bool],
+    table: Flagged,
     seeds: &[Chip],
 ) -> Result<Vec<bool>, Memory>
-    requires inside { All (IsInside machine.now) seeds.now }
-    requires long { length flags.now ≡ machine.now.width * machine.now.height * 6 }
-    ensures long { IfOk result (λ t. length t.items ≡ machine.now.width * machine.now.height) }
-    ensures reached { IfOk result (λ t. (c : Chip) → IsInside machine.now c
-        → (is_marked machine.now t.items c ≡ true)
-        ↔ ((n : ℕ) × IsReachedBy (FlaggedStep machine.now flags.now) (Contains seeds.now) n c)) }
+    requires { All (IsInside table.machine.now) seeds.now }
+    ensures long { IfOk result (λ t. length t.items ≡ table.entry.machine.now.width *
+        table.entry.machine.now.height) }
+    ensures reached { IfOk result (λ t. (c : Chip) → IsInside table.entry.machine.now c
+        → (is_marked table.entry.machine.now t.items c ≡ true)
+        ↔ ((n : ℕ) × IsReachedBy (FlaggedStep table.entry.machine.now table.entry.flags.now)
+        (Contains seeds.now) n c)) }
 {
+    let machine = table.machine;
     let mut marks = seed_table(alloc, machine, seeds)?;
     let mut queue = Vec::from_slice(alloc, seeds)?;
     let mut next = 0;
     while next < queue.len() {
         let from = queue[next];
         for link in Dir::ALL {
-            if let Some(to) = flagged_far(machine, flags, from, link) {
+            if let Some(to) = flagged_far(table, from, link) {
                 if !marks[machine.index(to) as usize] {
                     queue.push(to)?;
                     marks[machine.index(to) as usize] = true;

@@ -7,17 +7,16 @@ ghost use Rattle.spin_base.specs.Links.{dir_number};
 ghost use Rattle.machine_desc.specs.declared.steps.Step.{Step};
 ghost use Rattle.machine_desc.specs.Live.{IsInside, IsLiveLink, far_of, x_step, y_step, stepped};
 ghost use Rattle.machine_desc.specs.RoutingTree.{IsTreeChip};
-ghost use Rattle.link_detours.specs.Waves.{IsIn, LeadsInto, IsSpread, IsSpreadBut, IsSpreadAt};
+ghost use Rattle.link_detours.specs.Waves.{IsIn, HasBitOf, IsEmptySet, LeadsInto, IsSpread, IsSpreadBut, IsSpreadAt};
 
-use crate::grounds::{Front, Ground, Ring};
+use crate::grounds::{Column, Front, Ground, Ring};
 use machine_desc::{Edge, Machine};
 use spin_base::{Chip, Dir, Memory};
 use std::alloc::Global;
 
 // Whether the set has the chip.
 pub(crate) fn has(set: &[u64], c: Chip) -> bool
-    requires column { c.x < length set.now }
-    requires bit { c.y < 64 }
+    requires { HasBitOf set.now c }
     ensures { IsTrue result ↔ IsIn set.now c }
 {
     (set[usize::from(c.x)] >> c.y) & 1 == 1
@@ -25,8 +24,7 @@ pub(crate) fn has(set: &[u64], c: Chip) -> bool
 
 // Puts the chip into the set.
 pub(crate) fn put(set: &mut [u64], c: Chip)
-    requires column { c.x < length set.old }
-    requires bit { c.y < 64 }
+    requires { HasBitOf set.old c }
     ensures here { IsIn set.new c }
     ensures others { (e : Chip) → (e ≡ c → ⊥)
         → bit_at (slice_index set.new e.x) e.y ≡ bit_at (slice_index set.old e.x) e.y }
@@ -36,8 +34,7 @@ pub(crate) fn put(set: &mut [u64], c: Chip)
 
 // A set without chips.
 pub(crate) fn empty_set(alloc: Global, machine: &Machine) -> Result<Vec<u64>, Memory>
-    ensures long { IfOk result (λ v. length v.items ≡ machine.now.width) }
-    ensures empty { IfOk result (λ v. (c : Chip) → IsIn v.items c → ⊥) }
+    ensures { IfOk result (λ v. IsEmptySet machine.now v.items) }
 {
     let words = vec![in alloc; 0; usize::from(machine.width())]?;
     Ok(words)
@@ -47,8 +44,7 @@ pub(crate) fn empty_set(alloc: Global, machine: &Machine) -> Result<Vec<u64>, Me
 pub(crate) fn put_tree(ground: Ground, set: &mut [u64], root: Chip, edges: &[Edge])
     requires root_inside { IsInside ground.machine.now root }
     requires inside { All (λ e. IsInside ground.machine.now e.chip) edges.now }
-    requires long { length set.old ≡ ground.machine.now.width }
-    requires empty { (c : Chip) → IsIn set.old c → ⊥ }
+    requires empty { IsEmptySet ground.machine.now set.old }
     ensures { (c : Chip) → IsIn set.new c ↔ IsTreeChip ground.entry.machine.now root edges.now c }
 {
     put(set, root);
@@ -105,13 +101,14 @@ fn column_beyond(width: usize, x: usize, d: Dir) -> usize
 
 // Of a column's chips those whose link leads, live, to a chip of the set.
 #[inline(always)]
-fn leading(front: Front, x: usize, d: Dir) -> u64
-    requires { x < front.ground.machine.now.width }
-    ensures { (y : ℕ) → y < front.entry.ground.machine.now.height
-        → (bit_at result y ≡ 1) ↔ LeadsInto front.entry.ground.machine.now front.entry.set.now
-        (record { x = x; y = y }) d }
+fn leading(column: Column, d: Dir) -> u64
+    ensures { (y : ℕ) → y < column.entry.front.ground.machine.now.height
+        → (bit_at result y ≡ 1) ↔ LeadsInto column.entry.front.ground.machine.now
+        column.entry.front.set.now (record { x = column.entry.x; y = y }) d }
 {
+    let front = column.front;
     let set = front.set;
+    let x = column.x as usize;
     let rows = Ring {
         size: front.ground.machine.height(),
     };
@@ -119,19 +116,21 @@ fn leading(front: Front, x: usize, d: Dir) -> u64
 }
 
 // Of a column's chips those of the set, and those from which a live link leads to one of the set.
-fn spread_word(front: Front, x: usize) -> u64
-    requires { x < front.ground.machine.now.width }
-    ensures rises { slice_index front.entry.set.now x ≤ result }
-    ensures old { (y : ℕ) → bit_at (slice_index front.entry.set.now x) y ≡ 1 → bit_at result y ≡ 1 }
-    ensures new { (y : ℕ) (d : Dir) → y < front.entry.ground.machine.now.height
-        → LeadsInto front.entry.ground.machine.now front.entry.set.now (record { x = x; y = y }) d
+fn spread_word(column: Column) -> u64
+    ensures rises { slice_index column.entry.front.set.now column.entry.x ≤ result }
+    ensures old { (y : ℕ) → bit_at (slice_index column.entry.front.set.now column.entry.x) y ≡ 1
         → bit_at result y ≡ 1 }
-    ensures only { (y : ℕ) → y < front.entry.ground.machine.now.height → bit_at result y ≡ 1
-        → IsSpread front.entry.ground.machine.now front.entry.set.now (record { x = x; y = y }) }
+    ensures new { (y : ℕ) (d : Dir) → y < column.entry.front.ground.machine.now.height
+        → LeadsInto column.entry.front.ground.machine.now column.entry.front.set.now
+        (record { x = column.entry.x; y = y }) d
+        → bit_at result y ≡ 1 }
+    ensures only { (y : ℕ) → y < column.entry.front.ground.machine.now.height
+        → bit_at result y ≡ 1 → IsSpread column.entry.front.ground.machine.now
+        column.entry.front.set.now (record { x = column.entry.x; y = y }) }
 {
-    let mut word = front.set[x];
+    let mut word = column.front.set[column.x as usize];
     for d in Dir::ALL {
-        word |= leading(front, x, d);
+        word |= leading(column, d);
     }
     word
 }
@@ -147,18 +146,16 @@ fn with_column(columns: u64, x: u32, named: bool) -> u64
 }
 
 // Puts a column of a set into `next` as it is when it has spread. Answers the columns that have grown, with it if it has.
-fn spread_column(front: Front, x: u32, grown: u64, next: &mut [u64]) -> u64
-    requires next_long { length next.old ≡ front.ground.machine.now.width }
-    requires column { x < front.ground.machine.now.width }
-    requires few { x < 64 }
-    ensures { IsSpreadAt front.entry.ground.machine.now front.entry.set.now x next.old grown next.new
-        result }
+fn spread_column(column: Column, grown: u64, next: &mut [u64]) -> u64
+    requires { length next.old ≡ column.front.ground.machine.now.width }
+    ensures { IsSpreadAt column.entry.front.ground.machine.now column.entry.front.set.now
+        column.entry.x next.old grown next.new result }
 {
-    let place = x as usize;
-    let word = spread_word(front, place);
-    let named = word != front.set[place];
+    let place = column.x as usize;
+    let word = spread_word(column);
+    let named = word != column.front.set[place];
     next[place] = word;
-    with_column(grown, x, named)
+    with_column(grown, column.x, named)
 }
 
 // Puts the chips from which a live link leads to one of a set into `next`, which has those of the set. Answers a word that
@@ -181,7 +178,7 @@ pub(crate) fn spread(front: Front, near: u64, next: &mut [u64]) -> u64
         let x = left.trailing_zeros();
         left &= !(1 << x);
         if x < width {
-            grown = spread_column(front, x, grown, next);
+            grown = spread_column(Column { front, x }, grown, next);
         }
     }
     grown

@@ -1,14 +1,14 @@
 // Trees of which nothing has to be taken off: seen from their edges, without a search.
-ghost use Rattle.std.specs.Prelude.{◌≡◌, ℕ, ◌*◌, ◌<◌, ◌↔◌, ◌++◌, true, Some, length, map, All, IfOk, Contains};
+ghost use Rattle.std.specs.Prelude.{◌≡◌, ◌↔◌, ◌++◌, true, Some, map, All, IfOk, Contains};
 ghost use Rattle.machine_desc.specs.Live.{IsInside};
-ghost use Rattle.machine_desc.specs.RoutingTree.{end_of, IsTreeChip};
+ghost use Rattle.machine_desc.specs.RoutingTree.{end_of};
 ghost use Rattle.link_detours.specs.Usable.{is_marked};
 ghost use Rattle.link_detours.specs.Repair.{LeadsToTarget, AreInPlaceOrder};
-ghost use Rattle.link_detours.specs.Whole.{IsWholeTree, GoesOnFrom};
+ghost use Rattle.link_detours.specs.Whole.{IsWholeTree, HasTargets, GoesOnFrom};
 ghost use Rattle.spin_base.specs.declared.chips.Chip.{Chip};
 ghost use Rattle.machine_desc.specs.declared.trees.Edge.{Edge};
 
-use crate::grounds::Edges;
+use crate::grounds::{Edges, MarkedEdges};
 use crate::prunes::pruned;
 use crate::searches::seed_table;
 use crate::tables::{in_place_order, link_place};
@@ -25,9 +25,7 @@ pub(crate) fn trimmed(
     targets: &[Chip],
 ) -> Result<Vec<Edge>, Memory>
     requires is_whole { IsWholeTree machine.now root whole.items }
-    requires some_target { 0 < length targets.now }
-    requires targets_inside { All (IsInside machine.now) targets.now }
-    requires has_targets { All (IsTreeChip machine.now root whole.items) targets.now }
+    requires has_targets { HasTargets machine.now root whole.items targets.now }
     ensures left { IfOk result (λ v. (e : Edge)
         → Contains v.items e
         ↔ (Contains whole.items e × LeadsToTarget machine.now whole.items targets.now e)) }
@@ -84,7 +82,10 @@ fn ends_go_on(alloc: Global, edges: Edges, targets: &[Chip]) -> Result<bool, Mem
 {
     let chips = chips_before(alloc, edges.list, targets)?;
     let table = seed_table(alloc, edges.machine, &chips)?;
-    Ok(ends_are_marked(&table, edges))
+    Ok(ends_are_marked(MarkedEdges {
+        edges,
+        marks: &table,
+    }))
 }
 
 // The targets, and the chips at which edges begin.
@@ -99,30 +100,30 @@ fn chips_before(alloc: Global, edges: &[Edge], targets: &[Chip]) -> Result<Vec<C
     Ok(chips)
 }
 
-// Whether the table marks each chip at which an edge ends.
-fn ends_are_marked(table: &[bool], edges: Edges) -> bool
-    requires { length table.now ≡ edges.machine.now.width * edges.machine.now.height }
+// Whether each chip at which an edge ends is marked.
+fn ends_are_marked(marked: MarkedEdges) -> bool
     ensures { result ≡ true
-        → All (λ e. (c : Chip) → end_of edges.entry.machine.now e ≡ Some c
-        → is_marked edges.entry.machine.now table.now c ≡ true) edges.entry.list.now }
+        → All (λ e. (c : Chip) → end_of marked.entry.edges.machine.now e ≡ Some c
+        → is_marked marked.entry.edges.machine.now marked.entry.marks.now c ≡ true)
+        marked.entry.edges.list.now }
 {
-    for edge in edges.list {
-        if !end_is_marked(edges.machine, table, *edge) {
+    for edge in marked.edges.list {
+        if !end_is_marked(marked, *edge) {
             return false;
         }
     }
     true
 }
 
-// Whether the table marks the chip at which the edge ends.
-fn end_is_marked(machine: &Machine, table: &[bool], edge: Edge) -> bool
-    requires inside { IsInside machine.now edge.chip }
-    requires long { length table.now ≡ machine.now.width * machine.now.height }
-    ensures { result ≡ true → (c : Chip) → end_of machine.now edge ≡ Some c
-        → is_marked machine.now table.now c ≡ true }
+// Whether the chip at which the edge ends is marked.
+fn end_is_marked(marked: MarkedEdges, edge: Edge) -> bool
+    requires { IsInside marked.edges.machine.now edge.chip }
+    ensures { result ≡ true → (c : Chip) → end_of marked.entry.edges.machine.now edge ≡ Some c
+        → is_marked marked.entry.edges.machine.now marked.entry.marks.now c ≡ true }
 {
+    let machine = marked.edges.machine;
     match machine.far(edge.chip, edge.dir) {
-        Some(far) => table[machine.index(far) as usize],
+        Some(far) => marked.marks[machine.index(far) as usize],
         None => true,
     }
 }

@@ -60,39 +60,13 @@ gap_below true w p q pw qw = ahead_below w p q pw qw
 gap_below false w p q pw qw = ahead_below w q p qw pw
 
 pub gap_start : (b : Bool) (w p : ℕ) → p < w → gap b w p p ≡ 0
-gap_start true w p pw = elim (ahead_cases w p p pw pw) [
-  | inl case ↦ let is : ahead_by w p p + p ≡ p = case.1 in omega arith
-  | inr case ↦ let less : p < p = case.0 in omega arith
-]
-gap_start false w p pw = elim (ahead_cases w p p pw pw) [
-  | inl case ↦ let is : ahead_by w p p + p ≡ p = case.1 in omega arith
-  | inr case ↦ let less : p < p = case.0 in omega arith
-]
+gap_start true w p pw = omega (arith, ahead_cases w p p pw pw)
+gap_start false w p pw = omega (arith, ahead_cases w p p pw pw)
 
 -- places that are equally far are one
 pub gap_same : (b : Bool) (w p n k : ℕ) → p < w → n < w → k < w → gap b w p n ≡ gap b w p k → n ≡ k
-gap_same true w p n k pw nw kw e = elim (ahead_cases w p n pw nw) [
-  | inl one ↦ elim (ahead_cases w p k pw kw) [
-    | inl two ↦ let x : ahead_by w p n + p ≡ n = one.1 in let y : ahead_by w p k + p ≡ k = two.1 in let f : ahead_by w p n ≡ ahead_by w p k = e in omega arith
-    | inr two ↦ let x : ahead_by w p n + p ≡ n = one.1 in let y : ahead_by w p k + p ≡ k + w = two.1 in let f : ahead_by w p n ≡ ahead_by w p k = e in omega arith
-  ]
-  | inr one ↦ elim (ahead_cases w p k pw kw) [
-    | inl two ↦ let x : ahead_by w p n + p ≡ n + w = one.1 in let y : ahead_by w p k + p ≡ k = two.1 in let f : ahead_by w p n ≡ ahead_by w p k = e in omega arith
-    | inr two ↦ let x : ahead_by w p n + p ≡ n + w = one.1 in let y : ahead_by w p k + p ≡ k + w = two.1 in let f : ahead_by w p n ≡ ahead_by w p k = e in omega arith
-  ]
-]
-gap_same false w p n k pw nw kw e = elim (ahead_cases w n p nw pw) [
-  | inl one ↦ elim (ahead_cases w k p kw pw) [
-    | inl two ↦ let x : ahead_by w n p + n ≡ p = one.1 in let y : ahead_by w k p + k ≡ p = two.1 in let f : ahead_by w n p ≡ ahead_by w k p = e in omega arith
-    | inr two ↦ let x : ahead_by w n p + n ≡ p = one.1 in let y : ahead_by w k p + k ≡ p + w = two.1 in let f : ahead_by w n p ≡ ahead_by w k p = e in
-        let l : p < k = two.0 in let m : n ≤ p = one.0 in omega arith
-  ]
-  | inr one ↦ elim (ahead_cases w k p kw pw) [
-    | inl two ↦ let x : ahead_by w n p + n ≡ p + w = one.1 in let y : ahead_by w k p + k ≡ p = two.1 in let f : ahead_by w n p ≡ ahead_by w k p = e in
-        let l : p < n = one.0 in let m : k ≤ p = two.0 in omega arith
-    | inr two ↦ let x : ahead_by w n p + n ≡ p + w = one.1 in let y : ahead_by w k p + k ≡ p + w = two.1 in let f : ahead_by w n p ≡ ahead_by w k p = e in omega arith
-  ]
-]
+gap_same true w p n k pw nw kw e = let f : ahead_by w p n ≡ ahead_by w p k = e in omega (arith, ahead_cases w p n pw nw, ahead_cases w p k pw kw)
+gap_same false w p n k pw nw kw e = let f : ahead_by w n p ≡ ahead_by w k p = e in omega (arith, ahead_cases w n p nw pw, ahead_cases w k p kw pw)
 
 abbrev pub StepsOn : Bool → Bool → ℕ → ℕ → ℕ → Step → Type 0
 StepsOn wrap b w p n s = (k : ℕ) × (stepped wrap w s n ≡ Some k) × (k < w) × (gap b w p k ≡ gap b w p n + 1)
@@ -100,123 +74,62 @@ StepsOn wrap b w p n s = (k : ℕ) × (stepped wrap w s n ≡ Some k) × (k < w)
 -- a step ahead, on the ring
 ring_ahead : (w p q n : ℕ) → p < w → q < w → n < w → ahead_by w p n < ahead_by w p q → StepsOn true true w p n Ahead
 ring_ahead w p q n pw qw nw less = elim (cases_lt (n + 1) w) [
-  | inl inside ↦
-      let at : (n + 1) % w ≡ n + 1 = mod-eq_of_lt inside in (
-        n + 1,
-        ap Some at,
-        inside,
-        elim (ahead_cases w p n pw nw) [
-          | inl one ↦ elim (ahead_cases w p (n + 1) pw inside) [
-            | inl two ↦ let x : ahead_by w p n + p ≡ n = one.1 in let y : ahead_by w p (n + 1) + p ≡ n + 1 = two.1 in omega arith
-            | inr two ↦ let x : p ≤ n = one.0 in let y : n + 1 < p = two.0 in omega arith
-          ]
-          | inr one ↦ elim (ahead_cases w p (n + 1) pw inside) [
-            | inl two ↦
-                let x : ahead_by w p n + p ≡ n + w = one.1 in let l : n < p = one.0 in let y : p ≤ n + 1 = two.0 in
-                let most : ahead_by w p q < w = ahead_below w p q pw qw in omega arith
-            | inr two ↦ let x : ahead_by w p n + p ≡ n + w = one.1 in let y : ahead_by w p (n + 1) + p ≡ n + 1 + w = two.1 in omega arith
-          ]
-        ],
-      )
+  | inl inside ↦ (
+    n + 1,
+    ap Some (mod-eq_of_lt inside),
+    inside,
+    omega (arith, ahead_cases w p n pw nw, ahead_cases w p (n + 1) pw inside, ahead_below w p q pw qw),
+  )
   | inr last ↦
       let is : n + 1 ≡ w = omega arith in
-      let at : (n + 1) % w ≡ 0 = ap (λ k. k % w) is ∙ mod_self w in
-      let some : 0 < w = omega arith in
-      let most : ahead_by w p q < w = ahead_below w p q pw qw in (
+      let some : 0 < w = omega arith in (
         0,
-        ap Some at,
+        ap Some (ap (λ k. k % w) is ∙ mod_self w),
         some,
-        elim (ahead_cases w p n pw nw) [
-          | inl one ↦ elim (ahead_cases w p 0 pw some) [
-            | inl two ↦ let x : ahead_by w p n + p ≡ n = one.1 in let y : p ≤ 0 = two.0 in omega arith
-            | inr two ↦ let x : ahead_by w p n + p ≡ n = one.1 in let y : ahead_by w p 0 + p ≡ 0 + w = two.1 in omega arith
-          ]
-          | inr one ↦ let x : n < p = one.0 in omega arith
-        ],
+        omega (arith, ahead_cases w p n pw nw, ahead_cases w p 0 pw some, ahead_below w p q pw qw),
       )
 ]
 
 -- a step ahead, on the open axis
 line_ahead : (w p q n : ℕ) → p < w → q < w → n < w → p ≤ q → ahead_by w p n < ahead_by w p q → StepsOn false true w p n Ahead
-line_ahead w p q n pw qw nw straight less = elim (ahead_cases w p q pw qw) [
-  | inr case ↦ let back' : q < p = case.0 in absurd (omega arith)
-  | inl case ↦ elim (ahead_cases w p n pw nw) [
-    | inr one ↦ let x : ahead_by w p n + p ≡ n + w = one.1 in let y : ahead_by w p q + p ≡ q = case.1 in absurd (omega arith)
-    | inl one ↦
-        let x : ahead_by w p n + p ≡ n = one.1 in
-        let y : ahead_by w p q + p ≡ q = case.1 in
-        let inside : n + 1 < w = omega arith in (
-          n + 1,
-          cond-true (ltb (n + 1) w) (Some (n + 1)) None (lt-ltb (n + 1) w inside),
-          inside,
-          elim (ahead_cases w p (n + 1) pw inside) [
-            | inl two ↦ let z : ahead_by w p (n + 1) + p ≡ n + 1 = two.1 in omega arith
-            | inr two ↦ let z : n + 1 < p = two.0 in let v : p ≤ n = one.0 in omega arith
-          ],
-        )
-  ]
-]
+line_ahead w p q n pw qw nw straight less =
+    let inside : n + 1 < w = omega (arith, ahead_cases w p q pw qw, ahead_cases w p n pw nw) in (
+      n + 1,
+      cond-true (ltb (n + 1) w) (Some (n + 1)) None (lt-ltb (n + 1) w inside),
+      inside,
+      omega (arith, ahead_cases w p q pw qw, ahead_cases w p n pw nw, ahead_cases w p (n + 1) pw inside),
+    )
 
 -- a step back, on the ring
 ring_back : (w p q n : ℕ) → p < w → q < w → n < w → ahead_by w n p < ahead_by w q p → StepsOn true false w p n Back
 ring_back w p q n pw qw nw less = elim (cases_eq n 0) [
   | inl first ↦
-      let last : w - 1 < w = omega arith in
-      let at : (n + (w - 1)) % w ≡ w - 1 = ap (λ k. (k + (w - 1)) % w) first ∙ (mod-eq_of_lt (let l : 0 + (w - 1) < w = omega arith in l) ∙ omega arith) in
-      let most : ahead_by w q p < w = ahead_below w q p qw pw in (
+      let last : w - 1 < w = omega arith in (
         w - 1,
-        ap Some at,
+        ap Some (ap (λ k. (k + (w - 1)) % w) first ∙ (mod-eq_of_lt (let l : 0 + (w - 1) < w = omega arith in l) ∙ omega arith)),
         last,
-        elim (ahead_cases w n p nw pw) [
-          | inl one ↦ elim (ahead_cases w (w - 1) p last pw) [
-            | inl two ↦ let x : ahead_by w n p + n ≡ p = one.1 in let y : w - 1 ≤ p = two.0 in omega arith
-            | inr two ↦ let x : ahead_by w n p + n ≡ p = one.1 in let y : ahead_by w (w - 1) p + (w - 1) ≡ p + w = two.1 in omega arith
-          ]
-          | inr one ↦ let x : p < n = one.0 in omega arith
-        ],
+        omega (arith, ahead_cases w n p nw pw, ahead_cases w (w - 1) p last pw, ahead_below w q p qw pw),
       )
   | inr other ↦
       let inside : n - 1 < w = omega arith in
-      let same : n + (w - 1) ≡ (n - 1) + w = omega arith in
-      let at : (n + (w - 1)) % w ≡ n - 1 = ap (λ k. k % w) same ∙ (add-mod_right (n - 1) w ∙ mod-eq_of_lt inside) in
-      let most : ahead_by w q p < w = ahead_below w q p qw pw in (
+      let same : n + (w - 1) ≡ (n - 1) + w = omega arith in (
         n - 1,
-        ap Some at,
+        ap Some (ap (λ k. k % w) same ∙ (add-mod_right (n - 1) w ∙ mod-eq_of_lt inside)),
         inside,
-        elim (ahead_cases w n p nw pw) [
-          | inl one ↦ elim (ahead_cases w (n - 1) p inside pw) [
-            | inl two ↦ let x : ahead_by w n p + n ≡ p = one.1 in let y : ahead_by w (n - 1) p + (n - 1) ≡ p = two.1 in omega arith
-            | inr two ↦ let x : n ≤ p = one.0 in let y : p < n - 1 = two.0 in omega arith
-          ]
-          | inr one ↦ elim (ahead_cases w (n - 1) p inside pw) [
-            | inl two ↦ let x : ahead_by w n p + n ≡ p + w = one.1 in let l : p < n = one.0 in let y : n - 1 ≤ p = two.0 in omega arith
-            | inr two ↦ let x : ahead_by w n p + n ≡ p + w = one.1 in let y : ahead_by w (n - 1) p + (n - 1) ≡ p + w = two.1 in omega arith
-          ]
-        ],
+        omega (arith, ahead_cases w n p nw pw, ahead_cases w (n - 1) p inside pw, ahead_below w q p qw pw),
       )
 ]
 
 -- a step back, on the open axis
 line_back : (w p q n : ℕ) → p < w → q < w → n < w → q ≤ p → ahead_by w n p < ahead_by w q p → StepsOn false false w p n Back
-line_back w p q n pw qw nw straight less = elim (ahead_cases w q p qw pw) [
-  | inr case ↦ let back' : p < q = case.0 in absurd (omega arith)
-  | inl case ↦ elim (ahead_cases w n p nw pw) [
-    | inr one ↦ let x : ahead_by w n p + n ≡ p + w = one.1 in let y : ahead_by w q p + q ≡ p = case.1 in absurd (omega arith)
-    | inl one ↦
-        let x : ahead_by w n p + n ≡ p = one.1 in
-        let y : ahead_by w q p + q ≡ p = case.1 in
-        let inside : n - 1 < w = omega arith in
-        let some : n ≡ 0 → ⊥ = λ e. omega arith in (
-          n - 1,
-          cond-false (eqb n 0) None (Some (n - 1)) (ne_eqb n 0 some),
-          inside,
-          elim (ahead_cases w (n - 1) p inside pw) [
-            | inl two ↦ let z : ahead_by w (n - 1) p + (n - 1) ≡ p = two.1 in omega arith
-            | inr two ↦ let z : p < n - 1 = two.0 in let v : n ≤ p = one.0 in omega arith
-          ],
-        )
-  ]
-]
+line_back w p q n pw qw nw straight less =
+    let some : 0 < n = omega (arith, ahead_cases w q p qw pw, ahead_cases w n p nw pw) in
+    let inside : n - 1 < w = omega arith in (
+      n - 1,
+      cond-false (eqb n 0) None (Some (n - 1)) (ne_eqb n 0 (λ e. omega arith)),
+      inside,
+      omega (arith, ahead_cases w q p qw pw, ahead_cases w n p nw pw, ahead_cases w (n - 1) p inside pw),
+    )
 
 -- What a step does that does not lead against the way: it leads on by one, or not at all.
 pub moves_on : (wrap b : Bool) (w p q n : ℕ) (s : Step) → p < w → q < w → n < w → (wrap ≡ false → IsStraight b p q) → goes (not b) s ≡ false →

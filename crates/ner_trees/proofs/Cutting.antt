@@ -33,38 +33,48 @@ cut_start m on near inside is = record {
   added_off = All-nil (λ e. is_on m on (next_of m e.chip e.dir) ≡ false);
 }
 
+-- where a walk is after one step more
+pub at_more : (m : Description) (near : Chip) (walk : List Dir) (i : ℕ) (d : Dir) (at next : Chip) → i < length walk → at ≡ end_of_walk m near (take i walk) →
+    next ≡ next_of m at (get_or walk i d) → next ≡ end_of_walk m near (take (i + 1) walk)
+at_more m near walk i d at next within ends is =
+    is ∙ (ap (λ (c : Chip). next_of m c (get_or walk i d)) ends ∙ (sym (walk_end m near (take i walk) (get_or walk i d ∷ [])) ∙ ap (end_of_walk m near) (sym (take_more walk i d within))))
+
 -- a step to a chip of the table is where the branch starts anew
-pub cut_again : (m : Description) (on : List Bool) (near : Chip) (ds : List Dir) (d : Dir) (at next : Chip) → at ≡ end_of_walk m near ds → next ≡ next_of m at d → IsInside m next →
-    is_on m on next ≡ true → IsCutAt m on near (ds ++ d ∷ []) next []
-cut_again m on near ds d at next ends is inside has = record {
-  passed = ds ++ d ∷ [];
+pub cut_again_at : (m : Description) (on : List Bool) (near : Chip) (walk : List Dir) (i : ℕ) (d : Dir) (at next : Chip) (links : List Edge) → i < length walk →
+    at ≡ end_of_walk m near (take i walk) → next ≡ next_of m at (get_or walk i d) → IsInside m next → is_on m on next ≡ true → links ≡ [] →
+    IsCutAt m on near (take (i + 1) walk) next links
+cut_again_at m on near walk i d at next links within ends is inside has none = subst (λ es. IsCutAt m on near (take (i + 1) walk) next es) (sym none) (record {
+  passed = take (i + 1) walk;
   rest = [];
-  walk_is = sym (append-nil (ds ++ d ∷ []));
-  start_is = walk_end m near ds (d ∷ []) ∙ (ap (λ (c : Chip). next_of m c d) (sym ends) ∙ sym is);
+  walk_is = sym (append-nil (take (i + 1) walk));
+  start_is = sym (at_more m near walk i d at next within ends is);
   start_inside = inside;
   start_on = has;
   added_is = refl;
   added_inside = All-nil (λ e. IsInside m e.chip);
   added_off = All-nil (λ e. is_on m on (next_of m e.chip e.dir) ≡ false);
-}
+})
 
 -- another step is added
-pub cut_more : (m : Description) (on : List Bool) (near : Chip) (ds : List Dir) (d : Dir) (at next start : Chip) (added : List Edge) → at ≡ end_of_walk m near ds → IsInside m at →
-    next ≡ next_of m at d → is_on m on next ≡ false → IsCutAt m on near ds start added → IsCutAt m on near (ds ++ d ∷ []) start (added ++ link at d ∷ [])
-cut_more m on near ds d at next start added ends inside is has cut = record {
-  passed = cut.passed;
-  rest = cut.rest ++ d ∷ [];
-  walk_is = ap (λ es. es ++ d ∷ []) cut.walk_is ∙ append_assoc cut.passed cut.rest (d ∷ []);
-  start_is = cut.start_is;
-  start_inside = cut.start_inside;
-  start_on = cut.start_on;
-  added_is =
-      let here : end_of_walk m start cut.rest ≡ at =
-      ap (λ (c : Chip). end_of_walk m c cut.rest) (sym cut.start_is) ∙ (sym (walk_end m near cut.passed cut.rest) ∙ (ap (end_of_walk m near) (sym cut.walk_is) ∙ sym ends)) in
-      ap (λ es. es ++ link at d ∷ []) cut.added_is ∙ (ap (λ (c : Chip). links_of m start cut.rest ++ link c d ∷ []) (sym here) ∙ sym (links_push m start cut.rest d));
-  added_inside = All-push (λ e. IsInside m e.chip) added (link at d) cut.added_inside inside;
-  added_off = All-push (λ e. is_on m on (next_of m e.chip e.dir) ≡ false) added (link at d) cut.added_off (ap (is_on m on) (sym is) ∙ has);
-}
+pub cut_more_at : (m : Description) (on : List Bool) (near : Chip) (walk : List Dir) (i : ℕ) (d : Dir) (at next start : Chip) (added links : List Edge) → i < length walk →
+    at ≡ end_of_walk m near (take i walk) → IsInside m at → next ≡ next_of m at (get_or walk i d) → is_on m on next ≡ false →
+    links ≡ added ++ link at (get_or walk i d) ∷ [] → IsCutAt m on near (take i walk) start added → IsCutAt m on near (take (i + 1) walk) start links
+cut_more_at m on near walk i d at next start added links within ends inside is has grows cut =
+    let o : Dir = get_or walk i d in
+    subst (λ es. IsCutAt m on near (take (i + 1) walk) start es) (sym grows) (record {
+      passed = cut.passed;
+      rest = cut.rest ++ o ∷ [];
+      walk_is = take_more walk i d within ∙ (ap (λ es. es ++ o ∷ []) cut.walk_is ∙ append_assoc cut.passed cut.rest (o ∷ []));
+      start_is = cut.start_is;
+      start_inside = cut.start_inside;
+      start_on = cut.start_on;
+      added_is =
+          let here : end_of_walk m start cut.rest ≡ at =
+          ap (λ (c : Chip). end_of_walk m c cut.rest) (sym cut.start_is) ∙ (sym (walk_end m near cut.passed cut.rest) ∙ (ap (end_of_walk m near) (sym cut.walk_is) ∙ sym ends)) in
+          ap (λ es. es ++ link at o ∷ []) cut.added_is ∙ (ap (λ (c : Chip). links_of m start cut.rest ++ link c o ∷ []) (sym here) ∙ sym (links_push m start cut.rest o));
+      added_inside = All-push (λ e. IsInside m e.chip) added (link at o) cut.added_inside inside;
+      added_off = All-push (λ e. is_on m on (next_of m e.chip e.dir) ≡ false) added (link at o) cut.added_off (ap (is_on m on) (sym is) ∙ has);
+    })
 
 leads_in : (m : Description) (links : List Edge) (e : Edge) (c : Chip) → Contains links e → end_of m e ≡ Some c → Any (λ f. end_of m f ≡ Some c) links
 leads_in m links e c has leads = (has.0, e, has.1, has.2, leads)
@@ -133,24 +143,3 @@ marked_past m old new links i d within nowhere so_far =
         ]
       ]),
     ))
-
--- the same steps along a list of steps
-pub at_more : (m : Description) (near : Chip) (walk : List Dir) (i : ℕ) (d : Dir) (at next : Chip) → i < length walk → at ≡ end_of_walk m near (take i walk) →
-    next ≡ next_of m at (get_or walk i d) → next ≡ end_of_walk m near (take (i + 1) walk)
-at_more m near walk i d at next within ends is =
-    is ∙ (ap (λ (c : Chip). next_of m c (get_or walk i d)) ends ∙ (sym (walk_end m near (take i walk) (get_or walk i d ∷ [])) ∙ ap (end_of_walk m near) (sym (take_more walk i d within))))
-
-pub cut_again_at : (m : Description) (on : List Bool) (near : Chip) (walk : List Dir) (i : ℕ) (d : Dir) (at next : Chip) (links : List Edge) → i < length walk →
-    at ≡ end_of_walk m near (take i walk) → next ≡ next_of m at (get_or walk i d) → IsInside m next → is_on m on next ≡ true → links ≡ [] →
-    IsCutAt m on near (take (i + 1) walk) next links
-cut_again_at m on near walk i d at next links within ends is inside has none =
-    subst (λ es. IsCutAt m on near (take (i + 1) walk) next es) (sym none)
-    (subst (λ ds. IsCutAt m on near ds next []) (sym (take_more walk i d within)) (cut_again m on near (take i walk) (get_or walk i d) at next ends is inside has))
-
-pub cut_more_at : (m : Description) (on : List Bool) (near : Chip) (walk : List Dir) (i : ℕ) (d : Dir) (at next start : Chip) (added links : List Edge) → i < length walk →
-    at ≡ end_of_walk m near (take i walk) → IsInside m at → next ≡ next_of m at (get_or walk i d) → is_on m on next ≡ false →
-    links ≡ added ++ link at (get_or walk i d) ∷ [] → IsCutAt m on near (take i walk) start added → IsCutAt m on near (take (i + 1) walk) start links
-cut_more_at m on near walk i d at next start added links within ends inside is has grows cut =
-    subst (λ es. IsCutAt m on near (take (i + 1) walk) start es) (sym grows)
-    (subst (λ ds. IsCutAt m on near ds start (added ++ link at (get_or walk i d) ∷ [])) (sym (take_more walk i d within))
-    (cut_more m on near (take i walk) (get_or walk i d) at next start added ends inside is has cut))

@@ -15,10 +15,7 @@ use Rattle.ner_trees.proofs.{Ordered.same_list, Trees.link}
 
 -- the first numbers of two chips that are each not farther than the other
 neither_farther : (m : Description) (t a b : Chip) → IsNotFarther m t a b → IsNotFarther m t b a → index_of m a ≡ index_of m b
-neither_farther m t a b (inl x) (inl y) = absurd (omega (arith, x, y))
-neither_farther m t a b (inl x) (inr y) = (let e = y.0 in absurd (omega (arith, x, e)))
-neither_farther m t a b (inr x) (inl y) = (let e = x.0 in absurd (omega (arith, y, e)))
-neither_farther m t a b (inr x) (inr y) = (let p = x.1 in let q = y.1 in omega (arith, p, q))
+neither_farther m t a b x y = omega arith
 
 -- a tree has one chip to which a target is joined
 pub one_near : (m : Description) (root : Chip) (tree : List Edge) (t a b : Chip) → IsInside m root → All (λ e. IsInside m e.chip) tree → IsNear m root tree t a → IsNear m root tree t b → a ≡ b
@@ -105,13 +102,7 @@ one_growth m root tree (j ∷ js) (k ∷ ks) whole other root_in inside same gro
 
 -- no two edges are each before the other
 not_both_before : (e f : Edge) → IsEdgeBefore e f → IsEdgeBefore f e → ⊥
-not_both_before e f (inl x) (inl u) = omega (arith, x, u)
-not_both_before e f (inl x) (inr u) = (let p = u.0 in omega (arith, x, p))
-not_both_before e f (inr x) (inl u) = (let p = x.0 in omega (arith, p, u))
-not_both_before e f (inr (x, inl y)) (inr (u, inl v)) = omega (arith, y, v)
-not_both_before e f (inr (x, inl y)) (inr (u, inr v)) = (let p = v.0 in omega (arith, y, p))
-not_both_before e f (inr (x, inr y)) (inr (u, inl v)) = (let p = y.0 in omega (arith, p, v))
-not_both_before e f (inr (x, inr y)) (inr (u, inr v)) = (let p = y.1 in let q = v.1 in omega (arith, p, q))
+not_both_before e f before after = omega arith
 
 pub one_tree : (m : Description) (root : Chip) (targets : List Chip) (js ks : List Join) (es fs : List Edge) → IsInside m root → IsGrown m root targets js es → IsGrown m root targets ks fs →
     (js ≡ ks) × (es ≡ fs)

@@ -21,9 +21,10 @@ use Rattle.ner_trees.specs.Geometry.{displacement_of, distance_of}
 use Rattle.ner_trees.specs.LongestFirst.{ldf_of}
 use Rattle.ner_trees.specs.Growth.{or_stay, next_of, IsNear, IsAdded, IsJoinedBy, Grows, IsGrown, IsWithoutDead, distance_sum}
 use Rattle.machine_desc.specs.EdgeOrder.{IsEdgeBefore}
-use Rattle.ner_trees.specs.Search.{AreAllOn, AreOn, is_on, IsNearestOn, IsNoneOn, IsCutAt, IsMarkedBy, TellsTree}
+use Rattle.ner_trees.specs.Search.{AreAllOn, AreOn, is_on, IsNearestOn, IsCutAt, IsMarkedBy, TellsTree}
 use Rattle.machine_desc.proofs.TreeLemmas.{tree_end, tree_cases, more_chips}
 use Rattle.spin_base.proofs.Pairs.{AllPairs-permutation}
+use Rattle.ner_trees.proofs.Searching.{IsNoneOn}
 use Rattle.ner_trees.proofs.Trees.{spanning_root, Outcome, grown}
 use Rattle.ner_trees.proofs.Walking.{ldf_walks}
 

@@ -1,7 +1,8 @@
 -- What the steps of a displacement add up to.
-use Rattle.std.proofs.Common.{◌≡◌, ℕ, zero, suc, ◌+◌, ◌-◌, ◌*◌, max, min, cond, leb, List, [], ◌∷◌, length, replicate, refl, sym, ap, ◌∙◌, arith, inl, inr, ◌⊎◌}
+use Rattle.std.proofs.Common.{◌≡◌, ℕ, suc, ◌+◌, ◌-◌, ◌*◌, max, min, cond, leb, List, [], ◌∷◌, length, refl, sym, ap, ◌∙◌, arith, inl, inr, ◌⊎◌}
 use Rattle.std.proofs.lemmas.Bool.{cases_Bool, cond-true, cond-false}
 use Rattle.std.proofs.lemmas.Int.{ints}
+use Rattle.std.proofs.lemmas.List.Folds.{sum_by-replicate}
 use Rattle.std.proofs.lemmas.List.Sums.{sum_by-append, sum_by-cons}
 use Rattle.std.specs.List.{flat_map, sum_by, count_by}
 use Rattle.std.specs.Prelude.{ℤ, pos, negsuc, ◌-ℤ◌, neg_ℤ}
@@ -13,13 +14,6 @@ use Rattle.ner_trees.specs.{declared.displacements.Disp.Disp, declared.walks.Run
 use Rattle.ner_trees.specs.Geometry.{length_of, forth, back, disp}
 use Rattle.ner_trees.specs.LongestFirst.{median, link_run_of, put_run, longest_first, run_links, ldf_of, is_ahead, is_back, sum_of}
 use Rattle.ner_trees.proofs.Signed.{length_is, less_median, less_median_second, minus_median}
-
--- how much the steps of a run weigh
-sum-replicate : (w : Dir → ℕ) (d : Dir) (n : ℕ) → sum_by w (replicate n d) ≡ n * w d
-sum-replicate w d zero = omega arith
-sum-replicate w d (suc n) =
-    let more : sum_by w (replicate n d) ≡ n * w d = sum-replicate w d n in
-    sum_by-cons w d (replicate n d) ∙ (ap (λ k. w d + k) more ∙ grind arith)
 
 -- a run weighs the same wherever it is put
 sum-put : (w : Dir → ℕ) (r : Run) (rs : List Run) → sum_by w (flat_map run_links (put_run r rs)) ≡ sum_by w (run_links r) + sum_by w (flat_map run_links rs)
@@ -43,8 +37,8 @@ sum-longest_first w (r ∷ rs) =
 
 -- how much the steps along one dimension weigh, of which the forward or the backward ones are none
 run_weighs : (w : Dir → ℕ) (d : Dir) (z : ℤ) → sum_by w (run_links (link_run_of d z)) ≡ forth z * w d + back z * w (opposite_of d)
-run_weighs w d (pos n) = sum-replicate w d n ∙ (grind arith)
-run_weighs w d (negsuc n) = sum-replicate w (opposite_of d) (suc n) ∙ (grind arith)
+run_weighs w d (pos n) = sum_by-replicate w n d ∙ (grind arith)
+run_weighs w d (negsuc n) = sum_by-replicate w (suc n) (opposite_of d) ∙ (grind arith)
 
 -- the three numbers of steps of a displacement
 abbrev pub x_of : Disp → ℤ
@@ -70,10 +64,7 @@ ldf_weighs w d =
     let at_x : sum_by w (run_links x) ≡ forth (x_of d) * w East + back (x_of d) * w West = run_weighs w East (x_of d) in
     let at_y : sum_by w (run_links y) ≡ forth (y_of d) * w North + back (y_of d) * w South = run_weighs w North (y_of d) in
     let at_z : sum_by w (run_links z) ≡ forth (z_of d) * w SouthWest + back (z_of d) * w NorthEast = run_weighs w SouthWest (z_of d) in
-    first ∙ (one ∙ (ap (λ k. sum_by w (run_links x) + k) (two ∙ ap (λ k. sum_by w (run_links y) + k) three)
-    ∙ (ap (λ k. k + (sum_by w (run_links y) + (sum_by w (run_links z) + 0))) at_x
-    ∙ (ap (λ k. (forth (x_of d) * w East + back (x_of d) * w West) + (k + (sum_by w (run_links z) + 0))) at_y
-    ∙ (ap (λ k. (forth (x_of d) * w East + back (x_of d) * w West) + ((forth (y_of d) * w North + back (y_of d) * w South) + (k + 0))) at_z ∙ omega arith)))))
+    omega arith
 
 -- what is above and below 0 of a difference
 less_parts : (z : ℤ) (m n : ℕ) → z ≡ pos m -ℤ pos n → (forth z ≡ m - n) × (back z ≡ n - m)
@@ -88,40 +79,25 @@ pub record Counts (d : Disp) : Type 0 where
   pub below : back (y_of d) + forth (z_of d) ≡ back d.b
   pub all : (forth (x_of d) + back (x_of d)) + ((forth (y_of d) + back (y_of d)) + (forth (z_of d) + back (z_of d))) ≡ max (forth d.a) (forth d.b) + max (back d.a) (back d.b)
 
-one_sided : (z : ℤ) → (forth z ≡ 0) ⊎ (back z ≡ 0)
+pub one_sided : (z : ℤ) → (forth z ≡ 0) ⊎ (back z ≡ 0)
 one_sided (pos n) = inr refl
 one_sided (negsuc n) = inl refl
 
 one_way : (e w n s : ℕ) → (e ≡ 0) ⊎ (w ≡ 0) → (n ≡ 0) ⊎ (s ≡ 0) → ((e + min w s) - (w + min e n)) + (min e n - min w s) ≡ e
-one_way e w n s (inl p) (inl q) = omega arith
-one_way e w n s (inl p) (inr q) = omega arith
-one_way e w n s (inr p) (inl q) = omega arith
-one_way e w n s (inr p) (inr q) = omega arith
+one_way e w n s p q = omega arith
 
 other_way : (e w n s : ℕ) → (e ≡ 0) ⊎ (w ≡ 0) → (n ≡ 0) ⊎ (s ≡ 0) → ((w + min e n) - (e + min w s)) + (min w s - min e n) ≡ w
-other_way e w n s (inl p) (inl q) = omega arith
-other_way e w n s (inl p) (inr q) = omega arith
-other_way e w n s (inr p) (inl q) = omega arith
-other_way e w n s (inr p) (inr q) = omega arith
+other_way e w n s p q = omega arith
 
 up_way : (e w n s : ℕ) → (e ≡ 0) ⊎ (w ≡ 0) → (n ≡ 0) ⊎ (s ≡ 0) → ((n + min w s) - (s + min e n)) + (min e n - min w s) ≡ n
-up_way e w n s (inl p) (inl q) = omega arith
-up_way e w n s (inl p) (inr q) = omega arith
-up_way e w n s (inr p) (inl q) = omega arith
-up_way e w n s (inr p) (inr q) = omega arith
+up_way e w n s p q = omega arith
 
 down_way : (e w n s : ℕ) → (e ≡ 0) ⊎ (w ≡ 0) → (n ≡ 0) ⊎ (s ≡ 0) → ((s + min e n) - (n + min w s)) + (min w s - min e n) ≡ s
-down_way e w n s (inl p) (inl q) = omega arith
-down_way e w n s (inl p) (inr q) = omega arith
-down_way e w n s (inr p) (inl q) = omega arith
-down_way e w n s (inr p) (inr q) = omega arith
+down_way e w n s p q = omega arith
 
 all_ways : (e w n s fx bx fy by fz bz : ℕ) → (e ≡ 0) ⊎ (w ≡ 0) → (n ≡ 0) ⊎ (s ≡ 0) → fx + bz ≡ e → bx + fz ≡ w → fy + bz ≡ n → by + fz ≡ s →
     fz ≡ min w s - min e n → bz ≡ min e n - min w s → (fx + bx) + ((fy + by) + (fz + bz)) ≡ max e n + max w s
-all_ways e w n s fx bx fy by fz bz (inl p) (inl q) a b c d z y = omega arith
-all_ways e w n s fx bx fy by fz bz (inl p) (inr q) a b c d z y = omega arith
-all_ways e w n s fx bx fy by fz bz (inr p) (inl q) a b c d z y = omega arith
-all_ways e w n s fx bx fy by fz bz (inr p) (inr q) a b c d z y = omega arith
+all_ways e w n s fx bx fy by fz bz p q a b c d z y = omega arith
 
 pub counts : (d : Disp) → Counts d
 counts d =
@@ -167,35 +143,20 @@ ldf_length d =
     let weighs : sum_by (λ _. 1) (ldf_of d) ≡
     (forth (x_of d) * 1 + back (x_of d) * 1) + ((forth (y_of d) * 1 + back (y_of d) * 1) + (forth (z_of d) * 1 + back (z_of d) * 1)) = ldf_weighs (λ _. 1) d in
     let long : length_of d ≡ max (forth d.a) (forth d.b) + max (back d.a) (back d.b) = length_is d in
-    sym (sum_of_ones (ldf_of d)) ∙ (weighs ∙ (numbers_of _ _ _ _ _ _ ∙ (all ∙ sym long)))
-  where
-    numbers_of : (a b c e f g : ℕ) → (a * 1 + b * 1) + ((c * 1 + e * 1) + (f * 1 + g * 1)) ≡ (a + b) + ((c + e) + (f + g))
-    numbers_of a b c e f g = omega arith
+    sym (sum_of_ones (ldf_of d)) ∙ omega (arith, weighs, all, long)
 
 -- so many steps lead ahead and back along each axis
 pub ldf_ahead : (d : Disp) → count_by (λ e. is_ahead (x_step e)) (ldf_of d) ≡ forth d.a
-ldf_ahead d = ldf_weighs (λ e. cond (is_ahead (x_step e)) 1 0) d ∙ (pick _ _ _ _ _ _ ∙ (counts d).ahead)
-  where
-    pick : (a b c e f g : ℕ) → (a * 1 + b * 0) + ((c * 0 + e * 0) + (f * 0 + g * 1)) ≡ a + g
-    pick a b c e f g = omega arith
+ldf_ahead d = omega (arith, ldf_weighs (λ e. cond (is_ahead (x_step e)) 1 0) d, (counts d).ahead)
 
 pub ldf_behind : (d : Disp) → count_by (λ e. is_back (x_step e)) (ldf_of d) ≡ back d.a
-ldf_behind d = ldf_weighs (λ e. cond (is_back (x_step e)) 1 0) d ∙ (pick _ _ _ _ _ _ ∙ (counts d).behind)
-  where
-    pick : (a b c e f g : ℕ) → (a * 0 + b * 1) + ((c * 0 + e * 0) + (f * 1 + g * 0)) ≡ b + f
-    pick a b c e f g = omega arith
+ldf_behind d = omega (arith, ldf_weighs (λ e. cond (is_back (x_step e)) 1 0) d, (counts d).behind)
 
 pub ldf_above : (d : Disp) → count_by (λ e. is_ahead (y_step e)) (ldf_of d) ≡ forth d.b
-ldf_above d = ldf_weighs (λ e. cond (is_ahead (y_step e)) 1 0) d ∙ (pick _ _ _ _ _ _ ∙ (counts d).above)
-  where
-    pick : (a b c e f g : ℕ) → (a * 0 + b * 0) + ((c * 1 + e * 0) + (f * 0 + g * 1)) ≡ c + g
-    pick a b c e f g = omega arith
+ldf_above d = omega (arith, ldf_weighs (λ e. cond (is_ahead (y_step e)) 1 0) d, (counts d).above)
 
 pub ldf_below : (d : Disp) → count_by (λ e. is_back (y_step e)) (ldf_of d) ≡ back d.b
-ldf_below d = ldf_weighs (λ e. cond (is_back (y_step e)) 1 0) d ∙ (pick _ _ _ _ _ _ ∙ (counts d).below)
-  where
-    pick : (a b c e f g : ℕ) → (a * 0 + b * 0) + ((c * 0 + e * 1) + (f * 1 + g * 0)) ≡ e + f
-    pick a b c e f g = omega arith
+ldf_below d = omega (arith, ldf_weighs (λ e. cond (is_back (y_step e)) 1 0) d, (counts d).below)
 
 signed_is : (z : ℤ) → pos (forth z) -ℤ pos (back z) ≡ z
 signed_is (pos n) = omega (arith, ints)

@@ -1,5 +1,5 @@
 -- Edges in the order of their numbers are in their order.
-use Rattle.std.proofs.Common.{◌≡◌, ℕ, ◌+◌, ◌*◌, ◌/◌, ◌%◌, ◌<◌, ◌≤◌, List, map, length, refl, sym, ap, ◌∙◌, subst, arith, inl, inr, Result, Ok, Err, IfOk}
+use Rattle.std.proofs.Common.{◌≡◌, ℕ, ◌+◌, ◌*◌, ◌/◌, ◌%◌, ◌<◌, ◌≤◌, List, map, length, sym, ap, ◌∙◌, subst, arith, Result, Ok, Err, IfOk}
 use Rattle.std.specs.List.{All, AllPairs, slice_index_or}
 use Rattle.std.specs.List.Sorted.{IsNonDecreasing}
 use Rattle.std.proofs.lemmas.List.{get_or-map, length-map}
@@ -38,12 +38,7 @@ edge_back e n x_few y_few is =
 
 -- of an edge that comes before another the number is less
 number_rises : (e f : Edge) → e.chip.y < 256 → IsEdgeBefore e f → edge_number e < edge_number f
-number_rises e f few before = let d : dir_number e.dir < 6 = below_six e.dir in by d before
-  where
-    by : dir_number e.dir < 6 → IsEdgeBefore e f → edge_number e < edge_number f
-    by d (inl x) = omega (arith, few, d, x)
-    by d (inr (x, inl y)) = omega (arith, few, d, x, y)
-    by d (inr (x, inr (y, z))) = omega (arith, few, d, x, y, z)
+number_rises e f few before = let d : dir_number e.dir < 6 = below_six e.dir in omega arith
 
 not_less : (x y a b : ℕ) → x ≡ a → y ≡ b → y < x → a ≤ b → ⊥
 not_less x y a b x_is y_is less no_less = omega (arith, x_is, y_is, less, no_less)

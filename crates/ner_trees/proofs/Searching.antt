@@ -12,9 +12,9 @@ use Rattle.machine_desc.proofs.Far.{inside_from}
 use Rattle.ner_trees.specs.declared.displacements.Disp.{Disp}
 use Rattle.ner_trees.specs.Geometry.{forth, back, ahead_by, displacement_of, distance_of}
 use Rattle.ner_trees.specs.Growth.{IsNotFarther}
-use Rattle.ner_trees.specs.Search.{is_on, is_there, place_at, offset_chip, AtOffsets, AtStep, IsOnWithin, IsNearestOn, IsNoneOn, IsNoneNearer, IsBetter}
+use Rattle.ner_trees.specs.Search.{is_on, is_there, place_at, offset_chip, AtOffsets, AtStep, IsOnWithin, IsNearestOn, IsNoneNearer, IsBetter}
 use Rattle.ner_trees.proofs.Axis.{ahead_cases, Reaches}
-use Rattle.ner_trees.proofs.{Signed.length_is, Walking.reaches}
+use Rattle.ner_trees.proofs.{LongestFirst.one_sided, Signed.length_is, Walking.reaches}
 
 -- a chip of two coordinates is inside where they are
 pub chip_inside : (m : Description) (x y : Option ℕ) → IfSome x (λ n. n < m.width) → IfSome y (λ n. n < m.height) → IfSome (chip_at x y) (IsInside m)
@@ -80,12 +80,7 @@ place_covers false w p q r (pos n) reach near =
     let straight : p ≤ q = reach.straight refl in (
       r - n,
       omega arith,
-      elim (ahead_cases w p q reach.from_inside reach.to_inside) [
-        | inr one ↦ let x : q < p = one.0 in absurd (omega arith)
-        | inl one ↦
-            let x : ahead_by w p q + p ≡ q = one.1 in
-            line w p q r (r - n) at (omega arith)
-      ],
+      line w p q r (r - n) at (omega (arith, ahead_cases w p q reach.from_inside reach.to_inside)),
     )
 place_covers false w p q r (negsuc n) reach near =
     let far : ahead_by w q p ≡ 0 + suc n = reach.far in
@@ -93,18 +88,13 @@ place_covers false w p q r (negsuc n) reach near =
     let straight : q ≤ p = reach.straight refl in (
       r + suc n,
       omega arith,
-      elim (ahead_cases w q p reach.to_inside reach.from_inside) [
-        | inr one ↦ let x : p < q = one.0 in absurd (omega arith)
-        | inl one ↦
-            let x : ahead_by w q p + q ≡ p = one.1 in
-            line w p q r (r + suc n) at (omega arith)
-      ],
+      line w p q r (r + suc n) at (omega (arith, ahead_cases w q p reach.to_inside reach.from_inside)),
     )
 
 -- The ring has each chip from which the centre is just so many links away.
 pub ring_covers : (m : Description) (t e : Chip) (r : ℕ) → HasSize m → IsInside m t → IsInside m e → distance_of m e t ≡ r → (s : ℕ) × (s < r + 1) × AtStep m t r s e
 unfolding offset_chip
-ring_covers m t e r size t_in e_in is = sides (signs d.a) (signs d.b)
+ring_covers m t e r size t_in e_in is = sides (one_sided d.a) (one_sided d.b)
   where
     d : Disp
     d = displacement_of m e t
@@ -120,10 +110,6 @@ ring_covers m t e r size t_in e_in is = sides (signs d.a) (signs d.b)
 
     y : (i : ℕ) × (i + forth d.b ≡ r + back d.b) × (place_at m.wrap m.height t.y r i ≡ Some e.y)
     y = place_covers m.wrap m.height e.y t.y r d.b reach.1 (omega (arith, length_at))
-
-    signs : (z : ℤ) → (forth z ≡ 0) ⊎ (back z ≡ 0)
-    signs (pos n) = inr refl
-    signs (negsuc n) = inl refl
 
     at : (column row : ℕ) → x.0 ≡ column → y.0 ≡ row → AtOffsets m t r column row e
     at column row ex ey =
@@ -306,6 +292,10 @@ module _ (m : Description) (on : List Bool) (t : Chip) (r : ℕ) where
         let less : seen.0 < r + 1 = seen.1 in
         absurd (so_far.has e (seen.0, omega arith, seen.2) (record { inside = e_in; on_it = on_it; near = within }))
   ]
+
+-- no chip that the table has is so near
+abbrev pub IsNoneOn : Description → List Bool → Chip → ℕ → Type 0
+IsNoneOn m on t radius = (e : Chip) → IsOnWithin m on t radius e → ⊥
 
 -- before the first ring, and after the last
 pub none_at_start : (m : Description) (on : List Bool) (t : Chip) → IsNoneNearer m on t 0

@@ -29,10 +29,7 @@ differs_false m n rest is = elim (cases_Bool (eqb m n)) [
 
 heavier : (l k a b c d : ℕ) → a ≤ 64 → b ≤ 64 → c ≤ 64 → d ≤ 64 → (l < k) ⊎ ((l ≡ k) × ((a < c) ⊎ ((a ≡ c) × ((b < d) ⊎ (b ≡ d))))) →
     l * 65536 + a * 256 + b ≤ k * 65536 + c * 256 + d
-heavier l k a b c d pa pb pc pd (inl less) = omega arith
-heavier l k a b c d pa pb pc pd (inr (e, inl less)) = omega arith
-heavier l k a b c d pa pb pc pd (inr (e, inr (f, inl less))) = omega arith
-heavier l k a b c d pa pb pc pd (inr (e, inr (f, inr g))) = omega arith
+heavier l k a b c d pa pb pc pd before = omega arith
 
 before_true : (d e : Disp) → IsSmall d → IsSmall e → is_before d e ≡ true → weight d ≤ weight e
 before_true d e sd se is =

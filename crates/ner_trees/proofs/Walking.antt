@@ -43,16 +43,7 @@ reach_ring w p q (negsuc k) pw qw (inr behind) =
     record {
       from_inside = pw;
       to_inside = qw;
-      far = elim (ahead_cases w p q pw qw) [
-        | inl one ↦ elim (ahead_cases w q p qw pw) [
-          | inl two ↦ let x : ahead_by w p q + p ≡ q = one.1 in let y : ahead_by w q p + q ≡ p = two.1 in absurd (omega arith)
-          | inr two ↦ let x : ahead_by w p q + p ≡ q = one.1 in let y : ahead_by w q p + q ≡ p + w = two.1 in (omega arith)
-        ]
-        | inr one ↦ elim (ahead_cases w q p qw pw) [
-          | inl two ↦ let x : ahead_by w p q + p ≡ q + w = one.1 in let y : ahead_by w q p + q ≡ p = two.1 in (omega arith)
-          | inr two ↦ let x : q < p = one.0 in let y : p < q = two.0 in absurd (omega arith)
-        ]
-      ];
+      far = omega (arith, ahead_cases w p q pw qw, ahead_cases w q p qw pw);
       straight = λ e. absurd (true≢false e);
     }
 
@@ -62,10 +53,7 @@ reach_line w p q (pos k) pw qw is =
     record {
       from_inside = pw;
       to_inside = qw;
-      far = elim (ahead_cases w p q pw qw) [
-        | inl one ↦ let x : ahead_by w p q + p ≡ q = one.1 in (omega arith)
-        | inr one ↦ let x : q < p = one.0 in absurd (omega arith)
-      ];
+      far = omega (arith, ahead_cases w p q pw qw);
       straight = λ _. (omega arith);
     }
 reach_line w p q (negsuc k) pw qw is =
@@ -73,10 +61,7 @@ reach_line w p q (negsuc k) pw qw is =
     record {
       from_inside = pw;
       to_inside = qw;
-      far = elim (ahead_cases w q p qw pw) [
-        | inl one ↦ let x : ahead_by w q p + q ≡ p = one.1 in (omega arith)
-        | inr one ↦ let x : p < q = one.0 in absurd (omega arith)
-      ];
+      far = omega (arith, ahead_cases w q p qw pw);
       straight = λ _. (omega arith);
     }
 
@@ -84,40 +69,22 @@ reach_line w p q (negsuc k) pw qw is =
 pub reaches : (m : Description) (p q : Chip) → HasSize m → IsInside m p → IsInside m q →
     Reaches m.wrap m.width p.x q.x (displacement_of m p q).a × Reaches m.wrap m.height p.y q.y (displacement_of m p q).b
 unfolding displacement_of
-reaches m p q size p_in q_in = both m.wrap refl
-  where
-    at : (IsInside m p → (p.x < m.width) × (p.y < m.height))
-    at = inside_parts m p
-
-    to : (IsInside m q → (q.x < m.width) × (q.y < m.height))
-    to = inside_parts m q
-
-    torus : Disp
-    torus = on_torus m.width m.height (ahead_by m.width p.x q.x) (ahead_by m.height p.y q.y)
-
-    grid : Disp
-    grid = disp (pos q.x -ℤ pos p.x) (pos q.y -ℤ pos p.y)
-
-    both : (b : Bool) → m.wrap ≡ b → Reaches m.wrap m.width p.x q.x (cond m.wrap (on_torus m.width m.height (ahead_by m.width p.x q.x) (ahead_by m.height p.y q.y)) (disp (pos q.x -ℤ pos p.x) (pos q.y -ℤ pos p.y))).a
-        × Reaches m.wrap m.height p.y q.y (cond m.wrap (on_torus m.width m.height (ahead_by m.width p.x q.x) (ahead_by m.height p.y q.y)) (disp (pos q.x -ℤ pos p.x) (pos q.y -ℤ pos p.y))).b
-    both true e =
-        let pa = inside_parts m p p_in in
-        let qa = inside_parts m q q_in in
-        let ways = torus_ways m.width m.height (ahead_by m.width p.x q.x) (ahead_by m.height p.y q.y) (ahead_below m.width p.x q.x pa.0 qa.0)
-        (ahead_below m.height p.y q.y pa.1 qa.1) size.width_to_64 size.height_to_64 in
-        subst (λ (b : Bool). Reaches b m.width p.x q.x (cond b (on_torus m.width m.height (ahead_by m.width p.x q.x) (ahead_by m.height p.y q.y)) (disp (pos q.x -ℤ pos p.x) (pos q.y -ℤ pos p.y))).a
-        × Reaches b m.height p.y q.y (cond b (on_torus m.width m.height (ahead_by m.width p.x q.x) (ahead_by m.height p.y q.y)) (disp (pos q.x -ℤ pos p.x) (pos q.y -ℤ pos p.y))).b) (sym e) (
-          reach_ring m.width p.x q.x (on_torus m.width m.height (ahead_by m.width p.x q.x) (ahead_by m.height p.y q.y)).a pa.0 qa.0 ways.0,
-          reach_ring m.height p.y q.y (on_torus m.width m.height (ahead_by m.width p.x q.x) (ahead_by m.height p.y q.y)).b pa.1 qa.1 ways.1,
-        )
-    both false e =
-        let pa = inside_parts m p p_in in
-        let qa = inside_parts m q q_in in
-        subst (λ (b : Bool). Reaches b m.width p.x q.x (cond b (on_torus m.width m.height (ahead_by m.width p.x q.x) (ahead_by m.height p.y q.y)) (disp (pos q.x -ℤ pos p.x) (pos q.y -ℤ pos p.y))).a
-        × Reaches b m.height p.y q.y (cond b (on_torus m.width m.height (ahead_by m.width p.x q.x) (ahead_by m.height p.y q.y)) (disp (pos q.x -ℤ pos p.x) (pos q.y -ℤ pos p.y))).b) (sym e) (
-          reach_line m.width p.x q.x (pos q.x -ℤ pos p.x) pa.0 qa.0 refl,
-          reach_line m.height p.y q.y (pos q.y -ℤ pos p.y) pa.1 qa.1 refl,
-        )
+reaches m p q size p_in q_in =
+    let torus : Disp = on_torus m.width m.height (ahead_by m.width p.x q.x) (ahead_by m.height p.y q.y) in
+    let grid : Disp = disp (pos q.x -ℤ pos p.x) (pos q.y -ℤ pos p.y) in
+    let Both : Bool → Disp → Type 0 = λ b d. Reaches b m.width p.x q.x d.a × Reaches b m.height p.y q.y d.b in
+    let pa = inside_parts m p p_in in
+    let qa = inside_parts m q q_in in
+    elim (cases_Bool m.wrap) [
+      | inl e ↦
+          let ways = torus_ways m.width m.height (ahead_by m.width p.x q.x) (ahead_by m.height p.y q.y) (ahead_below m.width p.x q.x pa.0 qa.0)
+          (ahead_below m.height p.y q.y pa.1 qa.1) size.width_to_64 size.height_to_64 in
+          subst (λ (d : Disp). Both m.wrap d) (sym (cond-true m.wrap torus grid e)) (subst (λ (b : Bool). Both b torus) (sym e)
+          (reach_ring m.width p.x q.x torus.a pa.0 qa.0 ways.0, reach_ring m.height p.y q.y torus.b pa.1 qa.1 ways.1))
+      | inr e ↦
+          subst (λ (d : Disp). Both m.wrap d) (sym (cond-false m.wrap torus grid e)) (subst (λ (b : Bool). Both b grid) (sym e)
+          (reach_line m.width p.x q.x grid.a pa.0 qa.0 refl, reach_line m.height p.y q.y grid.b pa.1 qa.1 refl))
+    ]
 
 abbrev pub one_if : Bool → ℕ
 one_if b = cond b 1 0
@@ -170,10 +137,6 @@ none_first p d ds none = elim (cases_Bool (p d)) [
 
 module _ (m : Description) (p q : Chip) (p_in : IsInside m p) (q_in : IsInside m q) (bx by : Bool) (sx : m.wrap ≡ false → IsStraight bx p.x q.x)
     (sy : m.wrap ≡ false → IsStraight by p.y q.y) where
-  -- how far a chip is from the start
-  rank_of : Chip → ℕ
-  rank_of e = gap bx m.width p.x e.x + gap by m.height p.y e.y
-
   pub rising : (ds : List Dir) (c : Chip) → IsInside m c → count_by (λ d. goes (not bx) (x_step d)) ds ≡ 0 → count_by (λ d. goes (not by) (y_step d)) ds ≡ 0 →
       gap bx m.width p.x c.x + count_by (λ d. goes bx (x_step d)) ds ≡ gap bx m.width p.x q.x →
       gap by m.height p.y c.y + count_by (λ d. goes by (y_step d)) ds ≡ gap by m.height p.y q.y →

@@ -1,16 +1,9 @@
 -- Trees that grow over the mesh: each target is joined to a chip of the tree that is near it.
 use Rattle.std.specs.Prelude.{◌≡◌, ℕ, ◌<◌, ◌≤◌, ◌⊎◌, ◌↔◌, List, [], ◌∷◌, ◌++◌, map, Option, Some, None, All, Contains}
 use Rattle.std.specs.List.{sum_by}
-use Rattle.spin_base.specs.declared.chips.Chip.{Chip}
-use Rattle.spin_base.specs.declared.chips.Dir.{Dir}
-use Rattle.machine_desc.specs.declared.trees.Edge.{Edge}
-use Rattle.machine_desc.specs.Description.{Description}
-use Rattle.machine_desc.specs.Live.{far_of, index_of}
-use Rattle.machine_desc.specs.RoutingTree.{IsTreeChip}
-use Rattle.ner_trees.specs.declared.growths.Join.{Join}
-use Rattle.ner_trees.specs.Geometry.{displacement_of, distance_of}
-use Rattle.ner_trees.specs.LongestFirst.{ldf_of}
-use Rattle.machine_desc.specs.EdgeOrder.{AreEdgesInOrder}
+use Rattle.spin_base.specs.{declared.chips.Chip.Chip, declared.chips.Dir.Dir}
+use Rattle.machine_desc.specs.{declared.trees.Edge.Edge, Description.Description, Live.far_of, Live.index_of, RoutingTree.IsTreeChip, EdgeOrder.AreEdgesInOrder}
+use Rattle.ner_trees.specs.{declared.growths.Join.Join, Geometry.displacement_of, Geometry.distance_of, LongestFirst.ldf_of}
 
 -- the chip where a step leads, and the same chip where the link leads nowhere
 abbrev pub or_stay : Chip → Option Chip → Chip

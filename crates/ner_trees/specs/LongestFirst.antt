@@ -8,8 +8,7 @@ use Rattle.spin_base.specs.Links.{opposite_of}
 use Rattle.machine_desc.specs.declared.steps.Step.{Step}
 use Rattle.machine_desc.specs.declared.steps.Step.TheVariants.{Back, Stay, Ahead}
 use Rattle.machine_desc.specs.Live.{x_step, y_step}
-use Rattle.ner_trees.specs.declared.displacements.Disp.{Disp}
-use Rattle.ner_trees.specs.declared.walks.Run.{Run}
+use Rattle.ner_trees.specs.{declared.displacements.Disp.Disp, declared.walks.Run.Run}
 
 -- the one of three numbers that stands between the others
 abbrev pub median : ℤ → ℤ → ℤ → ℤ

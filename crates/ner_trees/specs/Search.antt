@@ -1,14 +1,9 @@
 -- The search for the chip of a tree that is nearest to a target, in a window round the target.
-use Rattle.std.specs.Prelude.{◌≡◌, ℕ, ◌+◌, ◌-◌, ◌*◌, ◌%◌, ◌≤◌, Bool, true, false, nat_lt, if◌then◌else◌, List, ◌++◌, Option, Some, None, All, Any, Contains, ◌⊎◌, ◌↔◌, slice_index_or}
-use Rattle.std.specs.Option.{IsSomeAnd}
-use Rattle.spin_base.specs.declared.chips.Chip.{Chip}
-use Rattle.spin_base.specs.declared.chips.Dir.{Dir}
-use Rattle.machine_desc.specs.declared.trees.Edge.{Edge}
-use Rattle.machine_desc.specs.Description.{Description}
-use Rattle.machine_desc.specs.Live.{chip_at, index_of, IsInside}
-use Rattle.machine_desc.specs.RoutingTree.{end_of, IsTreeChip}
-use Rattle.ner_trees.specs.Geometry.{distance_of}
-use Rattle.ner_trees.specs.Growth.{IsNotFarther, end_of_walk, links_of, next_of}
+use Rattle.std.specs.Prelude.{◌≡◌, ℕ, ◌+◌, ◌-◌, ◌*◌, ◌%◌, ◌<◌, ◌≤◌, Bool, true, false, nat_lt, if◌then◌else◌, List, ◌++◌, Option, Some, None, All, Any, Contains, ◌⊎◌, ◌↔◌, slice_index_or}
+use Rattle.std.specs.Option.{IfSome, IsSomeAnd}
+use Rattle.spin_base.specs.{declared.chips.Chip.Chip, declared.chips.Dir.Dir}
+use Rattle.machine_desc.specs.{declared.trees.Edge.Edge, Description.Description, Live.chip_at, Live.index_of, Live.IsInside, RoutingTree.end_of, RoutingTree.IsTreeChip}
+use Rattle.ner_trees.specs.{declared.searches.SixPlaces.SixPlaces, Geometry.distance_of, Growth.IsNotFarther, Growth.end_of_walk, Growth.links_of, Growth.next_of}
 
 -- what a table with a place for each chip says of a chip
 abbrev pub is_on : Description → List Bool → Chip → Bool
@@ -29,6 +24,11 @@ AreAllOn m on chips = (c : Chip) → IsInside m c → is_on m on c ≡ true → 
 -- the table has the chips of the tree
 abbrev pub TellsTree : Description → Chip → List Bool → List Edge → Type 0
 TellsTree m root on tree = (c : Chip) → IsInside m c → (is_on m on c ≡ true) ↔ IsTreeChip m root tree c
+
+-- a target on the machine, and a table that has the chips of the tree in which its nearest chip is looked for
+pub record CanSearch (m : Description) (root : Chip) (on : List Bool) (tree : List Edge) (target : Chip) : Type 0 where
+  pub inside : IsInside m target
+  pub on_is : TellsTree m root on tree
 
 -- a table that has, beside the chips of another, those where links lead
 abbrev pub IsMarkedBy : Description → List Bool → List Bool → List Edge → Type 0
@@ -55,6 +55,17 @@ AtStep m t radius step c =
     AtOffsets m t radius 0 step c ⊎ (AtOffsets m t radius step 0 c ⊎ (AtOffsets m t radius step (radius + step) c
     ⊎ (AtOffsets m t radius (radius + step) step c ⊎ (AtOffsets m t radius (radius + step) (2 * radius) c ⊎ AtOffsets m t radius (2 * radius) (radius + step) c))))
 
+-- where these six chips stand along an axis: at the first place of the window, at the step, as far past the middle, or at the last
+pub record AreSixPlaces (wrap : Bool) (places centre radius step : ℕ) (six : SixPlaces) : Type 0 where
+  pub first : six.first ≡ place_at wrap places centre radius 0
+  pub at_step : six.step ≡ place_at wrap places centre radius step
+  pub middle : six.middle ≡ place_at wrap places centre radius (radius + step)
+  pub last : six.last ≡ place_at wrap places centre radius (2 * radius)
+  pub first_inside : IfSome six.first (λ n. n < places)
+  pub step_inside : IfSome six.step (λ n. n < places)
+  pub middle_inside : IfSome six.middle (λ n. n < places)
+  pub last_inside : IfSome six.last (λ n. n < places)
+
 -- a chip that the table has, from which the target is at most so many links away
 pub record IsOnWithin (m : Description) (on : List Bool) (t : Chip) (radius : ℕ) (c : Chip) : Type 0 where
   pub inside : IsInside m c
@@ -64,9 +75,6 @@ pub record IsOnWithin (m : Description) (on : List Bool) (t : Chip) (radius : �
 -- the nearest of these
 abbrev pub IsNearestOn : Description → List Bool → Chip → ℕ → Chip → Type 0
 IsNearestOn m on t radius c = IsOnWithin m on t radius c × ((e : Chip) → IsOnWithin m on t radius e → IsNotFarther m t c e)
-
-abbrev pub IsNoneOn : Description → List Bool → Chip → ℕ → Type 0
-IsNoneOn m on t radius = (e : Chip) → IsOnWithin m on t radius e → ⊥
 
 -- no chip that the table has is nearer than so many links
 abbrev pub IsNoneNearer : Description → List Bool → Chip → ℕ → Type 0

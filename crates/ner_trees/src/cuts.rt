@@ -1,5 +1,5 @@
 // Walks from a tree to a target, and what of them is added.
-ghost use Rattle.std.specs.Prelude.{◌≡◌, [], true, IfOk, OnOk, All};
+ghost use Rattle.std.specs.Prelude.{◌≡◌, true, IfOk, OnOk, All};
 ghost use Rattle.machine_desc.specs.Live.{IsInside};
 ghost use Rattle.ner_trees.specs.Growth.{next_of};
 ghost use Rattle.ner_trees.specs.Search.{is_on, IsCutAt, IsMarkedBy};
@@ -20,8 +20,8 @@ fn next(machine: &Machine, at: Chip, dir: Dir) -> Chip
     }
 }
 
-// The part of a walk after the last of its chips that is in the tree: its links are put into an empty list, and the chip where it
-// starts is the result.
+// The part of a walk after the last of its chips that is in the tree: its links are put in place of those of a list, and the chip
+// where it starts is the result.
 pub(crate) fn new_branch(
     on: &Marks,
     near: Chip,
@@ -30,13 +30,13 @@ pub(crate) fn new_branch(
 ) -> Result<Chip, Memory>
     requires inside { IsInside on.now.machine.now near }
     requires on_tree { is_on on.now.machine.now on.now.items.items near ≡ true }
-    requires empty { links.old.items ≡ [] }
     ensures { IfOk result (λ start.
         IsCutAt on.now.machine.now on.now.items.items near walk.now start links.new.items) }
 {
     let machine = on.machine();
     let mut at = near;
     let mut start = near;
+    links.clear();
     for dir in walk {
         links.push(Edge {
             chip: at,

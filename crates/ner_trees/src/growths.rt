@@ -125,7 +125,6 @@ fn add_target(
 {
     let near = near_chip(tree, target);
     walk_anew(walk, displacement(tree.on.machine(), near, target))?;
-    links.clear();
     let start = new_branch(&tree.on, near, walk, links)?;
     mark(&mut tree.on, links)?;
     tree.edges.extend_from_slice(links)?;

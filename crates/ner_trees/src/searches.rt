@@ -3,7 +3,7 @@ ghost use Rattle.std.specs.Prelude.{◌≡◌, ◌+◌, ◌-◌, ◌*◌, ◌%�
 ghost use Rattle.machine_desc.specs.Live.{IsInside, chip_at};
 ghost use Rattle.ner_trees.specs.Geometry.{distance_of};
 ghost use Rattle.ner_trees.specs.Growth.{IsNotFarther, IsNear};
-ghost use Rattle.ner_trees.specs.Search.{place_at, AtStep, IsOnWithin, IsNearestOn, IsNoneNearer, IsBetter, IsLeastNearness, TellsTree, is_on, is_there, nearness};
+ghost use Rattle.ner_trees.specs.Search.{place_at, AreSixPlaces, AtStep, IsOnWithin, IsNearestOn, IsNoneNearer, IsBetter, IsLeastNearness, CanSearch, is_on, is_there, nearness};
 ghost use Rattle.spin_base.specs.declared.chips.Chip.{Chip};
 
 use crate::displacements::{OnAxis, distance};
@@ -12,27 +12,34 @@ use crate::partial_trees::{GrowingTree, Radius};
 use machine_desc::Machine;
 use spin_base::Chip;
 
-// The place on a ring that is `offset` places past the one that lies `radius` places before the centre, by a division.
+// A place in a window: so many places past the one that lies `radius` places before the centre.
+#[derive(Clone, Copy)]
+struct Offset {
+    radius: Radius,
+    places: u8,
+    ghost inside: { places ≤ 2 * radius.chips },
+}
+
+// The place on a ring at this offset, by a division.
 #[inline(never)]
-fn divided(centre: OnAxis, radius: Radius, offset: u8) -> u8
-    requires { offset ≤ 2 * radius.chips }
+fn divided(centre: OnAxis, offset: Offset) -> u8
     ensures value { result
-        ≡ (centre.place + centre.places * 20 + offset - radius.chips) % centre.places }
+        ≡ (centre.place + centre.places * 20 + offset.places - offset.radius.chips) % centre.places }
     ensures inside { result < centre.places }
 {
-    let ahead = u16::from(centre.place + offset) + u16::from(centre.places) * 20;
-    ((ahead - u16::from(radius.chips)) % u16::from(centre.places)) as u8
+    let ahead = u16::from(centre.place + offset.places) + u16::from(centre.places) * 20;
+    ((ahead - u16::from(offset.radius.chips)) % u16::from(centre.places)) as u8
 }
 
 // The same. Only on a short ring has it to be divided.
 #[inline(always)]
-fn wrapped(centre: OnAxis, radius: Radius, offset: u8) -> u8
-    requires { offset ≤ 2 * radius.chips }
+fn wrapped(centre: OnAxis, offset: Offset) -> u8
     ensures value { result
-        ≡ (centre.place + centre.places * 20 + offset - radius.chips) % centre.places }
+        ≡ (centre.place + centre.places * 20 + offset.places - offset.radius.chips) % centre.places }
     ensures inside { result < centre.places }
 {
-    let (places, place, chips) = (centre.places, centre.place + offset, radius.chips);
+    let (places, chips) = (centre.places, offset.radius.chips);
+    let place = centre.place + offset.places;
     if chips <= place {
         let ahead = place - chips;
         if ahead < places {
@@ -44,22 +51,21 @@ fn wrapped(centre: OnAxis, radius: Radius, offset: u8) -> u8
     } else if chips - place <= places {
         return places - (chips - place);
     }
-    divided(centre, radius, offset)
+    divided(centre, offset)
 }
 
-// The place on an axis that is `offset` places past the one that lies `radius` places before the centre. `None` exactly
-// where the axis is open and has no such place.
+// The place on an axis at an offset. `None` exactly where the axis is open and has no such place.
 #[inline(always)]
-fn place_at(wrap: bool, centre: OnAxis, radius: Radius, offset: u8) -> Option<u8>
-    requires { offset ≤ 2 * radius.chips }
-    ensures value { result ≡ place_at wrap centre.places centre.place radius.chips offset }
+fn place_at(wrap: bool, centre: OnAxis, offset: Offset) -> Option<u8>
+    ensures value { result
+        ≡ place_at wrap centre.places centre.place offset.radius.chips offset.places }
     ensures inside { IfSome result (λ n. n < centre.places) }
 {
     if wrap {
-        return Some(wrapped(centre, radius, offset));
+        return Some(wrapped(centre, offset));
     }
-    let (places, centre, radius) = (centre.places, centre.place, radius.chips);
-    let place = centre + offset;
+    let (places, radius) = (centre.places, offset.radius.chips);
+    let place = centre.place + offset.places;
     if place < radius {
         return None;
     }
@@ -92,30 +98,88 @@ struct Search<'t, 'm> {
     ghost inside: { IsInside on.now.machine.now target },
 }
 
-// The column at an offset of the window of `radius` chips to each side of the target.
-#[inline(always)]
-fn column_at(search: Search<'_, '_>, radius: Radius, offset: u8) -> Option<u8>
-    requires { offset ≤ 2 * radius.chips }
-    ensures value { result ≡ place_at search.entry.on.now.machine.now.wrap
-        search.entry.on.now.machine.now.width search.entry.target.x radius.chips offset }
-    ensures inside { IfSome result (λ n. n < search.entry.on.now.machine.now.width) }
-{
-    let machine = search.on.machine();
-    let (places, place) = (machine.width(), search.target.x);
-    place_at(machine.wrap(), OnAxis { places, place }, radius, offset)
+// A ring of chips round the target of a search: no chip of the tree is nearer.
+#[derive(Clone, Copy)]
+struct Ring<'t, 'm> {
+    search: Search<'t, 'm>,
+    radius: Radius,
+    ghost none_nearer: { IsNoneNearer search.on.now.machine.now search.on.now.items.items
+        search.target radius.chips },
 }
 
-// The row at an offset of this window.
+// Six chips of a ring, one on each of its sides, that are `step` chips along it.
+#[derive(Clone, Copy)]
+struct RingStep<'t, 'm> {
+    ring: Ring<'t, 'm>,
+    step: u8,
+    ghost within: { step ≤ ring.radius.chips },
+}
+
+// Where these six stand along an axis: at the first place of the ring, at the step, as far past the middle, or at the last place.
+#[derive(Clone, Copy)]
+struct SixPlaces {
+    first: Option<u8>,
+    step: Option<u8>,
+    middle: Option<u8>,
+    last: Option<u8>,
+}
+
+// Where they stand along an axis with this place of the target.
 #[inline(always)]
-fn row_at(search: Search<'_, '_>, radius: Radius, offset: u8) -> Option<u8>
-    requires { offset ≤ 2 * radius.chips }
-    ensures value { result ≡ place_at search.entry.on.now.machine.now.wrap
-        search.entry.on.now.machine.now.height search.entry.target.y radius.chips offset }
-    ensures inside { IfSome result (λ n. n < search.entry.on.now.machine.now.height) }
+fn six_places(wrap: bool, centre: OnAxis, six: RingStep<'_, '_>) -> SixPlaces
+    ensures { AreSixPlaces wrap centre.places centre.place six.entry.ring.radius.chips six.entry.step
+        result }
 {
-    let machine = search.on.machine();
-    let (places, place) = (machine.height(), search.target.y);
-    place_at(machine.wrap(), OnAxis { places, place }, radius, offset)
+    let (radius, step) = (six.ring.radius, six.step);
+    let side = Offset {
+        radius,
+        places: radius.chips + step,
+    };
+    let end = Offset {
+        radius,
+        places: 2 * radius.chips,
+    };
+    let first = place_at(wrap, centre, Offset { radius, places: 0 });
+    let at_step = place_at(
+        wrap,
+        centre,
+        Offset {
+            radius,
+            places: step,
+        },
+    );
+    let middle = place_at(wrap, centre, side);
+    let last = place_at(wrap, centre, end);
+    SixPlaces {
+        first,
+        step: at_step,
+        middle,
+        last,
+    }
+}
+
+// Their columns.
+#[inline(always)]
+fn columns(six: RingStep<'_, '_>) -> SixPlaces
+    ensures { AreSixPlaces six.entry.ring.search.on.now.machine.now.wrap
+        six.entry.ring.search.on.now.machine.now.width six.entry.ring.search.target.x
+        six.entry.ring.radius.chips six.entry.step result }
+{
+    let machine = six.ring.search.on.machine();
+    let (places, place) = (machine.width(), six.ring.search.target.x);
+    six_places(machine.wrap(), OnAxis { places, place }, six)
+}
+
+// Their rows.
+#[inline(always)]
+fn rows(six: RingStep<'_, '_>) -> SixPlaces
+    ensures { AreSixPlaces six.entry.ring.search.on.now.machine.now.wrap
+        six.entry.ring.search.on.now.machine.now.height six.entry.ring.search.target.y
+        six.entry.ring.radius.chips six.entry.step result }
+{
+    let machine = six.ring.search.on.machine();
+    let (places, place) = (machine.height(), six.ring.search.target.y);
+    six_places(machine.wrap(), OnAxis { places, place }, six)
 }
 
 // Of two chips from which the target is as far, the one that comes first in the order of x, then y.
@@ -142,27 +206,23 @@ fn nearer(search: Search<'_, '_>, best: Option<Chip>, chip: Chip) -> Chip
     }
 }
 
-// The nearest of the best so far and a chip of the tree, where the target is at most `radius` links from it.
+// The nearest of the best so far and a chip of the tree, where this one is on the ring.
 #[inline(never)]
-fn better_with(
-    search: Search<'_, '_>,
-    radius: Radius,
-    best: Option<Chip>,
-    chip: Chip,
-) -> Option<Chip>
-    requires inside { IsInside search.on.now.machine.now chip }
-    requires on_it { is_on search.on.now.machine.now search.on.now.items.items chip ≡ true }
-    requires none { IsNoneNearer search.on.now.machine.now search.on.now.items.items search.target
-        radius.chips }
-    requires best { IfSome best (IsOnWithin search.on.now.machine.now
-        search.on.now.items.items search.target radius.chips) }
-    ensures found { IfSome result (IsOnWithin search.entry.on.now.machine.now
-        search.entry.on.now.items.items search.entry.target radius.chips) }
-    ensures better { IsBetter search.entry.on.now.machine.now search.entry.on.now.items.items
-        search.entry.target radius.chips (λ e. e ≡ chip) best result }
+fn better_with(ring: Ring<'_, '_>, best: Option<Chip>, chip: Chip) -> Option<Chip>
+    requires inside { IsInside ring.search.on.now.machine.now chip }
+    requires on_it { is_on ring.search.on.now.machine.now ring.search.on.now.items.items chip
+        ≡ true }
+    requires best { IfSome best (IsOnWithin ring.search.on.now.machine.now
+        ring.search.on.now.items.items ring.search.target ring.radius.chips) }
+    ensures found { IfSome result (IsOnWithin ring.entry.search.on.now.machine.now
+        ring.entry.search.on.now.items.items ring.entry.search.target ring.entry.radius.chips) }
+    ensures better { IsBetter ring.entry.search.on.now.machine.now
+        ring.entry.search.on.now.items.items ring.entry.search.target ring.entry.radius.chips
+        (λ e. e ≡ chip) best result }
 {
+    let search = ring.search;
     let machine = search.on.machine();
-    if distance(machine, chip, search.target) <= u32::from(radius.chips) {
+    if distance(machine, chip, search.target) <= u32::from(ring.radius.chips) {
         Some(nearer(search, best, chip))
     } else {
         best
@@ -171,68 +231,50 @@ fn better_with(
 
 // The nearest of the best so far and the chip of these coordinates.
 #[inline(always)]
-fn better(
-    search: Search<'_, '_>,
-    radius: Radius,
-    x: Option<u8>,
-    y: Option<u8>,
-    best: Option<Chip>,
-) -> Option<Chip>
-    requires x_inside { IfSome x (λ n. n < search.on.now.machine.now.width) }
-    requires y_inside { IfSome y (λ n. n < search.on.now.machine.now.height) }
-    requires none { IsNoneNearer search.on.now.machine.now search.on.now.items.items search.target
-        radius.chips }
-    requires best { IfSome best (IsOnWithin search.on.now.machine.now
-        search.on.now.items.items search.target radius.chips) }
-    ensures found { IfSome result (IsOnWithin search.entry.on.now.machine.now
-        search.entry.on.now.items.items search.entry.target radius.chips) }
-    ensures better { IsBetter search.entry.on.now.machine.now search.entry.on.now.items.items
-        search.entry.target radius.chips (λ e. chip_at x y ≡ Some e) best result }
+fn better(ring: Ring<'_, '_>, x: Option<u8>, y: Option<u8>, best: Option<Chip>) -> Option<Chip>
+    requires x_inside { IfSome x (λ n. n < ring.search.on.now.machine.now.width) }
+    requires y_inside { IfSome y (λ n. n < ring.search.on.now.machine.now.height) }
+    requires best { IfSome best (IsOnWithin ring.search.on.now.machine.now
+        ring.search.on.now.items.items ring.search.target ring.radius.chips) }
+    ensures found { IfSome result (IsOnWithin ring.entry.search.on.now.machine.now
+        ring.entry.search.on.now.items.items ring.entry.search.target ring.entry.radius.chips) }
+    ensures better { IsBetter ring.entry.search.on.now.machine.now
+        ring.entry.search.on.now.items.items ring.entry.search.target ring.entry.radius.chips
+        (λ e. chip_at x y ≡ Some e) best result }
 {
     match chip_at(x, y) {
         None => best,
-        Some(chip) => if search.on.at(chip) {
-            better_with(search, radius, best, chip)
+        Some(chip) => if ring.search.on.at(chip) {
+            better_with(ring, best, chip)
         } else {
             best
         },
     }
 }
 
-// The nearest of the best so far and the chips of the ring, one on each of its six sides, that are `step` chips along it.
-fn better_at_step(
-    search: Search<'_, '_>,
-    radius: Radius,
-    step: u8,
-    best: Option<Chip>,
-) -> Option<Chip>
-    requires step { step ≤ radius.chips }
-    requires none { IsNoneNearer search.on.now.machine.now search.on.now.items.items search.target
-        radius.chips }
-    requires best { IfSome best (IsOnWithin search.on.now.machine.now
-        search.on.now.items.items search.target radius.chips) }
-    ensures found { IfSome result (IsOnWithin search.entry.on.now.machine.now
-        search.entry.on.now.items.items search.entry.target radius.chips) }
-    ensures better { IsBetter search.entry.on.now.machine.now search.entry.on.now.items.items
-        search.entry.target radius.chips
-        (AtStep search.entry.on.now.machine.now search.entry.target radius.chips step)
+// The nearest of the best so far and six chips of the ring.
+fn better_at_step(six: RingStep<'_, '_>, best: Option<Chip>) -> Option<Chip>
+    requires { IfSome best (IsOnWithin six.ring.search.on.now.machine.now
+        six.ring.search.on.now.items.items six.ring.search.target six.ring.radius.chips) }
+    ensures found { IfSome result (IsOnWithin six.entry.ring.search.on.now.machine.now
+        six.entry.ring.search.on.now.items.items six.entry.ring.search.target
+        six.entry.ring.radius.chips) }
+    ensures better { IsBetter six.entry.ring.search.on.now.machine.now
+        six.entry.ring.search.on.now.items.items six.entry.ring.search.target
+        six.entry.ring.radius.chips
+        (AtStep six.entry.ring.search.on.now.machine.now six.entry.ring.search.target
+        six.entry.ring.radius.chips six.entry.step)
         best result }
 {
-    let (side, end) = (radius.chips + step, 2 * radius.chips);
-    let first_x = column_at(search, radius, 0);
-    let step_x = column_at(search, radius, step);
-    let side_x = column_at(search, radius, side);
-    let end_x = column_at(search, radius, end);
-    let first_y = row_at(search, radius, 0);
-    let step_y = row_at(search, radius, step);
-    let side_y = row_at(search, radius, side);
-    let end_y = row_at(search, radius, end);
-    let one = better(search, radius, first_x, step_y, best);
-    let two = better(search, radius, step_x, first_y, one);
-    let three = better(search, radius, step_x, side_y, two);
-    let four = better(search, radius, side_x, step_y, three);
-    let five = better(search, radius, side_x, end_y, four);
-    better(search, radius, end_x, side_y, five)
+    let ring = six.ring;
+    let x = columns(six);
+    let y = rows(six);
+    let one = better(ring, x.first, y.step, best);
+    let two = better(ring, x.step, y.first, one);
+    let three = better(ring, x.step, y.middle, two);
+    let four = better(ring, x.middle, y.step, three);
+    let five = better(ring, x.middle, y.last, four);
+    better(ring, x.last, y.middle, five)
 }
 
 // Whether the tree has the chip of these coordinates.
@@ -249,46 +291,40 @@ fn is_there(search: Search<'_, '_>, x: Option<u8>, y: Option<u8>) -> bool
     }
 }
 
-// Whether the tree has one of the six chips of the ring that are `step` chips along its sides. Few steps have any, so there is
-// no way out at the first.
-fn is_any_at_step(search: Search<'_, '_>, radius: Radius, step: u8) -> bool
-    requires { step ≤ radius.chips }
+// Whether the tree has one of six chips of the ring. Few steps have any, so there is no way out at the first.
+fn is_any_at_step(six: RingStep<'_, '_>) -> bool
     ensures { (c : Chip)
-        → AtStep search.entry.on.now.machine.now search.entry.target radius.chips step c
-        → is_on search.entry.on.now.machine.now search.entry.on.now.items.items c ≡ true
+        → AtStep six.entry.ring.search.on.now.machine.now six.entry.ring.search.target
+        six.entry.ring.radius.chips six.entry.step c
+        → is_on six.entry.ring.search.on.now.machine.now six.entry.ring.search.on.now.items.items c
+        ≡ true
         → result ≡ true }
 {
-    let (side, end) = (radius.chips + step, 2 * radius.chips);
-    let first_x = column_at(search, radius, 0);
-    let step_x = column_at(search, radius, step);
-    let side_x = column_at(search, radius, side);
-    let end_x = column_at(search, radius, end);
-    let first_y = row_at(search, radius, 0);
-    let step_y = row_at(search, radius, step);
-    let side_y = row_at(search, radius, side);
-    let end_y = row_at(search, radius, end);
-    let one = is_there(search, first_x, step_y);
-    let two = is_there(search, step_x, first_y);
-    let three = is_there(search, step_x, side_y);
-    let four = is_there(search, side_x, step_y);
-    let five = is_there(search, side_x, end_y);
-    let six = is_there(search, end_x, side_y);
-    one | two | three | four | five | six
+    let search = six.ring.search;
+    let x = columns(six);
+    let y = rows(six);
+    let one = is_there(search, x.first, y.step);
+    let two = is_there(search, x.step, y.first);
+    let three = is_there(search, x.step, y.middle);
+    let four = is_there(search, x.middle, y.step);
+    let five = is_there(search, x.middle, y.last);
+    let sixth = is_there(search, x.last, y.middle);
+    one | two | three | four | five | sixth
 }
 
-// The nearest chip of the tree, where it is one of those from which the target is exactly `radius` links away.
-fn nearest_on_ring(search: Search<'_, '_>, radius: Radius) -> Option<Chip>
-    requires { IsNoneNearer search.on.now.machine.now search.on.now.items.items search.target
-        radius.chips }
-    ensures found { IfSome result (IsNearestOn search.entry.on.now.machine.now
-        search.entry.on.now.items.items search.entry.target 20) }
-    ensures none { IfNone result (IsNoneNearer search.entry.on.now.machine.now
-        search.entry.on.now.items.items search.entry.target (radius.chips + 1)) }
+// The nearest chip of the tree, where it is on the ring.
+fn nearest_on_ring(ring: Ring<'_, '_>) -> Option<Chip>
+    ensures found { IfSome result (IsNearestOn ring.entry.search.on.now.machine.now
+        ring.entry.search.on.now.items.items ring.entry.search.target 20) }
+    ensures none { IfNone result (IsNoneNearer ring.entry.search.on.now.machine.now
+        ring.entry.search.on.now.items.items ring.entry.search.target
+        (ring.entry.radius.chips + 1)) }
 {
     let mut best = None;
-    for step in 0..radius.chips + 1 {
-        if is_any_at_step(search, radius, step) {
-            best = better_at_step(search, radius, step, best);
+    for step in 0..ring.radius.chips + 1 {
+        let at = RingStep { ring, step };
+        if is_any_at_step(at) {
+            best = better_at_step(at, best);
         }
     }
     best
@@ -306,9 +342,8 @@ fn nearness(machine: &Machine, target: Chip, chip: Chip) -> u32
 
 // The least of these numbers, of the chips of a tree.
 fn least_nearness(tree: &GrowingTree, target: Chip) -> u32
-    requires inside { IsInside tree.now.on.machine.now target }
-    requires on_is { TellsTree tree.now.on.machine.now tree.now.root
-        tree.now.on.items.items tree.now.edges.items }
+    requires { CanSearch tree.now.on.machine.now tree.now.root tree.now.on.items.items
+        tree.now.edges.items target }
     ensures { IsLeastNearness tree.now.on.machine.now tree.now.root tree.now.edges.items target
         result }
 {
@@ -323,9 +358,8 @@ fn least_nearness(tree: &GrowingTree, target: Chip) -> u32
 
 // The nearest chip of the tree within 20 links of the target, and the root where there is none.
 fn nearest_of_all(tree: &GrowingTree, target: Chip) -> Chip
-    requires inside { IsInside tree.now.on.machine.now target }
-    requires on_is { TellsTree tree.now.on.machine.now tree.now.root
-        tree.now.on.items.items tree.now.edges.items }
+    requires { CanSearch tree.now.on.machine.now tree.now.root tree.now.on.items.items
+        tree.now.edges.items target }
     ensures { IsNear tree.now.on.machine.now tree.now.root tree.now.edges.items target result }
 {
     let least = least_nearness(tree, target);
@@ -340,9 +374,8 @@ fn nearest_of_all(tree: &GrowingTree, target: Chip) -> Chip
 // round the target are looked through from the target outwards. Once these are longer than the tree, and where a tree has so
 // few of the machine's chips that none near the target is to be expected, all its chips are compared.
 pub(crate) fn near_chip(tree: &GrowingTree, target: Chip) -> Chip
-    requires inside { IsInside tree.now.on.machine.now target }
-    requires on_is { TellsTree tree.now.on.machine.now tree.now.root
-        tree.now.on.items.items tree.now.edges.items }
+    requires { CanSearch tree.now.on.machine.now tree.now.root tree.now.on.items.items
+        tree.now.edges.items target }
     ensures { IsNear tree.now.on.machine.now tree.now.root tree.now.edges.items target result }
 {
     let search = Search {
@@ -356,7 +389,9 @@ pub(crate) fn near_chip(tree: &GrowingTree, target: Chip) -> Chip
         if edges <= few + 3 * far * far {
             return nearest_of_all(tree, target);
         }
-        if let Some(chip) = nearest_on_ring(search, Radius { chips }) {
+        let radius = Radius { chips };
+        let ring = Ring { search, radius };
+        if let Some(chip) = nearest_on_ring(ring) {
             return chip;
         }
     }

@@ -1,27 +1,13 @@
 -- What threads find when they route nets side by side.
-use Rattle.std.specs.Prelude.{◌≡◌, ◌≢◌, ℕ, ◌<◌, List, length, All, AllPairs, Some, Result, Ok, Err, slice_get}
-use Rattle.spin_base.specs.declared.chips.Chip.{Chip}
-use Rattle.spin_base.specs.declared.chips.Spot.{Spot}
-use Rattle.spin_base.specs.declared.blocks.Block.{Block}
-use Rattle.machine_desc.specs.Description.{Description}
-use Rattle.machine_desc.specs.Live.{IsInside, IsLiveChip, IsLiveLink, IsSite}
-use Rattle.machine_desc.specs.RoutingTree.{end_of, IsRoutingTree, IsTreeTo}
-use Rattle.machine_desc.specs.declared.trees.Tree.{Tree}
-use Rattle.app_graph.specs.declared.graphs.Graph.{Graph}
-use Rattle.app_graph.specs.declared.graphs.Net.{Net}
-use Rattle.app_graph.specs.ValidGraph.{IsValidGraph}
-use Rattle.link_detours.specs.declared.repairs.RepairErr.{RepairErr}
-use Rattle.link_detours.specs.declared.repairs.RepairErr.TheVariants.{CutOff}
-use Rattle.link_detours.specs.declared.roads.Roads.{Roads}
-use Rattle.machine_desc.specs.declared.nets.NetPlan.{NetPlan}
-use Rattle.link_detours.specs.LiveRoads.{AreRoadsOf}
-use Rattle.link_detours.specs.Repair.{AreInPlaceOrder}
-use Rattle.net_plans.specs.declared.nets.RoutedNet.{RoutedNet}
-use Rattle.net_plans.specs.declared.nets.NetErr.{NetErr}
+use Rattle.std.specs.Prelude.{◌≡◌, ℕ, ◌<◌, List, length, All, Some, Result, Ok, Err, slice_get}
+use Rattle.spin_base.specs.{declared.chips.Chip.Chip, declared.chips.Spot.Spot, declared.blocks.Block.Block}
+use Rattle.machine_desc.specs.{Description.Description, declared.trees.Tree.Tree, declared.nets.NetPlan.NetPlan}
+use Rattle.machine_desc.specs.{Live.IsInside, Live.IsLiveLink, Live.IsSite, RoutingTree.IsRoutingTree, RoutingTree.IsTreeTo}
+use Rattle.app_graph.specs.{declared.graphs.Graph.Graph, declared.graphs.Net.Net, ValidGraph.IsValidGraph}
+use Rattle.link_detours.specs.{declared.repairs.RepairErr.RepairErr, declared.repairs.RepairErr.TheVariants.CutOff, declared.roads.Roads.Roads}
+use Rattle.link_detours.specs.{LiveRoads.AreRoadsOf, Repair.IsTreeWithDeadLinks, Repair.AreInPlaceOrder}
+use Rattle.net_plans.specs.{declared.nets.RoutedNet.RoutedNet, declared.nets.NetErr.NetErr, Cause.IsCauseOne, CutOffTargets.HasNoneCutOff, NetPlans.IsPlannedNet}
 use Rattle.net_plans.specs.declared.nets.NetErr.TheVariants as errors
-use Rattle.net_plans.specs.Cause.{IsCauseOne}
-use Rattle.net_plans.specs.CutOffTargets.{HasNoneCutOff}
-use Rattle.net_plans.specs.NetPlans.{IsPlannedNet}
 
 -- what threads are lent to route nets: a machine with its live links, a graph, and a core or site for each vertex and a block
 -- for each net
@@ -37,14 +23,12 @@ pub record CanRouteAt (m : Description) (roads : Roads) (graph : Graph) (spots :
   pub can : CanRoute m roads graph spots blocks
   pub is_net : i < length graph.nets
 
--- What is known of a tree that grew: its root lives, and there are targets, all on the machine. No edge leads into the root, one
--- into each other chip, edges are in order, and where all of them live it is a tree to its targets.
+-- What is known of a tree that grew, of which links may be dead: there are targets, all on the machine, edges are in order, and
+-- where all of them live it is a tree to its targets.
 pub record IsGrownTree (m : Description) (tree : Tree) (chips : List Chip) : Type 0 where
-  pub root_lives : IsLiveChip m tree.root
+  pub has_dead_links : IsTreeWithDeadLinks m tree.root tree.edges
   pub some_target : 0 < length chips
   pub targets_inside : All (IsInside m) chips
-  pub none_into_root : All (λ e. end_of m e ≢ Some tree.root) tree.edges
-  pub one_into_each : AllPairs (λ e f. (c : Chip) → end_of m e ≡ Some c → end_of m f ≢ Some c) tree.edges
   pub in_order : AreInPlaceOrder m tree.edges
   pub whole : All (λ e. IsLiveLink m e.chip e.dir) tree.edges → IsTreeTo m tree.root tree.edges chips
 

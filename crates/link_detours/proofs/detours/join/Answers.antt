@@ -1,32 +1,31 @@
-use Rattle.std.proofs.Common.{◌<◌, ◌≤◌, [], refl, sym, subst, arith, inl, append-nil}
+use Rattle.std.proofs.Common.{[], refl, sym, subst, inl, append-nil}
 use Rattle.spin_base.specs.declared.chips.Chip.{Chip}
 use Rattle.machine_desc.specs.Live.{LeadsTo}
 use Rattle.machine_desc.specs.RoutingTree.{IsTreeChip}
-use Rattle.machine_desc.proofs.Far.{inside_parts}
 use Rattle.link_detours.specs.Steps.{Steps}
 use Rattle.link_detours.specs.Waves.{IsIn}
+use Rattle.link_detours.proofs.Putting.{bit_of}
 use Rattle.link_detours.proofs.Stepping.{IsLevel-same}
 use Rattle.link_detours.proofs.Walks.{walk_steps}
 use Rattle.link_detours.proofs.Waving.{AreWaves-same}
 use Rattle.link_detours.proofs.detours.join.Goals as goal
 
-pub has-requires-clause-bit : goal.has-requires-clause-bit
-has-requires-clause-bit c =
-    let low : c.args.target.y < c.args.ground.machine.now.height = (inside_parts c.args.ground.machine.now c.args.target c.requires.inside).1 in
-    let few : c.args.ground.machine.now.height ≤ 64 = c.args.ground.roads_are.few in omega (arith, low, few)
+pub has-requires : goal.has-requires
+has-requires c =
+    bit_of c.args.ground.machine.now c.args.ground.roads.now c.args.tree.now c.args.target c.args.ground.roads_are c.requires.set.long c.requires.inside
 
 pub returns-then-has-clause-joined : goal.returns-then-has-clause-joined
-returns-then-has-clause-joined c = λ _. ([], sym (append-nil c.args.whole.now.items), (c.requires.chips c.args.target).0 (c.has.ensures.0 c.if-has.true))
+returns-then-has-clause-joined c = λ _. ([], sym (append-nil c.args.whole.now.items), (c.requires.set.told c.args.target).0 (c.has.ensures.0 c.if-has.true))
 
 pub walk_back-requires-clause-waves : goal.walk_back-requires-clause-waves
 walk_back-requires-clause-waves c =
     let found = rw (c.in-Some.is, ← c.deref.ensures.value) at c.in_ok-found.ensures.waves in (
       found.0,
       AreWaves-same c.args.ground.machine.now (IsIn c.args.tree.now) (IsTreeChip c.args.ground.machine.now c.args.root c.args.whole.now.items)
-          (λ x. (c.requires.chips x).0) (λ x. (c.requires.chips x).1) found.0 c.deref.result.now found.1,
+          (λ x. (c.requires.set.told x).0) (λ x. (c.requires.set.told x).1) found.0 c.deref.result.now found.1,
       IsLevel-same (LeadsTo c.args.ground.machine.now) (LeadsTo c.args.ground.machine.now) (IsIn c.args.tree.now)
           (IsTreeChip c.args.ground.machine.now c.args.root c.args.whole.now.items) (λ a b step. step) (λ a b step. step)
-          (λ x. (c.requires.chips x).0) (λ x. (c.requires.chips x).1) c.args.target found.0 found.2,
+          (λ x. (c.requires.set.told x).0) (λ x. (c.requires.set.told x).1) c.args.target found.0 found.2,
     )
 
 pub returns-in-None-clause-cut_off : goal.returns-in-None-clause-cut_off
@@ -34,6 +33,6 @@ returns-in-None-clause-cut_off c = λ _ walk along.
     let way = walk_steps c.args.ground.machine.now walk c.args.root along.0 in
     (rw c.in-None.is at c.in_ok-found.ensures.cut_off) way.0 (
       c.args.root,
-      (c.requires.chips c.args.root).1 (inl refl),
+      (c.requires.set.told c.args.root).1 (inl refl),
       subst (λ (x : Chip). Steps (LeadsTo c.args.ground.machine.now) way.0 c.args.root x) along.1 way.1,
     )

@@ -1,11 +1,12 @@
-use Rattle.std.proofs.Common.{◌≡◌, ◌<◌, ◌≤◌, Some, sym, subst, ap, ◌∙◌, arith}
+use Rattle.std.proofs.Common.{◌≡◌, Some, sym, subst, ap, ◌∙◌}
 use Rattle.std.proofs.lemmas.Bool.{false≢true}
 use Rattle.spin_base.specs.declared.chips.Chip.{Chip}
 use Rattle.spin_base.specs.declared.chips.Dir.{Dir}
 use Rattle.spin_base.specs.Links.{opposite_of}
-use Rattle.machine_desc.specs.Live.{far_of, IsInside, IsLiveLink, is_live_link}
-use Rattle.machine_desc.proofs.Far.{far_inside, inside_parts}
+use Rattle.machine_desc.specs.Live.{far_of, IsLiveLink, is_live_link}
+use Rattle.machine_desc.proofs.Far.{far_inside}
 use Rattle.link_detours.specs.Waves.{IsIn}
+use Rattle.link_detours.proofs.Putting.{bit_of}
 use Rattle.link_detours.proofs.Reaching.{link_turned, turned_link}
 use Rattle.link_detours.proofs.detours.step_before.Goals as goal
 
@@ -32,9 +33,7 @@ returns-else-has-clause-none c = λ b step.
     let one : b ≡ c.in_ok-chip.chip = cc in
     false≢true (sym c.if-has.false ∙ c.has.ensures.1 (subst (λ (x : Chip). IsIn c.args.front.set.now x) one step.2))
 
-pub has-requires-clause-bit : goal.has-requires-clause-bit
-has-requires-clause-bit c =
-    let inside : IsInside c.args.front.ground.machine.now c.in_ok-chip.chip =
-    far_inside c.args.front.ground.machine.now c.args.at c.in_ok-chip.chip c.opposite-back.result c.requires (sym c.in_ok-chip.ensures) in
-    let low : c.in_ok-chip.chip.y < c.args.front.ground.machine.now.height = (inside_parts c.args.front.ground.machine.now c.in_ok-chip.chip inside).1 in
-    let few : c.args.front.ground.machine.now.height ≤ 64 = c.args.front.ground.roads_are.few in omega (arith, low, few)
+pub has-requires : goal.has-requires
+has-requires c =
+    bit_of c.args.front.ground.machine.now c.args.front.ground.roads.now c.args.front.set.now c.in_ok-chip.chip c.args.front.ground.roads_are c.args.front.long
+    (far_inside c.args.front.ground.machine.now c.args.at c.in_ok-chip.chip c.opposite-back.result c.requires (sym c.in_ok-chip.ensures))

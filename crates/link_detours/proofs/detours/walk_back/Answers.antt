@@ -1,10 +1,10 @@
-use Rattle.std.proofs.Common.{◌≡◌, ℕ, ◌-◌, ◌<◌, ◌≤◌, suc, [], ◌∷◌, ◌++◌, length, sym, ◌∙◌, subst, arith, rules, append-nil}
+use Rattle.std.proofs.Common.{◌≡◌, ℕ, ◌-◌, ◌<◌, suc, [], ◌∷◌, ◌++◌, length, sym, ◌∙◌, subst, arith, rules, append-nil}
 use Rattle.machine_desc.specs.RoutingTree.{IsTreeChip}
 use Rattle.machine_desc.proofs.Far.{inside_parts}
 use Rattle.link_detours.specs.Repair.{IsTreeLevel}
 use Rattle.link_detours.specs.Waves.{AreWaves, IsBestStep, IsWave}
 use Rattle.link_detours.proofs.Reaching.{link_inside}
-use Rattle.link_detours.proofs.Putting.{TellsTree, TellsTree-push}
+use Rattle.link_detours.proofs.Putting.{bit_of, TellsTree, TellsTree-push}
 use Rattle.link_detours.proofs.Waving.{last_wave, no_waves, step_level, last_link_is, some_step, on_tree, way_more, way_ends}
 use Rattle.link_detours.proofs.detours.walk_back.Goals.{After-split_at}
 use Rattle.link_detours.proofs.detours.walk_back.Goals as goal
@@ -15,8 +15,8 @@ back-init c = record {
   count = c.requires.waves.0;
   waves = c.requires.waves.1;
   level = c.requires.waves.2;
-  long = c.requires.long;
-  chips = c.requires.chips;
+  long = c.requires.set.long;
+  chips = c.requires.set.told;
   done = [];
   added = sym (append-nil c.args.whole.now.items);
   way = λ rest detour. detour;
@@ -52,10 +52,9 @@ unreachable-requires c =
     let now = taken (goal.at.unreachable-requires c).After-split_at in
     some_step c.args.ground.machine.now c.args.root c.args.whole.now.items now.0 c.split_at.result.1.now c.back.at now.3 now.1 c.in_default.ensures.none
 
-pub put-requires-clause-bit : goal.put-requires-clause-bit
-put-requires-clause-bit c =
-    let low : c.back.at.y < c.args.ground.machine.now.height = (inside_parts c.args.ground.machine.now c.back.at c.back.invariant.inside).1 in
-    let few : c.args.ground.machine.now.height ≤ 64 = c.args.ground.roads_are.few in omega (arith, low, few)
+pub put-requires : goal.put-requires
+put-requires c =
+    bit_of c.args.ground.machine.now c.args.ground.roads.now c.back.tree c.back.at c.args.ground.roads_are c.back.invariant.long c.back.invariant.inside
 
 pub back-preserved : goal.back-preserved
 back-preserved c =

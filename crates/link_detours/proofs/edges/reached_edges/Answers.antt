@@ -4,9 +4,9 @@ use Rattle.link_detours.specs.Usable.{is_marked}
 use Rattle.link_detours.proofs.edges.reached_edges.Goals as goal
 
 pub index-requires : goal.index-requires
-index-requires c = c.args.links.inside _ _ c.loop-edge-test.true
+index-requires c = c.args.marked.edges.inside _ _ c.loop-edge-test.true
 
 pub returns : goal.returns
 returns c =
     c.loop-edge.invariant
-    ∙ ap (filter (λ e. is_marked c.args.links.machine.now c.args.marks.now e.chip)) (take_all c.loop-edge.edge-index c.args.links.list.now c.loop-edge-test.false)
+    ∙ ap (filter (λ e. is_marked c.args.marked.edges.machine.now c.args.marked.marks.now e.chip)) (take_all c.loop-edge.edge-index c.args.marked.edges.list.now c.loop-edge-test.false)

@@ -8,6 +8,12 @@ use Rattle.link_detours.proofs.repairs.join_all.Goals as goal
 pub put_tree-requires-clause-inside : goal.put_tree-requires-clause-inside
 put_tree-requires-clause-inside c = rw c.deref.ensures.value (edges_inside c.args.ground.machine.now c.args.root c.args.kept.items c.requires.is_whole)
 
+pub put_tree-requires-clause-empty : goal.put_tree-requires-clause-empty
+put_tree-requires-clause-empty c = rw c.deref_mut-chips.ensures.value c.in_ok-words.ensures
+
+pub join-requires-clause-set : goal.join-requires-clause-set
+join-requires-clause-set c = record { long = c.loop-target.invariant.long; told = c.loop-target.invariant.told }
+
 pub loop-target-init : goal.loop-target-init
 loop-target-init c = record {
   joins = refl;

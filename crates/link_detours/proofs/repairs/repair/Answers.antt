@@ -45,5 +45,10 @@ returns-in_err-whole-clause-not_cut_off c tree =
     IfErr-weaker c.from_residual-in_err-whole.result (IsRepairCause c.args.ground.machine.now c.args.tree.now.root c.args.targets.now) (λ e. e ≡ NoMemory)
     (λ e. not_cut_off c.args.ground.machine.now c.args.tree.now.root c.args.tree.now.edges c.args.targets.now e tree) cause
 
+pub kept_edges-requires : goal.kept_edges-requires
+kept_edges-requires c = rw c.as_slice.ensures c.requires.tree
+
 pub trimmed-requires-clause-has_targets : goal.trimmed-requires-clause-has_targets
-trimmed-requires-clause-has_targets c = rw c.as_slice-3.ensures (rw c.as_slice-2.ensures at c.in_ok-whole.ensures.has_targets)
+trimmed-requires-clause-has_targets c =
+    rw c.as_slice-3.ensures
+    (record { some_target = c.requires.some_target; inside = c.requires.targets_inside; on_tree = rw c.as_slice-2.ensures at c.in_ok-whole.ensures.has_targets })

@@ -1,7 +1,7 @@
-use Rattle.std.proofs.Common.{take}
-use Rattle.link_detours.proofs.Seeding.{Seeded}
+use Rattle.std.proofs.Common.{◌≡◌, ◌*◌, length, take}
+use Rattle.link_detours.proofs.Tabling.{Marks}
 use Rattle.link_detours.proofs.searches.seed_table.Given as goal
 
 -- the table marks the seeds that were read
 abbrev pub invariant-loop-seed : goal.invariant-loop-seed
-invariant-loop-seed l = Seeded l.machine l.table.items (take l.seed-index l.seeds)
+invariant-loop-seed l = (length l.table.items ≡ l.machine.width * l.machine.height) × Marks l.machine l.table.items (take l.seed-index l.seeds)

@@ -1,14 +1,14 @@
-use Rattle.std.proofs.Common.{◌≡◌, ◌<◌, ◌≤◌, length, arith, rules, sym}
+use Rattle.std.proofs.Common.{◌∙◌, rules, sym}
 use Rattle.std.proofs.lemmas.List.{take_all}
-use Rattle.machine_desc.proofs.Far.{far_inside, inside_parts}
-use Rattle.link_detours.proofs.Putting.{TellsTree-root, TellsTree-push, TellsTree-skip, TellsTree-taken}
+use Rattle.machine_desc.proofs.Far.{far_inside}
+use Rattle.link_detours.proofs.Putting.{bit_of, TellsTree-root, TellsTree-push, TellsTree-skip, TellsTree-taken}
 use Rattle.link_detours.proofs.sets.put_tree.Goals as goal
 use Rattle.link_detours.proofs.sets.put_tree.Goals.{in-Some, in_default}
 
 pub loop-edge-init : goal.loop-edge-init
 loop-edge-init c = record {
-  long = search rules;
-  told = TellsTree-root c.args.ground.machine.now c.args.root c.args.set.now c.put.new.set c.requires.empty c.put.ensures.here c.put.ensures.others;
+  long = c.put.auto.set ∙ c.requires.empty.long;
+  told = TellsTree-root c.args.ground.machine.now c.args.root c.args.set.now c.put.new.set c.requires.empty.none c.put.ensures.here c.put.ensures.others;
 }
 
 pub loop-edge-preserved : goal.loop-edge-preserved
@@ -34,19 +34,11 @@ returns c = rw (take_all c.loop-edge.edge-index c.args.edges.now c.loop-edge-tes
 pub far-requires : goal.far-requires
 far-requires c = c.requires.inside _ _ c.loop-edge-test.true
 
-pub put-requires-clause-bit : goal.put-requires-clause-bit
-put-requires-clause-bit c =
-    let low : c.args.root.y < c.args.ground.machine.now.height = (inside_parts c.args.ground.machine.now c.args.root c.requires.root_inside).1 in
-    let few : c.args.ground.machine.now.height ≤ 64 = c.args.ground.roads_are.few in omega (arith, low, few)
+pub put-requires : goal.put-requires
+put-requires c =
+    bit_of c.args.ground.machine.now c.args.ground.roads.now c.args.set.now c.args.root c.args.ground.roads_are c.requires.empty.long c.requires.root_inside
 
-pub put-requires-in-Some-clause-column : goal.put-requires-in-Some-clause-column
-put-requires-in-Some-clause-column c =
-    let inside = far_inside c.args.ground.machine.now _ c.in-Some.far _ (c.requires.inside _ _ c.loop-edge-test.true) (sym c.in-Some.ensures) in
-    let low : c.in-Some.far.x < c.args.ground.machine.now.width = (inside_parts c.args.ground.machine.now c.in-Some.far inside).0 in
-    let long : length c.loop-edge.set ≡ c.args.ground.machine.now.width = c.loop-edge.invariant.long in omega (arith, low, long)
-
-pub put-requires-in-Some-clause-bit : goal.put-requires-in-Some-clause-bit
-put-requires-in-Some-clause-bit c =
-    let inside = far_inside c.args.ground.machine.now _ c.in-Some.far _ (c.requires.inside _ _ c.loop-edge-test.true) (sym c.in-Some.ensures) in
-    let low : c.in-Some.far.y < c.args.ground.machine.now.height = (inside_parts c.args.ground.machine.now c.in-Some.far inside).1 in
-    let few : c.args.ground.machine.now.height ≤ 64 = c.args.ground.roads_are.few in omega (arith, low, few)
+pub put-requires-in-Some : goal.put-requires-in-Some
+put-requires-in-Some c =
+    bit_of c.args.ground.machine.now c.args.ground.roads.now c.loop-edge.set c.in-Some.far c.args.ground.roads_are c.loop-edge.invariant.long
+    (far_inside c.args.ground.machine.now _ c.in-Some.far _ (c.requires.inside _ _ c.loop-edge-test.true) (sym c.in-Some.ensures))

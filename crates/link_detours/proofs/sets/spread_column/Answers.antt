@@ -13,11 +13,11 @@ returns c = record {
     λ by. elim by [ inl bit ↦ c.spread_word-word.ensures.old y bit | inr leads ↦ c.spread_word-word.ensures.new y leads.0 high leads.1 ],
   );
   named = c.with_column.ensures.same;
-  told = λ off. elim (cases_eq c.spread_word-word.result (get_or c.args.front.set.now c.args.x 0)) [
+  told = λ off. elim (cases_eq c.spread_word-word.result (get_or c.args.column.front.set.now c.args.column.x 0)) [
     | inl same ↦ same
     | inr other ↦ absurd (off (c.with_column.ensures.named (search rules)))
   ];
-  grew = elim (cases_eq c.spread_word-word.result (get_or c.args.front.set.now c.args.x 0)) [
+  grew = elim (cases_eq c.spread_word-word.result (get_or c.args.column.front.set.now c.args.column.x 0)) [
     | inl same ↦ inl (c.with_column.ensures.unnamed (search rules))
     | inr other ↦ inr other
   ];

@@ -7,7 +7,7 @@ use Rattle.link_detours.proofs.sets.spread_word.Goals as goal
 
 pub loop-d-preserved : goal.loop-d-preserved
 loop-d-preserved c =
-    SpreadTo-more c.args.front.ground.machine.now c.args.front.set.now c.args.x c.loop-d.word c.loop-d.d-index c.leading-word.result _
+    SpreadTo-more c.args.column.front.ground.machine.now c.args.column.front.set.now c.args.column.x c.loop-d.word c.loop-d.d-index c.leading-word.result _
     (dir_number_at c.loop-d.d-index _ c.loop-d-test.true) c.leading-word.ensures c.loop-d.invariant
 
 pub returns-clause-new : goal.returns-clause-new

@@ -1,6 +1,6 @@
 use Rattle.std.specs.Int.{w64}
 use Rattle.std.proofs.lemmas.Nat.Bits.{bit_at_set_same}
-use Rattle.link_detours.proofs.Naming.{or_left}
+use Rattle.link_detours.proofs.Spreading.{or_left}
 use Rattle.link_detours.proofs.sets.with_column.Goals as goal
 
 pub returns-then-named-clause-same : goal.returns-then-named-clause-same

@@ -16,5 +16,5 @@ put_in_order-requires c = edges_inside c.args.machine.now c.args.root c.args.who
 pub returns-clause-left : goal.returns-clause-left
 returns-clause-left c =
     sorted_stay c.args.machine.now c.args.root c.args.whole.items c.in_ok-left.left.items c.in_ok-left.ensures.same c.args.targets.now c.requires.is_whole
-    c.requires.some_target c.requires.has_targets c.in_ok-left.ensures.in_order
+    c.requires.has_targets.some_target c.requires.has_targets.on_tree c.in_ok-left.ensures.in_order
     (rw c.deref.ensures.value at (c.in_ok-ends_go_on.ensures c.if-not-branch.false))

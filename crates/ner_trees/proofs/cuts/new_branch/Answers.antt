@@ -11,9 +11,9 @@ loop-dir-preserved c = elim c.if-at.branch [
       record {
         at_end = at_more c.args.on.now.machine.now c.args.near c.args.walk.now c.loop-dir.dir-index _ c.loop-dir.at c.next-at.result c.loop-dir-test.true c.loop-dir.invariant.at_end (rw c.machine-machine.ensures at c.next-at.ensures.value);
         at_inside = (rw c.machine-machine.ensures at c.next-at.ensures.inside);
-        cut = cut_again_at c.args.on.now.machine.now c.args.on.now.items.items c.args.near c.args.walk.now c.loop-dir.dir-index _ c.loop-dir.at c.next-at.result w.clear.new.self.items
+        cut = cut_again_at c.args.on.now.machine.now c.args.on.now.items.items c.args.near c.args.walk.now c.loop-dir.dir-index _ c.loop-dir.at c.next-at.result w.clear-then-at.new.self.items
             c.loop-dir-test.true c.loop-dir.invariant.at_end (rw c.machine-machine.ensures at c.next-at.ensures.value) (rw c.machine-machine.ensures at c.next-at.ensures.inside)
-            (sym (c.at.ensures false) ∙ w.if-at.true) w.clear.ensures.items;
+            (sym (c.at.ensures false) ∙ w.if-at.true) w.clear-then-at.ensures.items;
       }
   | else-at w ↦
       rw (w.start-is, w.links-is)

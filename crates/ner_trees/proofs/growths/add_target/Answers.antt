@@ -7,6 +7,9 @@ use Rattle.ner_trees.specs.Search.{IsCutAt, IsMarkedBy}
 use Rattle.ner_trees.proofs.Growing.{extended_inside, near_on_table, added_is, tells_more}
 use Rattle.ner_trees.proofs.growths.add_target.Goals as goal
 
+pub near_chip-near-requires : goal.near_chip-near-requires
+near_chip-near-requires c = record { inside = c.requires.target_inside; on_is = c.requires.on_is }
+
 pub displacement-requires-clause-from_inside : goal.displacement-requires-clause-from_inside
 displacement-requires-clause-from_inside c =
     let t = c.args.tree.now in

@@ -9,8 +9,8 @@ loop-chips-init c = none_at_start c.args.tree.now.on.machine.now c.args.tree.now
 pub loop-chips-preserved : goal.loop-chips-preserved
 loop-chips-preserved c = c.in_default.ensures.none
 
-pub nearest_on_ring-requires : goal.nearest_on_ring-requires
-nearest_on_ring-requires c = c.loop-chips.invariant
+pub invariant_of-ring : goal.invariant_of-ring
+invariant_of-ring c = record { none_nearer = c.loop-chips.invariant }
 
 pub returns-in-Some : goal.returns-in-Some
 returns-in-Some c =

@@ -7,10 +7,10 @@ use Rattle.ner_trees.proofs.searches.nearest_on_ring.Goals.{then-is_any_at_step,
 
 pub loop-step-preserved : goal.loop-step-preserved
 loop-step-preserved c =
-    let s = c.args.search in
+    let s = c.args.ring.search in
     let m = s.on.now.machine.now in
     let on = s.on.now.items.items in
-    let r = c.args.radius.chips in
+    let r = c.args.ring.radius.chips in
     let i = c.loop-step.step in
     let best = c.loop-step.best in
     elim c.if-is_any_at_step.branch [
@@ -27,10 +27,10 @@ loop-step-preserved c =
 
 pub returns-clause-found : goal.returns-clause-found
 returns-clause-found c =
-    ring_found c.args.search.on.now.machine.now c.args.search.on.now.items.items c.args.search.target c.args.radius.chips c.loop-step.step c.loop-step.best c.args.search.on.now.size c.args.search.inside
-    c.args.radius.narrow c.loop-step-test.false c.requires c.loop-step.invariant.0 c.loop-step.invariant.1
+    ring_found c.args.ring.search.on.now.machine.now c.args.ring.search.on.now.items.items c.args.ring.search.target c.args.ring.radius.chips c.loop-step.step c.loop-step.best c.args.ring.search.on.now.size c.args.ring.search.inside
+    c.args.ring.radius.narrow c.loop-step-test.false c.args.ring.none_nearer c.loop-step.invariant.0 c.loop-step.invariant.1
 
 pub returns-clause-none : goal.returns-clause-none
 returns-clause-none c =
-    ring_none c.args.search.on.now.machine.now c.args.search.on.now.items.items c.args.search.target c.args.radius.chips c.loop-step.step c.loop-step.best c.args.search.on.now.size c.args.search.inside
-    c.loop-step-test.false c.requires c.loop-step.invariant.1
+    ring_none c.args.ring.search.on.now.machine.now c.args.ring.search.on.now.items.items c.args.ring.search.target c.args.ring.radius.chips c.loop-step.step c.loop-step.best c.args.ring.search.on.now.size c.args.ring.search.inside
+    c.loop-step-test.false c.args.ring.none_nearer c.loop-step.invariant.1

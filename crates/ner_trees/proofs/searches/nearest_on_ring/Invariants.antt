@@ -7,6 +7,6 @@ use Rattle.ner_trees.proofs.searches.nearest_on_ring.Given as goal
 -- of the chips of the ring so far, the nearest
 abbrev pub invariant-loop-step : goal.invariant-loop-step
 invariant-loop-step l =
-    IfSome l.best (IsOnWithin l.search.on.now.machine.now l.search.on.now.items.items l.search.target l.radius.chips)
-    × IsBetter l.search.on.now.machine.now l.search.on.now.items.items l.search.target l.radius.chips
-    (Stepped l.search.on.now.machine.now l.search.on.now.items.items l.search.target l.radius.chips l.step) None l.best
+    IfSome l.best (IsOnWithin l.ring.search.on.now.machine.now l.ring.search.on.now.items.items l.ring.search.target l.ring.radius.chips)
+    × IsBetter l.ring.search.on.now.machine.now l.ring.search.on.now.items.items l.ring.search.target l.ring.radius.chips
+    (Stepped l.ring.search.on.now.machine.now l.ring.search.on.now.items.items l.ring.search.target l.ring.radius.chips l.step) None l.best

@@ -71,14 +71,16 @@ with_detours-requires c =
     c.in_ok-targets.ensures c.in_ok-chips.ensures c.requires.valid.some_target c.requires.valid.targets in
     record {
       grown = record {
-        root_lives = subst (IsLiveChip c.args.machine.now) (sym c.in_ok-grown.ensures.root) (source_lives c.args.machine.now c.args.spots.now c.args.net.now.source c.get-source.result.now c.requires.sites c.get-source.ensures);
+        has_dead_links = record {
+          root_lives = subst (IsLiveChip m) (sym root) (source_lives m c.args.spots.now c.args.net.now.source c.get-source.result.now c.requires.sites c.get-source.ensures);
+          none_into_root = subst (λ (r : Chip). All (λ e. end_of m e ≢ Some r) edges) (sym root) c.in_ok-grown.ensures.none_into_root;
+          one_into_each = c.in_ok-grown.ensures.one_into_each;
+        };
         some_target = some;
         targets_inside =
             of_chips (IsInside c.args.machine.now) c.args.machine.now c.get-source.result.now.chip c.in_ok-targets.targets c.in_ok-chips.chips c.in_ok-chips.ensures
             (of_targets (λ s. IsInside c.args.machine.now s.chip) c.args.spots.now c.args.net.now.targets c.in_ok-targets.targets c.in_ok-targets.ensures
             (all_inside c.args.machine.now c.args.spots.now c.requires.sites));
-        none_into_root = subst (λ (r : Chip). All (λ e. end_of m e ≢ Some r) edges) (sym root) c.in_ok-grown.ensures.none_into_root;
-        one_into_each = c.in_ok-grown.ensures.one_into_each;
         in_order = λ i j d less short.
             before_place m (get_or edges i d) (get_or edges j d) (c.in_ok-grown.ensures.edges_inside i d (omega (arith, less, short)))
             (c.in_ok-grown.ensures.grown.in_order i j d less short);
