@@ -1,11 +1,11 @@
 // Deliveries and dump records in the order of a report.
-ghost use Rattle.std.specs.Prelude.{◌≡◌, OnOk, IfOk};
+ghost use Rattle.std.specs.Prelude.{IfOk};
 ghost use Rattle.run_report.specs.Orders.{IsSortedStably};
-ghost use Rattle.run_report.specs.RunReport.{delivery_key, dump_key, IsDeliveredOf};
+ghost use Rattle.run_report.specs.RunReport.{dump_key, IsDeliveredOf};
 
 use crate::named::NamedDeliveries;
 use mesh_core::Mesh;
-use spin_base::{Delivery, DumpRec, Memory, Name, Seq, Spot};
+use spin_base::{DumpRec, Memory, Name, Seq, Spot};
 use std::alloc::Global;
 
 /// The deliveries, by packet, then by the position of the vertex, each with the name of its vertex.
@@ -17,15 +17,11 @@ pub fn delivered_of(
     ensures { IfOk result (λ delivered. IsDeliveredOf placed mesh.now.delivered delivered) }
 {
     let mut sorted = Vec::from_slice(alloc, mesh.delivered())?;
-    sort_deliveries(&mut sorted)?;
-    Ok(NamedDeliveries::of(placed, sorted))
-}
-
-fn sort_deliveries(deliveries: &mut Vec<Delivery>) -> Result<(), Memory>
-    ensures { OnOk result (IsSortedStably delivery_key deliveries.old.items deliveries.new.items) }
-{
-    deliveries.sort_by_key(|delivery| (delivery.copy.packet, delivery.vertex))?;
-    Ok(())
+    sorted.sort_by_key(|delivery| (delivery.copy.packet, delivery.vertex))?;
+    Ok(NamedDeliveries {
+        placed,
+        deliveries: sorted,
+    })
 }
 
 /// The dump records, by packet, chip and output.
@@ -33,14 +29,7 @@ pub fn dumped_of(alloc: Global, mesh: &Mesh) -> Result<Seq<DumpRec>, Memory>
     ensures { IfOk result (λ dumped. IsSortedStably dump_key mesh.now.dumped dumped) }
 {
     let mut sorted = Vec::from_slice(alloc, mesh.dumped())?;
-    sort_dumps(&mut sorted)?;
-    Ok(Seq::from_vec(sorted))
-}
-
-fn sort_dumps(records: &mut Vec<DumpRec>) -> Result<(), Memory>
-    ensures { OnOk result (IsSortedStably dump_key records.old.items records.new.items) }
-{
-    records.sort_by_key(|record| {
+    sorted.sort_by_key(|record| {
         (
             record.copy.packet,
             record.chip.x,
@@ -48,5 +37,5 @@ fn sort_dumps(records: &mut Vec<DumpRec>) -> Result<(), Memory>
             record.out.number(),
         )
     })?;
-    Ok(())
+    Ok(Seq::from_vec(sorted))
 }

@@ -1,19 +1,19 @@
 // The text of a report.
-ghost use Rattle.std.specs.Prelude.{◌≡◌, ◌<◌, ◌/◌, ◌^◌, take, [], ◌++◌, ◌∷◌, ◌+◌, OnOk, IfOk, codes, decimal};
+ghost use Rattle.std.specs.Prelude.{◌≡◌, ◌<◌, ◌/◌, ◌^◌, take, [], ◌++◌, ◌∷◌, ◌+◌, OnOk, IfOk, codes, decimal, slice_get};
 ghost use Rattle.std.specs.List.{flat_map};
 ghost use Rattle.mesh_core.specs.declared.places.Place.TheVariants.{InQueue, Hand, CoreQueue};
-ghost use Rattle.run_report.specs.Named.{named_delivery};
+ghost use Rattle.run_report.specs.Named.{named_delivery, vertex_name_of};
 ghost use Rattle.run_report.specs.ReportText.{report_text, listed_text, row_total, word, hex, payload_word, place_line, keys_line, row_line, table_head, table_lines, did_word, event_front, event_line, event_lines, got_line, dump_line, wait_line, end_line, out_letters, port_letters, dir_letters};
 
 use crate::digits::{route_digits, word_digits};
 use crate::fronts::EventFront;
-use crate::named::{NamedDeliveries, name_at};
+use crate::named::NamedDeliveries;
 use crate::reports::Report;
 use itoa::Buffer;
 use mesh_core::{Did, Place};
 use spin_base::{
-    Block, Chip, ChipTable, Delivery, Dir, DumpRec, Entry, McCopy, Memory, Name, Out, Port, Route,
-    Seq, Spot,
+    Block, Chip, ChipTable, Delivery, Dir, DumpRec, Entry, Memory, Name, Out, Port, Route, Seq,
+    Spot,
 };
 use std::alloc::Global;
 
@@ -35,26 +35,18 @@ pub fn text_of(alloc: Global, report: &Report) -> Result<Seq<u8>, Memory>
 {
     let lines = report.did.len().saturating_add(report.delivered.len());
     let mut text = Vec::with_capacity(alloc, lines.saturating_mul(LINE_ROOM))?;
-    put_report(&mut text, report)?;
-    Ok(Seq::from_vec(text))
-}
-
-fn put_report(text: &mut Vec<u8>, report: &Report) -> Result<(), Memory>
-    ensures { OnOk result (text.new.items
-        ≡ text.old.items ++ report_text report.now) }
-{
     put_listed(
-        text,
+        &mut text,
         report.placed.as_slice(),
         report.keys.as_slice(),
         report.tables.as_slice(),
     )?;
-    put_events(text, report.did.as_slice())?;
-    put_gots(text, &report.delivered)?;
-    put_dumps(text, report.dumped.as_slice())?;
-    put_waits(text, report.waiting.as_slice())?;
-    put_end(text, report)?;
-    Ok(())
+    put_events(&mut text, report.did.as_slice())?;
+    put_gots(&mut text, &report.delivered)?;
+    put_dumps(&mut text, report.dumped.as_slice())?;
+    put_waits(&mut text, report.waiting.as_slice())?;
+    put_end(&mut text, report)?;
+    Ok(Seq::from_vec(text))
 }
 
 // Puts the lines of vertices, nets and tables at the end.
@@ -248,8 +240,11 @@ fn put_gots(text: &mut Vec<u8>, delivered: &NamedDeliveries) -> Result<(), Memor
     ensures { OnOk result (text.new.items
         ≡ text.old.items ++ flat_map got_line delivered.now) }
 {
-    let (placed, deliveries) = delivered.parts();
-    put_all_gots(text, placed, deliveries)?;
+    put_all_gots(
+        text,
+        delivered.placed.as_slice(),
+        delivered.deliveries.as_slice(),
+    )?;
     Ok(())
 }
 
@@ -262,31 +257,31 @@ fn put_all_gots(
         ≡ text.old.items ++ flat_map (λ d. got_line (named_delivery placed.now d)) deliveries.now) }
 {
     for delivery in deliveries {
-        put_delivery(text, placed, delivery)?;
+        put_got(text, placed, delivery)?;
     }
     Ok(())
 }
 
-fn put_delivery(
-    text: &mut Vec<u8>,
-    placed: &[(Name, Spot)],
-    delivery: &Delivery,
-) -> Result<(), Memory>
+fn put_got(text: &mut Vec<u8>, placed: &[(Name, Spot)], delivery: &Delivery) -> Result<(), Memory>
     ensures { OnOk result (text.new.items
         ≡ text.old.items ++ got_line (named_delivery placed.now delivery.now)) }
 {
-    put_got(text, name_at(placed, delivery.vertex), delivery.copy)
+    put(text, "got ")?;
+    put(text, name_at(placed, delivery.vertex))?;
+    put_byte(text, b' ')?;
+    put_number(text, u64::from(delivery.copy.packet), b' ')?;
+    put_word(text, delivery.copy.key, b' ')?;
+    put_payload(text, delivery.copy.payload)
 }
 
-fn put_got(text: &mut Vec<u8>, name: &str, copy: McCopy) -> Result<(), Memory>
-    ensures { OnOk result (text.new.items ≡ text.old.items ++ got_line (name.now, copy)) }
+// The name of a vertex, and no letter where there is no such vertex.
+fn name_at<'a>(placed: &'a [(Name, Spot)], vertex: u32) -> &'a str
+    ensures { result.now ≡ vertex_name_of (slice_get placed.now vertex) }
 {
-    put(text, "got ")?;
-    put(text, name)?;
-    put_byte(text, b' ')?;
-    put_number(text, u64::from(copy.packet), b' ')?;
-    put_word(text, copy.key, b' ')?;
-    put_payload(text, copy.payload)
+    match placed.get(vertex as usize) {
+        Some((name, _)) => name.as_str(),
+        None => "",
+    }
 }
 
 fn put_dumps(text: &mut Vec<u8>, dumped: &[DumpRec]) -> Result<(), Memory>

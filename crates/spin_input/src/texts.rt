@@ -1,5 +1,5 @@
 // The input that a text is.
-ghost use Rattle.std.specs.Prelude.{◌≡◌, ◌⊎◌, Ok, Err, IfOk, IfErr, MatchResult};
+ghost use Rattle.std.specs.Prelude.{◌≡◌, ◌⊎◌, Ok, Err, IfOk, IfErr};
 ghost use Rattle.run_report.specs.declared.causes.Refusal.TheVariants.{Memory};
 ghost use Rattle.job_text.specs.Json.{json_of};
 ghost use Rattle.spin_input.specs.Kinds.{input_of, input_from};
@@ -28,7 +28,10 @@ pub(crate) fn input_of_text<I: Input>(alloc: Global, bytes: &[u8]) -> Result<I, 
         Ok(value) => {
             let read = I::of_value(alloc, &value);
             let_go(value, bytes.len());
-            fitted(read)
+            match read {
+                Ok(input) => Ok(input),
+                Err(error) => Err(unfit(error)),
+            }
         }
         Err(error) => Err(unparsed(error)),
     }
@@ -53,17 +56,7 @@ fn unparsed(error: ParseErr) -> Refusal
     }
 }
 
-// The input that was read. A value that was not is refused as `unfit` says: for want of memory exactly where its reader wanted it.
-fn fitted<I: Input>(read: Result<I, TextErr>) -> Result<I, Refusal>
-    ensures { MatchResult read (λ input. result ≡ Ok input) (λ error. result ≡ Err (unfit error)) }
-{
-    match read {
-        Ok(input) => Ok(input),
-        Err(error) => Err(unfit(error)),
-    }
-}
-
-// The refusal of a value with a fault.
+// The refusal of a value with a fault. For want of memory it is refused exactly where its reader wanted it.
 fn unfit(error: TextErr) -> Refusal
     ensures { result ≡ unfit error }
 {

@@ -157,12 +157,13 @@ module _ (job : Job) (plan : Plan) (mesh : State) where
   reports P did parts text ledger holds tells = (mesh, tells.0, is_kept did tells.0 ledger tells.1, holds tells.0 tells.1, tells.2, tells.3)
 
   -- the same of a mesh at rest, where no events are told
-  pub reports_at_rest : (P : Job → Plan → State → Report → Type 0) (made : Result WordOutput Memory) → IsMeshOf job plan mesh → IsAtRest mesh →
-      ((report : Report) → IsTold job plan mesh report → P job plan mesh report) → IfOk made (λ t. TellsRun job plan mesh [] (parts_with job plan t.mesh t.report) t.text) →
+  pub reports_at_rest : (P : Job → Plan → State → Report → Type 0) (did : List Did) (made : Result WordOutput Memory) → did ≡ [] → IsMeshOf job plan mesh → IsAtRest mesh →
+      ((report : Report) → IsTold job plan mesh report → P job plan mesh report) → IfOk made (λ t. TellsRun job plan mesh did (parts_with job plan t.mesh t.report) t.text) →
       IfOk made (λ t. Reports P job plan (parts_with job plan t.mesh t.report) t.text)
-  reports_at_rest P (Ok t) kept rest holds tells =
-      reports P [] (parts_with job plan t.mesh t.report) t.text kept.ledger (λ report is. holds report (record { kept = kept; at_rest = rest; reported = is })) tells
-  reports_at_rest P (Err e) kept rest holds tells = tells
+  reports_at_rest P did (Ok t) none kept rest holds tells =
+      reports P did (parts_with job plan t.mesh t.report) t.text kept.ledger
+      (λ report is. holds report (record { kept = kept; at_rest = rest; reported = subst (λ (ds : List Did). IsReported job plan mesh ds report) none is })) tells
+  reports_at_rest P did (Err e) none kept rest holds tells = tells
 
   module _ (report : Report) (told : IsTold job plan mesh report) where
     -- Without a dump record nothing is lost.

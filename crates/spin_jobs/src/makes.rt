@@ -1,12 +1,12 @@
 // What each word makes of a planned job.
-ghost use Rattle.std.specs.Prelude.{◌≡◌, ◌<◌, ◌^◌, [], IfOk};
+ghost use Rattle.std.specs.Prelude.{◌≡◌, ◌<◌, ◌^◌, IfOk};
 ghost use Rattle.run_report.specs.ReportText.{row_total};
 ghost use Rattle.job_gen.specs.Generated.{gen_job};
-ghost use Rattle.spin_jobs.specs.Making.{IsReportedAs, IsSummarised, IsOutputAs, IsTracedTo};
+ghost use Rattle.spin_jobs.specs.Making.{IsOutputAs};
 ghost use Rattle.spin_jobs.specs.Planned.{setup_of};
 ghost use Rattle.spin_jobs.specs.Words.{Images, IsReported, IsTraced, Lists, Reports, Summarises, TellsRun};
 
-use crate::outcomes::{Reported, WordOutput};
+use crate::outcomes::WordOutput;
 use crate::planned_jobs::PlannedJob;
 use crate::runs::{open_job, run_job, take_events};
 use mesh_core::laws::deliveries_are_as_many_as_expected;
@@ -32,25 +32,7 @@ pub(crate) fn generated<R: Threads + Wait + Sync, G: Gate>(
 {
     deliveries_are_as_many_as_expected();
     let mesh = run_job(rt, alloc, planned, gate)?;
-    let made = summarised(alloc, number, planned, &mesh)?;
-    Ok(WordOutput {
-        mesh: Some(mesh),
-        report: Some(made.report),
-        text: made.text,
-    })
-}
-
-// The report of a mesh to which no event led, and its summary.
-fn summarised(
-    alloc: Global,
-    number: u64,
-    planned: &PlannedJob<'_>,
-    mesh: &Mesh,
-) -> Result<Reported, Memory>
-    requires setup { mesh.now.setup ≡ setup_of planned.now.job planned.now.plan }
-    ensures { IfOk result (IsSummarised number planned.now.job planned.now.plan mesh.now) }
-{
-    let report = report(alloc, planned, mesh, Seq::new(alloc))?;
+    let report = report(alloc, planned, &mesh, Seq::new(alloc))?;
     let text = summary_text(
         alloc,
         number,
@@ -59,30 +41,19 @@ fn summarised(
         &planned.job.run,
         &report,
     )?;
-    Ok(Reported { report, text })
+    Ok(WordOutput {
+        mesh: Some(mesh),
+        report: Some(report),
+        text,
+    })
 }
 
 // The mesh after all events of the job, its report, and the report's text.
 pub(crate) fn trace(alloc: Global, planned: &PlannedJob<'_>) -> Result<WordOutput, Memory>
     ensures { IfOk result (IsOutputAs (Reports IsTraced) planned.now) }
 {
-    // Read, so that what holds of each planned job is known here.
-    let _job = planned.job;
     let mut mesh = open_job(alloc, planned)?;
-    let made = traced(alloc, planned, &mut mesh)?;
-    Ok(WordOutput {
-        mesh: Some(mesh),
-        report: Some(made.report),
-        text: made.text,
-    })
-}
-
-// The report of a mesh after all events of the job, one by one, and the report's text.
-fn traced(alloc: Global, planned: &PlannedJob<'_>, mesh: &mut Mesh) -> Result<Reported, Memory>
-    requires setup { mesh.old.setup ≡ setup_of planned.now.job planned.now.plan }
-    ensures { IfOk result (IsTracedTo planned.now.job planned.now.plan mesh.old mesh.new) }
-{
-    let did = take_events(alloc, mesh, planned.job.run.events.as_slice())?;
+    let did = take_events(alloc, &mut mesh, planned.job.run.events.as_slice())?;
     reported(alloc, planned, mesh, did)
 }
 
@@ -118,36 +89,23 @@ pub(crate) fn image(alloc: Global, planned: &PlannedJob<'_>) -> Result<WordOutpu
     })
 }
 
-// The mesh after all packets of the job, its report, and the report's text.
-pub(crate) fn output_at_rest(
+// A mesh after events with these answers, its report, and the report's text.
+pub(crate) fn reported(
     alloc: Global,
     planned: &PlannedJob<'_>,
     mesh: Mesh,
+    did: Seq<Did>,
 ) -> Result<WordOutput, Memory>
     requires setup { mesh.setup ≡ setup_of planned.now.job planned.now.plan }
-    ensures { IfOk result (IsOutputAs (λ job plan. TellsRun job plan mesh []) planned.now) }
+    ensures { IfOk result (IsOutputAs (λ job plan. TellsRun job plan mesh did) planned.now) }
 {
-    let made = reported(alloc, planned, &mesh, Seq::new(alloc))?;
+    let report = report(alloc, planned, &mesh, did)?;
+    let text = text_of(alloc, &report)?;
     Ok(WordOutput {
         mesh: Some(mesh),
-        report: Some(made.report),
-        text: made.text,
+        report: Some(report),
+        text,
     })
-}
-
-// The report of a mesh after events with these answers, and the report's text.
-fn reported(
-    alloc: Global,
-    planned: &PlannedJob<'_>,
-    mesh: &Mesh,
-    did: Seq<Did>,
-) -> Result<Reported, Memory>
-    requires setup { mesh.now.setup ≡ setup_of planned.now.job planned.now.plan }
-    ensures { IfOk result (IsReportedAs planned.now.job planned.now.plan mesh.now did) }
-{
-    let report = report(alloc, planned, mesh, did)?;
-    let text = text_of(alloc, &report)?;
-    Ok(Reported { report, text })
 }
 
 // The report of a job's plan, of a mesh, and of the answers to the events that led there.

@@ -34,10 +34,3 @@ pub(crate) struct WordOutput {
     pub(crate) report: Option<Report>,
     pub(crate) text: Seq<u8>,
 }
-
-// A report, and the text that is written of it.
-#[derive(Drop)]
-pub(crate) struct Reported {
-    pub(crate) report: Report,
-    pub(crate) text: Seq<u8>,
-}

@@ -6,12 +6,11 @@ ghost use Rattle.job_gen.specs.Generated.{gen_job};
 ghost use Rattle.par_compile.specs.Compiled.{IsCompileCause};
 ghost use Rattle.spin_words.specs.declared.commands.JobWord.TheVariants.{Gen};
 ghost use Rattle.run_report.specs.declared.causes.Refusal.TheVariants.{Memory as NoMemory};
-ghost use Rattle.spin_jobs.specs.Making.{IsMadeWith};
 ghost use Rattle.spin_jobs.specs.Planned.{IsThePlan};
 ghost use Rattle.spin_jobs.specs.Unplanned.{HasNoPlan, IsNameIn, refusal_of};
 ghost use Rattle.spin_jobs.specs.Words.{IsMadeOf};
 
-use crate::outcomes::{Made, Parts, WordOutput};
+use crate::outcomes::{Made, Parts};
 use crate::planned_jobs::PlannedJob;
 use crate::words::make;
 use job_readers::Job;
@@ -42,7 +41,15 @@ pub fn made_of_job<R: Threads + Wait + Sync, G: Gate>(
     ensures made { IfOk result (λ made. IsMadeOf word job made.parts made.text) }
     ensures err { IfErr result (λ r. HasNoPlan job r ⊎ (r ≡ NoMemory)) }
 {
-    let (plan, told) = planned(rt, alloc, word, &job, gate)?;
+    let plan = plan_of(rt, alloc, &job, gate)?;
+    let planned = PlannedJob {
+        job: &job,
+        plan: &plan,
+    };
+    let told = match make(rt, alloc, word, &planned, gate) {
+        Ok(told) => told,
+        Err(Memory) => return Err(Refusal::Memory),
+    };
     Ok(Made {
         parts: Parts {
             job: Some(job),
@@ -52,28 +59,6 @@ pub fn made_of_job<R: Threads + Wait + Sync, G: Gate>(
         },
         text: told.text,
     })
-}
-
-// The plan of a job, and what a word makes of it.
-fn planned<R: Threads + Wait + Sync, G: Gate>(
-    rt: &R,
-    alloc: Global,
-    word: JobWord,
-    job: &Job,
-    gate: &G,
-) -> Result<(Plan, WordOutput), Refusal>
-    requires graph { IsValidGraph job.now.graph }
-    requires run { IsRunOf job.now.graph job.now.run }
-    requires generated { (number : ℕ) → word ≡ Gen number → job.now ≡ gen_job number }
-    ensures made { IfOk result (IsMadeWith word job.now) }
-    ensures err { IfErr result (λ r. HasNoPlan job.now r ⊎ (r ≡ NoMemory)) }
-{
-    let plan = plan_of(rt, alloc, job, gate)?;
-    let planned = PlannedJob { job, plan: &plan };
-    match make(rt, alloc, word, &planned, gate) {
-        Ok(told) => Ok((plan, told)),
-        Err(Memory) => Err(Refusal::Memory),
-    }
 }
 
 // The plan of a job, made by as many workers as the job says.

@@ -5,11 +5,11 @@ ghost use Rattle.spin_words.specs.declared.commands.JobWord.TheVariants.{Gen};
 ghost use Rattle.spin_jobs.specs.Making.{IsOutputAs};
 ghost use Rattle.spin_jobs.specs.Words.{Makes};
 
-use crate::makes::{generated, image, list, output_at_rest, trace};
+use crate::makes::{generated, image, list, reported, trace};
 use crate::outcomes::WordOutput;
 use crate::planned_jobs::PlannedJob;
 use crate::runs::{reinject_job, run_job};
-use spin_base::{Gate, Memory};
+use spin_base::{Gate, Memory, Seq};
 use spin_words::JobWord;
 use std::alloc::Global;
 use std::sync::Wait;
@@ -29,11 +29,11 @@ pub(crate) fn make<R: Threads + Wait + Sync, G: Gate>(
     match word {
         JobWord::Run => {
             let mesh = run_job(rt, alloc, planned, gate)?;
-            output_at_rest(alloc, planned, mesh)
+            reported(alloc, planned, mesh, Seq::new(alloc))
         }
         JobWord::Reinject => {
             let mesh = reinject_job(rt, alloc, planned, gate)?;
-            output_at_rest(alloc, planned, mesh)
+            reported(alloc, planned, mesh, Seq::new(alloc))
         }
         JobWord::Trace => trace(alloc, planned),
         JobWord::Compile => image(alloc, planned),

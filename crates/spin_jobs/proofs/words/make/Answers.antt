@@ -10,18 +10,18 @@ returns-in_ok-mesh-in-Run g c =
     let job = c.args.planned.now.job in
     let plan = c.args.planned.now.plan in
     let done = c.in_ok-mesh-in-Run.ensures in
-    made_by c.output_at_rest.result (Reports HasRunOut) (λ parts text reports. ran c.in-Run.is reports)
-    (reports_at_rest job plan c.in_ok-mesh-in-Run.mesh HasRunOut c.output_at_rest.result done.kept done.at_rest
-    (λ report told. ran_out job plan c.in_ok-mesh-in-Run.mesh report told done.reached done.no_record) c.output_at_rest.ensures)
+    made_by c.reported.result (Reports HasRunOut) (λ parts text reports. ran c.in-Run.is reports)
+    (reports_at_rest job plan c.in_ok-mesh-in-Run.mesh HasRunOut c.new.result c.reported.result c.new.ensures done.kept done.at_rest
+    (λ report told. ran_out job plan c.in_ok-mesh-in-Run.mesh report told done.reached done.no_record) c.reported.ensures)
 
 pub returns-in_ok-mesh-in-Reinject : goal.returns-in_ok-mesh-in-Reinject
 returns-in_ok-mesh-in-Reinject g c =
     let job = c.args.planned.now.job in
     let plan = c.args.planned.now.plan in
     let done = c.in_ok-mesh-in-Reinject.ensures in
-    made_by c.output_at_rest-in-Reinject.result (Reports HasReinjected) (λ parts text reports. reinjected c.in-Reinject.is reports)
-    (reports_at_rest job plan c.in_ok-mesh-in-Reinject.mesh HasReinjected c.output_at_rest-in-Reinject.result done.kept done.at_rest
-    (λ report told. reinjected_as job plan c.in_ok-mesh-in-Reinject.mesh report told done.reached done.no_record) c.output_at_rest-in-Reinject.ensures)
+    made_by c.reported-in-Reinject.result (Reports HasReinjected) (λ parts text reports. reinjected c.in-Reinject.is reports)
+    (reports_at_rest job plan c.in_ok-mesh-in-Reinject.mesh HasReinjected c.new-in-Reinject.result c.reported-in-Reinject.result c.new-in-Reinject.ensures done.kept done.at_rest
+    (λ report told. reinjected_as job plan c.in_ok-mesh-in-Reinject.mesh report told done.reached done.no_record) c.reported-in-Reinject.ensures)
 
 pub returns-in-Trace : goal.returns-in-Trace
 returns-in-Trace g c = made_by c.trace.result (Reports IsTraced) (λ parts text reports. traced c.in-Trace.is reports) c.trace.ensures

@@ -1,19 +1,20 @@
-use Rattle.std.proofs.Common.{ℕ, List, ◌++◌, ◌∙◌, ap}
+use Rattle.std.proofs.Common.{◌≡◌, ℕ, List, ◌++◌, ◌∙◌, ap}
 use Rattle.std.specs.List.{flat_map}
 use Rattle.spin_base.specs.declared.blocks.Block.{Block}
 use Rattle.spin_base.specs.declared.blocks.ChipTable.{ChipTable}
 use Rattle.spin_base.specs.declared.chips.Spot.{Spot}
-use Rattle.run_report.specs.ReportText.{place_line, keys_line, table_lines, event_lines, dump_line, wait_line}
+use Rattle.run_report.specs.ReportText.{place_line, keys_line, table_lines, event_lines, dump_line, wait_line, report_text}
 use Rattle.run_report.proofs.Joining.{then_more}
-use Rattle.run_report.proofs.texts.put_report.Goals as goal
+use Rattle.run_report.proofs.texts.text_of.Goals as goal
 
 pub returns : goal.returns
 returns c =
     let r = c.args.report.now in
-    let old : List ℕ = c.args.text.now.items in
+    let old : List ℕ = c.in_ok-text.text.items in
     let listed : List (List ℕ × Spot) → List (List ℕ × Block) → List ChipTable → List ℕ =
     λ placed keys tables. old ++ (flat_map place_line placed ++ flat_map keys_line keys ++ flat_map table_lines tables)
     in
+    let put : c.put_end.new.text.items ≡ old ++ report_text r =
     then_more _ _ _ _ _ (then_more _ _ _ _ _ (then_more _ _ _ _ _ (then_more _ _ _ _ _ (then_more _ _ _ _ _
     (c.in_ok-put_listed.ensures
     ∙ (ap (λ placed. listed placed c.as_slice-2.result.now c.as_slice-3.result.now) c.as_slice.ensures
@@ -24,3 +25,5 @@ returns c =
     (c.in_ok-put_dumps.ensures ∙ ap (λ dumps. c.put_gots.new.text.items ++ flat_map dump_line dumps) c.as_slice-5.ensures))
     (c.in_ok-put_waits.ensures ∙ ap (λ waits. c.put_dumps.new.text.items ++ flat_map wait_line waits) c.as_slice-6.ensures))
     c.in_ok-put_end.ensures
+    in
+    c.from_vec.ensures ∙ (put ∙ ap (λ text. text ++ report_text r) c.in_ok-text.ensures.items)
