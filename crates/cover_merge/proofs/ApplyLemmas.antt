@@ -14,9 +14,8 @@ use Rattle.tern_word.specs.declared.tables.Alias.{Alias}
 use Rattle.tern_word.specs.declared.tables.Row.{Row}
 use Rattle.tern_word.specs.SoundTable.{IsOrdered}
 use Rattle.tern_word.specs.Ternary.{generality, merge_of}
-use Rattle.cover_merge.specs.Merge.{has_row, rows_at, picked, kept, merge_rows, merged_row, merged_block, place_for, insert_place, after, IsMergeSet}
+use Rattle.cover_merge.specs.Merge.{has_row, rows_at, picked, kept, merge_rows, merged_row, merged_block, place_for, insert_place, after, IsMergeSet, aliases_at}
 use Rattle.cover_merge.proofs.Positions.{rows_at-push, member_before, has-at, place_for-le}
-use Rattle.cover_merge.specs.Aliases.{aliases_at}
 
 -- ---- a place that is not of the set
 

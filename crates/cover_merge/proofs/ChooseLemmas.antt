@@ -8,7 +8,7 @@ use Rattle.std.proofs.lemmas.List.Elements.{All-nil, All-cons}
 use Rattle.std.proofs.lemmas.List.Kept.{AllPairs-cons}
 use Rattle.tern_word.specs.declared.tables.Row.{Row}
 use Rattle.cover_merge.specs.Merge.{IsOneRoute, IsMergeSet, merge_rows}
-use Rattle.cover_merge.proofs.Positions.{pair_set_read}
+use Rattle.cover_merge.proofs.Positions.{pair_set}
 use Rattle.spin_base.proofs.RouteBits.{same_route}
 use Rattle.cover_merge.proofs.Lists.{AllPairs-nil}
 use Rattle.cover_merge.specs.Links.{AreNexts, IsNextOfRoute, IsFirstOfRoute}
@@ -119,12 +119,8 @@ pair_order rows i j pair = pair.set.set.ascending 0 1 0 (omega arith) (omega ari
 pub pair_inside : (rows : List Row) (i j : ℕ) → IsLegalPair rows i j → j < length rows
 pair_inside rows i j pair = pair.set.set.in_range 1 0 (omega arith)
 
-module _ (list rows : List Row) (same : list ≡ rows) (i j : ℕ) (d e : Row) (less : i < j) (within : j < length rows) where
-  inside_list : j < length list
-  inside_list = subst (λ l. j < length l) (sym same) within
-
-  pub pair_made : (get_or list i d).route.bits ≡ (get_or list j e).route.bits → IsMergeSet rows (i ∷ j ∷ [])
-  pair_made equal = pair_set_read list rows same i j d e less inside_list (eq-eqb (get_or list i d).route.bits (get_or list j e).route.bits equal)
+pub pair_made : (rows : List Row) (i j : ℕ) → i < j → j < length rows → ((d : Row) → (get_or rows j d).route.bits ≡ (get_or rows i d).route.bits) → IsMergeSet rows (i ∷ j ∷ [])
+pair_made rows i j less within equal = pair_set rows i j less within (λ d. same_route (get_or rows i d).route (get_or rows j d).route (sym (equal d)))
 
 pub partner_found : (rows : List Row) (i j : ℕ) → ((b : ℕ) → i < b → b < j → IsLegalPair rows i b → ⊥) → IsLegalPair rows i j → IsFirstPartner rows i j
 partner_found rows i j none pair = record { legal = pair; before = λ b less other. none b (pair_order rows i b other) less other }
@@ -211,7 +207,5 @@ are_places bits rows = record {
 }
 
 -- such are those that were gathered from the first row on
-pub places_gathered : (rows list : List Row) (x : ℕ) (gathered places : List ℕ) → list ≡ rows → ((bits : ℕ) → IsFirstOfRoute list bits x → gathered ≡ places_of bits 0 list) → places ≡ gathered → (bits : ℕ) → IsFirstOfRoute rows bits x → ArePlaces bits rows places
-places_gathered rows list x gathered places same found is bits first =
-    let read = subst (λ l. ((b : ℕ) → IsFirstOfRoute l b x → gathered ≡ places_of b 0 l)) same found in
-    subst (ArePlaces bits rows) (sym (is ∙ read bits first)) (are_places bits rows)
+pub places_gathered : (rows : List Row) (x : ℕ) (gathered places : List ℕ) → ((bits : ℕ) → IsFirstOfRoute rows bits x → gathered ≡ places_of bits 0 rows) → places ≡ gathered → (bits : ℕ) → IsFirstOfRoute rows bits x → ArePlaces bits rows places
+places_gathered rows x gathered places found is bits first = subst (ArePlaces bits rows) (sym (is ∙ found bits first)) (are_places bits rows)

@@ -148,12 +148,11 @@ module _ (routes : List ℕ) (rows : List Row) (numbers : List ℕ) (are : AreNu
       }
 
 -- the places of a route that were gathered from its first row on
-pub places_read : (routes : List ℕ) (rows : List Row) (nexts heads : List ℕ) → AreLinks routes rows nexts heads → (c : ℕ) → c < length routes → (x : ℕ) → x ≡ get_or heads c x → (list : List Row) → list ≡ rows → (places : List ℕ)
-    → ((bits : ℕ) → IsFirstOfRoute list bits x → places ≡ places_of bits 0 list) → places ≡ places_of (get_or routes c 0) 0 rows
-places_read routes rows nexts heads links c low x read list same places =
+pub places_read : (routes : List ℕ) (rows : List Row) (nexts heads : List ℕ) → AreLinks routes rows nexts heads → (c : ℕ) → c < length routes → (x : ℕ) → x ≡ get_or heads c x → (places : List ℕ)
+    → ((bits : ℕ) → IsFirstOfRoute rows bits x → places ≡ places_of bits 0 rows) → places ≡ places_of (get_or routes c 0) 0 rows
+places_read routes rows nexts heads links c low x read places found =
     let at : get_or heads c 0 ≡ x = get_or_default heads c 0 x (omega (arith, links.one_each, low)) ∙ sym read in
-    subst (λ l. ((bits : ℕ) → IsFirstOfRoute l bits x → places ≡ places_of bits 0 l) → places ≡ places_of (get_or routes c 0) 0 rows) (sym same)
-    (λ found. found (get_or routes c 0) (subst (IsFirstOfRoute rows (get_or routes c 0)) at (links.head c low)))
+    found (get_or routes c 0) (subst (IsFirstOfRoute rows (get_or routes c 0)) at (links.head c low))
 
 -- ---- one route more of which something is kept
 

@@ -16,10 +16,7 @@ use Rattle.cover_merge.specs.Merge.{has_row, rows_at, kept, merge_rows, merged_r
 use Rattle.cover_merge.proofs.Lists.{All-picked, picked-at, picked-from, All-from_map, All-flat_map, All-from_flat_map, AllPairs-around, AllPairs-into, AllPairs-out}
 use Rattle.cover_merge.proofs.Positions.{All-has, rows_at-from, rows_at-has, place_for-le, place_for-below, place_for-above, member_before}
 
--- the block and the aliases of a merge of at least one row
-pub merge_rows-block : (r : Row) (rows : List Row) → (merge_rows (r ∷ rows)).block ≡ merge_of (map (λ (x : Row). x.block) (r ∷ rows))
-merge_rows-block r rows = refl
-
+-- the block and the aliases of a merge
 merge_rows-block_of : (rows : List Row) → (merge_rows rows).block ≡ merge_of (map (λ (x : Row). x.block) rows)
 merge_rows-block_of [] = refl
 merge_rows-block_of (r ∷ rows) = refl

@@ -1,10 +1,9 @@
 -- Numbers of routes, and the rows of one route one after another.
-use Rattle.std.proofs.Common.{◌≡◌, ◌≢◌, ℕ, zero, suc, ◌+◌, ◌<◌, ◌≤◌, ◌⊎◌, ◌==◌, Bool, true, false, cond, List, [], ◌∷◌, ◌++◌, length, length-append, get_or, take, drop, set, inl, inr, refl, sym, ap, ◌∙◌, subst, arith}
+use Rattle.std.proofs.Common.{◌≡◌, ◌≢◌, ℕ, zero, suc, ◌+◌, ◌<◌, ◌≤◌, ◌⊎◌, ◌==◌, Bool, true, false, cond, List, [], ◌∷◌, ◌++◌, length, length-append, get_or, take, drop, inl, inr, refl, sym, ap, ◌∙◌, subst, arith}
 use Rattle.std.specs.Prelude.{All, map, not, insert}
 use Rattle.std.proofs.lemmas.Bool.{cases_lt, eq-eqb}
 use Rattle.std.proofs.lemmas.Bool.Decides.{eqb_tells}
-use Rattle.std.proofs.lemmas.Grind.{get_or-set_at}
-use Rattle.std.proofs.lemmas.List.{get_or_default, get_or-set_other, get_or_append_left, take_all}
+use Rattle.std.proofs.lemmas.List.{get_or_default, get_or_append_left, take_all}
 use Rattle.std.proofs.Math.Seq.{get_or-append_seam}
 use Rattle.std.proofs.lemmas.List.Elements.{All-cons, All-append, All-take, All-drop}
 use Rattle.spin_base.specs.declared.routes.Route.{Route}
@@ -206,52 +205,6 @@ links_made routes rows numbers once are nexts heads one_next one_head first next
       one_each = one_head;
       head = λ c low. first_from routes rows numbers are once c (get_or heads c 0) low (first c low);
     }
-
--- ---- the loop that links
-
--- where no place is left, nothing is ahead
-pub ahead_end : (numbers : List ℕ) (c x : ℕ) → x ≡ length numbers → IsAhead numbers (length numbers) c x
-ahead_end numbers c x is = record {
-  reached = omega (arith, is);
-  same = λ within. absurd (omega (arith, within, is));
-  none = λ j from before within same. absurd (omega (arith, from, within));
-}
-
--- one place more at the front
-ahead_here : (numbers : List ℕ) (k : ℕ) → IsAhead numbers k (get_or numbers k 0) k
-ahead_here numbers k = record {
-  reached = omega arith;
-  same = λ within. refl;
-  none = λ j from before within same. absurd (omega (arith, from, before));
-}
-
-ahead_past : (numbers : List ℕ) (k c x : ℕ) → c ≢ get_or numbers k 0 → IsAhead numbers (k + 1) c x → IsAhead numbers k c x
-ahead_past numbers k c x differ ahead = record {
-  reached = omega (arith, ahead.reached);
-  same = ahead.same;
-  none = λ j from before within same. elim (cases_lt k j) [
-    | inl later ↦ ahead.none j (omega (arith, later)) before within same
-    | inr here ↦ let at : j ≡ k = omega (arith, from, here) in differ (sym same ∙ ap (λ i. get_or numbers i 0) at)
-  ];
-}
-
-module _ (numbers : List ℕ) (k : ℕ) (inside : k < length numbers) (heads : List ℕ) (low : get_or numbers k 0 < length heads) (all : (c : ℕ) → c < length heads → IsAhead numbers (k + 1) c (get_or heads c 0)) where
-  pub heads_more : (c : ℕ) → c < length heads → IsAhead numbers k c (get_or (set heads (get_or numbers k 0) k) c 0)
-  heads_more c within = by_case (eqb_tells c (get_or numbers k 0))
-    where
-      by_case : ((c == get_or numbers k 0) ≡ true) × (c ≡ get_or numbers k 0) ⊎ ((c == get_or numbers k 0) ≡ false) × (c ≢ get_or numbers k 0) → IsAhead numbers k c (get_or (set heads (get_or numbers k 0) k) c 0)
-      by_case (inl same) = subst (IsAhead numbers k c) (sym (get_or-set_at heads (get_or numbers k 0) c k 0 same.1 low)) (subst (λ n. IsAhead numbers k n k) (sym same.1) (ahead_here numbers k))
-      by_case (inr other) = subst (IsAhead numbers k c) (sym (get_or-set_other heads (get_or numbers k 0) c k 0 other.1)) (ahead_past numbers k c (get_or heads c 0) other.1 (all c within))
-
-  pub next_more : (next : List ℕ) → length next ≡ length numbers → ((j : ℕ) → k + 1 ≤ j → j < length numbers → IsAhead numbers (j + 1) (get_or numbers j 0) (get_or next j 0))
-      → (j : ℕ) → k ≤ j → j < length numbers → IsAhead numbers (j + 1) (get_or numbers j 0) (get_or (set next k (get_or heads (get_or numbers k 0) 0)) j 0)
-  next_more next many before j from within = elim (cases_lt k j) [
-    | inl later ↦ subst (IsAhead numbers (j + 1) (get_or numbers j 0)) (sym (get_or-set_other next k j (get_or heads (get_or numbers k 0) 0) 0 (λ same. omega (arith, same, later)))) (before j (omega (arith, later)) within)
-    | inr here ↦
-        let at : j ≡ k = omega (arith, from, here) in
-        subst (IsAhead numbers (j + 1) (get_or numbers j 0)) (sym (get_or-set_at next k j (get_or heads (get_or numbers k 0) 0) 0 at (omega (arith, many, inside))))
-        (subst (λ i. IsAhead numbers (i + 1) (get_or numbers i 0) (get_or heads (get_or numbers k 0) 0)) (sym at) (all (get_or numbers k 0) low))
-  ]
 
 -- ---- the numbers after a merge
 

@@ -2,8 +2,8 @@
 use Rattle.std.proofs.Common.{◌≡◌, ℕ, zero, suc, ◌+◌, ◌-◌, ◌<◌, ◌≤◌, true, false, cond, ◌||◌, Option, Some, None, List, [], ◌∷◌, ◌++◌, length, get_or, take, drop, refl, sym, ap, ◌∙◌, zero-add, add_comm, length-take, length-drop, get_or-take, get_or-drop, subst, inl, inr, ◌⊎◌, arith}
 use Rattle.std.specs.Prelude.{All, AllPairs, map, nat_le, ◌==◌, slice_get}
 use Rattle.std.specs.List.{cons_option}
-use Rattle.std.proofs.lemmas.List.{take_more, map-append, get_or_default}
-use Rattle.std.proofs.lemmas.Bool.{eqb-true, eq-eqb, or_left, or_right}
+use Rattle.std.proofs.lemmas.List.{take_more, map-append}
+use Rattle.std.proofs.lemmas.Bool.{eq-eqb, or_left, or_right}
 use Rattle.std.proofs.lemmas.Bool.Decides.{leb_tells, eqb_tells, nat_tests}
 use Rattle.std.proofs.lemmas.List.Elements.{All-take, All-drop, filter_map-append, All-nil, All-cons, All-head, All-tail}
 use Rattle.std.proofs.lemmas.List.Sums.{sum_by-append, count_by-le-length}
@@ -13,7 +13,6 @@ use Rattle.tern_word.specs.declared.tables.Row.{Row}
 use Rattle.tern_word.specs.Ternary.{generality, merge_of, merge_two}
 use Rattle.tern_word.specs.SoundTable.{IsOrdered}
 use Rattle.tern_word.proofs.BlockLaws.{generality-merge, merge_of-push}
-use Rattle.spin_base.proofs.RouteBits.{same_route}
 use Rattle.cover_merge.specs.Merge.{SameRoute, has_row, rows_at, merged_block, place_for, insert_place, IsMergeSet}
 use Rattle.cover_merge.specs.Rivals.{is_at_one}
 use Rattle.cover_merge.proofs.Lists.{All-from_map, AllPairs-head, AllPairs-tail}
@@ -196,8 +195,8 @@ module _ (rows : List Row) (i j : ℕ) where
   pair_in_range less within (suc (suc k)) d in_range = absurd (omega arith)
 
   -- two rows of one route are a set
-  pub pair_set : i < j → j < length rows → (r s : Row) → r ≡ get_or rows i r → s ≡ get_or rows j s → r.route ≡ s.route → IsMergeSet rows (i ∷ j ∷ [])
-  pair_set less within r s first second same = record {
+  pub pair_set : i < j → j < length rows → SameRoute rows i j → IsMergeSet rows (i ∷ j ∷ [])
+  pair_set less within alike = record {
     set = record {
       ascending = ascends;
       in_range = pair_in_range less within;
@@ -213,26 +212,12 @@ module _ (rows : List Row) (i j : ℕ) where
       ascends (suc a) zero d before in_range = absurd (omega arith)
       ascends (suc a) (suc b) d before in_range = absurd (omega arith)
 
-      alike : SameRoute rows i j
-      alike d =
-          ap (λ (x : Row). x.route) (get_or_default rows i d r (omega arith) ∙ sym first)
-          ∙ same ∙ ap (λ (x : Row). x.route) (second ∙ get_or_default rows j s d within)
-
       agree : AllPairs (SameRoute rows) (i ∷ j ∷ [])
       agree zero (suc zero) d before in_range = alike
       agree zero zero d before in_range = absurd (omega arith)
       agree zero (suc (suc b)) d before in_range = absurd (omega arith)
       agree (suc a) zero d before in_range = absurd (omega arith)
       agree (suc a) (suc b) d before in_range = absurd (omega arith)
-
--- ---- two rows with one route
-
--- two rows that were read, whose routes came out equal, are a set
-pub pair_set_read : (list rows : List Row) → list ≡ rows → (i j : ℕ) (d e : Row) → i < j → j < length list → ((get_or list i d).route.bits == (get_or list j e).route.bits) ≡ true → IsMergeSet rows (i ∷ j ∷ [])
-pair_set_read list rows same i j d e less within equal =
-    subst (λ l. IsMergeSet l (i ∷ j ∷ [])) same
-    (pair_set list i j less within (get_or list i d) (get_or list j e) (get_or_default list i d (get_or list i d) (omega arith)) (get_or_default list j e (get_or list j e) within)
-    (same_route (get_or list i d).route (get_or list j e).route (eqb-true (get_or list i d).route.bits (get_or list j e).route.bits equal)))
 
 -- ---- numbers of rows at places
 

@@ -10,10 +10,11 @@ use Rattle.std.proofs.lemmas.List.Folds.{list_any-append}
 use Rattle.std.proofs.lemmas.Grind.{get_or-set_at}
 use Rattle.spin_base.specs.declared.blocks.Block.{Block}
 use Rattle.tern_word.specs.declared.tables.Row.{Row}
-use Rattle.tern_word.specs.SoundTable.{Misses}
-use Rattle.cover_merge.specs.Merge.{PassesDown, has_row}
+use Rattle.tern_word.specs.SoundTable.{IsSound, Misses}
+use Rattle.cover_merge.specs.Merge.{IsLegalMerge, PassesDown, has_row, insert_place}
 use Rattle.cover_merge.specs.Rivals.{AreMet, IsPutIn, is_at_one, rivals_left}
 use Rattle.cover_merge.specs.declared.rivals.Rival.{Rival}
+use Rattle.cover_merge.proofs.Legal.{down_from_legal}
 use Rattle.cover_merge.proofs.Lists.{AllPairs-append, AllPairs-nil}
 
 -- ---- rows that a block meets
@@ -83,6 +84,12 @@ next_met block rows i place met now row within so_far is meets at pushed =
     (one_met block (take i rows) met so_far (get_or rows i row) (λ missed. meets (subst (Misses block) (sym is) missed))))
 
 -- the rows from a place on are missed
+-- a legal merge meets no alias of a row from its place on
+pub missed_behind : (rows : List Row) (places : List ℕ) (block : Block) (place : ℕ) → IsSound rows → IsLegalMerge rows places block → place ≡ insert_place rows places → PassesDown rows block place
+missed_behind rows places block place sound merge at =
+    subst (PassesDown rows block) (sym at)
+    (subst (λ b. PassesDown rows b (insert_place rows places)) (sym merge.block) (down_from_legal rows places sound merge.set.set.in_range merge.legal))
+
 pub met_front : (block : Block) (rows : List Row) (place i : ℕ) (met : List ℕ) → i ≡ place → place ≤ length rows → PassesDown rows block place → AreMet block (take i rows) met → AreMet block rows met
 met_front block rows place i met at fits behind front = record {
   ascending = front.ascending;

@@ -1,5 +1,5 @@
 -- Rivals of rows: what they tell of the up-check, and how they are found.
-use Rattle.std.proofs.Common.{◌≡◌, ℕ, zero, suc, ◌+◌, ◌<◌, ◌≤◌, ◌^◌, ◌⊎◌, ◌↔◌, IsTrue, Bool, true, false, List, [], ◌∷◌, ◌++◌, length, get_or, refl, sym, ap, subst, ◌∙◌, length-append, arith, inl, inr}
+use Rattle.std.proofs.Common.{◌≡◌, ℕ, zero, suc, ◌+◌, ◌<◌, ◌≤◌, ◌^◌, ◌⊎◌, ◌↔◌, IsTrue, Bool, true, false, List, [], ◌∷◌, ◌++◌, length, get_or, refl, sym, ap, subst, subst₂, ◌∙◌, length-append, arith, inl, inr}
 use Rattle.std.specs.Prelude.{All, AllPairs, bit_and, ◌==◌}
 use Rattle.std.proofs.lemmas.Bool.{cases_order, cases_lt, eqb-false, eqb-true, or_parts, false_from_ne_true}
 use mathlib.Core.Bool.{true≢false}
@@ -84,41 +84,30 @@ general_behind rows place a g ordered inside level k d from within =
 
 -- ---- a pair
 
-module _ (list rows : List Row) (same : list ≡ rows) (i j : ℕ) (set : IsMergeSet rows (i ∷ j ∷ [])) (sound : IsSound rows) (b : Block) (is : b ≡ merged_block list (i ∷ j ∷ [])) (g : ℕ) (general : g ≡ generality b) where
-  block_is : b ≡ merged_block rows (i ∷ j ∷ [])
-  block_is = is ∙ ap (λ l. merged_block l (i ∷ j ∷ [])) same
-
-  place_is : place_for list g ≡ insert_place rows (i ∷ j ∷ [])
-  place_is = ap (λ l. place_for l g) same ∙ ap (place_for rows) (general ∙ ap generality block_is)
-
-  up_here : (s : ℕ) → PassesUp list (i ∷ j ∷ []) s (place_for list g) → PassesUp rows (i ∷ j ∷ []) s (insert_place rows (i ∷ j ∷ []))
-  up_here s up = subst (λ l. PassesUp l (i ∷ j ∷ []) s (insert_place rows (i ∷ j ∷ []))) same (subst (λ n. PassesUp list (i ∷ j ∷ []) s n) place_is up)
-
-  up_there : (s : ℕ) → PassesUp rows (i ∷ j ∷ []) s (insert_place rows (i ∷ j ∷ [])) → PassesUp list (i ∷ j ∷ []) s (place_for list g)
-  up_there s up = subst (λ n. PassesUp list (i ∷ j ∷ []) s n) (sym place_is) (subst (λ l. PassesUp l (i ∷ j ∷ []) s (insert_place rows (i ∷ j ∷ []))) (sym same) up)
+module _ (rows : List Row) (i j : ℕ) (set : IsMergeSet rows (i ∷ j ∷ [])) (sound : IsSound rows) (b : Block) (is : b ≡ merged_block rows (i ∷ j ∷ [])) (g : ℕ) (general : g ≡ generality b) where
+  place_is : place_for rows g ≡ insert_place rows (i ∷ j ∷ [])
+  place_is = ap (place_for rows) (general ∙ ap generality is)
 
   -- where the up-check of one of them fails, the pair is not legal
-  pub pair_refused : (s : ℕ) (t : Bool) → has_row (i ∷ j ∷ []) s ≡ true → (IsTrue t) ↔ (PassesUp list (i ∷ j ∷ []) s (place_for list g)) → t ≡ false → (IsTrue false) ↔ (IsLegal rows (i ∷ j ∷ []))
+  pub pair_refused : (s : ℕ) (t : Bool) → has_row (i ∷ j ∷ []) s ≡ true → (IsTrue t) ↔ (PassesUp rows (i ∷ j ∷ []) s (place_for rows g)) → t ≡ false → (IsTrue false) ↔ (IsLegal rows (i ∷ j ∷ []))
   pair_refused s t member tells came =
-      answers_no (IsLegal rows (i ∷ j ∷ [])) (λ legal. fails (PassesUp list (i ∷ j ∷ []) s (place_for list g)) t tells came (up_there s (up_from_legal rows (i ∷ j ∷ []) sound set.set.in_range legal s member)))
+      answers_no (IsLegal rows (i ∷ j ∷ [])) (λ legal. fails (PassesUp rows (i ∷ j ∷ []) s (place_for rows g)) t tells came
+      (subst (PassesUp rows (i ∷ j ∷ []) s) (sym place_is) (up_from_legal rows (i ∷ j ∷ []) sound set.set.in_range legal s member)))
 
   -- where both pass it, the down-check decides
-  pub pair_told : (t : Bool) (p : ℕ) → PassesUp list (i ∷ j ∷ []) i (place_for list g) → PassesUp list (i ∷ j ∷ []) j (place_for list g) → p ≡ place_for list g → (IsTrue t) ↔ (PassesDown list b p) → (IsTrue t) ↔ (IsLegal rows (i ∷ j ∷ []))
-  pair_told t p first second place tells = (λ yes. legal_from_checks rows (i ∷ j ∷ []) sound set.set.in_range up (down_here (tells.0 yes)), λ legal. tells.1 (down_there (down_from_legal rows (i ∷ j ∷ []) sound set.set.in_range legal)))
+  pub pair_told : (t : Bool) → PassesUp rows (i ∷ j ∷ []) i (place_for rows g) → PassesUp rows (i ∷ j ∷ []) j (place_for rows g) → (IsTrue t) ↔ (PassesDown rows b (place_for rows g)) → (IsTrue t) ↔ (IsLegal rows (i ∷ j ∷ []))
+  pair_told t first second tells = (
+    λ yes. legal_from_checks rows (i ∷ j ∷ []) sound set.set.in_range up (subst (PassesDown rows (merged_block rows (i ∷ j ∷ []))) place_is (subst (λ x. PassesDown rows x (place_for rows g)) is (tells.0 yes))),
+    λ legal. tells.1 (subst (λ x. PassesDown rows x (place_for rows g)) (sym is) (subst (PassesDown rows (merged_block rows (i ∷ j ∷ []))) (sym place_is) (down_from_legal rows (i ∷ j ∷ []) sound set.set.in_range legal))),
+  )
     where
       up : (s : ℕ) → has_row (i ∷ j ∷ []) s ≡ true → PassesUp rows (i ∷ j ∷ []) s (insert_place rows (i ∷ j ∷ []))
       up s found = by_place (has-place (i ∷ j ∷ []) s found)
         where
           by_place : (k : ℕ) × (k < length (i ∷ j ∷ [])) × (get_or (i ∷ j ∷ []) k 0 ≡ s) → PassesUp rows (i ∷ j ∷ []) s (insert_place rows (i ∷ j ∷ []))
-          by_place (zero, inside, at) = subst (λ n. PassesUp rows (i ∷ j ∷ []) n (insert_place rows (i ∷ j ∷ []))) at (up_here i first)
-          by_place (suc zero, inside, at) = subst (λ n. PassesUp rows (i ∷ j ∷ []) n (insert_place rows (i ∷ j ∷ []))) at (up_here j second)
+          by_place (zero, inside, at) = subst₂ (λ n p. PassesUp rows (i ∷ j ∷ []) n p) at place_is first
+          by_place (suc zero, inside, at) = subst₂ (λ n p. PassesUp rows (i ∷ j ∷ []) n p) at place_is second
           by_place (suc (suc k), inside, at) = absurd (omega arith)
-
-      down_here : PassesDown list b p → PassesDown rows (merged_block rows (i ∷ j ∷ [])) (insert_place rows (i ∷ j ∷ []))
-      down_here down = subst (λ x. PassesDown rows x (insert_place rows (i ∷ j ∷ []))) block_is (subst (λ l. PassesDown l b (insert_place rows (i ∷ j ∷ []))) same (subst (PassesDown list b) (place ∙ place_is) down))
-
-      down_there : PassesDown rows (merged_block rows (i ∷ j ∷ [])) (insert_place rows (i ∷ j ∷ [])) → PassesDown list b p
-      down_there down = subst (PassesDown list b) (sym (place ∙ place_is)) (subst (λ l. PassesDown l b (insert_place rows (i ∷ j ∷ []))) (sym same) (subst (λ x. PassesDown rows x (insert_place rows (i ∷ j ∷ []))) (sym block_is) down))
 
 -- no row up to one of at most a generality is above it
 pub general_before : (rows : List Row) (place : ℕ) (a : Row) (g : ℕ) → IsOrdered rows → place < length rows → generality (get_or rows place a).block ≤ g → (k : ℕ) (d : Row) → k < place + 1 → generality (get_or rows k d).block ≤ g

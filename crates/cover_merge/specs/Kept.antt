@@ -1,10 +1,10 @@
 -- What is kept of a route from merge to merge. It saves refining the rows of a route anew where a merge left them alone.
-use Rattle.std.specs.Prelude.{◌≡◌, ◌≢◌, ℕ, ◌<◌, ◌≤◌, ◌⊎◌, true, List, [], length, slice_index_or}
+use Rattle.std.specs.Prelude.{◌≡◌, ◌≢◌, ℕ, ◌<◌, ◌≤◌, ◌⊎◌, true, List, [], MatchOption, Option, length, slice_index_or}
 use Rattle.spin_base.specs.declared.blocks.Block.{Block}
 use Rattle.tern_word.specs.declared.tables.Row.{Row}
 use Rattle.tern_word.specs.Ternary.{Intersects, LiesIn, generality}
 use Rattle.tern_word.specs.SoundTable.{Misses}
-use Rattle.cover_merge.specs.Merge.{has_row, merged_block, PassesUpCheck, PassesDownCheck}
+use Rattle.cover_merge.specs.Merge.{has_row, merged_block, IsOneRoute, PassesUpCheck, PassesDownCheck}
 use Rattle.cover_merge.specs.Refinement.{IsUpStep, IsDownStep}
 use Rattle.cover_merge.specs.Covering.{places_of}
 
@@ -41,6 +41,12 @@ pub data LeadsWithin (rows : List Row) (outer : Block) (low : ℕ) : List ℕ �
       → LeadsWithin rows outer low places last
   leads_down : (places next last : List ℕ) → 2 ≤ length places → IsDownStep rows places next → LiesIn (merged_block rows places) outer
       → low ≤ generality (merged_block rows places) → LeadsWithin rows outer low next last → LeadsWithin rows outer low places last
+
+-- Places for which the up-check fails were taken out. The merge of those that are left is known where they are two or more.
+pub record IsSifted (rows : List Row) (old new : List ℕ) (found : Option Block) : Type 0 where
+  pub one_route : IsOneRoute rows new
+  pub steps : (outer : Block) (low : ℕ) → LeadsWithin rows outer low old new
+  pub found_is : MatchOption found (length new < 2) (λ merged. (2 ≤ length new) × (merged ≡ merged_block rows new) × (PassesUpCheck rows new))
 
 -- Steps lead from the places at the start to those of the set. Where `low` is at most 32, a block was down-checked: `outer`
 -- is the first and `low` the generality of the last, and the merge of the set lies in the one and is no more general than

@@ -1,5 +1,5 @@
 -- What is known of a table from one merge to the next.
-use Rattle.std.specs.Prelude.{◌≡◌, ℕ, ◌<◌, ◌≤◌, ◌⊎◌, List, Option, Some, None, length, slice_index, slice_index_or}
+use Rattle.std.specs.Prelude.{◌≡◌, ℕ, ◌<◌, ◌≤◌, ◌⊎◌, true, Bool, List, Option, Some, None, length, slice_index, slice_index_or}
 use Rattle.spin_base.specs.declared.blocks.Block.{Block}
 use Rattle.tern_word.specs.declared.tables.Row.{Row}
 use Rattle.tern_word.specs.Ternary.{Intersects, generality}
@@ -8,11 +8,13 @@ use Rattle.cover_merge.specs.Rivals.{IsRivaled}
 use Rattle.cover_merge.specs.Covering.{places_of}
 use Rattle.cover_merge.specs.Kept.{IsKept, RefinesWithin}
 use Rattle.cover_merge.specs.Links.{IsEachOnce, AreNumbers}
-use Rattle.cover_merge.specs.Tried.{AreNoLater, AreTriedUpTo}
+use Rattle.cover_merge.specs.Tried.{AreNewerOf, AreNoLater, AreTriedUpTo}
+use Rattle.cover_merge.specs.declared.choosing.Changes.{Changes}
 use Rattle.cover_merge.specs.declared.choosing.Fresh.{Fresh}
 use Rattle.cover_merge.specs.declared.keeping.Kept.{Kept}
 use Rattle.cover_merge.specs.declared.keeping.Most.{Most}
 use Rattle.cover_merge.specs.declared.knowing.Known.{Known}
+use Rattle.cover_merge.specs.declared.times.Times.{Times}
 
 -- What is kept of the routes is so, for each of which something is kept.
 abbrev pub AreRoutesKept : List ℕ → List Row → List (Option Kept) → Type 0
@@ -35,7 +37,12 @@ pub record IsKnown (rows : List Row) (known : Known) : Type 0 where
   pub one_route : length known.kept.items ≡ length known.routes.items
   pub kept : AreRoutesKept known.routes.items rows known.kept.items
 
--- The same, but for the rivals; and which pairs were tried.
+-- The same, and no row was tried or changed later than now.
+pub record IsKnownAt (now : ℕ) (rows : List Row) (known : Known) : Type 0 where
+  pub told : IsKnown rows known
+  pub marks : AreTriedUpTo now rows known.times.items
+
+-- The same, but for the rivals.
 pub record IsCarried (now : ℕ) (rows : List Row) (known : Known) : Type 0 where
   pub one_each : length known.times.items ≡ length rows
   pub one_time : length known.latest.items ≡ length known.routes.items
@@ -76,3 +83,9 @@ pub record IsMostBefore (routes : List ℕ) (kept : List (Option Kept)) (k : ℕ
 abbrev pub IsFreshlyRefined : List ℕ → List Row → Fresh → Type 0
 IsFreshlyRefined routes rows fresh =
     0 < length fresh.set → (outer : Block) × (low : ℕ) × (RefinesWithin rows outer low (places_of (slice_index routes fresh.number) 0 rows) fresh.set)
+
+-- for each route that is ready, the next rows that changed later are those of all its rows
+pub record AreChanges (rows : List Row) (times : List Times) (routes : List ℕ) (changes : Changes) : Type 0 where
+  pub places : length changes.newer.items ≡ length rows
+  pub one_each : length changes.ready.items ≡ length routes
+  pub newer : (c : ℕ) (e : Bool) → c < length routes → slice_index_or changes.ready.items c e ≡ true → AreNewerOf (slice_index routes c) 0 rows times changes.newer.items

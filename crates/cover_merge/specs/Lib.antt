@@ -1,8 +1,6 @@
 pub use Rattle.tern_word.specs.SoundTable
 pub use Rattle.tern_word.specs.Ternary
 pub mod Merge
-pub mod Aliases
-pub mod Changes
 pub mod Covering
 pub mod Kept
 pub mod Known

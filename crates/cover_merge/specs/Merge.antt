@@ -4,6 +4,7 @@ use Rattle.std.specs.Prelude.{◌≡◌, ℕ, suc, ◌<◌, ◌≤◌, Bool, tru
 use Rattle.std.specs.List.{flat_map, list_any}
 use Rattle.spin_base.specs.declared.blocks.Block.{Block}
 use Rattle.spin_base.specs.Outputs.{nothing}
+use Rattle.tern_word.specs.declared.tables.Alias.{Alias}
 use Rattle.tern_word.specs.declared.tables.Row.{Row}
 use Rattle.tern_word.specs.Ternary.{generality, merge_of, all_keys}
 use Rattle.tern_word.specs.SoundTable.{Misses, IsSound}
@@ -15,6 +16,10 @@ has_row places k = list_any (λ s. s == k) places
 -- the rows at the places, in the order of the places
 abbrev pub rows_at : List Row → List ℕ → List Row
 rows_at rows places = filter_map (slice_get rows) places
+
+-- their aliases, in the order of the places, each row's in its own order
+abbrev pub aliases_at : List Row → List ℕ → List Alias
+aliases_at rows places = flat_map (λ (r : Row). r.aliases) (rows_at rows places)
 
 -- the items whose places, counted from i, pass the test
 abbrev pub picked : {X : Type 0} → (ℕ → Bool) → ℕ → List X → List X

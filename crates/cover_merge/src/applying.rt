@@ -1,9 +1,9 @@
 // The table after a merge.
-ghost use Rattle.std.specs.Prelude.{◌≡◌, ◌<◌, ◌≤◌, ◌^◌, ◌++◌, ◌∷◌, [], All, AllPairs, IfOk, OnOk, OnErr, length, slice_index, insert, not, take, drop, ◌-◌};
+ghost use Rattle.std.specs.Prelude.{◌≡◌, ◌<◌, ◌≤◌, ◌^◌, ◌++◌, ◌∷◌, [], All, IfOk, OnOk, OnErr, length, slice_index, insert, not, take, drop, ◌-◌};
 ghost use Rattle.tern_word.specs.SoundTable.{IsOrdered};
-ghost use Rattle.cover_merge.specs.Merge.{IsMergeSet, after, has_row, kept, merged_row, picked, rows_at};
-ghost use Rattle.cover_merge.specs.Aliases.{aliases_at};
+ghost use Rattle.cover_merge.specs.Merge.{IsMergeSet, after, has_row, kept, merged_row, picked, rows_at, aliases_at};
 
+use crate::gaps::Gaps;
 use crate::merged_block;
 use crate::rivals::place_in;
 use spin_base::{Memory, Seq};
@@ -24,7 +24,11 @@ pub fn apply(alloc: Global, table: &mut Table, places: &Seq<u32>) -> Result<(), 
     let merged = merged_row(alloc, table.rows.as_slice(), members)?;
     let place = place_in(table.rows.as_slice(), generality(merged.block));
     let mut rows = mem::replace(&mut table.rows, Seq::new(alloc)).into_vec();
-    put_in(&mut rows, merged, place, members);
+    let gaps = Gaps {
+        places: members,
+        place,
+    };
+    put_in(&mut rows, merged, gaps);
     table.rows = Seq::from_vec(rows);
     Ok(())
 }
@@ -56,16 +60,15 @@ fn all_aliases(alloc: Global, rows: &[Row], places: &[u32]) -> Result<Seq<Alias>
 }
 
 // Puts the merge in at its place, behind all rows of the set, and takes those out. Each row moves once.
-fn put_in(rows: &mut Vec<Row>, merged: Row, place: u32, places: &[u32])
-    requires some { 0 < length places.now }
-    requires ascending { AllPairs (λ s t. s < t) places.now }
-    requires before { All (λ s. s < place) places.now }
-    requires place { place ≤ length rows.old.items }
-    ensures { rows.new.items ≡ kept places.now 0 (insert rows.old.items place merged) }
+fn put_in(rows: &mut Vec<Row>, merged: Row, gaps: Gaps)
+    requires { gaps.place ≤ length rows.old.items }
+    ensures { rows.new.items ≡ kept gaps.entry.places.now 0 (insert rows.old.items gaps.entry.place merged) }
 {
+    let places = gaps.places;
+    let place = gaps.place;
     for i in 0..places.len() {
         let from = places[i] as usize + 1;
-        let to = next_place(places, i + 1, place);
+        let to = next_place(gaps, i + 1);
         move_down(rows, from, to, i + 1);
     }
     rows[place as usize - places.len()] = merged;
@@ -88,17 +91,16 @@ fn move_down(rows: &mut Vec<Row>, from: usize, to: usize, by: usize)
     rows[from - by..to].rotate_left(by);
 }
 
-/// Puts the item in at the place, and takes out those at the places, which are before it. Each item moves once.
-pub(crate) fn replace_all<T: Copy>(items: &mut Vec<T>, places: &[u32], place: u32, item: T)
-    requires some { 0 < length places.now }
-    requires ascending { AllPairs (λ s t. s < t) places.now }
-    requires before { All (λ s. s < place) places.now }
-    requires place { place ≤ length items.old.items }
-    ensures { items.new.items ≡ picked (λ k. not (has_row places.now k)) 0 (insert items.old.items place item) }
+/// Puts the item in at its place, and takes out those at the places before it. Each item moves once.
+pub(crate) fn replace_all<T: Copy>(items: &mut Vec<T>, gaps: Gaps, item: T)
+    requires { gaps.place ≤ length items.old.items }
+    ensures { items.new.items ≡ picked (λ k. not (has_row gaps.entry.places.now k)) 0 (insert items.old.items gaps.entry.place item) }
 {
+    let places = gaps.places;
+    let place = gaps.place;
     for i in 0..places.len() {
         let from = places[i] as usize + 1;
-        let to = next_place(places, i + 1, place);
+        let to = next_place(gaps, i + 1);
         items.copy_within(from..to, from - 1 - i);
     }
     items[place as usize - places.len()] = item;
@@ -109,13 +111,13 @@ pub(crate) fn replace_all<T: Copy>(items: &mut Vec<T>, places: &[u32], place: u3
 }
 
 // The place of this number, or that behind all.
-fn next_place(places: &[u32], i: usize, place: u32) -> usize
-    requires { i ≤ length places.now }
-    ensures { result ≡ slice_index (places.now ++ place ∷ []) i }
+fn next_place(gaps: Gaps, i: usize) -> usize
+    requires { i ≤ length gaps.places.now }
+    ensures { result ≡ slice_index (gaps.entry.places.now ++ gaps.entry.place ∷ []) i }
 {
-    if i < places.len() {
-        places[i] as usize
+    if i < gaps.places.len() {
+        gaps.places[i] as usize
     } else {
-        place as usize
+        gaps.place as usize
     }
 }

@@ -1,110 +1,82 @@
 // What is known from one merge to the next.
-ghost use Rattle.std.specs.Prelude.{◌≡◌, ◌<◌, ◌≤◌, ◌^◌, [], ℕ, List, All, AllPairs, IfOk, OnOk, MatchBool, ⊤, length, slice_index, slice_index_or};
+ghost use Rattle.std.specs.Prelude.{◌≡◌, ◌<◌, ◌≤◌, [], ℕ, List, All, AllPairs, IfOk, OnOk, MatchBool, ⊤, length, slice_index, slice_index_or};
 ghost use Rattle.tern_word.specs.declared.tables.Row.{Row as ARow};
-ghost use Rattle.tern_word.specs.SoundTable.{HoldsItsAliases, IsSound};
 ghost use Rattle.tern_word.specs.Ternary.{generality};
-ghost use Rattle.cover_merge.specs.Merge.{IsLegalMerge, IsMergeSet, PassesDown, after, merged_block};
-ghost use Rattle.cover_merge.specs.Known.{AreStillKept, HasSameRoutes, IsKnown, MissesAllOf};
+ghost use Rattle.cover_merge.specs.Merge.{IsLegalMerge, IsMergeSet, after, merged_block};
+ghost use Rattle.cover_merge.specs.Known.{AreStillKept, HasSameRoutes, IsKnownAt, MissesAllOf};
 ghost use Rattle.cover_merge.specs.Links.{place_of_route};
 ghost use Rattle.cover_merge.specs.Rivals.{AreMet, AreRivalsAfter, IsPutIn, IsRivaled, rivals_left};
 ghost use Rattle.cover_merge.specs.Tried.{AreNoLater, AreTouched, AreTriedUpTo, IsTouchedAt, LosesNone};
 
 use crate::applying::{apply, replace_all};
+use crate::gaps::Gaps;
 use crate::knowing::Known;
 use crate::merged_block;
+use crate::merging::LegalMerge;
 use crate::rivals::{Rival, Rivals, is_at_one, is_missed, place_in, rivals_behind};
 use crate::spans::push_spans;
 use crate::times::{Times, changed};
-use spin_base::{Block, Memory, Seq};
+use spin_base::{Memory, Seq};
 use std::alloc::Global;
 use std::mem;
 use tern_word::{Row, Table, generality};
 
-/// The places of the rows of which the block meets an alias, where it meets none of a row from this place on.
-pub(crate) fn met_places(
-    alloc: Global,
-    rows: &[Row],
-    block: Block,
-    place: u32,
-) -> Result<Vec<u32>, Memory>
-    requires few { length rows.now < 2 ^ 32 }
-    requires holds { All HoldsItsAliases rows.now }
-    requires behind { (place ≤ length rows.now) × (PassesDown rows.now block place) }
-    ensures { IfOk result (λ met. AreMet block rows.now met.items) }
+/// The places of the rows of which the merge meets an alias: it meets none of a row from its place on.
+pub(crate) fn met_places(alloc: Global, merge: LegalMerge) -> Result<Vec<u32>, Memory>
+    ensures { IfOk result (λ met. AreMet merge.entry.block merge.entry.rows.now met.items) }
 {
+    let rows = merge.rows;
     let mut met = Vec::new(alloc);
-    for s in 0..place as usize {
-        if !is_missed(block, &rows[s]) {
+    for s in 0..merge.gaps.place as usize {
+        if !is_missed(merge.block, &rows[s]) {
             met.push(s as u32)?;
         }
     }
     Ok(met)
 }
 
-/// Carries over when rows were tried and changed to the table after the merge of the rows at the places. The merged row
-/// changed now.
-pub(crate) fn carry_times(
-    rows: &[Row],
-    times: &mut Vec<Times>,
-    places: &[u32],
-    merged: Block,
-    now: usize,
-)
-    requires table { (length rows.now < 2 ^ 32) × (IsSound rows.now) }
-    requires one_each { length times.old.items ≡ length rows.now }
-    requires marks { (AreTriedUpTo now rows.now times.old.items) × (AreTouched places.now now rows.now times.old.items) }
-    requires merge { IsLegalMerge rows.now places.now merged }
-    ensures one_each { length times.new.items ≡ length (after rows.now places.now) }
-    ensures marks { AreTriedUpTo now (after rows.now places.now) times.new.items }
-    ensures latest { (routes latest : List ℕ) → AreNoLater routes latest rows.now times.old.items
+/// Carries over when rows were tried and changed to the table after the merge. The merged row changed now.
+pub(crate) fn carry_times(merge: LegalMerge, times: &mut Vec<Times>, now: usize)
+    requires one_each { length times.old.items ≡ length merge.rows.now }
+    requires marks { (AreTriedUpTo now merge.rows.now times.old.items) × (AreTouched merge.gaps.places.now now merge.rows.now times.old.items) }
+    ensures one_each { length times.new.items ≡ length (after merge.entry.rows.now merge.entry.gaps.places.now) }
+    ensures marks { AreTriedUpTo now (after merge.entry.rows.now merge.entry.gaps.places.now) times.new.items }
+    ensures latest { (routes latest : List ℕ) → AreNoLater routes latest merge.entry.rows.now times.old.items
         → ((d : ARow) → slice_index latest (place_of_route routes
-        (slice_index_or rows.now (slice_index places.now 0) d).route.bits) ≡ now)
-        → AreNoLater routes latest (after rows.now places.now) times.new.items }
+        (slice_index_or merge.entry.rows.now (slice_index merge.entry.gaps.places.now 0) d).route.bits) ≡ now)
+        → AreNoLater routes latest (after merge.entry.rows.now merge.entry.gaps.places.now) times.new.items }
 {
-    let place = place_in(rows, generality(merged));
-    replace_all(times, places, place, changed(now));
+    replace_all(times, merge.gaps, changed(now));
 }
 
-/// Forgets what is kept of routes with a row of which the merge of the rows at the places meets an alias. Says that rows
-/// changed now which lose a row behind them by it, and so may become legal pairs; and that a row of the merge's route did.
-pub(crate) fn touch(
-    rows: &[Row],
-    known: &mut Known,
-    places: &[u32],
-    met: &[u32],
-    merged: Block,
-    now: usize,
-)
-    requires known { IsKnown rows.now known.old }
-    requires marks { AreTriedUpTo now rows.now known.old.times.items }
-    requires merge { (IsMergeSet rows.now places.now) × (merged ≡ merged_block rows.now places.now) }
-    requires met { AreMet merged rows.now met.now }
-    ensures known { IsKnown rows.now known.new }
-    ensures marks { AreTriedUpTo now rows.now known.new.times.items }
-    ensures touched { AreTouched places.now now rows.now known.new.times.items }
+/// Forgets what is kept of routes with a row of which the merge meets an alias. Says that rows changed now which lose a row
+/// behind them by it, and so may become legal pairs; and that a row of the merge's route did.
+pub(crate) fn touch(merge: LegalMerge, known: &mut Known, met: &[u32], now: usize)
+    requires known { IsKnownAt now merge.rows.now known.old }
+    requires met { AreMet merge.block merge.rows.now met.now }
+    ensures known { IsKnownAt now merge.entry.rows.now known.new }
+    ensures touched { AreTouched merge.entry.gaps.places.now now merge.entry.rows.now known.new.times.items }
     ensures own { (d : ARow) → slice_index known.new.latest.items (place_of_route known.new.routes.items
-        (slice_index_or rows.now (slice_index places.now 0) d).route.bits) ≡ now }
+        (slice_index_or merge.entry.rows.now (slice_index merge.entry.gaps.places.now 0) d).route.bits) ≡ now }
     ensures rivals { known.new.rivals ≡ known.old.rivals }
     ensures same { HasSameRoutes known.old known.new }
-    ensures left { AreStillKept (λ c it. MissesAllOf merged rows.now known.old.numbers.items
-        (length rows.now) c) known.old.kept.items known.new.kept.items }
+    ensures left { AreStillKept (λ c it. MissesAllOf merge.entry.block merge.entry.rows.now known.old.numbers.items
+        (length merge.entry.rows.now) c) known.old.kept.items known.new.kept.items }
 {
+    let places = merge.gaps.places;
     let own = known.numbers[places[0] as usize];
     known.latest[own as usize] = now;
     for k in 0..met.len() {
-        touch_at(rows, known, places, now, met[k] as usize);
+        touch_at(merge, known, now, met[k] as usize);
     }
 }
 
 // The same of row `s`, an alias of which the merge meets.
-fn touch_at(rows: &[Row], known: &mut Known, places: &[u32], now: usize, s: usize)
-    requires known { IsKnown rows.now known.old }
-    requires marks { AreTriedUpTo now rows.now known.old.times.items }
-    requires set { IsMergeSet rows.now places.now }
-    requires inside { s < length rows.now }
-    ensures known { IsKnown rows.now known.new }
-    ensures marks { AreTriedUpTo now rows.now known.new.times.items }
-    ensures touched { IsTouchedAt places.now now rows.now s known.old.times.items known.new.times.items }
+fn touch_at(merge: LegalMerge, known: &mut Known, now: usize, s: usize)
+    requires known { IsKnownAt now merge.rows.now known.old }
+    requires inside { s < length merge.rows.now }
+    ensures known { IsKnownAt now merge.entry.rows.now known.new }
+    ensures touched { IsTouchedAt merge.entry.gaps.places.now now merge.entry.rows.now s known.old.times.items known.new.times.items }
     ensures times { (c : ℕ) → slice_index known.old.latest.items c ≡ now
         → slice_index known.new.latest.items c ≡ now }
     ensures rivals { known.new.rivals ≡ known.old.rivals }
@@ -114,25 +86,22 @@ fn touch_at(rows: &[Row], known: &mut Known, places: &[u32], now: usize, s: usiz
 {
     let number = known.numbers[s] as usize;
     known.kept[number] = None;
-    change_at(rows, known, places, now, s);
+    change_at(merge, known, now, s);
 }
 
 // Says of row `s` that it changed now, where it loses a row behind it.
-fn change_at(rows: &[Row], known: &mut Known, places: &[u32], now: usize, s: usize)
-    requires known { IsKnown rows.now known.old }
-    requires marks { AreTriedUpTo now rows.now known.old.times.items }
-    requires set { IsMergeSet rows.now places.now }
-    requires inside { s < length rows.now }
-    ensures known { IsKnown rows.now known.new }
-    ensures marks { AreTriedUpTo now rows.now known.new.times.items }
-    ensures touched { IsTouchedAt places.now now rows.now s known.old.times.items known.new.times.items }
+fn change_at(merge: LegalMerge, known: &mut Known, now: usize, s: usize)
+    requires known { IsKnownAt now merge.rows.now known.old }
+    requires inside { s < length merge.rows.now }
+    ensures known { IsKnownAt now merge.entry.rows.now known.new }
+    ensures touched { IsTouchedAt merge.entry.gaps.places.now now merge.entry.rows.now s known.old.times.items known.new.times.items }
     ensures times { (c : ℕ) → slice_index known.old.latest.items c ≡ now
         → slice_index known.new.latest.items c ≡ now }
     ensures rivals { known.new.rivals ≡ known.old.rivals }
     ensures same { HasSameRoutes known.old known.new }
     ensures kept { known.new.kept.items ≡ known.old.kept.items }
 {
-    if !loses(rows, &known.rivals, places, s) {
+    if !loses(merge, &known.rivals, s) {
         return;
     }
     let number = known.numbers[s] as usize;
@@ -140,13 +109,13 @@ fn change_at(rows: &[Row], known: &mut Known, places: &[u32], now: usize, s: usi
     known.times[s] = changed(now);
 }
 
-// Whether a row at one of the places is a rival of row `s`.
-fn loses(rows: &[Row], rivals: &Rivals, places: &[u32], s: usize) -> bool
-    requires rivaled { IsRivaled rows.now rivals.now }
-    requires set { IsMergeSet rows.now places.now }
-    requires row { s < length rows.now }
-    ensures { MatchBool result ⊤ (LosesNone rows.now places.now s) }
+// Whether a row that is merged is a rival of row `s`.
+fn loses(merge: LegalMerge, rivals: &Rivals, s: usize) -> bool
+    requires rivaled { IsRivaled merge.rows.now rivals.now }
+    requires row { s < length merge.rows.now }
+    ensures { MatchBool result ⊤ (LosesNone merge.entry.rows.now merge.entry.gaps.places.now s) }
 {
+    let places = merge.gaps.places;
     let serial = rivals.serials[s];
     let list = rivals.of[serial].as_slice();
     for k in 0..list.len() {
@@ -177,7 +146,11 @@ pub(crate) fn merge_rows(
     renew_all(alloc, table.rows.as_slice(), rivals, members, met, merged)?;
     let place = place_in(table.rows.as_slice(), merged.general);
     apply(alloc, table, places)?;
-    replace_all(&mut rivals.serials, members, place, merged.serial);
+    let gaps = Gaps {
+        places: members,
+        place,
+    };
+    replace_all(&mut rivals.serials, gaps, merged.serial);
     let at = place as usize - members.len();
     let list = rivals_behind(alloc, table.rows.as_slice(), &rivals.serials, at)?;
     rivals.of.push(list)?;

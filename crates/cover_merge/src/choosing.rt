@@ -1,14 +1,13 @@
 // Which rows are merged next.
 ghost use Rattle.std.specs.Prelude.{◌≡◌, ◌<◌, ◌^◌, ℕ, suc, [], ◌∷◌, All, IfOk, OnOk, IsTrue, MatchBool, MatchOption, None, Some, ⊤, ◌⊎◌, length, slice_index, slice_index_or};
 ghost use Rattle.cover_merge.specs.Rivals.{IsRivaled};
-ghost use Rattle.cover_merge.specs.Tried.{AreNewerOf, AreChangesFrom, AreTried, AreTriedUpTo, IsNextSince};
+ghost use Rattle.cover_merge.specs.Tried.{AreNewerOf, AreChangesFrom, AreTried, IsNextSince};
 ghost use Rattle.cover_merge.specs.declared.keeping.Kept.{Kept as AKept};
 ghost use Rattle.cover_merge.specs.declared.times.Times.{Times as ATimes};
 ghost use Rattle.tern_word.specs.declared.tables.Row.{Row as ARow};
 ghost use Rattle.cover_merge.specs.Links.{AreLinks, AreNexts, IsFirstOfRoute};
 ghost use Rattle.cover_merge.specs.Kept.{RefinesWithin};
-ghost use Rattle.cover_merge.specs.Known.{AreAllKept, IsFreshlyRefined, IsKnown};
-ghost use Rattle.cover_merge.specs.Changes.{AreChanges};
+ghost use Rattle.cover_merge.specs.Known.{AreAllKept, IsFreshlyRefined, IsKnown, IsKnownAt, AreChanges};
 ghost use Rattle.cover_merge.specs.Covering.{places_of, IsFirstPartner, IsLargest, HasNoLargest, IsLegalPair, HasNoLegalPair, IsFirstLegalPair, IsChosen, HasNoChosen};
 
 use crate::keeping::{Kept, most_of};
@@ -16,33 +15,31 @@ use crate::knowing::Known;
 use crate::links::{Links, links_of};
 use crate::meeting::{LastMet, none_met};
 use crate::refining::{Refined, refine_within};
-use crate::rivals::{Rivals, is_legal_pair};
+use crate::rivaled::RivaledRows;
+use crate::rivals::is_legal_pair;
 use crate::times::{Times, marked};
 use spin_base::{Memory, Seq};
 use std::alloc::Global;
-use tern_word::{Row, Table};
+use tern_word::Row;
 
 /// The set of places that is merged next, where there is one: the largest refined set, of equal ones that of the least
 /// route, and where none has two places the first legal pair.
 pub(crate) fn chosen(
     alloc: Global,
-    table: &Table,
+    rows: &[Row],
     known: &mut Known,
     now: usize,
 ) -> Result<Option<Seq<u32>>, Memory>
-    requires known { IsKnown table.now.rows known.old }
-    requires marks { AreTriedUpTo now table.now.rows known.old.times.items }
-    ensures found { IfOk result (λ found. MatchOption found (HasNoChosen table.now.rows) (λ set.
-        IsChosen table.now.rows set)) }
-    ensures known { OnOk result (IsKnown table.now.rows known.new) }
-    ensures marks { OnOk result (AreTriedUpTo now table.now.rows known.new.times.items) }
+    requires { IsKnownAt now rows.now known.old }
+    ensures found { IfOk result (λ found. MatchOption found (HasNoChosen rows.now) (λ set.
+        IsChosen rows.now set)) }
+    ensures known { OnOk result (IsKnownAt now rows.now known.new) }
 {
-    let rows = table.rows.as_slice();
     let links = links_of(alloc, rows, &known.numbers, &known.routes)?;
-    let fresh = keep_all(alloc, table, known, &links)?;
-    match largest(alloc, table, known, &links, fresh)? {
+    let fresh = keep_all(alloc, rows, known, &links)?;
+    match largest(alloc, rows, known, &links, fresh)? {
         Some(set) => Ok(Some(set)),
-        None => first_pair(alloc, table, known, &links, now),
+        None => first_pair(alloc, rows, known, &links, now),
     }
 }
 
@@ -55,13 +52,13 @@ struct Fresh {
 
 // Refines the rows of each route of which nothing is kept, and keeps how many places are left. The largest of these sets, so
 // that it need not be refined once more.
-fn keep_all(alloc: Global, table: &Table, known: &mut Known, links: &Links) -> Result<Fresh, Memory>
-    requires known { IsKnown table.now.rows known.old }
-    requires links { AreLinks known.old.routes.items table.now.rows links.now.next.items
+fn keep_all(alloc: Global, rows: &[Row], known: &mut Known, links: &Links) -> Result<Fresh, Memory>
+    requires known { IsKnown rows.now known.old }
+    requires links { AreLinks known.old.routes.items rows.now links.now.next.items
         links.now.heads.items }
-    ensures known { OnOk result (IsKnown table.now.rows known.new) }
+    ensures known { OnOk result (IsKnown rows.now known.new) }
     ensures all { OnOk result (AreAllKept known.new.routes.items known.new.kept.items) }
-    ensures fresh { IfOk result (IsFreshlyRefined known.new.routes.items table.now.rows) }
+    ensures fresh { IfOk result (IsFreshlyRefined known.new.routes.items rows.now) }
     ensures times { OnOk result (known.new.times.items ≡ known.old.times.items) }
     ensures routes { OnOk result (known.new.routes.items ≡ known.old.routes.items) }
 {
@@ -73,7 +70,7 @@ fn keep_all(alloc: Global, table: &Table, known: &mut Known, links: &Links) -> R
         if is_known(&known.kept, c) {
             continue;
         }
-        let Refined { set, kept } = refined_of(alloc, table, known, links, c)?;
+        let Refined { set, kept } = refined_of(alloc, rows, known, links, c)?;
         known.kept[c] = Some(kept);
         renew_fresh(&mut fresh, c, set);
     }
@@ -104,38 +101,42 @@ fn renew_fresh(fresh: &mut Fresh, c: usize, set: Seq<u32>)
 // The set to which the rows of the route of this number are refined, and what is kept of it.
 fn refined_of(
     alloc: Global,
-    table: &Table,
+    rows: &[Row],
     known: &Known,
     links: &Links,
     c: usize,
 ) -> Result<Refined, Memory>
-    requires known { IsKnown table.now.rows known.now }
-    requires links { AreLinks known.now.routes.items table.now.rows links.now.next.items
+    requires known { IsKnown rows.now known.now }
+    requires links { AreLinks known.now.routes.items rows.now links.now.next.items
         links.now.heads.items }
     requires inside { c < length known.now.routes.items }
-    ensures refined { IfOk result (λ r. RefinesWithin table.now.rows r.kept.outer r.kept.low
-        (places_of (slice_index known.now.routes.items c) 0 table.now.rows) r.set) }
+    ensures refined { IfOk result (λ r. RefinesWithin rows.now r.kept.outer r.kept.low
+        (places_of (slice_index known.now.routes.items c) 0 rows.now) r.set) }
     ensures size { IfOk result (λ r. length r.set ≡ r.kept.size) }
 {
-    let places = places_from(alloc, table.rows.as_slice(), links, links.heads[c])?;
-    refine_within(alloc, table, &known.rivals, places)
+    let places = places_from(alloc, rows, links, links.heads[c])?;
+    let table = RivaledRows {
+        rows,
+        rivals: &known.rivals,
+    };
+    refine_within(alloc, table, places)
 }
 
 // The largest refined set, where one has two places: that of the route of which most places are kept.
 fn largest(
     alloc: Global,
-    table: &Table,
+    rows: &[Row],
     known: &Known,
     links: &Links,
     fresh: Fresh,
 ) -> Result<Option<Seq<u32>>, Memory>
-    requires known { IsKnown table.now.rows known.now }
+    requires known { IsKnown rows.now known.now }
     requires all { AreAllKept known.now.routes.items known.now.kept.items }
-    requires links { AreLinks known.now.routes.items table.now.rows links.now.next.items
+    requires links { AreLinks known.now.routes.items rows.now links.now.next.items
         links.now.heads.items }
-    requires fresh { IsFreshlyRefined known.now.routes.items table.now.rows fresh }
-    ensures { IfOk result (λ found. MatchOption found (HasNoLargest table.now.rows) (λ set.
-        IsLargest table.now.rows set)) }
+    requires fresh { IsFreshlyRefined known.now.routes.items rows.now fresh }
+    ensures { IfOk result (λ found. MatchOption found (HasNoLargest rows.now) (λ set.
+        IsLargest rows.now set)) }
 {
     let most = most_of(&known.routes, &known.kept);
     if most.size < 2 {
@@ -144,7 +145,7 @@ fn largest(
     if fresh.number == most.number && fresh.set.len() == most.size {
         return Ok(Some(fresh.set));
     }
-    let Refined { set, kept: _ } = refined_of(alloc, table, known, links, most.number)?;
+    let Refined { set, kept: _ } = refined_of(alloc, rows, known, links, most.number)?;
     Ok(Some(set))
 }
 
@@ -175,31 +176,29 @@ struct Changes {
 // route changes.
 fn first_pair(
     alloc: Global,
-    table: &Table,
+    rows: &[Row],
     known: &mut Known,
     links: &Links,
     now: usize,
 ) -> Result<Option<Seq<u32>>, Memory>
-    requires known { IsKnown table.now.rows known.old }
-    requires marks { AreTriedUpTo now table.now.rows known.old.times.items }
-    requires links { AreLinks known.old.routes.items table.now.rows links.now.next.items
+    requires known { IsKnownAt now rows.now known.old }
+    requires links { AreLinks known.old.routes.items rows.now links.now.next.items
         links.now.heads.items }
-    ensures found { IfOk result (λ found. MatchOption found (HasNoLegalPair table.now.rows) (λ set.
-        IsFirstLegalPair table.now.rows set)) }
-    ensures known { OnOk result (IsKnown table.now.rows known.new) }
-    ensures marks { OnOk result (AreTriedUpTo now table.now.rows known.new.times.items) }
+    ensures found { IfOk result (λ found. MatchOption found (HasNoLegalPair rows.now) (λ set.
+        IsFirstLegalPair rows.now set)) }
+    ensures known { OnOk result (IsKnownAt now rows.now known.new) }
 {
     let mut changes = Changes {
-        newer: vec![in alloc; 0u32; table.rows.len()]?,
+        newer: vec![in alloc; 0u32; rows.len()]?,
         ready: vec![in alloc; false; known.routes.len()]?,
     };
     let mut last = none_met();
-    for i in 0..table.rows.len() {
+    for i in 0..rows.len() {
         if is_settled(known, i) {
             continue;
         }
-        make_ready(alloc, table, known, links, &mut changes, i)?;
-        if let Some(j) = partner(table, known, links, &changes.newer, i as u32, &mut last) {
+        make_ready(alloc, rows, known, links, &mut changes, i)?;
+        if let Some(j) = partner(rows, known, links, &changes.newer, i as u32, &mut last) {
             return Ok(Some(two_places(alloc, i as u32, j)?));
         }
         known.times[i] = marked(known.times[i], now);
@@ -221,26 +220,26 @@ fn is_settled(known: &Known, i: usize) -> bool
 // Makes the changes of the route of row `i` ready, where they are not yet.
 fn make_ready(
     alloc: Global,
-    table: &Table,
+    rows: &[Row],
     known: &Known,
     links: &Links,
     changes: &mut Changes,
     i: usize,
 ) -> Result<(), Memory>
-    requires known { IsKnown table.now.rows known.now }
-    requires links { AreLinks known.now.routes.items table.now.rows links.now.next.items
+    requires known { IsKnown rows.now known.now }
+    requires links { AreLinks known.now.routes.items rows.now links.now.next.items
         links.now.heads.items }
-    requires changes { AreChanges table.now.rows known.now.times.items known.now.routes.items changes.old }
-    requires inside { i < length table.now.rows }
-    ensures changes { OnOk result (AreChanges table.now.rows known.now.times.items known.now.routes.items changes.new) }
-    ensures own { OnOk result ((d : ARow) → AreNewerOf (slice_index_or table.now.rows i d).route.bits 0
-        table.now.rows known.now.times.items changes.new.newer.items) }
+    requires changes { AreChanges rows.now known.now.times.items known.now.routes.items changes.old }
+    requires inside { i < length rows.now }
+    ensures changes { OnOk result (AreChanges rows.now known.now.times.items known.now.routes.items changes.new) }
+    ensures own { OnOk result ((d : ARow) → AreNewerOf (slice_index_or rows.now i d).route.bits 0
+        rows.now known.now.times.items changes.new.newer.items) }
 {
     let c = known.numbers[i] as usize;
     if !changes.ready[c] {
         find_newer(
             alloc,
-            table,
+            rows,
             &known.times,
             links,
             &mut changes.newer,
@@ -254,31 +253,31 @@ fn make_ready(
 // Finds for each row of the route whose first row is that at the place the next of it that changed later.
 fn find_newer(
     alloc: Global,
-    table: &Table,
+    rows: &[Row],
     times: &[Times],
     links: &Links,
     newer: &mut Vec<u32>,
     first: u32,
 ) -> Result<(), Memory>
-    requires few { length table.now.rows < 2 ^ 32 }
-    requires one_each { (length times.now ≡ length table.now.rows) × (length newer.old.items ≡ length table.now.rows) }
-    requires nexts { AreNexts table.now.rows links.now.next.items }
-    requires first { (bits : ℕ) × IsFirstOfRoute table.now.rows bits first }
-    ensures one_each { OnOk result (length newer.new.items ≡ length table.now.rows) }
-    ensures own { OnOk result ((bits : ℕ) → IsFirstOfRoute table.now.rows bits first
-        → AreNewerOf bits 0 table.now.rows times.now newer.new.items) }
-    ensures others { OnOk result ((bits k : ℕ) (d : ARow) → IsFirstOfRoute table.now.rows bits first
-        → k < length table.now.rows → ((slice_index_or table.now.rows k d).route.bits ≡ bits → ⊥)
+    requires few { length rows.now < 2 ^ 32 }
+    requires one_each { (length times.now ≡ length rows.now) × (length newer.old.items ≡ length rows.now) }
+    requires nexts { AreNexts rows.now links.now.next.items }
+    requires first { (bits : ℕ) × IsFirstOfRoute rows.now bits first }
+    ensures one_each { OnOk result (length newer.new.items ≡ length rows.now) }
+    ensures own { OnOk result ((bits : ℕ) → IsFirstOfRoute rows.now bits first
+        → AreNewerOf bits 0 rows.now times.now newer.new.items) }
+    ensures others { OnOk result ((bits k : ℕ) (d : ARow) → IsFirstOfRoute rows.now bits first
+        → k < length rows.now → ((slice_index_or rows.now k d).route.bits ≡ bits → ⊥)
         → slice_index newer.new.items k ≡ slice_index newer.old.items k) }
 {
-    let list = places_from(alloc, table.rows.as_slice(), links, first)?;
+    let list = places_from(alloc, rows, links, first)?;
     let places = list.as_slice();
     let mut k = places.len();
     while k > 0 {
         k -= 1;
         let place = places[k];
         newer[place as usize] = changed_after(
-            table,
+            rows,
             times,
             links,
             newer,
@@ -307,20 +306,20 @@ fn tried_at(times: &[Times], place: usize) -> usize
 
 // The next row of the route of row `k` that changed after the time.
 fn changed_after(
-    table: &Table,
+    rows: &[Row],
     times: &[Times],
     links: &Links,
     newer: &[u32],
     k: u32,
     time: usize,
 ) -> u32
-    requires changes { (d : ARow) → AreChangesFrom (slice_index_or table.now.rows k d).route.bits (suc k)
-        table.now.rows times.now links.now.next.items newer.now }
-    requires inside { k < length table.now.rows }
-    ensures { IsNextSince table.now.rows times.now k (suc time) result }
+    requires changes { (d : ARow) → AreChangesFrom (slice_index_or rows.now k d).route.bits (suc k)
+        rows.now times.now links.now.next.items newer.now }
+    requires inside { k < length rows.now }
+    ensures { IsNextSince rows.now times.now k (suc time) result }
 {
     let mut place = links.next[k as usize];
-    while (place as usize) < table.rows.len() {
+    while (place as usize) < rows.len() {
         let changed = changed_at(times, place as usize);
         if changed > time {
             return place;
@@ -333,23 +332,23 @@ fn changed_after(
 // The next row of the route of row `k` that changed at the time or later: only such a row need be tried with one that was
 // tried then.
 fn next_to_try(
-    table: &Table,
+    rows: &[Row],
     times: &[Times],
     links: &Links,
     newer: &[u32],
     k: u32,
     time: usize,
 ) -> u32
-    requires changes { (d : ARow) → AreChangesFrom (slice_index_or table.now.rows k d).route.bits 0 table.now.rows
+    requires changes { (d : ARow) → AreChangesFrom (slice_index_or rows.now k d).route.bits 0 rows.now
         times.now links.now.next.items newer.now }
-    requires inside { k < length table.now.rows }
-    ensures { IsNextSince table.now.rows times.now k time result }
+    requires inside { k < length rows.now }
+    ensures { IsNextSince rows.now times.now k time result }
 {
     let next = links.next[k as usize];
     if time == 0 {
         return next;
     }
-    changed_after(table, times, links, newer, k, time - 1)
+    changed_after(rows, times, links, newer, k, time - 1)
 }
 
 // The list of two places.
@@ -364,29 +363,33 @@ fn two_places(alloc: Global, i: u32, j: u32) -> Result<Seq<u32>, Memory>
 
 // The first row behind row `i` that can be merged with it: only those of its route can that changed since it was tried.
 fn partner(
-    table: &Table,
+    rows: &[Row],
     known: &Known,
     links: &Links,
     newer: &[u32],
     i: u32,
     last: &mut LastMet,
 ) -> Option<u32>
-    requires rivaled { IsRivaled table.now.rows known.now.rivals }
-    requires tried { AreTried table.now.rows known.now.times.items }
-    requires changes { (d : ARow) → AreChangesFrom (slice_index_or table.now.rows i d).route.bits 0 table.now.rows
+    requires rivaled { IsRivaled rows.now known.now.rivals }
+    requires tried { AreTried rows.now known.now.times.items }
+    requires changes { (d : ARow) → AreChangesFrom (slice_index_or rows.now i d).route.bits 0 rows.now
         known.now.times.items links.now.next.items newer.now }
-    requires inside { i < length table.now.rows }
-    ensures { MatchOption result ((b : ℕ) → IsLegalPair table.now.rows i b
-        → ⊥) (λ j. IsFirstPartner table.now.rows i j) }
+    requires inside { i < length rows.now }
+    ensures { MatchOption result ((b : ℕ) → IsLegalPair rows.now i b
+        → ⊥) (λ j. IsFirstPartner rows.now i j) }
 {
+    let table = RivaledRows {
+        rows,
+        rivals: &known.rivals,
+    };
     let times = known.times.as_slice();
     let tried = tried_at(times, i as usize);
-    let mut j = next_to_try(table, times, links, newer, i, tried);
-    while (j as usize) < table.rows.len() {
-        if is_legal_pair(table, &known.rivals, i, j, last) {
+    let mut j = next_to_try(rows, times, links, newer, i, tried);
+    while (j as usize) < rows.len() {
+        if is_legal_pair(table, i, j, last) {
             return Some(j);
         }
-        j = next_to_try(table, times, links, newer, j, tried);
+        j = next_to_try(rows, times, links, newer, j, tried);
     }
     None
 }

@@ -2,23 +2,25 @@
 ghost use Rattle.std.specs.Prelude.{◌≡◌, ◌<◌, ◌≤◌, ◌^◌, ◌⊎◌, IfOk, OnOk, MatchOption, length, slice_index};
 ghost use Rattle.tern_word.specs.SoundTable.{IsSound, served};
 ghost use Rattle.std.specs.List.Sorted.{IsPermutation};
-ghost use Rattle.cover_merge.specs.Merge.{IsLegal, IsLegalMerge, IsMergeSet, after};
-ghost use Rattle.cover_merge.specs.Known.{AreStillKept, IsApart, IsCarried, IsKnown};
+ghost use Rattle.cover_merge.specs.Merge.{IsLegal, IsMergeSet, after};
+ghost use Rattle.cover_merge.specs.Known.{AreStillKept, IsApart, IsCarried, IsKnown, IsKnownAt};
 ghost use Rattle.cover_merge.specs.Rivals.{AreMet};
-ghost use Rattle.cover_merge.specs.Tried.{AreTriedUpTo};
 ghost use Rattle.cover_merge.specs.Covering.{Covers, HasNoChosen, HasNoLegalPair, HasRoutesOf, IsChosen};
 ghost use Rattle.cover_merge.specs.Merges.{sets_of};
 
 use crate::carrying::{carry_times, merge_rows, met_places, touch};
 use crate::choosing::chosen;
+use crate::gaps::Gaps;
 use crate::keeping::{forget_near, forget_own};
 use crate::knowing::{Known, known_of};
 use crate::links::carry_numbers;
 use crate::merged_block;
+use crate::merging::LegalMerge;
+use crate::rivaled::SoundRows;
 use crate::rivals::place_in;
-use spin_base::{Block, Memory, Seq, Shared};
+use spin_base::{Memory, Seq, Shared};
 use std::alloc::Global;
-use tern_word::{Row, Table, generality};
+use tern_word::{Table, generality};
 
 /// A merge that was made: the places of the rows in the table before it.
 #[derive(Drop)]
@@ -49,7 +51,9 @@ pub fn cover(alloc: Global, mut table: Table, target: u32) -> Result<Covered, Me
     ensures ended { IfOk result (λ c. (length c.table.rows ≤ target)
         ⊎ (HasNoLegalPair c.table.rows)) }
 {
-    let mut known = known_of(alloc, table.rows.as_slice())?;
+    let rows = table.rows.as_slice();
+    let sound = SoundRows { rows };
+    let mut known = known_of(alloc, sound)?;
     let mut merges = Seq::new(alloc);
     'merging: while table.rows.len() > target as usize {
         let now = merges.len();
@@ -68,16 +72,14 @@ fn merge_next(
     known: &mut Known,
     now: usize,
 ) -> Result<Option<Seq<u32>>, Memory>
-    requires known { IsKnown table.old.rows known.old }
-    requires marks { AreTriedUpTo now table.old.rows known.old.times.items }
+    requires { IsKnownAt now table.old.rows known.old }
     ensures found { IfOk result (λ made. MatchOption made (HasNoChosen table.old.rows)
         (IsChosen table.old.rows)) }
     ensures table { IfOk result (λ made. MatchOption made (table.new.rows
         ≡ table.old.rows) (λ places. table.new.rows ≡ after table.old.rows places)) }
-    ensures known { OnOk result (IsKnown table.new.rows known.new) }
-    ensures marks { OnOk result (AreTriedUpTo now table.new.rows known.new.times.items) }
+    ensures known { OnOk result (IsKnownAt now table.new.rows known.new) }
 {
-    match chosen(alloc, table, known, now)? {
+    match chosen(alloc, table.rows.as_slice(), known, now)? {
         Some(places) => {
             merge_at(alloc, table, known, &places, now)?;
             Ok(Some(places))
@@ -94,57 +96,52 @@ fn merge_at(
     places: &Seq<u32>,
     now: usize,
 ) -> Result<(), Memory>
-    requires known { IsKnown table.old.rows known.old }
-    requires marks { AreTriedUpTo now table.old.rows known.old.times.items }
+    requires known { IsKnownAt now table.old.rows known.old }
     requires merge { (IsMergeSet table.old.rows places.now) × (IsLegal table.old.rows places.now) }
     ensures table { OnOk result (table.new.rows ≡ after table.old.rows places.now) }
-    ensures known { OnOk result (IsKnown table.new.rows known.new) }
-    ensures marks { OnOk result (AreTriedUpTo now table.new.rows known.new.times.items) }
+    ensures known { OnOk result (IsKnownAt now table.new.rows known.new) }
 {
     let rows = table.rows.as_slice();
     let members = places.as_slice();
-    let merged = merged_block(rows, members);
-    let place = place_in(rows, generality(merged));
-    let met = met_places(alloc, rows, merged, place)?;
-    carry_over(rows, known, members, &met, merged, now);
+    let block = merged_block(rows, members);
+    let place = place_in(rows, generality(block));
+    let gaps = Gaps {
+        places: members,
+        place,
+    };
+    let merge = LegalMerge { rows, gaps, block };
+    let met = met_places(alloc, merge)?;
+    carry_over(merge, known, &met, now);
     merge_rows(alloc, table, &mut known.rivals, places, &met)
 }
 
-// Carries over what is known to the table after the merge of the rows at the places, but for the rivals of rows.
-fn carry_over(
-    rows: &[Row],
-    known: &mut Known,
-    places: &[u32],
-    met: &[u32],
-    merged: Block,
-    now: usize,
-)
-    requires known { (IsKnown rows.now known.old) × (AreTriedUpTo now rows.now known.old.times.items) }
-    requires merge { IsLegalMerge rows.now places.now merged }
-    requires met { AreMet merged rows.now met.now }
-    ensures carried { IsCarried now (after rows.now places.now) known.new }
+// Carries over what is known to the table after the merge, but for the rivals of rows.
+fn carry_over(merge: LegalMerge, known: &mut Known, met: &[u32], now: usize)
+    requires known { IsKnownAt now merge.rows.now known.old }
+    requires met { AreMet merge.block merge.rows.now met.now }
+    ensures carried { IsCarried now (after merge.entry.rows.now merge.entry.gaps.places.now) known.new }
     ensures rivals { known.new.rivals ≡ known.old.rivals }
 {
-    touch(rows, known, places, met, merged, now);
-    forget(rows, known, places, merged);
-    carry_numbers(rows, &mut known.numbers, places);
-    carry_times(rows, &mut known.times, places, merged, now);
+    touch(merge, known, met, now);
+    forget(merge, known);
+    carry_numbers(merge, &mut known.numbers);
+    carry_times(merge, &mut known.times, now);
 }
 
-// Forgets what is kept of the route of the rows at the places, and of routes for which a block was down-checked that their
+// Forgets what is kept of the route of the rows that are merged, and of routes for which a block was down-checked that the
 // merge may meet.
-fn forget(rows: &[Row], known: &mut Known, places: &[u32], merged: Block)
-    requires known { IsKnown rows.now known.old }
-    requires set { IsMergeSet rows.now places.now }
-    ensures left { AreStillKept (λ c it. (c ≡ slice_index known.old.numbers.items (slice_index places.now 0)
-        → ⊥) × (IsApart merged it)) known.old.kept.items known.new.kept.items }
+fn forget(merge: LegalMerge, known: &mut Known)
+    requires { IsKnown merge.rows.now known.old }
+    ensures left { AreStillKept (λ c it. (c ≡ slice_index known.old.numbers.items (slice_index merge.entry.gaps.places.now 0)
+        → ⊥) × (IsApart merge.entry.block it)) known.old.kept.items known.new.kept.items }
     ensures times { known.new.times.items ≡ known.old.times.items }
     ensures numbers { known.new.numbers.items ≡ known.old.numbers.items }
     ensures rivals { known.new.rivals ≡ known.old.rivals }
     ensures routes { known.new.routes.items ≡ known.old.routes.items }
     ensures latest { known.new.latest.items ≡ known.old.latest.items }
 {
+    let places = merge.gaps.places;
     let own = known.numbers[places[0] as usize] as usize;
     forget_own(&mut known.kept, own);
-    forget_near(&mut known.kept, merged);
+    forget_near(&mut known.kept, merge.block);
 }

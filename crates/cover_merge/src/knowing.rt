@@ -1,16 +1,14 @@
 // What covering knows of a table from one merge to the next.
-ghost use Rattle.std.specs.Prelude.{◌<◌, ◌^◌, IfOk, length};
-ghost use Rattle.tern_word.specs.SoundTable.{IsSound};
-ghost use Rattle.cover_merge.specs.Known.{IsKnown};
-ghost use Rattle.cover_merge.specs.Tried.{AreTriedUpTo};
+ghost use Rattle.std.specs.Prelude.{IfOk};
+ghost use Rattle.cover_merge.specs.Known.{IsKnownAt};
 
 use crate::keeping::Kept;
 use crate::links::{numbers_of, routes_of};
+use crate::rivaled::SoundRows;
 use crate::rivals::{Rivals, rivals_of};
 use crate::times::{Times, changed};
 use spin_base::Memory;
 use std::alloc::Global;
-use tern_word::Row;
 
 /// The rivals of each row, when it was tried and changed, and the number of its route; and for each route its bits, what is
 /// kept of it, and when a row of it last changed.
@@ -25,13 +23,11 @@ pub(crate) struct Known {
 }
 
 /// What is known of a table before any merge.
-pub(crate) fn known_of(alloc: Global, rows: &[Row]) -> Result<Known, Memory>
-    requires few { length rows.now < 2 ^ 32 }
-    requires sound { IsSound rows.now }
-    ensures known { IfOk result (IsKnown rows.now) }
-    ensures marks { IfOk result (λ known. AreTriedUpTo 0 rows.now known.times.items) }
+pub(crate) fn known_of(alloc: Global, table: SoundRows) -> Result<Known, Memory>
+    ensures { IfOk result (IsKnownAt 0 table.entry.rows.now) }
 {
-    let rivals = rivals_of(alloc, rows)?;
+    let rows = table.rows;
+    let rivals = rivals_of(alloc, table)?;
     let times = vec![in alloc; changed(0); rows.len()]?;
     let routes = routes_of(alloc, rows)?;
     let numbers = numbers_of(alloc, rows, &routes)?;

@@ -1,15 +1,13 @@
 // The rows of one route, one after another.
 ghost use Rattle.std.specs.Prelude.{◌≡◌, ◌+◌, ◌<◌, ◌^◌, ℕ, List, All, IfOk, OnOk, length, slice_index};
-ghost use Rattle.tern_word.specs.SoundTable.{IsOrdered};
-ghost use Rattle.cover_merge.specs.Merge.{IsMergeSet, after};
+ghost use Rattle.cover_merge.specs.Merge.{after};
 ghost use Rattle.cover_merge.specs.Links.{place_of_route, AreRoutes, IsRouteAdded, IsEachOnce, AreNumbers, IsAhead, AreLinks};
 
 use crate::applying::replace_all;
-use crate::merged_block;
-use crate::rivals::place_in;
+use crate::merging::LegalMerge;
 use spin_base::Memory;
 use std::alloc::Global;
-use tern_word::{Row, generality};
+use tern_word::Row;
 
 /// For each row the place of the next row of its route, and for each route that of the first.
 #[derive(Drop)]
@@ -65,18 +63,15 @@ fn number_of(routes: &[u32], bits: u32) -> usize
     routes.len()
 }
 
-/// The numbers of the rows of the table after the merge of the rows at the places.
-pub(crate) fn carry_numbers(rows: &[Row], numbers: &mut Vec<u32>, places: &[u32])
-    requires few { length rows.now < 2 ^ 32 }
-    requires ordered { IsOrdered rows.now }
-    requires one_each { length numbers.old.items ≡ length rows.now }
-    requires set { IsMergeSet rows.now places.now }
-    ensures { (routes : List ℕ) → AreNumbers routes rows.now numbers.old.items
-        → AreNumbers routes (after rows.now places.now) numbers.new.items }
+/// The numbers of the rows of the table after the merge.
+pub(crate) fn carry_numbers(merge: LegalMerge, numbers: &mut Vec<u32>)
+    requires { length numbers.old.items ≡ length merge.rows.now }
+    ensures { (routes : List ℕ) → AreNumbers routes merge.entry.rows.now numbers.old.items
+        → AreNumbers routes (after merge.entry.rows.now merge.entry.gaps.places.now) numbers.new.items }
 {
-    let place = place_in(rows, generality(merged_block(rows, places)));
+    let places = merge.gaps.places;
     let number = numbers[places[0] as usize];
-    replace_all(numbers, places, place, number);
+    replace_all(numbers, merge.gaps, number);
 }
 
 /// The next row of the route of each row, and the first row of each route.

@@ -1,14 +1,14 @@
 // The down-check: the first alias behind that a block meets. A pair often meets one that a pair before it met. So the places of
 // such aliases are remembered, and looked at first.
 ghost use Rattle.std.specs.Prelude.{◌≡◌, ◌↔◌, ◌<◌, All, IsTrue, MatchOption, length, slice_index_or};
-ghost use Rattle.tern_word.specs.SoundTable.{IsOrdered, Misses};
+ghost use Rattle.tern_word.specs.SoundTable.{Misses};
 ghost use Rattle.tern_word.specs.Ternary.{Intersects, generality};
 ghost use Rattle.tern_word.specs.declared.tables.Row.{Row as ARow};
 ghost use Rattle.cover_merge.specs.Merge.{PassesDown, place_for};
 ghost use Rattle.cover_merge.specs.Refinement.{IsFirstMet, IsFirstMetFrom};
-ghost use Rattle.cover_merge.specs.Rivals.{IsRivaled};
 
-use crate::rivals::{Rivals, place_in};
+use crate::rivaled::RivaledRows;
+use crate::rivals::place_in;
 use crate::spans::first_met;
 use spin_base::Block;
 use tern_word::{Alias, Row, generality, intersects};
@@ -50,19 +50,18 @@ pub(crate) fn none_met() -> LastMet {
 
 /// Whether the block meets no alias of a row that is more general than `general`.
 pub(crate) fn passes_behind(
-    rows: &[Row],
-    rivals: &Rivals,
+    table: RivaledRows,
     block: Block,
     general: u32,
     last: &mut LastMet,
 ) -> bool
-    requires { IsRivaled rows.now rivals.now }
-    ensures { IsTrue result ↔ PassesDown rows.now block (place_for rows.now general) }
+    ensures { IsTrue result ↔ PassesDown table.entry.rows.now block (place_for table.entry.rows.now general) }
 {
-    if meets_again(rows, block, general, last) {
+    if meets_again(table, block, general, last) {
         return false;
     }
-    match first_met_from(rows, rivals, block, place_in(rows, general)) {
+    let rows = table.rows;
+    match first_met_from(table, block, place_in(rows, general)) {
         Some(met) => {
             remember(last, met.place);
             false
@@ -72,12 +71,11 @@ pub(crate) fn passes_behind(
 }
 
 // Whether the block meets an alias at one of the places, of a row that is more general. Then that place comes first.
-fn meets_again(rows: &[Row], block: Block, general: u32, last: &mut LastMet) -> bool
-    requires { IsOrdered rows.now }
-    ensures { IsTrue result → PassesDown rows.now block (place_for rows.now general) → ⊥ }
+fn meets_again(table: RivaledRows, block: Block, general: u32, last: &mut LastMet) -> bool
+    ensures { IsTrue result → PassesDown table.entry.rows.now block (place_for table.entry.rows.now general) → ⊥ }
 {
     for k in 0..REMEMBERED {
-        if meets_at(rows, block, general, last.places[k]) {
+        if meets_at(table, block, general, last.places[k]) {
             bring_first(last, k);
             return true;
         }
@@ -103,10 +101,10 @@ fn remember(last: &mut LastMet, place: AliasPlace) {
 }
 
 // Whether an alias stands at the place that the block meets, of a row that is more general.
-fn meets_at(rows: &[Row], block: Block, general: u32, place: AliasPlace) -> bool
-    requires { IsOrdered rows.now }
-    ensures { IsTrue result → PassesDown rows.now block (place_for rows.now general) → ⊥ }
+fn meets_at(table: RivaledRows, block: Block, general: u32, place: AliasPlace) -> bool
+    ensures { IsTrue result → PassesDown table.entry.rows.now block (place_for table.entry.rows.now general) → ⊥ }
 {
+    let rows = table.rows;
     let r = place.row;
     if r >= rows.len() {
         return false;
@@ -136,13 +134,12 @@ fn meets_alias(aliases: &[Alias], block: Block, k: usize) -> bool
 }
 
 /// The first alias that the block meets, of the first row from place `p` on that has one.
-pub(crate) fn first_met_from(rows: &[Row], rivals: &Rivals, block: Block, p: u32) -> Option<Met>
-    requires { IsRivaled rows.now rivals.now }
-    ensures { MatchOption result (PassesDown rows.now block p) (λ met.
-        IsFirstMetFrom rows.now block p met.block) }
+pub(crate) fn first_met_from(table: RivaledRows, block: Block, p: u32) -> Option<Met>
+    ensures { MatchOption result (PassesDown table.entry.rows.now block p) (λ met.
+        IsFirstMetFrom table.entry.rows.now block p met.block) }
 {
-    for r in p as usize..rows.len() {
-        if let Some(met) = first_met_in(rows, rivals, r, block) {
+    for r in p as usize..table.rows.len() {
+        if let Some(met) = first_met_in(table, r, block) {
             return Some(met);
         }
     }
@@ -150,12 +147,13 @@ pub(crate) fn first_met_from(rows: &[Row], rivals: &Rivals, block: Block, p: u32
 }
 
 // The first alias of row `r` that the block meets: none lies outside the row's block.
-fn first_met_in(rows: &[Row], rivals: &Rivals, r: usize, block: Block) -> Option<Met>
-    requires rivaled { IsRivaled rows.now rivals.now }
-    requires inside { r < length rows.now }
-    ensures { MatchOption result ((d : ARow) → Misses block (slice_index_or rows.now r d)) (λ met.
-        (d : ARow) → IsFirstMet block (slice_index_or rows.now r d).aliases met.block) }
+fn first_met_in(table: RivaledRows, r: usize, block: Block) -> Option<Met>
+    requires { r < length table.rows.now }
+    ensures { MatchOption result ((d : ARow) → Misses block (slice_index_or table.entry.rows.now r d)) (λ met.
+        (d : ARow) → IsFirstMet block (slice_index_or table.entry.rows.now r d).aliases met.block) }
 {
+    let rows = table.rows;
+    let rivals = table.rivals;
     let row = &rows[r];
     if !intersects(block, row.block) {
         return None;

@@ -5,14 +5,14 @@ ghost use Rattle.spin_base.specs.declared.blocks.Block.{Block as ABlock};
 ghost use Rattle.tern_word.specs.Ternary.{all_keys};
 ghost use Rattle.tern_word.specs.SoundTable.{IsSound};
 ghost use Rattle.cover_merge.specs.Merge.{has_row, IsOneRoute, IsMergeSet, IsLegal, merged_block, insert_place, place_for, PassesUp, PassesUpCheck, PassesDown, PassesDownCheck};
-ghost use Rattle.cover_merge.specs.Rivals.{IsRivaled};
-ghost use Rattle.cover_merge.specs.Kept.{LeadsWithin, RefinesWithin};
+ghost use Rattle.cover_merge.specs.Kept.{IsSifted, RefinesWithin};
 ghost use Rattle.cover_merge.specs.Refinement.{AreMerges, can_choose, keeps, parts, kept_by, kept_count, IsBestBit, IsNarrowed, IsDownStep, Refines};
 
 use crate::keeping::Kept;
 use crate::meeting::first_met_from;
 use crate::merged_block;
-use crate::rivals::{Rivals, passes, place_in, rivals_of};
+use crate::rivaled::{RivaledRows, SoundRows};
+use crate::rivals::{passes, place_in, rivals_of};
 use spin_base::{Block, Memory, Seq};
 use std::alloc::Global;
 use tern_word::{Row, Table, generality, merge_two};
@@ -28,8 +28,14 @@ pub fn refine(alloc: Global, table: &Table, places: Seq<u32>) -> Result<Seq<u32>
     ensures legal { IfOk result (λ answer. (answer ≡ [])
         ⊎ ((IsMergeSet table.now.rows answer) × (IsLegal table.now.rows answer))) }
 {
-    let rivals = rivals_of(alloc, table.rows.as_slice())?;
-    let Refined { set, kept: _ } = refine_within(alloc, table, &rivals, places)?;
+    let rows = table.rows.as_slice();
+    let sound = SoundRows { rows };
+    let rivals = rivals_of(alloc, sound)?;
+    let rivaled = RivaledRows {
+        rows,
+        rivals: &rivals,
+    };
+    let Refined { set, kept: _ } = refine_within(alloc, rivaled, places)?;
     Ok(set)
 }
 
@@ -46,27 +52,24 @@ const UNCHECKED: u32 = 33;
 /// The same, by what the rivals of rows tell.
 pub(crate) fn refine_within(
     alloc: Global,
-    table: &Table,
-    rivals: &Rivals,
+    table: RivaledRows,
     places: Seq<u32>,
 ) -> Result<Refined, Memory>
-    requires rivaled { IsRivaled table.now.rows rivals.now }
-    requires set { IsOneRoute table.now.rows places }
-    ensures refined { IfOk result (λ r. RefinesWithin table.now.rows r.kept.outer r.kept.low places
+    requires { IsOneRoute table.rows.now places }
+    ensures refined { IfOk result (λ r. RefinesWithin table.entry.rows.now r.kept.outer r.kept.low places
         r.set) }
     ensures size { IfOk result (λ r. length r.set ≡ r.kept.size) }
     ensures legal { IfOk result (λ r. (r.set ≡ [])
-        ⊎ ((IsMergeSet table.now.rows r.set) × (IsLegal table.now.rows r.set))) }
+        ⊎ ((IsMergeSet table.entry.rows.now r.set) × (IsLegal table.entry.rows.now r.set))) }
 {
-    let rows = table.rows.as_slice();
     let mut set = places.into_vec();
     let mut outer = all_keys();
     let mut low = UNCHECKED;
-    while set.len() >= 2 {
-        if let Some(merged) = sifted(alloc, rows, rivals, &mut set)? {
+    'refining: while set.len() >= 2 {
+        if let Some(merged) = sifted(alloc, table, &mut set)? {
             outer = outermost(outer, low, merged);
             low = generality(merged);
-            if narrow(rows, rivals, &mut set, merged) {
+            if narrow(table, &mut set, merged) {
                 return Ok(with_bounds(set, outer, low));
             }
         }
@@ -105,38 +108,26 @@ fn with_bounds(set: Vec<u32>, outer: Block, low: u32) -> Refined
 
 // Takes out the places for which the up-check fails. The merge where two are left. Mostly none is taken out, so that is asked
 // first.
-fn sifted(
-    alloc: Global,
-    rows: &[Row],
-    rivals: &Rivals,
-    set: &mut Vec<u32>,
-) -> Result<Option<Block>, Memory>
-    requires rivaled { IsRivaled rows.now rivals.now }
-    requires set { IsMergeSet rows.now set.old.items }
-    ensures one_route { IfOk result (λ found. IsOneRoute rows.now set.new.items) }
+fn sifted(alloc: Global, table: RivaledRows, set: &mut Vec<u32>) -> Result<Option<Block>, Memory>
+    requires { IsMergeSet table.rows.now set.old.items }
     ensures fewer { length set.new.items ≤ length set.old.items }
-    ensures steps { IfOk result (λ found. (outer : ABlock) (low : ℕ) → LeadsWithin rows.now outer
-        low set.old.items set.new.items) }
-    ensures found { IfOk result (λ found. MatchOption found (length set.new.items < 2) (λ merged.
-        (2 ≤ length set.new.items) × (merged ≡ merged_block rows.now set.new.items)
-        × (PassesUpCheck rows.now set.new.items))) }
+    ensures sifted { IfOk result (IsSifted table.entry.rows.now set.old.items set.new.items) }
 {
-    let merged = merged_block(rows, set);
-    if all_pass(rows, rivals, set, generality(merged)) {
+    let merged = merged_block(table.rows, set);
+    if all_pass(table, set, generality(merged)) {
         return Ok(Some(merged));
     }
-    sift(alloc, rows, rivals, set)
+    sift(alloc, table, set)
 }
 
 // Whether no place fails the up-check with a merge of this generality.
-fn all_pass(rows: &[Row], rivals: &Rivals, set: &[u32], general: u32) -> bool
-    requires rivaled { IsRivaled rows.now rivals.now }
-    requires set { IsOneRoute rows.now set.now }
+fn all_pass(table: RivaledRows, set: &[u32], general: u32) -> bool
+    requires { IsOneRoute table.rows.now set.now }
     ensures { IsTrue result → (s : ℕ) → has_row set.now s ≡ true
-        → PassesUp rows.now set.now s (place_for rows.now general) }
+        → PassesUp table.entry.rows.now set.now s (place_for table.entry.rows.now general) }
 {
     for k in 0..set.len() {
-        if !passes(rows, rivals, &set[k + 1..], set[k], general) {
+        if !passes(table, &set[k + 1..], set[k], general) {
             return false;
         }
     }
@@ -146,29 +137,19 @@ fn all_pass(rows: &[Row], rivals: &Rivals, set: &[u32], general: u32) -> bool
 // Takes out the places for which the up-check fails, the greatest first, each time with the merge of those that are
 // left. The merge where two are left. On the way the places before `i` and those from `kept` on are left, and the latter
 // pass.
-fn sift(
-    alloc: Global,
-    rows: &[Row],
-    rivals: &Rivals,
-    set: &mut Vec<u32>,
-) -> Result<Option<Block>, Memory>
-    requires rivaled { IsRivaled rows.now rivals.now }
-    requires set { IsMergeSet rows.now set.old.items }
-    ensures one_route { IfOk result (λ found. IsOneRoute rows.now set.new.items) }
+fn sift(alloc: Global, table: RivaledRows, set: &mut Vec<u32>) -> Result<Option<Block>, Memory>
+    requires { IsMergeSet table.rows.now set.old.items }
     ensures fewer { length set.new.items ≤ length set.old.items }
-    ensures steps { IfOk result (λ found. (outer : ABlock) (low : ℕ) → LeadsWithin rows.now outer
-        low set.old.items set.new.items) }
-    ensures found { IfOk result (λ found. MatchOption found (length set.new.items < 2) (λ merged.
-        (2 ≤ length set.new.items) × (merged ≡ merged_block rows.now set.new.items)
-        × (PassesUpCheck rows.now set.new.items))) }
+    ensures sifted { IfOk result (IsSifted table.entry.rows.now set.old.items set.new.items) }
 {
+    let rows = table.rows;
     let merges = merges_of(alloc, rows, set)?;
     let mut merged = merges[set.len() - 1];
     let mut i = set.len();
     let mut kept = set.len();
     while i > 0 && i + (set.len() - kept) >= 2 {
         i -= 1;
-        if passes(rows, rivals, &set[kept..], set[i], generality(merged)) {
+        if passes(table, &set[kept..], set[i], generality(merged)) {
             kept -= 1;
             set[kept] = set[i];
         } else {
@@ -229,17 +210,17 @@ fn merge_from(rows: &[Row], merges: &[Block], front: &[u32], back: &[u32]) -> Bl
 }
 
 // Narrows the set where the down-check fails. Whether it was true, and the set stays as it was.
-fn narrow(rows: &[Row], rivals: &Rivals, set: &mut Vec<u32>, merged: Block) -> bool
-    requires rivaled { IsRivaled rows.now rivals.now }
-    requires set { IsMergeSet rows.now set.old.items }
-    requires merged { merged ≡ merged_block rows.now set.old.items }
-    requires up { PassesUpCheck rows.now set.old.items }
-    ensures { MatchBool result ((PassesDownCheck rows.now set.old.items)
-        × (set.new.items ≡ set.old.items)) ((IsDownStep rows.now set.old.items set.new.items)
+fn narrow(table: RivaledRows, set: &mut Vec<u32>, merged: Block) -> bool
+    requires set { IsMergeSet table.rows.now set.old.items }
+    requires merged { merged ≡ merged_block table.rows.now set.old.items }
+    requires up { PassesUpCheck table.rows.now set.old.items }
+    ensures { MatchBool result ((PassesDownCheck table.entry.rows.now set.old.items)
+        × (set.new.items ≡ set.old.items)) ((IsDownStep table.entry.rows.now set.old.items set.new.items)
         × (length set.new.items < length set.old.items)) }
 {
+    let rows = table.rows;
     let place = place_in(rows, generality(merged));
-    match first_met_from(rows, rivals, merged, place) {
+    match first_met_from(table, merged, place) {
         Some(met) => {
             choose(rows, set, merged, met.block);
             false

@@ -1,16 +1,17 @@
 // Rivals of rows: whether a row can be merged, without a look at the rows behind it.
 ghost use Rattle.std.specs.Prelude.{◌≡◌, ◌<◌, ◌≤◌, ◌^◌, ◌↔◌, ◌∷◌, [], ℕ, true, All, IfOk, IsTrue, List, length, slice_index};
-ghost use Rattle.tern_word.specs.SoundTable.{HoldsItsAliases, IsOrdered, IsSound, Misses};
+ghost use Rattle.tern_word.specs.SoundTable.{HoldsItsAliases, IsOrdered, Misses};
 ghost use Rattle.tern_word.specs.Ternary.{generality};
 ghost use Rattle.cover_merge.specs.Merge.{has_row, place_for, SameRoute, IsMergeSet, IsLegal, PassesUp};
 ghost use Rattle.cover_merge.specs.Rivals.{AreJoined, AreRivalsAt, IsOriginal, IsRivalOf, IsRivaled, is_at_one};
 
 use crate::meeting::{LastMet, passes_behind};
 use crate::merged_block;
+use crate::rivaled::{RivaledRows, SoundRows};
 use crate::spans::spans_of_all;
 use spin_base::{Block, Memory, Seq};
 use std::alloc::Global;
-use tern_word::{Row, Table, generality, intersects, misses};
+use tern_word::{Row, generality, intersects, misses};
 
 /// A rival of a row, which is a row behind it that meets an alias of it: its number, its generality, and the bits of its
 /// route.
@@ -31,17 +32,16 @@ pub(crate) struct Rivals {
 }
 
 /// The rivals of all rows, which are numbered in their order.
-pub(crate) fn rivals_of(alloc: Global, rows: &[Row]) -> Result<Rivals, Memory>
-    requires few { length rows.now < 2 ^ 32 }
-    requires sound { IsSound rows.now }
-    ensures { IfOk result (IsRivaled rows.now) }
+pub(crate) fn rivals_of(alloc: Global, table: SoundRows) -> Result<Rivals, Memory>
+    ensures { IfOk result (IsRivaled table.entry.rows.now) }
 {
+    let rows = table.rows;
     let joined = joined_of(alloc, rows)?;
     let mut serials = Vec::with_capacity(alloc, rows.len())?;
     let mut of = Vec::with_capacity(alloc, rows.len())?;
     for s in 0..rows.len() {
         serials.push(s)?;
-        of.push(rivals_among(alloc, rows, &joined, s)?)?;
+        of.push(rivals_among(alloc, table, &joined, s)?)?;
     }
     let spans = spans_of_all(alloc, rows)?;
     Ok(Rivals { serials, of, spans })
@@ -73,17 +73,17 @@ fn is_original(row: &Row) -> bool
 // The rivals of row `s` where each row has its place as its number: only joined rows can be such.
 fn rivals_among(
     alloc: Global,
-    rows: &[Row],
+    table: SoundRows,
     joined: &[usize],
     s: usize,
 ) -> Result<Seq<Rival>, Memory>
-    requires sound { IsSound rows.now }
-    requires joined { AreJoined rows.now joined.now }
-    requires inside { s < length rows.now }
-    ensures { IfOk result (λ list. (serials : List ℕ) → length serials ≡ length rows.now
-        → ((k : ℕ) → k < length rows.now → slice_index serials k ≡ k)
-        → AreRivalsAt rows.now serials s list) }
+    requires joined { AreJoined table.rows.now joined.now }
+    requires inside { s < length table.rows.now }
+    ensures { IfOk result (λ list. (serials : List ℕ) → length serials ≡ length table.entry.rows.now
+        → ((k : ℕ) → k < length table.entry.rows.now → slice_index serials k ≡ k)
+        → AreRivalsAt table.entry.rows.now serials s list) }
 {
+    let rows = table.rows;
     let mut list = Seq::new(alloc);
     for k in 0..joined.len() {
         let r = joined[k];
@@ -142,13 +142,14 @@ pub(crate) fn is_missed(block: Block, row: &Row) -> bool
 
 /// Whether no row behind row `s`, of generality at most `general` and not at one of the places, meets an alias of it. The
 /// places behind it are of rows of its route.
-pub(crate) fn passes(rows: &[Row], rivals: &Rivals, places: &[u32], s: u32, general: u32) -> bool
-    requires rivaled { IsRivaled rows.now rivals.now }
-    requires inside { s < length rows.now }
-    requires one_route { (r : ℕ) → s < r → has_row places.now r ≡ true → SameRoute rows.now s r }
-    requires in_range { All (λ r. r < length rows.now) places.now }
-    ensures { IsTrue result ↔ PassesUp rows.now places.now s (place_for rows.now general) }
+pub(crate) fn passes(table: RivaledRows, places: &[u32], s: u32, general: u32) -> bool
+    requires inside { s < length table.rows.now }
+    requires one_route { (r : ℕ) → s < r → has_row places.now r ≡ true → SameRoute table.rows.now s r }
+    requires in_range { All (λ r. r < length table.rows.now) places.now }
+    ensures { IsTrue result ↔ PassesUp table.entry.rows.now places.now s (place_for table.entry.rows.now general) }
 {
+    let rows = table.rows;
+    let rivals = table.rivals;
     let bits = rows[s as usize].route.bits;
     let serial = rivals.serials[s as usize];
     let list = rivals.of[serial].as_slice();
@@ -198,25 +199,17 @@ pub(crate) fn place_in(rows: &[Row], general: u32) -> u32
 }
 
 /// Whether the merge of two rows of one route is legal.
-pub(crate) fn is_legal_pair(
-    table: &Table,
-    rivals: &Rivals,
-    i: u32,
-    j: u32,
-    last: &mut LastMet,
-) -> bool
-    requires rivaled { IsRivaled table.now.rows rivals.now }
-    requires set { IsMergeSet table.now.rows (i ∷ j ∷ []) }
-    ensures { IsTrue result ↔ IsLegal table.now.rows (i ∷ j ∷ []) }
+pub(crate) fn is_legal_pair(table: RivaledRows, i: u32, j: u32, last: &mut LastMet) -> bool
+    requires { IsMergeSet table.rows.now (i ∷ j ∷ []) }
+    ensures { IsTrue result ↔ IsLegal table.entry.rows.now (i ∷ j ∷ []) }
 {
-    let rows = table.rows.as_slice();
-    let merged = merged_block(rows, &[i, j]);
+    let merged = merged_block(table.rows, &[i, j]);
     let general = generality(merged);
-    if !passes(rows, rivals, &[i, j], i, general) {
+    if !passes(table, &[i, j], i, general) {
         return false;
     }
-    if !passes(rows, rivals, &[i, j], j, general) {
+    if !passes(table, &[i, j], j, general) {
         return false;
     }
-    passes_behind(rows, rivals, merged, general, last)
+    passes_behind(table, merged, general, last)
 }

@@ -1,16 +1,20 @@
 -- The place is the insertion place, behind all members.
-use Rattle.std.proofs.Common.{◌≡◌, ◌<◌, ap, sym, subst, ◌∙◌}
-use Rattle.std.specs.Prelude.{All, insert}
+use Rattle.std.proofs.Common.{◌≡◌, ◌<◌, ap, sym, subst, ◌∙◌, length, arith}
+use Rattle.std.specs.Prelude.{All, AllPairs, insert}
 use Rattle.cover_merge.specs.Merge.{kept, merged_row}
 use Rattle.cover_merge.proofs.ApplyLemmas.{found_before, after_found}
 use Rattle.cover_merge.proofs.applying.apply.Goals as goal
 
-pub put_in-requires-clause-before : goal.put_in-requires-clause-before
-put_in-requires-clause-before c =
+pub invariant_of-gaps : goal.invariant_of-gaps
+invariant_of-gaps c =
     let made : c.in_ok-merged.merged ≡ merged_row c.args.table.now.rows c.args.places.now = c.in_ok-merged.ensures ∙ ap (λ l. merged_row l c.as_slice-members.result.now) c.as_slice.ensures ∙ ap (merged_row c.args.table.now.rows) c.as_slice-members.ensures in
-    subst (All (λ t. t < c.place_in-place.result)) (sym c.as_slice-members.ensures)
-    (found_before c.args.table.now.rows c.args.places.now c.requires.ordered c.requires.set c.as_slice-2.result.now c.as_slice-2.ensures c.in_ok-merged.merged made
-    c.generality.result c.place_in-place.result c.generality.ensures.value c.place_in-place.ensures.value)
+    record {
+      some = subst (λ l. 0 < length l) (sym c.as_slice-members.ensures) (omega (arith, c.requires.set.two));
+      ascending = subst (AllPairs (λ s t. s < t)) (sym c.as_slice-members.ensures) c.requires.set.set.ascending;
+      before = subst (All (λ t. t < c.place_in-place.result)) (sym c.as_slice-members.ensures)
+          (found_before c.args.table.now.rows c.args.places.now c.requires.ordered c.requires.set c.as_slice-2.result.now c.as_slice-2.ensures c.in_ok-merged.merged made
+          c.generality.result c.place_in-place.result c.generality.ensures.value c.place_in-place.ensures.value);
+    }
 
 pub returns-clause-ok : goal.returns-clause-ok
 returns-clause-ok c =

@@ -4,71 +4,71 @@ use Rattle.cover_merge.proofs.ReplaceLemmas.{all_replaced, copied_down, none_clo
 use Rattle.cover_merge.proofs.applying.replace_all.Goals as goal
 
 pub loop-i-init : goal.loop-i-init
-loop-i-init g c = none_closed c.args.places.now c.args.place c.requires.ascending c.requires.before c.args.item c.args.items.now.items c.requires.place
+loop-i-init g c = none_closed c.args.gaps.places.now c.args.gaps.place c.args.gaps.ascending c.args.gaps.before c.args.item c.args.items.now.items c.requires
 
 pub overflow_sub-from-in-loop-i : goal.overflow_sub-from-in-loop-i
 overflow_sub-from-in-loop-i g c =
-    (starts c.args.places.now c.args.place c.requires.ascending c.requires.before c.args.item c.args.items.now.items c.requires.place c.loop-i.i c.loop-i-test.true c.loop-i.items.items c.loop-i.items.items c.loop-i.invariant
-    (get_or c.args.places.now c.loop-i.i 0 + 1) c.next_place-to.result refl c.next_place-to.ensures).0
+    (starts c.args.gaps.places.now c.args.gaps.place c.args.gaps.ascending c.args.gaps.before c.args.item c.args.items.now.items c.requires c.loop-i.i c.loop-i-test.true c.loop-i.items.items c.loop-i.items.items c.loop-i.invariant
+    (get_or c.args.gaps.places.now c.loop-i.i 0 + 1) c.next_place-to.result refl c.next_place-to.ensures).0
 
 pub copy_within-requires-clause-start_le_end : goal.copy_within-requires-clause-start_le_end
 copy_within-requires-clause-start_le_end g c =
-    (starts c.args.places.now c.args.place c.requires.ascending c.requires.before c.args.item c.args.items.now.items c.requires.place c.loop-i.i c.loop-i-test.true c.loop-i.items.items c.loop-i.items.items c.loop-i.invariant
-    (get_or c.args.places.now c.loop-i.i 0 + 1) c.next_place-to.result refl c.next_place-to.ensures).1
+    (starts c.args.gaps.places.now c.args.gaps.place c.args.gaps.ascending c.args.gaps.before c.args.item c.args.items.now.items c.requires c.loop-i.i c.loop-i-test.true c.loop-i.items.items c.loop-i.items.items c.loop-i.invariant
+    (get_or c.args.gaps.places.now c.loop-i.i 0 + 1) c.next_place-to.result refl c.next_place-to.ensures).1
 
 pub copy_within-requires-clause-in_bounds : goal.copy_within-requires-clause-in_bounds
 copy_within-requires-clause-in_bounds g c = omega (
   arith,
-  (starts c.args.places.now c.args.place c.requires.ascending c.requires.before c.args.item c.args.items.now.items c.requires.place c.loop-i.i c.loop-i-test.true c.loop-i.items.items c.loop-i.items.items c.loop-i.invariant
-      (get_or c.args.places.now c.loop-i.i 0 + 1) c.next_place-to.result refl c.next_place-to.ensures).2,
+  (starts c.args.gaps.places.now c.args.gaps.place c.args.gaps.ascending c.args.gaps.before c.args.item c.args.items.now.items c.requires c.loop-i.i c.loop-i-test.true c.loop-i.items.items c.loop-i.items.items c.loop-i.invariant
+      (get_or c.args.gaps.places.now c.loop-i.i 0 + 1) c.next_place-to.result refl c.next_place-to.ensures).2,
 )
 
 pub copy_within-requires-clause-dest_in_bounds : goal.copy_within-requires-clause-dest_in_bounds
-copy_within-requires-clause-dest_in_bounds g c = subst (λ n. get_or c.args.places.now c.loop-i.i 0 + 1 - 1 - c.loop-i.i + (c.next_place-to.result - (get_or c.args.places.now c.loop-i.i 0 + 1)) ≤ n) (sym c.loop-i.items.ok.0)
-    (starts c.args.places.now c.args.place c.requires.ascending c.requires.before c.args.item c.args.items.now.items c.requires.place c.loop-i.i c.loop-i-test.true c.loop-i.items.items c.loop-i.items.items c.loop-i.invariant
-    (get_or c.args.places.now c.loop-i.i 0 + 1) c.next_place-to.result refl c.next_place-to.ensures).3
+copy_within-requires-clause-dest_in_bounds g c = subst (λ n. get_or c.args.gaps.places.now c.loop-i.i 0 + 1 - 1 - c.loop-i.i + (c.next_place-to.result - (get_or c.args.gaps.places.now c.loop-i.i 0 + 1)) ≤ n) (sym c.loop-i.items.ok.0)
+    (starts c.args.gaps.places.now c.args.gaps.place c.args.gaps.ascending c.args.gaps.before c.args.item c.args.items.now.items c.requires c.loop-i.i c.loop-i-test.true c.loop-i.items.items c.loop-i.items.items c.loop-i.invariant
+    (get_or c.args.gaps.places.now c.loop-i.i 0 + 1) c.next_place-to.result refl c.next_place-to.ensures).3
 
 pub loop-i-preserved : goal.loop-i-preserved
 loop-i-preserved g c =
-    let from = get_or c.args.places.now c.loop-i.i 0 + 1 in
-    let at = starts c.args.places.now c.args.place c.requires.ascending c.requires.before c.args.item c.args.items.now.items c.requires.place c.loop-i.i c.loop-i-test.true c.loop-i.items.items c.loop-i.items.items c.loop-i.invariant
+    let from = get_or c.args.gaps.places.now c.loop-i.i 0 + 1 in
+    let at = starts c.args.gaps.places.now c.args.gaps.place c.args.gaps.ascending c.args.gaps.before c.args.item c.args.items.now.items c.requires c.loop-i.i c.loop-i-test.true c.loop-i.items.items c.loop-i.items.items c.loop-i.invariant
     from c.next_place-to.result refl c.next_place-to.ensures in
     let dest : from - 1 - c.loop-i.i ≡ from - (c.loop-i.i + 1) = omega arith in
-    one_closed c.args.places.now c.args.place c.requires.ascending c.requires.before c.args.item c.args.items.now.items c.requires.place c.loop-i.i c.loop-i-test.true c.loop-i.items.items c.copy_within.new.self.items c.loop-i.invariant
+    one_closed c.args.gaps.places.now c.args.gaps.place c.args.gaps.ascending c.args.gaps.before c.args.item c.args.items.now.items c.requires c.loop-i.i c.loop-i-test.true c.loop-i.items.items c.copy_within.new.self.items c.loop-i.invariant
     from c.next_place-to.result refl c.next_place-to.ensures
     (copied_down from c.next_place-to.result (c.loop-i.i + 1) (from - 1 - c.loop-i.i) c.loop-i.items.items c.copy_within.new.self.items (omega (arith, at.0)) at.1 at.2 dest c.copy_within.ensures.items)
 
 pub overflow_sub-place : goal.overflow_sub-place
-overflow_sub-place g c = (room c.args.places.now c.args.place c.requires.ascending c.requires.before c.args.item c.args.items.now.items c.requires.place c.requires.some).0
+overflow_sub-place g c = (room c.args.gaps.places.now c.args.gaps.place c.args.gaps.ascending c.args.gaps.before c.args.item c.args.items.now.items c.requires c.args.gaps.some).0
 
 pub index_mut-requires : goal.index_mut-requires
-index_mut-requires g c = omega (arith, c.loop-i.invariant.one_each, (room c.args.places.now c.args.place c.requires.ascending c.requires.before c.args.item c.args.items.now.items c.requires.place c.requires.some).1)
+index_mut-requires g c = omega (arith, c.loop-i.invariant.one_each, (room c.args.gaps.places.now c.args.gaps.place c.args.gaps.ascending c.args.gaps.before c.args.item c.args.items.now.items c.requires c.args.gaps.some).1)
 
 pub overflow_sub-place-2 : goal.overflow_sub-place-2
-overflow_sub-place-2 g c = omega (arith, (room c.args.places.now c.args.place c.requires.ascending c.requires.before c.args.item c.args.items.now.items c.requires.place c.requires.some).0)
+overflow_sub-place-2 g c = omega (arith, (room c.args.gaps.places.now c.args.gaps.place c.args.gaps.ascending c.args.gaps.before c.args.item c.args.items.now.items c.requires c.args.gaps.some).0)
 
 pub copy_within-requires-2-clause-start_le_end : goal.copy_within-requires-2-clause-start_le_end
-copy_within-requires-2-clause-start_le_end g c = omega (arith, c.len-len.ensures, c.loop-i.invariant.one_each, c.requires.place)
+copy_within-requires-2-clause-start_le_end g c = omega (arith, c.len-len.ensures, c.loop-i.invariant.one_each, c.requires)
 
 pub copy_within-requires-2-clause-dest_in_bounds :
     goal.copy_within-requires-2-clause-dest_in_bounds
 copy_within-requires-2-clause-dest_in_bounds g c =
-    let least = (room c.args.places.now c.args.place c.requires.ascending c.requires.before c.args.item c.args.items.now.items c.requires.place c.requires.some).0 in
-    let fits : c.args.place - (length c.args.places.now - 1) + (c.len-len.result - c.args.place) ≤ c.loop-i.items.len = omega (arith, least, c.len-len.ensures, c.loop-i.invariant.one_each, c.requires.place, c.requires.some) in
+    let least = (room c.args.gaps.places.now c.args.gaps.place c.args.gaps.ascending c.args.gaps.before c.args.item c.args.items.now.items c.requires c.args.gaps.some).0 in
+    let fits : c.args.gaps.place - (length c.args.gaps.places.now - 1) + (c.len-len.result - c.args.gaps.place) ≤ c.loop-i.items.len = omega (arith, least, c.len-len.ensures, c.loop-i.invariant.one_each, c.requires, c.args.gaps.some) in
     fits
 
 pub overflow_sub-len : goal.overflow_sub-len
-overflow_sub-len g c = omega (arith, (room c.args.places.now c.args.place c.requires.ascending c.requires.before c.args.item c.args.items.now.items c.requires.place c.requires.some).0, c.len-len.ensures, c.loop-i.invariant.one_each, c.requires.place)
+overflow_sub-len g c = omega (arith, (room c.args.gaps.places.now c.args.gaps.place c.args.gaps.ascending c.args.gaps.before c.args.item c.args.items.now.items c.requires c.args.gaps.some).0, c.len-len.ensures, c.loop-i.invariant.one_each, c.requires)
 
 pub returns : goal.returns
 returns g c =
     let items = c.loop-i.items.items in
-    let written = set items (c.args.place - length c.args.places.now) c.args.item in
-    let gap = length c.args.places.now - 1 in
-    let least = (room c.args.places.now c.args.place c.requires.ascending c.requires.before c.args.item c.args.items.now.items c.requires.place c.requires.some).0 in
-    let long : length written ≡ length items = length-set items (c.args.place - length c.args.places.now) c.args.item in
-    let fits : c.args.place ≤ c.len-len.result = omega (arith, c.len-len.ensures, c.loop-i.items.ok.0, c.loop-i.invariant.one_each, c.requires.place) in
+    let written = set items (c.args.gaps.place - length c.args.gaps.places.now) c.args.item in
+    let gap = length c.args.gaps.places.now - 1 in
+    let least = (room c.args.gaps.places.now c.args.gaps.place c.args.gaps.ascending c.args.gaps.before c.args.item c.args.items.now.items c.requires c.args.gaps.some).0 in
+    let long : length written ≡ length items = length-set items (c.args.gaps.place - length c.args.gaps.places.now) c.args.item in
+    let fits : c.args.gaps.place ≤ c.len-len.result = omega (arith, c.len-len.ensures, c.loop-i.items.ok.0, c.loop-i.invariant.one_each, c.requires) in
     let inside : c.len-len.result ≤ length written = omega (arith, long, c.len-len.ensures, c.loop-i.items.ok.0) in
-    all_replaced c.args.places.now c.args.place c.requires.ascending c.requires.before c.args.item c.args.items.now.items c.requires.place c.loop-i.i c.len-len.result items c.copy_within-2.new.self.items c.truncate.new.self.items
-    c.requires.some c.loop-i.invariant c.loop-i-test.false c.loop-i.auto.i-end (c.len-len.ensures ∙ c.loop-i.items.ok.0)
-    (copied_down c.args.place c.len-len.result gap (c.args.place - gap) written c.copy_within-2.new.self.items (omega (arith, least)) fits inside refl c.copy_within-2.ensures.items) c.truncate.ensures.items
+    all_replaced c.args.gaps.places.now c.args.gaps.place c.args.gaps.ascending c.args.gaps.before c.args.item c.args.items.now.items c.requires c.loop-i.i c.len-len.result items c.copy_within-2.new.self.items c.truncate.new.self.items
+    c.args.gaps.some c.loop-i.invariant c.loop-i-test.false c.loop-i.auto.i-end (c.len-len.ensures ∙ c.loop-i.items.ok.0)
+    (copied_down c.args.gaps.place c.len-len.result gap (c.args.gaps.place - gap) written c.copy_within-2.new.self.items (omega (arith, least)) fits inside refl c.copy_within-2.ensures.items) c.truncate.ensures.items

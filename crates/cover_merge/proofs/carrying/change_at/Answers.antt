@@ -10,9 +10,10 @@ use Rattle.cover_merge.proofs.carrying.change_at.Goals as goal
 
 pub returns : goal.returns
 returns c =
-    let rows = c.args.rows.now in
+    let rows = c.args.merge.rows.now in
     let known = c.args.known.now in
-    let old = c.requires.known in
+    let old = c.requires.known.told in
+    let marks = c.requires.known.marks in
     let gs = known.times.items in
     let s = c.args.s in
     let n = c.index.result.now in
@@ -24,18 +25,20 @@ returns c =
     let low : n < length known.latest.items = omega (arith, n_is, old.one_time, old.numbers.below s 0 counted) in
     let fresh : IsFresh now g = c.changed.ensures in record {
       known = record {
-        rivaled = old.rivaled;
-        one_each = length-set gs s g ∙ old.one_each;
-        one_time = length-set known.latest.items n now ∙ old.one_time;
-        latest = times_no_later known.routes.items (set known.latest.items n now) rows gs now c.requires.marks.bound s g inside
-            (λ d. omega (arith, fresh.changed, get_or-set_at known.latest.items n n now 0 refl low, ap (λ m. get_or (set known.latest.items n now) m 0) (n_is ∙ number_at known.routes.items rows known.numbers.items old.numbers s d c.requires.inside)))
-            (latest_put known.routes.items known.latest.items rows gs now c.requires.marks.bound n low old.latest);
-        once = old.once;
-        numbers = old.numbers;
-        one_route = old.one_route;
-        kept = old.kept;
+        told = record {
+          rivaled = old.rivaled;
+          one_each = length-set gs s g ∙ old.one_each;
+          one_time = length-set known.latest.items n now ∙ old.one_time;
+          latest = times_no_later known.routes.items (set known.latest.items n now) rows gs now marks.bound s g inside
+              (λ d. omega (arith, fresh.changed, get_or-set_at known.latest.items n n now 0 refl low, ap (λ m. get_or (set known.latest.items n now) m 0) (n_is ∙ number_at known.routes.items rows known.numbers.items old.numbers s d c.requires.inside)))
+              (latest_put known.routes.items known.latest.items rows gs now marks.bound n low old.latest);
+          once = old.once;
+          numbers = old.numbers;
+          one_route = old.one_route;
+          kept = old.kept;
+        };
+        marks = fresh_put now rows gs s g inside marks fresh;
       };
-      marks = fresh_put now rows gs s g inside c.requires.marks fresh;
       touched = record {
         own = λ e. inr (subst (IsFresh now) (sym (get_or-set_at gs s s g e refl inside)) fresh);
         others = λ k e apart. get_or-set_other gs s k g e apart;

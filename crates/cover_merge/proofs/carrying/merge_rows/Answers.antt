@@ -1,6 +1,6 @@
 -- The rivals of all rows that stay are those after the merge, and those of the merged row are found.
 use Rattle.std.proofs.Common.{◌≡◌, ◌∙◌, ◌+◌, ◌-◌, ◌<◌, [], ℕ, List, sym, ap, subst, length, get_or, arith}
-use Rattle.std.specs.Prelude.{All, insert}
+use Rattle.std.specs.Prelude.{All, AllPairs, insert}
 use Rattle.tern_word.specs.declared.tables.Row.{Row}
 use Rattle.tern_word.specs.SoundTable.{IsOrdered}
 use Rattle.tern_word.specs.Ternary.{generality}
@@ -33,12 +33,16 @@ serials_here c =
     c.as_slice-members.result.now c.renew_all.new.rivals.serials.items c.replace_all.new.items.items c.place_in-place.result c.merged_rival-merged.result.serial
     c.as_slice-members.ensures c.in_ok-renew_all.ensures.serials (place_here (goal.at.overflow_sub-at c).After-place_in-place) c.merged_rival-merged.ensures.serial c.replace_all.ensures
 
-pub replace_all-requires-clause-before : goal.replace_all-requires-clause-before
-replace_all-requires-clause-before c =
+pub invariant_of-gaps : goal.invariant_of-gaps
+invariant_of-gaps c =
     let rows = c.args.table.now.rows in
     let places = c.args.places.now in
-    subst (λ l. All (λ t. t < c.place_in-place.result) l) (sym c.as_slice-members.ensures)
-    (subst (λ n. All (λ t. t < n) places) (sym (place_here (goal.at.replace_all-requires-clause-before c).After-place_in-place)) (members_before rows places c.requires.rivaled.sound.ordered c.requires.merge.set))
+    let set = c.requires.merge.set in record {
+      some = subst (λ l. 0 < length l) (sym c.as_slice-members.ensures) (omega (arith, set.two));
+      ascending = subst (AllPairs (λ s t. s < t)) (sym c.as_slice-members.ensures) set.set.ascending;
+      before = subst (λ l. All (λ t. t < c.place_in-place.result) l) (sym c.as_slice-members.ensures)
+          (subst (λ n. All (λ t. t < n) places) (sym (place_here (goal.at.invariant_of-gaps c).After-place_in-place)) (members_before rows places c.requires.rivaled.sound.ordered set));
+    }
 
 pub overflow_sub-at : goal.overflow_sub-at
 overflow_sub-at c = omega (arith, stands_here (goal.at.overflow_sub-at c).After-place_in-place)

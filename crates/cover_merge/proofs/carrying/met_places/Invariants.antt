@@ -4,4 +4,4 @@ use Rattle.cover_merge.specs.Rivals.{AreMet}
 use Rattle.cover_merge.proofs.carrying.met_places.Given as goal
 
 abbrev pub invariant-loop-s : goal.invariant-loop-s
-invariant-loop-s l = AreMet l.block (take l.s l.rows) l.met.items
+invariant-loop-s l = AreMet l.merge.block (take l.s l.rows) l.met.items

@@ -1,15 +1,14 @@
 -- The rows at the places passed lose none or changed now, nothing is kept of their routes, and all is still known.
 use Rattle.std.proofs.Common.{◌≡◌, ◌<◌, ◌⊎◌, ℕ, get_or}
 use Rattle.cover_merge.specs.declared.times.Times.{Times}
-use Rattle.cover_merge.specs.Known.{AreStillKept, IsKnown, HasSameRoutes}
-use Rattle.cover_merge.specs.Tried.{AreTriedUpTo, IsFresh, LosesNone}
+use Rattle.cover_merge.specs.Known.{AreStillKept, IsKnownAt, HasSameRoutes}
+use Rattle.cover_merge.specs.Tried.{IsFresh, LosesNone}
 use Rattle.cover_merge.proofs.carrying.touch.Given as goal
 
 abbrev pub invariant-loop-k : goal.invariant-loop-k
 invariant-loop-k l = record {
-  known : IsKnown l.rows l.known;
-  marks : AreTriedUpTo l.now l.rows l.known.times.items;
-  done : (j : ℕ) (e : Times) → j < l.k → (LosesNone l.rows l.places (get_or l.met j 0)) ⊎ (IsFresh l.now (get_or l.known.times.items (get_or l.met j 0) e));
+  known : IsKnownAt l.now l.merge.rows.now l.known;
+  done : (j : ℕ) (e : Times) → j < l.k → (LosesNone l.merge.rows.now l.merge.gaps.places.now (get_or l.met j 0)) ⊎ (IsFresh l.now (get_or l.known.times.items (get_or l.met j 0) e));
   own : get_or l.known.latest.items l.own 0 ≡ l.now;
   rivals : l.known.rivals ≡ l.fn.known.rivals;
   same : HasSameRoutes l.fn.known l.known;

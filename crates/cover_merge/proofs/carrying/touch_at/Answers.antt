@@ -15,27 +15,30 @@ forgotten kept n low =
 
 pub change_at-requires-clause-known : goal.change_at-requires-clause-known
 change_at-requires-clause-known c =
-    let rows = c.args.rows.now in
+    let rows = c.args.merge.rows.now in
     let known = c.args.known.now in
-    let old = c.requires.known in
+    let old = c.requires.known.told in
     let n = c.index.result.now in
     let counted : c.args.s < length known.numbers.items = omega (arith, as_many known.routes.items rows known.numbers.items old.numbers, c.requires.inside) in
     let low : n < length known.kept.items = omega (arith, c.index.ensures ∙ get_or_default known.numbers.items c.args.s n 0 counted, old.one_route, old.numbers.below c.args.s 0 counted) in record {
-      rivaled = old.rivaled;
-      one_each = old.one_each;
-      one_time = old.one_time;
-      latest = old.latest;
-      once = old.once;
-      numbers = old.numbers;
-      one_route = length-set known.kept.items n None ∙ old.one_route;
-      kept = λ k it inside is. old.kept k it inside ((forgotten known.kept.items n low).each k it is).0;
+      told = record {
+        rivaled = old.rivaled;
+        one_each = old.one_each;
+        one_time = old.one_time;
+        latest = old.latest;
+        once = old.once;
+        numbers = old.numbers;
+        one_route = length-set known.kept.items n None ∙ old.one_route;
+        kept = λ k it inside is. old.kept k it inside ((forgotten known.kept.items n low).each k it is).0;
+      };
+      marks = c.requires.known.marks;
     }
 
 pub returns : goal.returns
 returns c =
-    let rows = c.args.rows.now in
+    let rows = c.args.merge.rows.now in
     let known = c.args.known.now in
-    let old = c.requires.known in
+    let old = c.requires.known.told in
     let n = c.index.result.now in
     let now = c.change_at.ensures in
     let counted : c.args.s < length known.numbers.items = omega (arith, as_many known.routes.items rows known.numbers.items old.numbers, c.requires.inside) in
@@ -43,7 +46,6 @@ returns c =
     let low : n < length known.kept.items = omega (arith, n_is, old.one_route, old.numbers.below c.args.s 0 counted) in
     let left = forgotten known.kept.items n low in record {
       known = now.known;
-      marks = now.marks;
       touched = now.touched;
       times = now.times;
       rivals = now.rivals;

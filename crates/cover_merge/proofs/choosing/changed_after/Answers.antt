@@ -10,28 +10,28 @@ index-place-requires c = omega (arith, c.requires.inside, (c.requires.changes (m
 
 pub loop-place-init : goal.loop-place-init
 loop-place-init c =
-    let rows = c.args.table.now.rows in
+    let rows = c.args.rows.now in
     since_first rows c.args.times.now c.args.k c.index-place.result.now (suc c.args.time)
     (link_next rows c.args.links.now.next.items (c.requires.changes (merge_rows [])).nexts c.args.k c.index-place.result.now c.requires.inside c.index-place.ensures)
 
 pub changed_at-changed-requires : goal.changed_at-changed-requires
-changed_at-changed-requires c = omega (arith, c.len.ensures, c.loop-place-test.true, (c.requires.changes (merge_rows [])).one_each)
+changed_at-changed-requires c = omega (arith, c.loop-place-test.true, (c.requires.changes (merge_rows [])).one_each)
 
 pub bounds-newer-place : goal.bounds-newer-place
-bounds-newer-place c = omega (arith, c.len.ensures, c.loop-place-test.true, (c.requires.changes (merge_rows [])).places)
+bounds-newer-place c = omega (arith, c.loop-place-test.true, (c.requires.changes (merge_rows [])).places)
 
 pub loop-place-smaller : goal.loop-place-smaller
 loop-place-smaller c =
-    let rows = c.args.table.now.rows in
+    let rows = c.args.rows.now in
     let place = c.loop-place.place in
-    let inside : place < length rows = omega (arith, c.len.ensures, c.loop-place-test.true) in
+    let inside : place < length rows = omega (arith, c.loop-place-test.true) in
     let next = newer_next rows c.args.times.now c.args.newer.now c.args.k place (suc c.args.time) (merge_rows []) (record { tried = 0; changed = 0 }) (c.requires.changes (merge_rows [])).newer inside c.loop-place.invariant in
     omega (arith, inside, next.behind)
 
 pub loop-place-preserved : goal.loop-place-preserved
 loop-place-preserved c =
-    let rows = c.args.table.now.rows in
+    let rows = c.args.rows.now in
     let place = c.loop-place.place in
-    let inside : place < length rows = omega (arith, c.len.ensures, c.loop-place-test.true) in
+    let inside : place < length rows = omega (arith, c.loop-place-test.true) in
     since_turn rows c.args.times.now c.args.newer.now c.args.k place (get_or c.args.newer.now place 0) c.args.time c.changed_at-changed.result (merge_rows []) (record { tried = 0; changed = 0 })
     (c.requires.changes (merge_rows [])).newer inside c.loop-place.invariant c.changed_at-changed.ensures (omega (arith, c.if-changed-time.false)) refl

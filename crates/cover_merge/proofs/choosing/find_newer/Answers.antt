@@ -9,8 +9,8 @@ use Rattle.cover_merge.proofs.choosing.find_newer.Goals.{After-as_slice-places}
 use Rattle.cover_merge.proofs.choosing.find_newer.Goals as goal
 
 -- the places are those of the route
-are : (c : After-as_slice-places) (bits : ℕ) → IsFirstOfRoute c.args.table.now.rows bits c.args.first → ArePlaces bits c.args.table.now.rows c.as_slice-places.result.now
-are c = places_gathered c.args.table.now.rows c.as_slice.result.now c.args.first c.in_ok-list.list c.as_slice-places.result.now c.as_slice.ensures c.in_ok-list.ensures c.as_slice-places.ensures
+are : (c : After-as_slice-places) (bits : ℕ) → IsFirstOfRoute c.args.rows.now bits c.args.first → ArePlaces bits c.args.rows.now c.as_slice-places.result.now
+are c = places_gathered c.args.rows.now c.args.first c.in_ok-list.list c.as_slice-places.result.now c.in_ok-list.ensures c.as_slice-places.ensures
 
 pub changed_at-requires : goal.changed_at-requires
 changed_at-requires c =
@@ -26,7 +26,7 @@ changed_after-requires-clause-inside c =
 
 pub changed_after-requires-clause-changes : goal.changed_after-requires-clause-changes
 changed_after-requires-clause-changes c d =
-    let rows = c.args.table.now.rows in
+    let rows = c.args.rows.now in
     let list = c.as_slice-places.result.now in
     let first = c.requires.first in
     let places = are (goal.at.changed_after-requires-clause-changes c).After-as_slice-places first.0 first.1 in
@@ -51,7 +51,7 @@ index_mut-requires c =
 
 pub loop-k-preserved : goal.loop-k-preserved
 loop-k-preserved c =
-    let rows = c.args.table.now.rows in
+    let rows = c.args.rows.now in
     let times = c.args.times.now in
     let list = c.as_slice-places.result.now in
     let newer = c.loop-k.newer.items in
@@ -72,7 +72,7 @@ loop-k-preserved c =
 
 pub returns-clause-own : goal.returns-clause-own
 returns-clause-own c bits is =
-    let rows = c.args.table.now.rows in
+    let rows = c.args.rows.now in
     let list = c.as_slice-places.result.now in
     let places = are (goal.at.returns-clause-own c).After-as_slice-places bits is in
     let all : c.loop-k.k ≡ 0 = omega (arith, c.loop-k-test.false) in

@@ -11,46 +11,45 @@ use Rattle.cover_merge.proofs.choosing.first_pair.Goals as goal
 
 pub is_settled-requires-clause-one_each : goal.is_settled-requires-clause-one_each
 is_settled-requires-clause-one_each c =
-    let old = c.loop-i.invariant.known in as_many c.loop-i.known.routes.items c.args.table.now.rows c.loop-i.known.numbers.items old.numbers ∙ sym old.one_each
+    let old = c.loop-i.invariant.known.told in as_many c.loop-i.known.routes.items c.args.rows.now c.loop-i.known.numbers.items old.numbers ∙ sym old.one_each
 
 pub is_settled-requires-clause-below : goal.is_settled-requires-clause-below
-is_settled-requires-clause-below c k d within = omega (arith, c.loop-i.invariant.known.numbers.below k d within, c.loop-i.invariant.known.one_time)
+is_settled-requires-clause-below c k d within = omega (arith, c.loop-i.invariant.known.told.numbers.below k d within, c.loop-i.invariant.known.told.one_time)
 
 pub is_settled-requires-clause-inside : goal.is_settled-requires-clause-inside
-is_settled-requires-clause-inside c = omega (arith, c.loop-i.invariant.known.one_each, c.len-i-end.ensures, c.loop-i-test.true)
+is_settled-requires-clause-inside c = omega (arith, c.loop-i.invariant.known.told.one_each, c.loop-i-test.true)
 
 pub loop-i-preserved-then-is_settled : goal.loop-i-preserved-then-is_settled
 loop-i-preserved-then-is_settled c =
-    let rows = c.args.table.now.rows in
+    let rows = c.args.rows.now in
     let known = c.loop-i.known in
     let old = c.loop-i.invariant in
     let i = c.loop-i.i in
-    let inside : i < length rows = omega (arith, c.len-i-end.ensures, c.loop-i-test.true) in record {
+    let inside : i < length rows = omega (arith, c.loop-i-test.true) in record {
       none = below_more (λ a. (b : ℕ) → IsLegalPair rows a b → ⊥) i old.none
-          (settled_none known.routes.items known.latest.items rows known.times.items i old.known.one_each old.marks.tried old.known.latest
-          (λ d e. omega (arith, c.is_settled.ensures c.if-is_settled.true e, ap (λ n. get_or known.latest.items n 0) (number_at known.routes.items rows known.numbers.items old.known.numbers i d inside))));
+          (settled_none known.routes.items known.latest.items rows known.times.items i old.known.told.one_each old.known.marks.tried old.known.told.latest
+          (λ d e. omega (arith, c.is_settled.ensures c.if-is_settled.true e, ap (λ n. get_or known.latest.items n 0) (number_at known.routes.items rows known.numbers.items old.known.told.numbers i d inside))));
       known = old.known;
       routes = old.routes;
-      marks = old.marks;
       changes = old.changes;
     }
 
 pub partner-requires-clause-changes : goal.partner-requires-clause-changes
 partner-requires-clause-changes c d =
-    let rows = c.args.table.now.rows in
+    let rows = c.args.rows.now in
     let ready = c.in_ok-make_ready.ensures in
     subst (AreChangesFrom (get_or rows c.loop-i.i d).route.bits 0 rows c.loop-i.known.times.items c.args.links.now.next.items) (sym c.deref.ensures.value)
-    (record { one_each = c.loop-i.invariant.known.one_each; nexts = c.requires.links.next; newer = ready.own d; places = ready.changes.places })
+    (record { one_each = c.loop-i.invariant.known.told.one_each; nexts = c.requires.links.next; newer = ready.own d; places = ready.changes.places })
 
 pub returns-in-Some-clause-found : goal.returns-in-Some-clause-found
 returns-in-Some-clause-found c =
-    let rows = c.args.table.now.rows in
+    let rows = c.args.rows.now in
     first_found rows c.in_ok-two_places.field-0 c.loop-i.i c.in-Some.j c.in_ok-two_places.ensures c.loop-i.invariant.none
     (subst (λ o. MatchOption o ((b : ℕ) → IsLegalPair rows c.loop-i.i b → ⊥) (λ j. IsFirstPartner rows c.loop-i.i j)) c.in-Some.is c.partner.ensures)
 
 pub loop-i-preserved : goal.loop-i-preserved
 loop-i-preserved c =
-    let rows = c.args.table.now.rows in
+    let rows = c.args.rows.now in
     let known = c.loop-i.known in
     let gs = known.times.items in
     let i = c.loop-i.i in
@@ -58,23 +57,26 @@ loop-i-preserved c =
     let was = c.index.result.now in
     let mark = c.marked.ensures in
     let old = c.loop-i.invariant in
+    let told = old.known.told in
     let ready = c.in_ok-make_ready.ensures.changes in
-    let inside : i < length gs = omega (arith, old.known.one_each, c.len-i-end.ensures, c.loop-i-test.true) in
+    let inside : i < length gs = omega (arith, told.one_each, c.loop-i-test.true) in
     let none : (b : ℕ) → IsLegalPair rows i b → ⊥ = subst (λ o. MatchOption o ((b : ℕ) → IsLegalPair rows i b → ⊥) (λ j. IsFirstPartner rows i j)) c.in_default.is c.partner.ensures in record {
       none = below_more (λ a. (b : ℕ) → IsLegalPair rows a b → ⊥) i old.none none;
       known = record {
-        rivaled = old.known.rivaled;
-        one_each = length-set gs i g ∙ old.known.one_each;
-        one_time = old.known.one_time;
-        latest = times_no_later known.routes.items known.latest.items rows gs c.args.now old.marks.bound i g inside
-            (λ d. omega (arith, mark.changed, ap (λ x. x.changed) c.index.ensures, old.known.latest i d was inside)) old.known.latest;
-        once = old.known.once;
-        numbers = old.known.numbers;
-        one_route = old.known.one_route;
-        kept = old.known.kept;
+        told = record {
+          rivaled = told.rivaled;
+          one_each = length-set gs i g ∙ told.one_each;
+          one_time = told.one_time;
+          latest = times_no_later known.routes.items known.latest.items rows gs c.args.now old.known.marks.bound i g inside
+              (λ d. omega (arith, mark.changed, ap (λ x. x.changed) c.index.ensures, told.latest i d was inside)) told.latest;
+          once = told.once;
+          numbers = told.numbers;
+          one_route = told.one_route;
+          kept = told.kept;
+        };
+        marks = marked_put c.args.now rows gs i g inside old.known.marks was c.index.ensures mark none;
       };
       routes = old.routes;
-      marks = marked_put c.args.now rows gs i g inside old.marks was c.index.ensures mark none;
       changes = record {
         places = ready.places;
         one_each = ready.one_each;
@@ -83,4 +85,4 @@ loop-i-preserved c =
     }
 
 pub returns-clause-found : goal.returns-clause-found
-returns-clause-found c = no_pair c.args.table.now.rows c.loop-i.i (omega (arith, c.len-i-end.ensures)) c.loop-i.invariant.none
+returns-clause-found c = no_pair c.args.rows.now c.loop-i.i (omega (arith)) c.loop-i.invariant.none

@@ -28,7 +28,7 @@ loop-c-preserved-then-is_known c =
 
 pub loop-c-preserved : goal.loop-c-preserved
 loop-c-preserved c =
-    let rows = c.args.table.now.rows in
+    let rows = c.args.rows.now in
     let known = c.loop-c.known in
     let old = c.loop-c.invariant in
     let routes = known.routes.items in

@@ -12,7 +12,7 @@ returns-then-most-lt2 c =
     let most = c.most_of-most.result in
     let is : IsMostBefore known.routes.items known.kept.items (length known.routes.items) most =
     subst (λ l. IsMostBefore known.routes.items l (length known.routes.items) most) c.deref-2.ensures.value (subst (λ l. IsMostBefore l c.deref-2.result.now (length l) most) c.deref.ensures.value c.most_of-most.ensures) in
-    none_largest known.routes.items c.args.table.now.rows known.numbers.items c.requires.known.numbers known.kept.items c.requires.known.kept c.requires.all most is c.if-most-lt2.true
+    none_largest known.routes.items c.args.rows.now known.numbers.items c.requires.known.numbers known.kept.items c.requires.known.kept c.requires.all most is c.if-most-lt2.true
 
 pub refined_of-requires-clause-inside : goal.refined_of-requires-clause-inside
 refined_of-requires-clause-inside c =
@@ -24,7 +24,7 @@ refined_of-requires-clause-inside c =
 
 pub returns-then-len-most : goal.returns-then-len-most
 returns-then-len-most c =
-    let rows = c.args.table.now.rows in
+    let rows = c.args.rows.now in
     let known = c.args.known.now in
     let most = c.most_of-most.result in
     let routes = known.routes.items in
@@ -37,7 +37,7 @@ returns-then-len-most c =
 
 pub returns : goal.returns
 returns c =
-    let rows = c.args.table.now.rows in
+    let rows = c.args.rows.now in
     let known = c.args.known.now in
     let most = c.most_of-most.result in
     let found = c.in_ok-set.field-0 in

@@ -13,32 +13,32 @@ use Rattle.cover_merge.proofs.choosing.make_ready.Goals as goal
 number : (c : After-index) → get_or c.args.known.now.numbers.items c.args.i 0 ≡ c.index.result.now
 number c =
     let known = c.requires.known in
-    let many = as_many c.args.known.now.routes.items c.args.table.now.rows c.args.known.now.numbers.items known.numbers in
+    let many = as_many c.args.known.now.routes.items c.args.rows.now c.args.known.now.numbers.items known.numbers in
     get_or_default c.args.known.now.numbers.items c.args.i 0 c.index.result.now (omega (arith, many, c.requires.inside)) ∙ sym c.index.ensures
 
 low : (c : After-index) → c.index.result.now < length c.args.known.now.routes.items
 low c =
     let known = c.requires.known in
-    let many = as_many c.args.known.now.routes.items c.args.table.now.rows c.args.known.now.numbers.items known.numbers in
+    let many = as_many c.args.known.now.routes.items c.args.rows.now c.args.known.now.numbers.items known.numbers in
     omega (arith, number c, known.numbers.below c.args.i 0 (omega (arith, many, c.requires.inside)))
 
 -- and its bits
-bits : (c : After-index) (d : Row) → get_or c.args.known.now.routes.items c.index.result.now 0 ≡ (get_or c.args.table.now.rows c.args.i d).route.bits
+bits : (c : After-index) (d : Row) → get_or c.args.known.now.routes.items c.index.result.now 0 ≡ (get_or c.args.rows.now c.args.i d).route.bits
 bits c d =
     let routes = c.args.known.now.routes.items in
-    ap (λ n. get_or routes n 0) (sym (number c)) ∙ route_of routes c.args.table.now.rows c.args.known.now.numbers.items c.requires.known.numbers c.args.i d c.requires.inside
+    ap (λ n. get_or routes n 0) (sym (number c)) ∙ route_of routes c.args.rows.now c.args.known.now.numbers.items c.requires.known.numbers c.args.i d c.requires.inside
 
 -- the place is that of its first row
-first : (c : After-index-then-not-index) → c.index.result.now < length c.args.known.now.routes.items → IsFirstOfRoute c.args.table.now.rows (get_or c.args.known.now.routes.items c.index.result.now 0) c.index-then-not-index.result.now
+first : (c : After-index-then-not-index) → c.index.result.now < length c.args.known.now.routes.items → IsFirstOfRoute c.args.rows.now (get_or c.args.known.now.routes.items c.index.result.now 0) c.index-then-not-index.result.now
 first c inside =
     let heads = c.args.links.now.heads.items in
     let links = c.requires.links in
-    subst (IsFirstOfRoute c.args.table.now.rows (get_or c.args.known.now.routes.items c.index.result.now 0))
+    subst (IsFirstOfRoute c.args.rows.now (get_or c.args.known.now.routes.items c.index.result.now 0))
     (get_or_default heads c.index.result.now 0 c.index-then-not-index.result.now (omega (arith, links.one_each, inside)) ∙ sym c.index-then-not-index.ensures) (links.head c.index.result.now inside)
 
 pub returns-in_ok-find_newer-clause-changes : goal.returns-in_ok-find_newer-clause-changes
 returns-in_ok-find_newer-clause-changes c =
-    let rows = c.args.table.now.rows in
+    let rows = c.args.rows.now in
     let gs = c.args.known.now.times.items in
     let routes = c.args.known.now.routes.items in
     let number = c.index.result.now in
@@ -55,7 +55,7 @@ returns-in_ok-find_newer-clause-changes c =
 
 pub returns-in_ok-find_newer-clause-own : goal.returns-in_ok-find_newer-clause-own
 returns-in_ok-find_newer-clause-own c d =
-    let rows = c.args.table.now.rows in
+    let rows = c.args.rows.now in
     let gs = c.args.known.now.times.items in
     let routes = c.args.known.now.routes.items in
     let number = c.index.result.now in
@@ -67,5 +67,5 @@ returns-in_ok-find_newer-clause-own c d =
 pub returns-else-not-index-clause-own : goal.returns-else-not-index-clause-own
 returns-else-not-index-clause-own c d =
     let before = (goal.at.returns-else-not-index-clause-own c).After-index in
-    subst (λ b. AreNewerOf b 0 c.args.table.now.rows c.args.known.now.times.items c.args.changes.now.newer.items) (bits before d)
+    subst (λ b. AreNewerOf b 0 c.args.rows.now c.args.known.now.times.items c.args.changes.now.newer.items) (bits before d)
     (c.requires.changes.newer c.index.result.now c.index-2.result.now (low before) (sym c.index-2.ensures ∙ c.if-not-index.false))

@@ -11,7 +11,7 @@ index-next-requires c = omega (arith, c.requires.inside, (c.requires.changes (me
 
 pub returns-then-time-eq0 : goal.returns-then-time-eq0
 returns-then-time-eq0 c =
-    let rows = c.args.table.now.rows in
+    let rows = c.args.rows.now in
     since_first rows c.args.times.now c.args.k c.index-next.result.now c.args.time
     (link_next rows c.args.links.now.next.items (c.requires.changes (merge_rows [])).nexts c.args.k c.index-next.result.now c.requires.inside c.index-next.ensures)
 
@@ -27,4 +27,4 @@ changed_after-requires-clause-changes c d =
 pub returns : goal.returns
 returns c =
     let whole : suc (c.args.time - 1) ≡ c.args.time = omega (arith, c.if-time-eq0.false) in
-    subst (λ n. IsNextSince c.args.table.now.rows c.args.times.now c.args.k n c.changed_after.result) whole c.changed_after.ensures
+    subst (λ n. IsNextSince c.args.rows.now c.args.times.now c.args.k n c.changed_after.result) whole c.changed_after.ensures

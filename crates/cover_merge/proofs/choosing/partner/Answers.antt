@@ -11,11 +11,14 @@ use Rattle.cover_merge.proofs.choosing.partner.Goals.{After-as_slice-times}
 use Rattle.cover_merge.proofs.choosing.partner.Goals as goal
 
 -- the changes of the route, by the times as they are lent
-changes : (c : After-as_slice-times) (d : Row) → AreChangesFrom (get_or c.args.table.now.rows c.args.i d).route.bits 0 c.args.table.now.rows c.as_slice-times.result.now c.args.links.now.next.items c.args.newer.now
-changes c d = subst (λ l. AreChangesFrom (get_or c.args.table.now.rows c.args.i d).route.bits 0 c.args.table.now.rows l c.args.links.now.next.items c.args.newer.now) (sym c.as_slice-times.ensures.value) (c.requires.changes d)
+changes : (c : After-as_slice-times) (d : Row) → AreChangesFrom (get_or c.args.rows.now c.args.i d).route.bits 0 c.args.rows.now c.as_slice-times.result.now c.args.links.now.next.items c.args.newer.now
+changes c d = subst (λ l. AreChangesFrom (get_or c.args.rows.now c.args.i d).route.bits 0 c.args.rows.now l c.args.links.now.next.items c.args.newer.now) (sym c.as_slice-times.ensures.value) (c.requires.changes d)
 
-tried : (c : After-as_slice-times) → AreTried c.args.table.now.rows c.as_slice-times.result.now
-tried c = subst (AreTried c.args.table.now.rows) (sym c.as_slice-times.ensures.value) c.requires.tried
+tried : (c : After-as_slice-times) → AreTried c.args.rows.now c.as_slice-times.result.now
+tried c = subst (AreTried c.args.rows.now) (sym c.as_slice-times.ensures.value) c.requires.tried
+
+pub invariant_of-table : goal.invariant_of-table
+invariant_of-table c = let it = c.requires.rivaled in record { few = it.few; sound = it.sound; one_each = it.one_each; below = it.below; rivaled = ∣ it ∣₁ }
 
 pub tried_at-tried-requires : goal.tried_at-tried-requires
 tried_at-tried-requires c =
@@ -31,39 +34,39 @@ loop-j-init c =
     let next = c.next_to_try-j.ensures in record {
       behind = next.behind;
       same = next.same;
-      none = skipped_none c.args.table.now.rows c.as_slice-times.result.now c.args.i c.args.i c.next_to_try-j.result c.tried_at-tried.result (changes before (merge_rows [])).one_each (tried before) (omega arith) (λ d within. refl) c.tried_at-tried.ensures next;
+      none = skipped_none c.args.rows.now c.as_slice-times.result.now c.args.i c.args.i c.next_to_try-j.result c.tried_at-tried.result (changes before (merge_rows [])).one_each (tried before) (omega arith) (λ d within. refl) c.tried_at-tried.ensures next;
     }
 
-pub is_legal_pair-requires-clause-set : goal.is_legal_pair-requires-clause-set
-is_legal_pair-requires-clause-set c =
-    let rows = c.args.table.now.rows in
-    let inside : c.loop-j.j < length rows = omega (arith, c.len.ensures, c.loop-j-test.true) in
-    pair_made rows rows refl c.args.i c.loop-j.j (merge_rows []) (merge_rows []) c.loop-j.invariant.behind inside (sym (c.loop-j.invariant.same (merge_rows []) inside))
+pub is_legal_pair-requires : goal.is_legal_pair-requires
+is_legal_pair-requires c =
+    let rows = c.args.rows.now in
+    let inside : c.loop-j.j < length rows = omega (arith, c.loop-j-test.true) in
+    pair_made rows c.args.i c.loop-j.j c.loop-j.invariant.behind inside (λ d. c.loop-j.invariant.same d inside)
 
 pub returns-then-is_legal_pair : goal.returns-then-is_legal_pair
 returns-then-is_legal_pair c =
-    let rows = c.args.table.now.rows in
-    let inside : c.loop-j.j < length rows = omega (arith, c.len.ensures, c.loop-j-test.true) in
-    let set = pair_made rows rows refl c.args.i c.loop-j.j (merge_rows []) (merge_rows []) c.loop-j.invariant.behind inside (sym (c.loop-j.invariant.same (merge_rows []) inside)) in
+    let rows = c.args.rows.now in
+    let inside : c.loop-j.j < length rows = omega (arith, c.loop-j-test.true) in
+    let set = pair_made rows c.args.i c.loop-j.j c.loop-j.invariant.behind inside (λ d. c.loop-j.invariant.same d inside) in
     partner_found rows c.args.i c.loop-j.j c.loop-j.invariant.none (record { set = set; legal = c.is_legal_pair.ensures.0 c.if-is_legal_pair.true })
 
 pub next_to_try-j-requires-in-loop-j-clause-changes : goal.next_to_try-j-requires-in-loop-j-clause-changes
 next_to_try-j-requires-in-loop-j-clause-changes c d =
-    let rows = c.args.table.now.rows in
-    let inside : c.loop-j.j < length rows = omega (arith, c.len.ensures, c.loop-j-test.true) in
+    let rows = c.args.rows.now in
+    let inside : c.loop-j.j < length rows = omega (arith, c.loop-j-test.true) in
     subst (λ b. AreChangesFrom b 0 rows c.as_slice-times.result.now c.args.links.now.next.items c.args.newer.now) (sym (c.loop-j.invariant.same d inside))
     (changes (goal.at.next_to_try-j-requires-in-loop-j-clause-changes c).After-as_slice-times d)
 
 pub loop-j-preserved : goal.loop-j-preserved
 loop-j-preserved c =
     let before = (goal.at.loop-j-preserved c).After-as_slice-times in
-    let rows = c.args.table.now.rows in
+    let rows = c.args.rows.now in
     let gs = c.as_slice-times.result.now in
     let i = c.args.i in
     let j = c.loop-j.j in
     let x = c.next_to_try-j-in-loop-j.result in
     let old = c.loop-j.invariant in
-    let inside : j < length rows = omega (arith, c.len.ensures, c.loop-j-test.true) in
+    let inside : j < length rows = omega (arith, c.loop-j-test.true) in
     let next = c.next_to_try-j-in-loop-j.ensures in record {
       behind = omega (arith, old.behind, next.behind);
       same = λ d within. next.same d within ∙ old.same d inside;
@@ -72,4 +75,4 @@ loop-j-preserved c =
     }
 
 pub returns : goal.returns
-returns c = no_partner c.args.table.now.rows c.args.i c.loop-j.j (omega (arith, c.len.ensures, c.loop-j-test.false)) c.loop-j.invariant.none
+returns c = no_partner c.args.rows.now c.args.i c.loop-j.j (omega (arith, c.loop-j-test.false)) c.loop-j.invariant.none

@@ -9,12 +9,12 @@ use Rattle.cover_merge.proofs.covering.carry_over.Goals as goal
 
 pub returns : goal.returns
 returns c =
-    let rows = c.args.rows.now in
-    let places = c.args.places.now in
+    let rows = c.args.merge.rows.now in
+    let places = c.args.merge.gaps.places.now in
     let first = c.args.known.now in
-    let start = c.requires.known.0 in
+    let start = c.requires.known.told in
     let t = c.touch.new.known in
-    let old = c.touch.ensures.known in
+    let old = c.touch.ensures.known.told in
     let f = c.forget.new.known in
     let same = c.forget.ensures in
     let times : AreNoLater f.routes.items f.latest.items rows f.times.items =
@@ -32,8 +32,8 @@ returns c =
         numbers = c.carry_numbers.ensures f.routes.items numbers;
         one_route = same.left.one_each ∙ old.one_route ∙ sym (ap length same.routes);
         kept = subst (λ r. AreRoutesKept r (after rows places) f.kept.items) (sym (same.routes ∙ c.touch.ensures.same.routes))
-            (kept_over first.routes.items rows first.numbers.items first.kept.items t.kept.items f.kept.items places c.args.merged start.once start.numbers start.rivaled.sound c.requires.merge start.kept c.touch.ensures.left
-            (subst (λ n. AreStillKept (λ k it. (k ≡ get_or n (get_or places 0 0) 0 → ⊥) × (IsApart c.args.merged it)) t.kept.items f.kept.items) c.touch.ensures.same.numbers same.left));
+            (kept_over first.routes.items rows first.numbers.items first.kept.items t.kept.items f.kept.items places c.args.merge.block start.once start.numbers start.rivaled.sound c.args.merge.legal start.kept c.touch.ensures.left
+            (subst (λ n. AreStillKept (λ k it. (k ≡ get_or n (get_or places 0 0) 0 → ⊥) × (IsApart c.args.merge.block it)) t.kept.items f.kept.items) c.touch.ensures.same.numbers same.left));
         marks = c.carry_times.ensures.marks;
       };
       rivals = same.rivals ∙ c.touch.ensures.rivals;

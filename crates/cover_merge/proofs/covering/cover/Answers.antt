@@ -1,22 +1,27 @@
 -- Each round makes a chosen merge, which is legal.
-use Rattle.std.proofs.Common.{◌≡◌, ◌<◌, ◌≤◌, ◌++◌, ◌∷◌, [], ap, length, length-append, sym, subst, inr, ◌⊎◌, arith}
+use Rattle.std.proofs.Common.{◌≡◌, ◌<◌, ◌≤◌, ◌^◌, ◌++◌, ◌∷◌, [], ap, length, length-append, sym, subst, inr, ◌⊎◌, arith}
 use Rattle.std.specs.Prelude.{MatchOption}
 use Rattle.std.specs.List.Sorted.{IsPermutation}
 use Rattle.tern_word.specs.SoundTable.{IsSound, served}
 use Rattle.cover_merge.specs.Covering.{Covers, IsChosen, HasNoChosen, HasNoLegalPair, HasRoutesOf}
 use Rattle.cover_merge.specs.Merges.{sets_of}
 use Rattle.cover_merge.specs.Merge.{after}
-use Rattle.cover_merge.specs.Known.{IsKnown}
+use Rattle.cover_merge.specs.Known.{IsKnownAt}
 use Rattle.cover_merge.specs.Tried.{AreTriedUpTo}
 use Rattle.cover_merge.proofs.TriedLemmas.{marked_later}
 use Rattle.cover_merge.proofs.CoverLemmas.{IsCoveredSoFar, chosen_shorter, so_far_first, so_far_more, covered_short, covered_stuck}
 use Rattle.cover_merge.proofs.covering.cover.Goals as goal
 
+pub invariant_of-sound : goal.invariant_of-sound
+invariant_of-sound c = record {
+  few = subst (λ l. length l < 2 ^ 32) (sym c.as_slice-rows.ensures) c.requires.few;
+  sound = subst IsSound (sym c.as_slice-rows.ensures) c.requires.sound;
+}
+
 pub merging-init : goal.merging-init
 merging-init c = record {
   so_far = subst (IsCoveredSoFar c.args.target c.args.table.rows c.args.table.rows) (sym c.new-merges.ensures) (so_far_first c.args.target c.args.table.rows c.requires.few c.requires.sound);
-  told = subst (λ l. IsKnown l c.in_ok-known.known) c.as_slice.ensures c.in_ok-known.ensures.known;
-  marks = subst (λ n. AreTriedUpTo n c.args.table.rows c.in_ok-known.known.times.items) (sym (ap length c.new-merges.ensures)) (subst (λ l. AreTriedUpTo 0 l c.in_ok-known.known.times.items) c.as_slice.ensures c.in_ok-known.ensures.marks);
+  known = subst (λ n. IsKnownAt n c.args.table.rows c.in_ok-known.known) (sym (ap length c.new-merges.ensures)) (subst (λ l. IsKnownAt 0 l c.in_ok-known.known) c.as_slice-rows.ensures c.in_ok-known.ensures);
 }
 
 pub merging-smaller : goal.merging-smaller
@@ -36,10 +41,12 @@ merging-preserved c =
     let more : c.args.target < length rows = omega (arith, c.len.ensures) in record {
       so_far = subst (IsCoveredSoFar c.args.target c.args.table.rows c.merge_next.new.table.rows) (sym c.in_ok-push-in-Some.ensures.ok)
           (so_far_more c.args.target c.args.table.rows rows c.merge_next.new.table.rows c.merging.merges (record { places = c.in-Some.places }) c.merging.invariant.so_far more chosen next);
-      told = c.in_ok-places.ensures.known;
-      marks = subst (λ l. AreTriedUpTo (length l) c.merge_next.new.table.rows c.merge_next.new.known.times.items) (sym c.in_ok-push-in-Some.ensures.ok)
-          (marked_later c.len-now.result c.merge_next.new.table.rows c.merge_next.new.known.times.items (length (c.merging.merges ++ record { places = c.in-Some.places } ∷ []))
-          (omega (arith, c.len-now.ensures, length-append c.merging.merges (record { places = c.in-Some.places } ∷ []))) c.in_ok-places.ensures.marks);
+      known = record {
+        told = c.in_ok-places.ensures.known.told;
+        marks = subst (λ l. AreTriedUpTo (length l) c.merge_next.new.table.rows c.merge_next.new.known.times.items) (sym c.in_ok-push-in-Some.ensures.ok)
+            (marked_later c.len-now.result c.merge_next.new.table.rows c.merge_next.new.known.times.items (length (c.merging.merges ++ record { places = c.in-Some.places } ∷ []))
+            (omega (arith, c.len-now.ensures, length-append c.merging.merges (record { places = c.in-Some.places } ∷ []))) c.in_ok-places.ensures.known.marks);
+      };
     }
 
 pub returns-in-None : goal.returns-in-None

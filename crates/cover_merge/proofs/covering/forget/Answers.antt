@@ -8,11 +8,11 @@ use Rattle.cover_merge.proofs.covering.forget.Goals as goal
 
 pub returns-clause-left : goal.returns-clause-left
 returns-clause-left c =
-    let rows = c.args.rows.now in
+    let rows = c.args.merge.rows.now in
     let known = c.args.known.now in
     let numbers = known.numbers.items in
-    let first = get_or c.args.places.now 0 0 in
-    let member : first < length numbers = omega (arith, as_many known.routes.items rows numbers c.requires.known.numbers, c.requires.set.set.in_range 0 0 (omega (arith, c.requires.set.two))) in
-    left_twice (λ k it. k ≡ c.index.result.now → ⊥) (λ k it. IsApart c.args.merged it) (λ k it. (k ≡ get_or numbers first 0 → ⊥) × (IsApart c.args.merged it))
+    let first = get_or c.args.merge.gaps.places.now 0 0 in
+    let member : first < length numbers = omega (arith, as_many known.routes.items rows numbers c.requires.numbers, c.args.merge.legal.set.set.in_range 0 0 (omega (arith, c.args.merge.legal.set.two))) in
+    left_twice (λ k it. k ≡ c.index.result.now → ⊥) (λ k it. IsApart c.args.merge.block it) (λ k it. (k ≡ get_or numbers first 0 → ⊥) × (IsApart c.args.merge.block it))
     known.kept.items c.forget_own.new.kept.items c.forget_near.new.kept.items c.forget_own.ensures c.forget_near.ensures
     (λ k it other apart. (λ same. other (same ∙ sym (c.index.ensures ∙ get_or_default numbers first c.index.result.now 0 member)), apart))

@@ -12,24 +12,24 @@ use Rattle.cover_merge.proofs.knowing.known_of.Goals as goal
 -- no row was tried
 fresh : (c : goal.In_ok-latest) → All (IsFresh 0) c.in_ok-times.times.items
 fresh c =
-    subst (All (IsFresh 0)) (sym (c.in_ok-times.ensures.items_if_clones_equal (λ y h. search rules))) (All-replicate (IsFresh 0) (length c.args.rows.now) c.changed.result c.changed.ensures)
+    subst (All (IsFresh 0)) (sym (c.in_ok-times.ensures.items_if_clones_equal (λ y h. search rules))) (All-replicate (IsFresh 0) (length c.args.table.rows.now) c.changed.result c.changed.ensures)
 
 -- nothing is kept
 none : (c : goal.In_ok-latest) → All (λ (o : Option Kept). o ≡ None) c.in_ok-kept.kept.items
 none c =
     subst (All (λ (o : Option Kept). o ≡ None)) (sym (c.in_ok-kept.ensures.items_if_clones_equal (λ y h. search rules))) (All-replicate (λ (o : Option Kept). o ≡ None) c.len.result None refl)
 
-pub returns-clause-known : goal.returns-clause-known
-returns-clause-known c = record {
-  rivaled = c.in_ok-rivals.ensures;
-  one_each = omega (arith, c.in_ok-times.ensures.len);
-  one_time = omega (arith, c.in_ok-latest.ensures.len, c.len-2.ensures);
-  latest = λ s d e within. omega (arith, (fresh c s e within).changed);
-  once = c.in_ok-routes.ensures.once;
-  numbers = subst (λ l. AreNumbers l c.args.rows.now c.in_ok-numbers.numbers.items) c.deref.ensures.value c.in_ok-numbers.ensures;
-  one_route = omega (arith, c.in_ok-kept.ensures.len, c.len.ensures);
-  kept = λ k it low is. absurd (none_some it (sym (none c k None (inside_some c.in_ok-kept.kept.items k it is)) ∙ is));
+pub returns : goal.returns
+returns c = record {
+  told = record {
+    rivaled = c.in_ok-rivals.ensures;
+    one_each = omega (arith, c.in_ok-times.ensures.len);
+    one_time = omega (arith, c.in_ok-latest.ensures.len, c.len-2.ensures);
+    latest = λ s d e within. omega (arith, (fresh c s e within).changed);
+    once = c.in_ok-routes.ensures.once;
+    numbers = subst (λ l. AreNumbers l c.args.table.rows.now c.in_ok-numbers.numbers.items) c.deref.ensures.value c.in_ok-numbers.ensures;
+    one_route = omega (arith, c.in_ok-kept.ensures.len, c.len.ensures);
+    kept = λ k it low is. absurd (none_some it (sym (none c k None (inside_some c.in_ok-kept.kept.items k it is)) ∙ is));
+  };
+  marks = fresh_marked c.args.table.rows.now c.in_ok-times.times.items (fresh c);
 }
-
-pub returns-clause-marks : goal.returns-clause-marks
-returns-clause-marks c = fresh_marked c.args.rows.now c.in_ok-times.times.items (fresh c)

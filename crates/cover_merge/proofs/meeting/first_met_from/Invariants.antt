@@ -5,4 +5,4 @@ use Rattle.tern_word.specs.SoundTable.{Misses}
 use Rattle.cover_merge.proofs.meeting.first_met_from.Given as goal
 
 abbrev pub invariant-loop-r : goal.invariant-loop-r
-invariant-loop-r l = (k : ℕ) (d : Row) → l.p ≤ k → k < l.r → Misses l.block (get_or l.rows k d)
+invariant-loop-r l = (k : ℕ) (d : Row) → l.p ≤ k → k < l.r → Misses l.block (get_or l.table.rows.now k d)

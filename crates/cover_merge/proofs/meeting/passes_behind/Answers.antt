@@ -7,6 +7,6 @@ use Rattle.cover_merge.proofs.meeting.passes_behind.Goals as goal
 
 pub returns-in-Some : goal.returns-in-Some
 returns-in-Some c =
-    let rows = c.args.rows.now in
+    let rows = c.args.table.rows.now in
     answers_no (PassesDown rows c.args.block (place_for rows c.args.general)) (λ passes.
     met_fails rows c.args.block c.place_in.result c.in-Some.met.block c.in-Some.ensures (subst (PassesDown rows c.args.block) (sym c.place_in.ensures.value) passes))

@@ -9,28 +9,28 @@ use Rattle.cover_merge.proofs.SiftLemmas.{member_alike, member_inside, member_pa
 use Rattle.cover_merge.proofs.refining.all_pass.Goals as goal
 
 pub passes-requires-clause-inside : goal.passes-requires-clause-inside
-passes-requires-clause-inside c = member_inside c.args.rows.now c.args.set.now c.requires.set c.loop-k.k _ _ (omega (arith, c.loop-k-test.true)) refl
+passes-requires-clause-inside c = member_inside c.args.table.rows.now c.args.set.now c.requires c.loop-k.k _ _ (omega (arith, c.loop-k-test.true)) refl
 
 pub passes-requires-clause-one_route : goal.passes-requires-clause-one_route
 passes-requires-clause-one_route c r less found =
     let xs = c.args.set.now in
     let k = c.loop-k.k in
-    member_alike c.args.rows.now xs c.requires.set k _ _ (omega (arith, c.loop-k-test.true)) refl r less (subst (λ l. has_row l r ≡ true) (take_rest xs (k + 1)) found)
+    member_alike c.args.table.rows.now xs c.requires k _ _ (omega (arith, c.loop-k-test.true)) refl r less (subst (λ l. has_row l r ≡ true) (take_rest xs (k + 1)) found)
 
 pub passes-requires-clause-in_range : goal.passes-requires-clause-in_range
 passes-requires-clause-in_range c =
     let xs = c.args.set.now in
     let k = c.loop-k.k in
-    let P : ℕ → Type 0 = λ s. s < length c.args.rows.now in
-    subst (All P) (sym (take_rest xs (k + 1))) (All-drop P (k + 1) xs c.requires.set.in_range)
+    let P : ℕ → Type 0 = λ s. s < length c.args.table.rows.now in
+    subst (All P) (sym (take_rest xs (k + 1))) (All-drop P (k + 1) xs c.requires.in_range)
 
 pub loop-k-preserved : goal.loop-k-preserved
 loop-k-preserved c =
-    let rows = c.args.rows.now in
+    let rows = c.args.table.rows.now in
     let xs = c.args.set.now in
     let k = c.loop-k.k in
     let p = place_for rows c.args.general in
-    member_passes rows xs c.requires.set k _ _ (omega (arith, c.loop-k-test.true)) refl p c.passes.result _ (take_rest xs (k + 1)) c.passes.ensures c.if-not-passes.false c.loop-k.invariant
+    member_passes rows xs c.requires k _ _ (omega (arith, c.loop-k-test.true)) refl p c.passes.result _ (take_rest xs (k + 1)) c.passes.ensures c.if-not-passes.false c.loop-k.invariant
 
 pub returns : goal.returns
-returns c passed = none_fails c.args.rows.now c.args.set.now (place_for c.args.rows.now c.args.general) 0 (omega arith) (λ k from within. c.loop-k.invariant k (omega (arith, within, c.loop-k-test.false)))
+returns c passed = none_fails c.args.table.rows.now c.args.set.now (place_for c.args.table.rows.now c.args.general) 0 (omega arith) (λ k from within. c.loop-k.invariant k (omega (arith, within, c.loop-k-test.false)))

@@ -4,4 +4,4 @@ use Rattle.cover_merge.specs.Merge.{PassesUp, place_for}
 use Rattle.cover_merge.proofs.refining.all_pass.Given as goal
 
 abbrev pub invariant-loop-k : goal.invariant-loop-k
-invariant-loop-k l = (n : ℕ) → n < l.k → PassesUp l.rows l.set (get_or l.set n 0) (place_for l.rows l.general)
+invariant-loop-k l = (n : ℕ) → n < l.k → PassesUp l.table.rows.now l.set (get_or l.set n 0) (place_for l.table.rows.now l.general)

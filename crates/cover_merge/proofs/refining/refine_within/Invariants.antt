@@ -4,11 +4,11 @@ use Rattle.cover_merge.specs.Merge.{IsOneRoute}
 use Rattle.cover_merge.specs.Kept.{IsGone}
 use Rattle.cover_merge.proofs.refining.refine_within.Given as goal
 
-abbrev pub invariant-loop-rows : goal.invariant-loop-rows
-invariant-loop-rows l = record {
-  set : IsOneRoute l.rows l.set.items;
-  gone : IsGone l.rows l.fn.places l.set.items l.outer l.low;
+abbrev pub invariant-refining : goal.invariant-refining
+invariant-refining l = record {
+  set : IsOneRoute l.table.rows.now l.set.items;
+  gone : IsGone l.table.rows.now l.fn.places l.set.items l.outer l.low;
 }
 
-abbrev pub decreases-loop-rows : goal.decreases-loop-rows
-decreases-loop-rows l = length l.set.items
+abbrev pub decreases-refining : goal.decreases-refining
+decreases-refining l = length l.set.items

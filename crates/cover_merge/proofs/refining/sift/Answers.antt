@@ -18,14 +18,14 @@ rest_of : (n : ℕ) (ys xs : List ℕ) → ys ≡ xs → take (length ys - n) (d
 rest_of n ys xs same = take_rest ys n ∙ ap (drop n) same
 
 pub merges_of-requires-clause-in_range : goal.merges_of-requires-clause-in_range
-merges_of-requires-clause-in_range c = subst (All (λ s. s < length c.args.rows.now)) (sym c.deref.ensures.value) c.requires.set.set.in_range
+merges_of-requires-clause-in_range c = subst (All (λ s. s < length c.args.table.rows.now)) (sym c.deref.ensures.value) c.requires.set.in_range
 
 pub merges_of-requires-clause-some : goal.merges_of-requires-clause-some
-merges_of-requires-clause-some c = subst (λ l. 0 < length l) (sym c.deref.ensures.value) (omega (arith, c.requires.set.two))
+merges_of-requires-clause-some c = subst (λ l. 0 < length l) (sym c.deref.ensures.value) (omega (arith, c.requires.two))
 
 pub loop-i-init : goal.loop-i-init
 loop-i-init c =
-    let rows = c.args.rows.now in
+    let rows = c.args.table.rows.now in
     let xs = c.args.set.now.items in
     let known : AreMerges rows xs c.in_ok-merges.merges.items = subst (λ l. AreMerges rows l c.in_ok-merges.merges.items) c.deref.ensures.value c.in_ok-merges.ensures in
     let whole : take c.len-i.result xs ++ drop c.len-kept.result xs ≡ xs =
@@ -33,10 +33,10 @@ loop-i-init c =
       gap = omega (arith, c.len-i.ensures, c.len-kept.ensures);
       within = omega (arith, c.len-kept.ensures);
       same = refl;
-      set = subst (IsOneRoute rows) (sym whole) c.requires.set.set;
-      some = subst (λ l. 0 < length l) (sym whole) (omega (arith, c.requires.set.two));
+      set = subst (IsOneRoute rows) (sym whole) c.requires.set;
+      some = subst (λ l. 0 < length l) (sym whole) (omega (arith, c.requires.two));
       merge = c.index-merged.ensures
-          ∙ known.each (c.len.result - 1) c.index-merged.result.now (omega (arith, known.one_each, c.len.ensures, c.requires.set.two))
+          ∙ known.each (c.len.result - 1) c.index-merged.result.now (omega (arith, known.one_each, c.len.ensures, c.requires.two))
           ∙ ap (merged_block rows) (take_all (c.len.result - 1 + 1) xs (omega (arith, c.len.ensures)) ∙ sym whole);
       before = refl;
       behind = λ k low high. absurd (omega (arith, low, subst (λ l. k < length l) whole high, c.len-i.ensures));
@@ -46,7 +46,7 @@ loop-i-init c =
 pub passes-requires-clause-inside : goal.passes-requires-clause-inside
 passes-requires-clause-inside c =
     let old = c.loop-i.invariant in
-    last_within c.args.rows.now c.loop-i.set.items c.loop-i.i c.loop-i.kept c.loop-i-test.true old.gap old.within old.set c.index.result.now c.index.ensures
+    last_within c.args.table.rows.now c.loop-i.set.items c.loop-i.i c.loop-i.kept c.loop-i-test.true old.gap old.within old.set c.index.result.now c.index.ensures
 
 pub index-requires : goal.index-requires
 index-requires c = omega (arith, c.loop-i-test.true, c.loop-i.invariant.gap, c.loop-i.invariant.within)
@@ -55,18 +55,18 @@ pub passes-requires-clause-one_route : goal.passes-requires-clause-one_route
 passes-requires-clause-one_route c r less found =
     let xs = c.loop-i.set.items in
     let old = c.loop-i.invariant in
-    alike_behind c.args.rows.now xs c.loop-i.i c.loop-i.kept c.loop-i-test.true old.gap old.within old.set c.index.result.now c.index.ensures r less
+    alike_behind c.args.table.rows.now xs c.loop-i.i c.loop-i.kept c.loop-i-test.true old.gap old.within old.set c.index.result.now c.index.ensures r less
     (subst (λ l. has_row l r ≡ true) (rest_of c.loop-i.kept c.deref-in-loop-i.result.now xs c.deref-in-loop-i.ensures.value) found)
 
 pub passes-requires-clause-in_range : goal.passes-requires-clause-in_range
 passes-requires-clause-in_range c =
     let xs = c.loop-i.set.items in
-    subst (All (λ s. s < length c.args.rows.now)) (sym (rest_of c.loop-i.kept c.deref-in-loop-i.result.now xs c.deref-in-loop-i.ensures.value))
-    (All-right (λ s. s < length c.args.rows.now) (take c.loop-i.i xs) (drop c.loop-i.kept xs) c.loop-i.invariant.set.in_range)
+    subst (All (λ s. s < length c.args.table.rows.now)) (sym (rest_of c.loop-i.kept c.deref-in-loop-i.result.now xs c.deref-in-loop-i.ensures.value))
+    (All-right (λ s. s < length c.args.table.rows.now) (take c.loop-i.i xs) (drop c.loop-i.kept xs) c.loop-i.invariant.set.in_range)
 
 pub loop-i-preserved-then-passes : goal.loop-i-preserved-then-passes
 loop-i-preserved-then-passes c =
-    let rows = c.args.rows.now in
+    let rows = c.args.table.rows.now in
     let xs = c.loop-i.set.items in
     let i = c.loop-i.i in
     let w = c.loop-i.kept in
@@ -95,7 +95,7 @@ loop-i-preserved-then-passes c =
 
 pub merge_from-merged-requires-clause-in_range : goal.merge_from-merged-requires-clause-in_range
 merge_from-merged-requires-clause-in_range c =
-    let rows = c.args.rows.now in
+    let rows = c.args.table.rows.now in
     let xs = c.loop-i.set.items in
     let i = c.loop-i.i in
     let w = c.loop-i.kept in
@@ -107,7 +107,7 @@ merge_from-merged-requires-clause-in_range c =
 
 pub merge_from-merged-requires-clause-known : goal.merge_from-merged-requires-clause-known
 merge_from-merged-requires-clause-known c k d before inside =
-    let rows = c.args.rows.now in
+    let rows = c.args.table.rows.now in
     let xs = c.loop-i.set.items in
     let start = c.args.set.now.items in
     let i = c.loop-i.i in
@@ -120,7 +120,7 @@ merge_from-merged-requires-clause-known c k d before inside =
 
 pub loop-i-preserved : goal.loop-i-preserved
 loop-i-preserved c =
-    let rows = c.args.rows.now in
+    let rows = c.args.table.rows.now in
     let xs = c.loop-i.set.items in
     let i = c.loop-i.i in
     let w = c.loop-i.kept in
@@ -147,18 +147,26 @@ loop-i-preserved c =
       gap = omega (arith, old.gap);
       within = old.within;
       same = old.same;
-      set = sift_one rows now old.set c.requires.rivaled.sound.ordered c.loop-i.merged old.merge g general (i - 1) inside last new gone count two;
+      set = sift_one rows now old.set c.args.table.sound.ordered c.loop-i.merged old.merge g general (i - 1) inside last new gone count two;
       some = omega (arith, count, two);
       merge = merge;
       before = begins_less (i - 1) i xs c.args.set.now.items (omega (arith, some)) old.before;
-      behind = sift_behind rows now old.set c.requires.rivaled.sound.ordered c.loop-i.merged old.merge g general (i - 1) inside last new gone count two c.merge_from-merged.result merge _ refl;
+      behind = sift_behind rows now old.set c.args.table.sound.ordered c.loop-i.merged old.merge g general (i - 1) inside last new gone count two c.merge_from-merged.result merge _ refl;
       leads = λ outer low.
-          leads_on rows outer low c.args.set.now.items now new (old.leads outer low) (sift_leads rows now old.set c.requires.rivaled.sound.ordered c.loop-i.merged old.merge g general (i - 1) inside last new gone count two outer low);
+          leads_on rows outer low c.args.set.now.items now new (old.leads outer low) (sift_leads rows now old.set c.args.table.sound.ordered c.loop-i.merged old.merge g general (i - 1) inside last new gone count two outer low);
     }
 
-pub returns-clause-found : goal.returns-clause-found
-returns-clause-found c =
-    let rows = c.args.rows.now in
+pub returns-then-len-lt2-clause-sifted : goal.returns-then-len-lt2-clause-sifted
+returns-then-len-lt2-clause-sifted c =
+    let rows = c.args.table.rows.now in record {
+      one_route = subst (IsOneRoute rows) (sym c.take_out_run.ensures) c.loop-i.invariant.set;
+      steps = λ outer low. subst (LeadsWithin rows outer low c.args.set.now.items) (sym c.take_out_run.ensures) (c.loop-i.invariant.leads outer low);
+      found_is = omega (arith, c.len-2.ensures, c.if-len-lt2.true);
+    }
+
+pub returns-clause-sifted : goal.returns-clause-sifted
+returns-clause-sifted c =
+    let rows = c.args.table.rows.now in
     let xs = c.loop-i.set.items in
     let i = c.loop-i.i in
     let w = c.loop-i.kept in
@@ -166,11 +174,15 @@ returns-clause-found c =
     let now = take i xs ++ drop w xs in
     let is : c.take_out_run.new.set.items ≡ now = c.take_out_run.ensures in
     let two : 2 ≤ length now = subst (λ l. 2 ≤ length l) is (omega (arith, c.len-2.ensures, c.if-len-lt2.false)) in
-    subst (λ l. (2 ≤ length l) × (c.loop-i.merged ≡ merged_block rows l) × (PassesUpCheck rows l)) (sym is)
-    (two, old.merge, all_pass rows now old.set c.requires.rivaled.sound.ordered c.loop-i.merged old.merge _ refl (none_fails rows now (place_for rows (generality c.loop-i.merged)) i (done two) old.behind))
+    record {
+      one_route = subst (IsOneRoute rows) (sym is) old.set;
+      steps = λ outer low. subst (LeadsWithin rows outer low c.args.set.now.items) (sym is) (old.leads outer low);
+      found_is = subst (λ l. (2 ≤ length l) × (c.loop-i.merged ≡ merged_block rows l) × (PassesUpCheck rows l)) (sym is)
+          (two, old.merge, all_pass rows now old.set c.args.table.sound.ordered c.loop-i.merged old.merge _ refl (none_fails rows now (place_for rows (generality c.loop-i.merged)) i (done two) old.behind));
+    }
   where
     done : 2 ≤ length (take c.loop-i.i c.loop-i.set.items ++ drop c.loop-i.kept c.loop-i.set.items) → c.loop-i.i ≤ 0
     done two = elim c.loop-i-test.branch [
-      | then-loop-i-test+else-i-len-ge2 w ↦ absurd (omega (arith, two, left_many c.args.rows.now c.loop-i.set.items c.loop-i.i c.loop-i.kept w.loop-i-test.true c.loop-i.invariant.gap c.loop-i.invariant.within c.loop-i.invariant.set, w.if-i-len-ge2.false, w.len-in-loop-i.ensures))
+      | then-loop-i-test+else-i-len-ge2 w ↦ absurd (omega (arith, two, left_many c.args.table.rows.now c.loop-i.set.items c.loop-i.i c.loop-i.kept w.loop-i-test.true c.loop-i.invariant.gap c.loop-i.invariant.within c.loop-i.invariant.set, w.if-i-len-ge2.false, w.len-in-loop-i.ensures))
       | else-loop-i-test w ↦ w.loop-i-test.false
     ]

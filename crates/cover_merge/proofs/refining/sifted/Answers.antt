@@ -7,22 +7,22 @@ use Rattle.cover_merge.proofs.SiftLemmas.{all_pass}
 use Rattle.cover_merge.proofs.refining.sifted.Goals as goal
 
 pub merged_block-merged-requires-clause-in_range : goal.merged_block-merged-requires-clause-in_range
-merged_block-merged-requires-clause-in_range c = subst (All (λ s. s < length c.args.rows.now)) (sym c.deref.ensures.value) c.requires.set.set.in_range
+merged_block-merged-requires-clause-in_range c = subst (All (λ s. s < length c.args.table.rows.now)) (sym c.deref.ensures.value) c.requires.set.in_range
 
 pub merged_block-merged-requires-clause-some : goal.merged_block-merged-requires-clause-some
-merged_block-merged-requires-clause-some c = subst (λ l. 0 < length l) (sym c.deref.ensures.value) (omega (arith, c.requires.set.two))
+merged_block-merged-requires-clause-some c = subst (λ l. 0 < length l) (sym c.deref.ensures.value) (omega (arith, c.requires.two))
 
-pub all_pass-requires-clause-set : goal.all_pass-requires-clause-set
-all_pass-requires-clause-set c = subst (IsOneRoute c.args.rows.now) (sym c.deref-2.ensures.value) c.requires.set.set
+pub all_pass-requires : goal.all_pass-requires
+all_pass-requires c = subst (IsOneRoute c.args.table.rows.now) (sym c.deref-2.ensures.value) c.requires.set
 
-pub returns-then-all_pass-clause-steps : goal.returns-then-all_pass-clause-steps
-returns-then-all_pass-clause-steps c outer low = LeadsWithin.stands c.args.set.now.items
-
-pub returns-then-all_pass-clause-found : goal.returns-then-all_pass-clause-found
-returns-then-all_pass-clause-found c =
-    let rows = c.args.rows.now in
+pub returns-then-all_pass-clause-sifted : goal.returns-then-all_pass-clause-sifted
+returns-then-all_pass-clause-sifted c =
+    let rows = c.args.table.rows.now in
     let xs = c.args.set.now.items in
     let g = c.generality.result in
     let is : c.merged_block-merged.result ≡ merged_block rows xs = c.merged_block-merged.ensures ∙ ap (merged_block rows) c.deref.ensures.value in
-    let pass = subst (λ l. (s : ℕ) → has_row l s ≡ true → PassesUp rows l s (place_for rows g)) c.deref-2.ensures.value (c.all_pass.ensures c.if-all_pass.true) in
-    (c.requires.set.two, is, all_pass rows xs c.requires.set.set c.requires.rivaled.sound.ordered c.merged_block-merged.result is g c.generality.ensures.value pass)
+    let pass = subst (λ l. (s : ℕ) → has_row l s ≡ true → PassesUp rows l s (place_for rows g)) c.deref-2.ensures.value (c.all_pass.ensures c.if-all_pass.true) in record {
+      one_route = c.requires.set;
+      steps = λ outer low. LeadsWithin.stands xs;
+      found_is = (c.requires.two, is, all_pass rows xs c.requires.set c.args.table.sound.ordered c.merged_block-merged.result is g c.generality.ensures.value pass);
+    }

@@ -4,14 +4,14 @@ use Rattle.cover_merge.proofs.RivalLemmas.{numbered_all, numbered_more, numbered
 use Rattle.cover_merge.proofs.rivals.rivals_of.Goals as goal
 
 pub loop-s-init : goal.loop-s-init
-loop-s-init c = numbered_none c.args.rows.now c.in_ok-serials.serials.items c.in_ok-of.of.items c.in_ok-serials.ensures.items c.in_ok-of.ensures.items
+loop-s-init c = numbered_none c.args.table.rows.now c.in_ok-serials.serials.items c.in_ok-of.of.items c.in_ok-serials.ensures.items c.in_ok-of.ensures.items
 
 pub loop-s-preserved : goal.loop-s-preserved
 loop-s-preserved c =
-    numbered_more c.args.rows.now c.loop-s.s c.loop-s.serials.items c.loop-s.of.items c.loop-s.invariant c.push.new.self.items c.push-in-loop-s.new.self.items c.in_ok-rivals_among.field-0
+    numbered_more c.args.table.rows.now c.loop-s.s c.loop-s.serials.items c.loop-s.of.items c.loop-s.invariant c.push.new.self.items c.push-in-loop-s.new.self.items c.in_ok-rivals_among.field-0
     c.in_ok-push.ensures.items c.in_ok-push-2.ensures.items c.in_ok-rivals_among.ensures
 
 pub returns : goal.returns
 returns c =
-    numbered_all c.args.rows.now c.loop-s.s record { serials = c.loop-s.serials; of = c.loop-s.of; spans = c.in_ok-spans.spans } c.loop-s.invariant
-    (omega (arith, c.loop-s-test.false, c.loop-s.auto.s-end)) c.requires.few c.requires.sound c.in_ok-spans.ensures
+    numbered_all c.args.table.rows.now c.loop-s.s record { serials = c.loop-s.serials; of = c.loop-s.of; spans = c.in_ok-spans.spans } c.loop-s.invariant
+    (omega (arith, c.loop-s-test.false, c.loop-s.auto.s-end)) c.args.table.few c.args.table.sound c.in_ok-spans.ensures
