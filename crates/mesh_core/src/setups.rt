@@ -20,7 +20,7 @@ pub struct MeshSetup {
     tables: Seq<Tcam>,
     capacity: u32,
     // The vertex on each spot, at the spot's place.
-    vertices: Vec<Option<usize>>,
+    vertices: Vec<Option<u32>>,
 }
 
 impl Shared for MeshSetup {}
@@ -111,7 +111,10 @@ impl MeshSetup {
         requires numbered { spot.core < 24 }
         ensures { result ≡ vertex_at self.now.spots spot }
     {
-        self.vertices[spot_place(&self.machine, spot)]
+        match self.vertices[spot_place(&self.machine, spot)] {
+            Some(vertex) => Some(vertex as usize),
+            None => None,
+        }
     }
 
     /// The queue behind an output. There is none behind an output of a chip that isn't live.

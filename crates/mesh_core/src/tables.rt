@@ -15,14 +15,18 @@ pub(crate) fn vertex_table(
     alloc: Global,
     machine: &Machine,
     spots: &[Spot],
-) -> Result<Vec<Option<usize>>, Memory>
+) -> Result<Vec<Option<u32>>, Memory>
     requires different { AllPairs (λ a b. a ≢ b) spots.now }
     requires sites { All (IsSite machine.now) spots.now }
     ensures { IfOk result (λ v. TellsVertices machine.now spots.now v.items) }
 {
     let mut table = vec![in alloc; None; SPOTS * machine.chips()]?;
     for (vertex, spot) in spots.iter().enumerate() {
-        table[spot_place(machine, *spot)] = Some(vertex);
+        // (there are at most 98,304 spots)
+        let Ok(number) = u32::try_from(vertex) else {
+            return Err(Memory);
+        };
+        table[spot_place(machine, *spot)] = Some(number);
     }
     Ok(table)
 }

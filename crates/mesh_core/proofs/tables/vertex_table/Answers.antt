@@ -14,10 +14,14 @@ loop-vertex-init c =
 
 pub loop-vertex-preserved : goal.loop-vertex-preserved
 loop-vertex-preserved c =
-    let y : Spot = get_or c.args.spots.now c.loop-vertex.vertex (record { chip = record { x = 0; y = 0 }; core = 0 }) in
-    let same : c.spot_place.result ≡ spot_place c.args.machine.now y = c.spot_place.ensures.place in
-    let P : ℕ → Type 0 = λ p. TellsVertices c.args.machine.now (take (c.loop-vertex.vertex + 1) c.args.spots.now) (set c.loop-vertex.table.items p (Some c.loop-vertex.vertex)) in
-    subst P (sym same)
-    (TellsVertices-more c.args.machine.now c.args.spots.now c.loop-vertex.vertex y c.loop-vertex.table.items
-    c.loop-vertex-test.true (get_or_default c.args.spots.now c.loop-vertex.vertex _ y c.loop-vertex-test.true) c.requires.different
-    (c.requires.sites c.loop-vertex.vertex _ c.loop-vertex-test.true) c.loop-vertex.invariant)
+    let m = c.args.machine.now in
+    let at = c.loop-vertex.vertex in
+    let y : Spot = get_or c.args.spots.now at (record { chip = record { x = 0; y = 0 }; core = 0 }) in
+    let same : c.spot_place.result ≡ spot_place m y = c.spot_place.ensures.place in
+    let number : c.in-Ok.number ≡ at = c.in-Ok.ensures.1 in
+    let told : ℕ → ℕ → Type 0 = λ place vertex. TellsVertices m (take (at + 1) c.args.spots.now) (set c.loop-vertex.table.items place (Some vertex)) in
+    subst (λ place. told place c.in-Ok.number) (sym same)
+    (subst (told (spot_place m y)) (sym number)
+    (TellsVertices-more m c.args.spots.now at y c.loop-vertex.table.items
+    c.loop-vertex-test.true (get_or_default c.args.spots.now at _ y c.loop-vertex-test.true) c.requires.different
+    (c.requires.sites at _ c.loop-vertex-test.true) c.loop-vertex.invariant))
