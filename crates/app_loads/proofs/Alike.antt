@@ -1,6 +1,6 @@
 -- What machines with the same applications have in common, and that unloads and runs keep it.
 use Rattle.std.proofs.Common.{◌≡◌, ℕ, List, [], ◌∷◌, ◌++◌, length, refl, sym, ap, ◌∙◌, subst, arith, not, true, Option, None}
-use Rattle.std.proofs.lemmas.List.Elements.{All-head, All-tail}
+use Rattle.std.proofs.lemmas.List.{same_lists, Elements.All-head, Elements.All-tail}
 use Rattle.std.specs.List.{All, Contains, filter, flat_map}
 use Rattle.spin_base.proofs.Members.{Among}
 use Rattle.spin_base.specs.declared.copies.{McCopy.McCopy, DumpRec.DumpRec}
@@ -102,12 +102,7 @@ alike_unloaded h g new other number ended end alike a b = record {
 
 -- lists of empty lists of one length are the same
 same_empty : (xs ys : List (List McCopy)) → length xs ≡ length ys → All (λ q. q ≡ []) xs → All (λ q. q ≡ []) ys → xs ≡ ys
-same_empty [] [] long none also = refl
-same_empty [] (y ∷ ys) long none also = absurd (omega (arith, long))
-same_empty (x ∷ xs) [] long none also = absurd (omega (arith, long))
-same_empty (x ∷ xs) (y ∷ ys) long none also =
-    ap (λ (q : List McCopy). q ∷ xs) (All-head (λ q. q ≡ []) x xs none ∙ sym (All-head (λ q. q ≡ []) y ys also))
-    ∙ ap (λ (l : List (List McCopy)). y ∷ l) (same_empty xs ys (omega (arith, long)) (All-tail (λ q. q ≡ []) x xs none) (All-tail (λ q. q ≡ []) y ys also))
+same_empty xs ys long none also = same_lists xs ys long (λ k d below. none k d below ∙ sym (also k d (omega (arith, below, long))))
 
 moved_machine : (old new : Host) → HasMovedMesh old new → new.mesh.setup.machine ≡ old.mesh.setup.machine
 moved_machine old new moved =

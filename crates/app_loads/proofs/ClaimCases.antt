@@ -1,10 +1,11 @@
 -- What the claims of a plan are, and that each net and chip has its own.
-use Rattle.std.proofs.Common.{◌≡◌, ◌≢◌, ℕ, zero, suc, ◌+◌, ◌%◌, ◌^◌, ◌<◌, ◌≤◌, ◌==◌, Bool, true, false, List, [], ◌∷◌, ◌++◌, ◌∙◌, Option, None, Some, if◌then◌else◌}
-use Rattle.std.proofs.Common.{leb, cond, length, map, refl, sym, ap, subst, inl, inr, arith, IfSome, count_by}
-use Rattle.std.proofs.lemmas.Bool.{cases_eq, le-leb, leb-true, both_ways, eq-eqb, ne_eqb}
-use Rattle.std.proofs.lemmas.Nat.{pow_pos}
+use Rattle.std.proofs.Common.{◌≡◌, ◌≢◌, ℕ, zero, suc, ◌+◌, ◌-◌, ◌%◌, ◌^◌, ◌<◌, ◌≤◌, ◌==◌, Bool, true, false, List, [], ◌∷◌, ◌++◌, ◌∙◌, Option, None, Some, if◌then◌else◌}
+use Rattle.std.proofs.Common.{leb, get_or, length, map, refl, sym, ap, subst, inl, inr, arith, IfSome, count_by}
+use Rattle.std.proofs.lemmas.Bool.{cases_eq, cases_lt, le-leb, leb-true, both_ways, eq-eqb, ne_eqb}
+use Rattle.std.proofs.lemmas.List.{FromFn.get_or-map-range_with_len, FromFn.length-map-range_with_len, Folds.find_at, Sums.fails_before_first, Sums.passes_at_first, Sums.position_or_len_is}
+use Rattle.std.proofs.lemmas.{Nat.pow_pos, Option.slice_get-get_or}
 use Rattle.std.specs.Prelude.{find, unwrap_or, zip}
-use Rattle.std.specs.List.{slice_get, Contains, flat_map, range_with_len}
+use Rattle.std.specs.List.{slice_get, Contains, flat_map, position_or_len, range_with_len}
 use Rattle.spin_base.specs.{Gathered.gathered, declared.blocks.Block.Block}
 use Rattle.spin_base.proofs.Gathering.{among_gathered, gathered_among}
 use Rattle.spin_base.proofs.Members.{Among, among_contains, contains_among, among_left, among_right, among_either}
@@ -23,37 +24,41 @@ use Rattle.app_loads.proofs.Blocks.{block_aligned, block_room}
 
 -- ---- the size for a number of keys
 
-abbrev IsFoundWithin : (ℕ → Bool) → (ℕ → ℕ) → ℕ → ℕ → Type 0
-IsFoundWithin p f n a = (k : ℕ) × (k ≤ n) × (find p (map f (range_with_len a (suc n))) ≡ Some (f (a + k))) × (p (f (a + k)) ≡ true)
+module _ {X : Type 0} (p : X → Bool) (f : ℕ → X) (n : ℕ) (d : X) where
+  abbrev row : List X
+  row = map f (range_with_len 0 n)
 
-find_in_row : (p : ℕ → Bool) (f : ℕ → ℕ) (n a : ℕ) → p (f (a + n)) ≡ true → IsFoundWithin p f n a
-find_in_row p f zero a last =
-    (0, omega arith, (let z : a + 0 ≡ a = omega arith in found (p (f a)) (ap (λ i. p (f i)) (sym z) ∙ last) ∙ ap (λ i. Some (f i)) (sym z)), last)
-  where
-    found : (b : Bool) → b ≡ true → cond b (Some (f a)) (find p (map f (range_with_len (a + 1) 0))) ≡ Some (f a)
-    found true e = refl
-    found false e = cc
-find_in_row p f (suc n) a last = by_first (p (f a)) refl (find_in_row p f n (a + 1) (let next : a + 1 + n ≡ a + suc n = omega arith in ap (λ i. p (f i)) next ∙ last))
-  where
-    by_first : (b : Bool) → p (f a) ≡ b → IsFoundWithin p f n (a + 1) → IsFoundWithin p f (suc n) a
-    by_first true e rest =
-        let z : a + 0 ≡ a = omega arith in
-        (0, omega arith, ap (λ b. cond b (Some (f a)) (find p (map f (range_with_len (a + 1) (suc n))))) e ∙ ap (λ i. Some (f i)) (sym z), ap (λ i. p (f i)) z ∙ e)
-    by_first false e rest =
-        let place : a + 1 + rest.0 ≡ a + suc rest.0 = omega arith in
-        let low = rest.1 in (
-          suc rest.0,
-          omega (arith, low),
-          ap (λ b. cond b (Some (f a)) (find p (map f (range_with_len (a + 1) (suc n))))) e
-              ∙ (rest.2 ∙ ap (λ i. Some (f i)) place),
-          ap (λ i. p (f i)) (sym place) ∙ rest.3,
-        )
+  long : length row ≡ n
+  long = length-map-range_with_len f 0 n
+
+  at : (k : ℕ) → k < n → get_or row k d ≡ f k
+  at k below = get_or-map-range_with_len f 0 n k k d below (omega arith)
+
+  found : (k : ℕ) → k < n → position_or_len p row ≡ k → find p row ≡ Some (f k)
+  found k below is = find_at p row ∙ (ap (slice_get row) is ∙ (slice_get-get_or row k d (omega (arith, below, long)) ∙ ap Some (at k below)))
+
+  -- the first of a row of values that passes a test
+  pub first_of_row : (k : ℕ) → k < n → ((j : ℕ) → j < k → p (f j) ≡ false) → p (f k) ≡ true → find p row ≡ Some (f k)
+  first_of_row k below none here =
+      found k below (position_or_len_is p row k d (omega (arith, below, long)) (λ j less. ap p (at j (omega (arith, less, below))) ∙ none j less) (λ within. ap p (at k below) ∙ here))
+
+  -- there is one, where the last passes it
+  pub some_of_row : 0 < n → p (f (n - 1)) ≡ true → (k : ℕ) × (k < n) × (find p row ≡ Some (f k)) × (p (f k) ≡ true)
+  some_of_row some last = (first, below, found first below refl, ap p (sym (at first below)) ∙ passes_at_first p row d (omega (arith, below, long)))
+    where
+      first : ℕ
+      first = position_or_len p row
+
+      below : first < n
+      below = elim (cases_lt first n) [
+        | inl less ↦ less
+        | inr past ↦ absurd (both_ways (p (f (n - 1))) (ap p (sym (at (n - 1) (omega (arith, some)))) ∙ fails_before_first p row (n - 1) d (omega (arith, past, some))) last)
+      ]
 
 pub size_facts : (keys : ℕ) → keys ≤ 4294967296 → (e : ℕ) × (e ≤ 32) × (size_for keys ≡ 2 ^ e) × (keys ≤ 2 ^ e)
 size_facts keys few =
-    let found = find_in_row (leb keys) (λ n. 2 ^ n) 32 0 (le-leb keys (2 ^ (0 + 32)) few) in
-    let z : 0 + found.0 ≡ found.0 = omega arith in
-    (found.0, found.1, ap (λ o. unwrap_or o 0) found.2 ∙ ap (λ n. 2 ^ n) z, leb-true keys (2 ^ found.0) (ap (λ n. leb keys (2 ^ n)) (sym z) ∙ found.3))
+    let made = some_of_row (leb keys) (λ n. 2 ^ n) 33 0 (omega arith) (le-leb keys (2 ^ 32) few) in
+    (made.0, omega (arith, made.1), ap (λ o. unwrap_or o 0) made.2, leb-true keys (2 ^ made.0) made.3)
 
 -- ---- members of the parts
 
@@ -152,13 +157,10 @@ module _ (m : Description) (plan : AppPlan) (valid : IsPlan m plan) where
       let below = index_below m found.1.0.chip inside in
       subst Facts (sym is.0) (record {
         fair = record { region = inside; there = omega (arith, below); some = is.1; step = omega arith; fixed = tt };
-        keyed = λ j e. absurd (never found.0 j e);
+        keyed = λ j e. absurd (cc);
         row = λ j at. absurd (let r : 1 + index_of m found.1.0.chip ≡ 1 + (n + j) = at in omega (arith, r, below));
         due = λ e. cc;
       })
-    where
-      never : (v j : ℕ) → MemoryOut v ≡ KeysOut j → ⊥
-      never v j e = cc
 
   of_fixed : (claim : Claim) → Among claim fixed → Facts claim
   of_fixed claim a =
@@ -231,16 +233,13 @@ module _ (m : Description) (plan : AppPlan) (valid : IsPlan m plan) where
       let index = index_of-chip_of m i in
       subst Facts (sym is.0) (record {
         fair = record { region = chip_of-inside m i (omega (arith, below)); there = omega (arith, below, index); some = is.1; step = omega arith; fixed = tt };
-        keyed = λ j e. absurd (never (chip_of m i) j e);
+        keyed = λ j e. absurd (cc);
         row = λ j at.
             let r : 1 + (n + index_of m (chip_of m i)) ≡ 1 + (n + j) = at in
             let same : i ≡ j = omega (arith, r, index) in
             ap (λ k. count_by (has_chip m (chip_of m k)) plan.nets) same;
         due = λ e. cc;
       })
-    where
-      never : (c : _) (j : ℕ) → RowsOut c ≡ KeysOut j → ⊥
-      never c j e = cc
 
   pub facts : (claim : Claim) → Contains (claims_of m plan) claim → Facts claim
   facts claim has = elim (among_either claim memory (fixed ++ (keys ++ rows)) (contains_among claim (claims_of m plan) has)) [

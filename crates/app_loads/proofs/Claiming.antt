@@ -1,14 +1,15 @@
 -- The claims of a plan, item by item, and the least power of two for a number of keys.
-use Rattle.std.proofs.Common.{◌≡◌, ℕ, zero, suc, ◌+◌, ◌/◌, ◌^◌, ◌<◌, ◌≤◌, max, leb, cond, Bool, true, false, inl, inr, refl, sym, ap, ◌∙◌, arith, List, [], ◌∷◌, ◌++◌}
-use Rattle.std.proofs.Common.{map, take, get_or, length, Some, append_assoc}
-use Rattle.std.proofs.{lemmas.Bool.cases_lt, lemmas.Bool.le-leb, lemmas.Bool.lt-leb, Math.Pow.pow_mono, lemmas.Grind.pow_more, lemmas.List.take_all}
-use Rattle.std.specs.{Prelude.find, Prelude.unwrap_or, Prelude.zip, Int.IsPowerOfTwo, List.flat_map, List.range_with_len, List.slice_get}
+use Rattle.std.proofs.Common.{◌≡◌, ℕ, zero, suc, ◌+◌, ◌/◌, ◌^◌, ◌<◌, ◌≤◌, max, leb, false, inl, inr, refl, sym, ap, ◌∙◌, arith, List, [], ◌∷◌, ◌++◌}
+use Rattle.std.proofs.Common.{take, get_or, length, Some, append_assoc}
+use Rattle.std.proofs.{lemmas.Bool.cases_lt, lemmas.Bool.le-leb, lemmas.Bool.lt-leb, Math.Pow.pow_mono, lemmas.Grind.pow_more, lemmas.List.take_all, lemmas.Slice.Zip.length-zip}
+use Rattle.std.specs.{Prelude.unwrap_or, Prelude.zip, Int.IsPowerOfTwo, List.flat_map, List.range_with_len, List.slice_get}
 use Rattle.spin_base.specs.{Gathered.gathered, declared.chips.Spot.Spot}
 use Rattle.spin_base.proofs.Gathering.{gathered_more}
 use Rattle.machine_desc.specs.Description.{Description}
 use Rattle.app_loads.specs.declared.{loaded.Claim.Claim, plans.AppNet.AppNet, plans.AppPlan.AppPlan}
 use Rattle.app_loads.specs.Regions.{chip_count}
 use Rattle.app_loads.specs.Claims.{size_for, memory_claim, fixed_claim, key_claim, row_claim, claims_of}
+use Rattle.app_loads.proofs.ClaimCases.{first_of_row}
 
 -- ---- lists gathered item by item
 
@@ -33,46 +34,17 @@ zip_at (x ∷ xs) (y ∷ ys) zero d e same below = refl
 zip_at (x ∷ xs) (y ∷ ys) (suc i) d e same below = zip_at xs ys i d e (omega (arith, same)) (omega (arith, below))
 
 pub zip_long : {X Y : Type 0} (xs : List X) (ys : List Y) (i : ℕ) → length xs ≤ i → length (zip xs ys) ≤ i
-zip_long [] ys i end = omega arith
-zip_long (x ∷ xs) [] i end = omega arith
-zip_long (x ∷ xs) (y ∷ ys) zero end = absurd (omega (arith, end))
-zip_long (x ∷ xs) (y ∷ ys) (suc i) end = let w = zip_long xs ys i (omega (arith, end)) in omega (arith, w)
+zip_long xs ys i end = omega (arith, length-zip xs ys, end)
 
 -- ---- powers of two
-
--- the first of a row of values that passes a test
-first_of_row : {X : Type 0} (p : X → Bool) (f : ℕ → X) (n a k : ℕ) → k < n → ((j : ℕ) → j < k → p (f (a + j)) ≡ false) → p (f (a + k)) ≡ true →
-    find p (map f (range_with_len a n)) ≡ Some (f (a + k))
-first_of_row p f zero a k below none here = absurd (omega (arith, below))
-first_of_row p f (suc n) a zero below none here =
-    let z : a + 0 ≡ a = omega arith in
-    let ok : p (f a) ≡ true = ap (λ i. p (f i)) (sym z) ∙ here in
-    found (p (f a)) ok ∙ ap (λ i. Some (f i)) (sym z)
-  where
-    found : (b : Bool) → b ≡ true → cond b (Some (f a)) (find p (map f (range_with_len (a + 1) n))) ≡ Some (f a)
-    found true e = refl
-    found false e = cc
-first_of_row p f (suc n) a (suc k) below none here =
-    let z : a + 0 ≡ a = omega arith in
-    let no' : p (f a) ≡ false = ap (λ i. p (f i)) (sym z) ∙ none 0 (omega arith) in
-    let move : (j : ℕ) → a + 1 + j ≡ a + suc j = λ j. omega arith in
-    passed (p (f a)) no' ∙ (first_of_row p f n (a + 1) k (omega (arith, below)) (λ j low. ap (λ i. p (f i)) (move j) ∙ none (suc j) (omega (arith, low))) (ap (λ i. p (f i)) (move k) ∙ here)
-    ∙ ap (λ i. Some (f i)) (move k))
-  where
-    passed : (b : Bool) → b ≡ false → cond b (Some (f a)) (find p (map f (range_with_len (a + 1) n))) ≡ find p (map f (range_with_len (a + 1) n))
-    passed true e = cc
-    passed false e = refl
 
 -- a power of two that is not below the number, and whose half is, is the size
 pub size_is : (keys size : ℕ) → 1 ≤ keys → keys ≤ 4294967296 → IsPowerOfTwo size → keys ≤ size → size / 2 < max 1 keys → size ≡ size_for keys
 size_is keys size some few power enough half_below = by_power power.0 power.1
   where
     by_power : (k : ℕ) → size ≡ 2 ^ k → size ≡ size_for keys
-    by_power k is = is ∙ sym (ap (λ o. unwrap_or o 0) (first_of_row (leb keys) (λ n. 2 ^ n) 33 0 k small lower here) ∙ ap (λ i. 2 ^ i) zero_k)
+    by_power k is = is ∙ sym (ap (λ o. unwrap_or o 0) (first_of_row (leb keys) (λ n. 2 ^ n) 33 0 k small lower (le-leb keys (2 ^ k) (omega (arith, is, enough)))))
       where
-        zero_k : 0 + k ≡ k
-        zero_k = omega arith
-
         small : k < 33
         small = elim (cases_lt k 33) [
           | inl less ↦ less
@@ -82,15 +54,10 @@ size_is keys size some few power enough half_below = by_power power.0 power.1
               absurd (omega (arith, up, big, is, few, half_below))
         ]
 
-        here : leb keys (2 ^ (0 + k)) ≡ true
-        here = let e : 2 ^ (0 + k) ≡ size = ap (λ i. 2 ^ i) zero_k ∙ sym is in let w : keys ≤ 2 ^ (0 + k) = omega (arith, e, enough) in le-leb keys (2 ^ (0 + k)) w
-
-        lower : (j : ℕ) → j < k → leb keys (2 ^ (0 + j)) ≡ false
+        lower : (j : ℕ) → j < k → leb keys (2 ^ j) ≡ false
         lower j less =
-            let z : 0 + j ≡ j = omega arith in
             let up : 2 ^ (j + 1) ≤ 2 ^ k = pow_mono (omega (arith, less)) in
-            let w : 2 ^ j < keys = omega (arith, up, pow_more 2 j, is, half_below, some) in
-            ap (λ i. leb keys (2 ^ i)) z ∙ lt-leb keys (2 ^ j) w
+            lt-leb keys (2 ^ j) (omega (arith, up, pow_more 2 j, is, half_below, some))
 
 -- ---- all claims
 

@@ -2,14 +2,14 @@
 use Rattle.std.proofs.Common.{◌≡◌, ◌≢◌, ℕ, zero, suc, ◌+◌, ◌<◌, ◌≤◌, true, false, ◌||◌, ◌&&◌, ◌==◌, List, [], ◌∷◌, ◌++◌, take, drop, get_or, length, map, set, refl, sym}
 use Rattle.std.proofs.Common.{ap, ◌∙◌, subst, inl, inr, ◌⊎◌, arith, Some, append_assoc}
 use Rattle.std.proofs.Math.Seq.{drop-cons}
-use Rattle.std.proofs.lemmas.Bool.{cases_Bool, cases_eq, cases_lt, eq-eqb, and_from, or_parts}
+use Rattle.std.proofs.lemmas.Bool.{cases_eq, cases_lt, eq-eqb, and_from, false_from_ne_true, or_parts}
 use Rattle.std.proofs.Math.ListN.{get_or-map}
-use Rattle.std.proofs.lemmas.List.{length-set, length-append, length-take-le, length-map, length-drop, map-append, set_at, get_or-take, take_all}
-use Rattle.std.proofs.lemmas.List.Folds.{list_any-append}
+use Rattle.std.proofs.lemmas.List.{length-set, length-append, length-take-le, length-map, length-drop, map-append, set_at, get_or-take, take_all, take_at, drop_at}
+use Rattle.std.proofs.lemmas.List.{Elements.Contains-push_cases, Folds.list_any-append}
 use Rattle.std.proofs.lemmas.Option.{slice_get_within, slice_get-get_or, get_or_from_slice_get, same_Some}
 use Rattle.std.specs.List.{AllZip, slice_get, slice_set, Contains}
 use Rattle.key_alloc.proofs.Ranges.{in_from}
-use Rattle.spin_base.proofs.Members.{Contains-at, among_contains, contains_among, among_either}
+use Rattle.spin_base.proofs.Members.{Contains-at}
 use Rattle.spin_base.proofs.Places.{AllZip-more, slice_get-set_same, slice_get-set_other, take_more_at, map_more_at}
 use Rattle.spin_base.specs.declared.{blocks.Entry.Entry, chips.Chip.Chip}
 use Rattle.machine_desc.specs.{Description.Description, Live.index_of, Live.IsInside, RightTables.table_at}
@@ -55,16 +55,7 @@ marks_more old marks first p x m n size fits at before given =
 
 -- the part that was written
 part_of : {X : Type 0} (a b c : List X) (p s : ℕ) → length a ≡ p → s ≡ length b → take s (drop p (a ++ (b ++ c))) ≡ b
-part_of [] b c zero s long is = taken b s is c
-  where
-    taken : {X : Type 0} (l : List X) (n : ℕ) → n ≡ length l → (r : List X) → take n (l ++ r) ≡ l
-    taken [] zero e r = refl
-    taken [] (suc n) e r = absurd (omega (arith, e))
-    taken (x ∷ xs) zero e r = absurd (omega (arith, e))
-    taken (x ∷ xs) (suc n) e r = ap (λ l. x ∷ l) (taken xs n (omega (arith, e)) r)
-part_of [] b c (suc p) s long is = absurd (omega (arith, long))
-part_of (x ∷ xs) b c zero s long is = absurd (omega (arith, long))
-part_of (x ∷ xs) b c (suc p) s long is = part_of xs b c p s (omega (arith, long)) is
+part_of a b c p s long is = ap (take s) (drop_at a (b ++ c) p long) ∙ take_at b c s (sym is)
 
 -- before the part nothing changes
 before_part : {X : Type 0} (old b c : List X) (p k : ℕ) → p ≤ length old → k < p → slice_get (take p old ++ (b ++ c)) k ≡ slice_get old k
@@ -125,10 +116,9 @@ none_more ranges i range region k at free =
 
 member_more : (ranges : List Range) (i : ℕ) (range other : Range) → slice_get ranges i ≡ Some range → Contains (take (i + 1) ranges) other → Contains (take i ranges) other ⊎ (other ≡ range)
 member_more ranges i range other at has =
-    elim (among_either other (take i ranges) (range ∷ []) (contains_among other (take i ranges ++ range ∷ []) (subst (λ (l : List Range). Contains l other) (take_more_at ranges i range at) has))) [
-      | inl before ↦ inl (among_contains other (take i ranges) before)
-      | inr (inl here) ↦ inr here
-      | inr (inr none) ↦ absurd none
+    elim (Contains-push_cases (take i ranges) range other (subst (λ (l : List Range). Contains l other) (take_more_at ranges i range at) has)) [
+      | inl before ↦ inl before
+      | inr last ↦ inr (sym last)
     ]
 
 -- ---- a list of tables with one changed
@@ -201,8 +191,8 @@ place_of_no_rows m (Rows c) other is k at = absurd (other c refl)
 
 -- ---- rows copied
 
-module _ {m : Description} {old cur : List (List Entry)} {rows : List Table} {ranges : List Range} {i : ℕ} (d : Range) (can : CanCopy m old rows ranges) (below : i < length ranges)
-    (so_far : AreCopied m rows (take i ranges) old cur) where
+module _ {m : Description} {old cur : List (List Entry)} {rows : List Table} {ranges : List Range} {rooms : List ℕ} {i : ℕ} (d : Range) (can : CanCopy m old rows ranges rooms)
+    (below : i < length ranges) (so_far : AreCopied m rows (take i ranges) old cur) where
   abbrev range : Range
   range = get_or ranges i d
 
@@ -363,12 +353,9 @@ module _ {m : Description} {old cur : List (List Entry)} {rows : List Table} {ra
 
             apart_here : (c : Chip) (other : Range) → Contains (take i ranges) other → index_of m c ≡ j → other.region ≡ place_of m (Rows c) → (k : ℕ) →
                 other.place ≤ k → k < other.place + other.size → in_range range.place range.size k ≡ false
-            apart_here c other before same region k low high = elim (cases_Bool (in_range range.place range.size k)) [
-              | inr out ↦ out
-              | inl within ↦
-                  absurd (earlier_apart other before (place_of m (Rows c)) k (mine_at other (place_of m (Rows c)) k region low high)
-                  (and_from (range.region == place_of m (Rows c)) (in_range range.place range.size k) (eq-eqb range.region (place_of m (Rows c)) (region_of c same)) within))
-            ]
+            apart_here c other before same region k low high = false_from_ne_true (in_range range.place range.size k) (λ within.
+                earlier_apart other before (place_of m (Rows c)) k (mine_at other (place_of m (Rows c)) k region low high)
+                (and_from (range.region == place_of m (Rows c)) (in_range range.place range.size k) (eq-eqb range.region (place_of m (Rows c)) (region_of c same)) within))
 
 pub all_copied : (m : Description) (rows : List Table) (ranges : List Range) (old cur : List (List Entry)) (i : ℕ) → length ranges ≤ i →
     AreCopied m rows (take i ranges) old cur → AreCopied m rows ranges old cur

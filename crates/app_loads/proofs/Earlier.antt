@@ -1,12 +1,12 @@
 -- Deliveries that came earlier change nothing of what events do, and where no copy waits, all that is unsent keeps its ledger without
 -- them.
-use Rattle.std.proofs.Common.{◌≡◌, ℕ, ◌/◌, ◌%◌, ◌≤◌, ◌&&◌, Bool, true, false, List, [], ◌∷◌, ◌++◌, count_by, refl, sym, ap, ◌∙◌, subst, arith, inl, inr, Option, None, Some, if◌then◌else◌, not}
+use Rattle.std.proofs.Common.{◌≡◌, ℕ, ◌/◌, ◌%◌, ◌&&◌, Bool, true, false, List, [], ◌∷◌, ◌++◌, count_by, refl, sym, ap, ◌∙◌, subst, arith, Option, None, Some, if◌then◌else◌, not}
 use Rattle.std.proofs.lemmas.{Bool.eq-eqb, List.append_assoc, List.append-nil, List.Elements.Contains-append_left, Option.same_Some}
 use Rattle.std.specs.Prelude.{unwrap_or, slice_set}
 use Rattle.std.specs.List.{slice_get, Contains}
-use Rattle.spin_base.proofs.Counts.{count_by-append, count_by-cons}
+use Rattle.spin_base.proofs.Counts.{count_by-append}
 use Rattle.spin_base.proofs.Gathering.{among_gathered, gathered_of_none}
-use Rattle.spin_base.proofs.Members.{Among, among_map, contains_among}
+use Rattle.spin_base.proofs.Members.{among_map, contains_among}
 use Rattle.spin_base.specs.declared.chips.{Chip.Chip, Spot.Spot, Port.Port, Port.TheVariants.Local}
 use Rattle.spin_base.specs.declared.copies.{Delivery.Delivery, Event.Event}
 use Rattle.spin_base.specs.declared.copies.Event.TheVariants.{Inject, Take, Send, Dump, Collect}
@@ -18,7 +18,7 @@ use Rattle.mesh_core.specs.Ledger.{Label, MeetsLedger, all_hand_marks, core_mark
 use Rattle.mesh_core.specs.State.{State, Hand, IsMesh, Queue, behind, input, core, nowhere, queue_at}
 use Rattle.mesh_core.specs.Step.{after_event, after_events, after_serving, collect_of, dump_of, has_room_behind, inject_of, push_behind, send_of, serves, step_of, take_of}
 use Rattle.mesh_core.specs.Trail.{Mark, Station, in_queue, at_core, is_packet_on_trail, on_trail, unsent}
-use Rattle.mesh_core.proofs.LedgerLaw.{one_net}
+use Rattle.mesh_core.proofs.{Counting.count_some, LedgerLaw.one_net}
 use Rattle.mesh_drain.specs.Draining.{IsReachedDropless, MeetsSomeLedger}
 use Rattle.app_loads.specs.Earlier.{with_earlier}
 
@@ -108,17 +108,6 @@ module _ (ds : List Delivery) where
 
 -- ---- the ledger
 
--- a test that an item passes is passed at least once
-pub passes_once : {X : Type 0} (p : X → Bool) (xs : List X) (x : X) → Among x xs → p x ≡ true → 1 ≤ count_by p xs
-passes_once p [] x a passes = absurd a
-passes_once p (y ∷ ys) x (inl is) passes =
-    let here : (if p y then 1 else 0) ≡ 1 = ap (λ b. one_if b) (ap p (sym is) ∙ passes) in
-    omega (arith, count_by-cons p y ys, here)
-  where
-    one_if : Bool → ℕ
-    one_if b = if b then 1 else 0
-passes_once p (y ∷ ys) x (inr a) passes = let one = count_by-cons p y ys in let rest = passes_once p ys x a passes in omega (arith, one, rest)
-
 module _ (ds : List Delivery) (s : State) (nets : List NetPlan) (labels : ℕ → Label)
     (l : MeetsLedger (with_earlier ds s) nets labels) (quiet : NothingWaits s) (none_delivered : s.delivered ≡ []) (none_dumped : s.dumped ≡ []) where
   only_unsent : marks_of s ≡ unsent_marks s ++ ([] ++ ([] ++ ([] ++ ([] ++ []))))
@@ -167,7 +156,7 @@ module _ (ds : List Delivery) (s : State) (nets : List NetPlan) (labels : ℕ �
         ∙ subst (λ f. on_trail f on.3.3 on.3.1 k.copy.hop k.station ≡ true) (same_Some on.3.2 from begins) on.3.5 in
         let p : Mark → Bool = is_packet_on_trail k.copy.packet from to branch in
         let test : p k ≡ true = ap (λ b. b && on_trail from to branch k.copy.hop k.station) (eq-eqb k.copy.packet k.copy.packet refl) ∙ passes in
-        let some = passes_once p (unsent_marks s) k (contains_among k (unsent_marks s) (in_own k has)) test in
+        let some = count_some p k (unsent_marks s) test (contains_among k (unsent_marks s) (in_own k has)) in
         let all : count_by p (unsent_marks s ++ behind_unsent) ≡ 1 = l.once_on_each k (in_whole k has) net in_nets key target branch from to way in
         let here : count_by p (marks_of s) ≡ count_by p (unsent_marks s) = ap (count_by p) own in
         omega (arith, some, all, count_by-append p (unsent_marks s) behind_unsent, here);

@@ -1,6 +1,6 @@
 -- The free places of a region tell its holes.
 use Rattle.std.proofs.Common.{◌≡◌, ℕ, ◌+◌, ◌<◌, ◌≤◌, true, false, List, [], ◌∷◌, refl, sym, ap, ◌∙◌, subst, inl, inr, arith}
-use Rattle.std.proofs.lemmas.Bool.{cases_Bool, cases_lt, or_cases, or_left, or_right}
+use Rattle.std.proofs.lemmas.Bool.{cases_lt, false_from_ne_true, or_cases, or_left, or_right}
 use Rattle.range_store.specs.declared.holes.Hole.{Hole}
 use Rattle.range_store.specs.Regions.{AreRuns, has_range, is_free, hole_end}
 use Rattle.range_store.proofs.HolePlaces.{clash, has_facts, has_from, free_within}
@@ -18,13 +18,10 @@ from_first from n h hs k runs e = elim (or_cases (has_range k 1 h) (is_free hs k
 
 -- the place after the first hole is not free
 end_taken : (from n : ℕ) (h : Hole) (hs : List Hole) → AreRuns from n (h ∷ hs) → is_free (h ∷ hs) (hole_end h) ≡ false
-end_taken from n h hs runs = elim (cases_Bool (is_free (h ∷ hs) (hole_end h))) [
-  | inl yes' ↦ elim (or_cases (has_range (hole_end h) 1 h) (is_free hs (hole_end h)) yes') [
-    | inl mine ↦ (let g = has_facts (hole_end h) 1 h mine in absurd (omega (arith, g.1)))
-    | inr next ↦ (let g = free_within (hole_end h + 1) n hs (hole_end h) runs.3 next in absurd (omega (arith, g.0)))
-  ]
-  | inr no' ↦ no'
-]
+end_taken from n h hs runs = false_from_ne_true (is_free (h ∷ hs) (hole_end h)) (λ free. elim (or_cases (has_range (hole_end h) 1 h) (is_free hs (hole_end h)) free) [
+  | inl mine ↦ (let g = has_facts (hole_end h) 1 h mine in omega (arith, g.1))
+  | inr next ↦ (let g = free_within (hole_end h + 1) n hs (hole_end h) runs.3 next in omega (arith, g.0))
+])
 
 -- one hole ends no later than the other, where the free places are the same
 ends_by : (from n : ℕ) (g h : Hole) (gs hs : List Hole) → AreRuns from n (g ∷ gs) → AreRuns from n (h ∷ hs) → g.place ≡ h.place →

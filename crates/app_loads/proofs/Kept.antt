@@ -17,7 +17,7 @@ use Rattle.app_loads.specs.declared.{known.KnownBlock.KnownBlock, loaded.LoadedA
 use Rattle.app_loads.specs.{Earlier.with_earlier, Joining.CanSettle, Leaving.NoneUnderWay, Leaving.WaitsIn, Removing.IsWhyHere}
 use Rattle.app_loads.specs.declared.arrivals.Arrival.{Arrival}
 use Rattle.app_loads.specs.Groups.{deliveries_at, sent_of}
-use Rattle.app_loads.specs.Running.{AreAlikeInBlocks, AreKnown, Comes, HasBroughtMore, IsClean}
+use Rattle.app_loads.specs.Running.{AreAlikeInBlocks, AreKnown, Comes, HasBroughtMore, HasFirstUnsent, IsClean}
 use Rattle.app_loads.proofs.{Earlier.kept_without, Earlier.reached_with, LeftMesh.mesh_with}
 
 -- what follows where a call was answered
@@ -169,15 +169,17 @@ pub first_there : (q : List McCopy) (unsent : List (List McCopy)) (v : ℕ) (k :
 first_there [] unsent v k some is at = absurd (some is)
 first_there (x ∷ q) unsent v k some is at = (q, is ∙ ap (λ y. Some (y ∷ q)) (sym at))
 
-pub dropped : (s u : State) (v : ℕ) (k : McCopy) (rest : List McCopy) → slice_get s.unsent v ≡ Some (k ∷ rest) → u ≡ record s { unsent = drop_front s.unsent v (slice_get s.unsent v) } →
-    u ≡ record s { unsent = slice_set s.unsent v rest }
-dropped s u v k rest first is = is ∙ ap (λ q. record s { unsent = drop_front s.unsent v q }) first
-
-module _ (xs ys : List Delivery) (s u : State) (v : ℕ) (k : McCopy) (rest : List McCopy) (arrivals : List Arrival) (clean : IsClean xs s) (first : slice_get s.unsent v ≡ Some (k ∷ rest))
-    (block : Block) (key : IsKeyOf block k.key) (comes : Comes s.setup v arrivals block) (put : ys ≡ xs ++ deliveries_at arrivals (sent_of k))
-    (is : u ≡ record s { unsent = slice_set s.unsent v rest }) where
+-- a vertex's first packet comes where it is known that it comes
+module _ {xs ys : List Delivery} {s u : State} {v : ℕ} {k : McCopy} {block : Block} (arrivals : List Arrival) (sends : HasFirstUnsent xs s v k) (key : IsKeyOf block k.key)
+    (comes : Comes s.setup v arrivals block) (put : ys ≡ xs ++ deliveries_at arrivals (sent_of k)) (dropped : u ≡ record s { unsent = drop_front s.unsent v (slice_get s.unsent v) }) where
   abbrev own : List Delivery
   own = deliveries_at arrivals (sent_of k)
+
+  clean : IsClean xs s
+  clean = sends.clean
+
+  is : u ≡ record s { unsent = slice_set s.unsent v sends.first.0 }
+  is = dropped ∙ ap (λ q. record s { unsent = drop_front s.unsent v q }) sends.first.1
 
   pub again_reached : IsReachedDropless (with_earlier xs s) (with_earlier ys u)
   again_reached =
@@ -186,8 +188,8 @@ module _ (xs ys : List Delivery) (s u : State) (v : ℕ) (k : McCopy) (rest : Li
       let all : (xs ++ s.delivered) ++ own ≡ ys ++ s.delivered =
       ap (λ l. (xs ++ l) ++ own) clean.none_delivered ∙ (ap (λ l. l ++ own) (append-nil xs) ∙ (sym put ∙ (sym (append-nil ys) ∙ ap (λ l. ys ++ l) (sym clean.none_delivered)))) in
       subst (IsReachedDropless (with_earlier xs s))
-      (ap (λ l. record s { unsent = slice_set s.unsent v rest; delivered = l }) all ∙ ap (with_earlier ys) (sym is))
-      (comes (with_earlier xs s) k rest may refl first key)
+      (ap (λ l. record s { unsent = slice_set s.unsent v sends.first.0; delivered = l }) all ∙ ap (with_earlier ys) (sym is))
+      (comes (with_earlier xs s) k sends.first.0 may refl sends.first.1 key)
 
   pub again_clean : IsClean ys u
   again_clean = record {

@@ -1,6 +1,6 @@
 -- The least packet of an application that is under way, from the lists of the mesh.
 use Rattle.std.proofs.Common.{◌≡◌, ℕ, ◌+◌, ◌/◌, ◌%◌, ◌<◌, ◌≤◌, min, Bool, true, false, if◌then◌else◌, List, [], ◌∷◌, ◌++◌, take, length, get_or, refl, sym, ap, ◌∙◌}
-use Rattle.std.proofs.Common.{subst, inl, inr, ◌⊎◌, arith, Option, None, Some, append-nil}
+use Rattle.std.proofs.Common.{subst, inl, inr, arith, Option, None, Some, append-nil}
 use Rattle.std.proofs.lemmas.{Bool.cases_lt, List.get_or_default, List.take_more, List.take_all}
 use Rattle.std.proofs.lemmas.{List.Concat.flat_map-append, Option.get_or_from_slice_get, Option.slice_get-get_or, List.Elements.All-contains}
 use Rattle.std.specs.List.{slice_get, flat_map, All, Contains}
@@ -192,31 +192,29 @@ module _ (s : State) where
 
   -- each of the packets under way has a mark
   has_mark : IsMesh s → (n : ℕ) → Among n (under_way s) → IsMarked n (marks_of s)
-  has_mark mesh n a = by_cores (among_either n ((flat_map packet_numbers_of s.unsent ++ flat_map packet_numbers_of s.inputs) ++ flat_map held_packets s.hands) (flat_map packet_numbers_of s.cores) a)
+  has_mark mesh n a = elim (among_either n ((flat_map packet_numbers_of s.unsent ++ flat_map packet_numbers_of s.inputs) ++ flat_map held_packets s.hands)
+      (flat_map packet_numbers_of s.cores) a) [
+        | inr b ↦ (
+            let m = queue_marked at_core (λ i. tt) s.cores n b in
+            (m.0, in_after_unsent m.0 (in_after_inputs m.0 (among_right m.0 (all_hand_marks s) (after_hands s) (among_left m.0 (core_marks s) (after_cores s) m.1))), m.2, m.3)
+            )
+        | inl b ↦ elim (among_either n (flat_map packet_numbers_of s.unsent ++ flat_map packet_numbers_of s.inputs) (flat_map held_packets s.hands) b) [
+          | inr d ↦ (let m = hand_marked mesh n d in (m.0, in_after_unsent m.0 (in_after_inputs m.0 (among_left m.0 (all_hand_marks s) (after_hands s) m.1)), m.2, m.3))
+          | inl d ↦ elim (among_either n (flat_map packet_numbers_of s.unsent) (flat_map packet_numbers_of s.inputs) d) [
+            | inl e ↦ (let m = queue_marked unsent (λ i. tt) s.unsent n e in (m.0, among_left m.0 (unsent_marks s) (after_unsent s) m.1, m.2, m.3))
+            | inr e ↦ (
+                let m = queue_marked (λ i. in_queue (chip_of s.setup.machine (i / 7)) (port_of (i % 7))) (λ i. tt) s.inputs n e in
+                (m.0, in_after_unsent m.0 (among_left m.0 (input_marks s) (after_inputs s) m.1), m.2, m.3)
+                )
+          ]
+        ]
+      ]
     where
-      by_unsent : Among n (flat_map packet_numbers_of s.unsent) ⊎ Among n (flat_map packet_numbers_of s.inputs) → IsMarked n (marks_of s)
-      by_unsent (inl b) = let m = queue_marked unsent (λ i. tt) s.unsent n b in (m.0, among_left m.0 (unsent_marks s) (after_unsent s) m.1, m.2, m.3)
-      by_unsent (inr b) =
-          let m = queue_marked (λ i. in_queue (chip_of s.setup.machine (i / 7)) (port_of (i % 7))) (λ i. tt) s.inputs n b in
-          (m.0, among_right m.0 (unsent_marks s) (after_unsent s) (among_left m.0 (input_marks s) (after_inputs s) m.1), m.2, m.3)
+      in_after_unsent : (k : Mark) → Among k (after_unsent s) → Among k (marks_of s)
+      in_after_unsent k b = among_right k (unsent_marks s) (after_unsent s) b
 
-      by_hands : Among n (flat_map packet_numbers_of s.unsent ++ flat_map packet_numbers_of s.inputs) ⊎ Among n (flat_map held_packets s.hands) → IsMarked n (marks_of s)
-      by_hands (inl b) = by_unsent (among_either n (flat_map packet_numbers_of s.unsent) (flat_map packet_numbers_of s.inputs) b)
-      by_hands (inr b) =
-          let m = hand_marked mesh n b in
-          (m.0, among_right m.0 (unsent_marks s) (after_unsent s) (among_right m.0 (input_marks s) (after_inputs s) (among_left m.0 (all_hand_marks s) (after_hands s) m.1)), m.2, m.3)
-
-      by_cores : Among n ((flat_map packet_numbers_of s.unsent ++ flat_map packet_numbers_of s.inputs) ++ flat_map held_packets s.hands) ⊎ Among n (flat_map packet_numbers_of s.cores) →
-          IsMarked n (marks_of s)
-      by_cores (inl b) = by_hands (among_either n (flat_map packet_numbers_of s.unsent ++ flat_map packet_numbers_of s.inputs) (flat_map held_packets s.hands) b)
-      by_cores (inr b) =
-          let m = queue_marked at_core (λ i. tt) s.cores n b in (
-            m.0,
-            among_right m.0 (unsent_marks s) (after_unsent s)
-                (among_right m.0 (input_marks s) (after_inputs s) (among_right m.0 (all_hand_marks s) (after_hands s) (among_left m.0 (core_marks s) (after_cores s) m.1))),
-            m.2,
-            m.3,
-          )
+      in_after_inputs : (k : Mark) → Among k (after_inputs s) → Among k (after_unsent s)
+      in_after_inputs k b = among_right k (input_marks s) (after_inputs s) b
 
   -- the application's packets of which a copy waits are those of its own among all that are under way
   pub waits_listed : (app : LoadedApp) (n : ℕ) → WaitsIn s app n → Among n (under_way s)

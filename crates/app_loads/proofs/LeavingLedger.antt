@@ -5,7 +5,7 @@ use Rattle.std.proofs.lemmas.Bool.{cases_Bool, cases_lt, and_from, leb-true, lt-
 use Rattle.std.proofs.lemmas.List.Elements.{filter-append, Contains-append_left, Contains-append_right}
 use Rattle.std.proofs.lemmas.Option.{slice_get_past}
 use Rattle.std.specs.List.{filter, All, AllPairs, Contains}
-use Rattle.spin_base.proofs.Members.{Among, among_contains, among_left, among_right, among_map, Contains-first, Contains-later, Contains-from_filter, Contains-filter}
+use Rattle.spin_base.proofs.Members.{Among, among_contains, contains_among, among_left, among_right, among_map, Contains-first, Contains-later, Contains-from_filter, Contains-filter}
 use Rattle.spin_base.proofs.Gathering.{among_gathered}
 use Rattle.spin_base.specs.declared.{blocks.Entry.Entry, chips.Spot.Spot, copies.McCopy.McCopy, copies.Delivery.Delivery, copies.DumpRec.DumpRec}
 use Rattle.machine_desc.specs.{Description.Description, Live.chip_of, Branch.Exit, RoutingTree.IsRoutingTree, declared.nets.NetPlan.NetPlan}
@@ -21,7 +21,7 @@ use Rattle.app_loads.specs.Applications.{AreApps, HaveOtherNumbers}
 use Rattle.app_loads.specs.Leaving.{is_packet_of, NoneUnderWay, others_than, mesh_without}
 use Rattle.app_loads.proofs.Ledgers.{own_net}
 use Rattle.app_loads.proofs.LeavingLists.{after_cores, after_hands, after_inputs, after_unsent, filter_stays, filter_of_map, count_of_filter, either_pair}
-use Rattle.app_loads.proofs.Others.{All-left_in, AllPairs-left_in, Contains-left_in}
+use Rattle.app_loads.proofs.Others.{All-left_in, AllPairs-left_in, Contains-left_in, only_one}
 
 -- a test and its opposite
 opposite_false : (b : Bool) → (b ≡ true → ⊥) → not b ≡ true
@@ -227,11 +227,7 @@ net_of_asked (b ∷ apps) i a e = by_first (asked_of_app b i) refl e (net_of_ask
 module _ (h : Host) (app : LoadedApp) (apps : AreApps h) (has : Contains h.apps app) where
   -- an application of the same number is the same one
   pub same_app : (b : LoadedApp) → Contains h.apps b → (b.number == app.number) ≡ true → b ≡ app
-  same_app b in_b same = elim (either_pair (λ (x y : LoadedApp). x.number ≢ y.number) h.apps b app apps.numbers in_b has) [
-    | inl one ↦ one
-    | inr (inl differ) ↦ absurd (differ (eqb-true b.number app.number same))
-    | inr (inr differ) ↦ absurd (differ (sym (eqb-true b.number app.number same)))
-  ]
+  same_app b in_b same = only_one h.apps apps.numbers b app (contains_among b h.apps in_b) (contains_among app h.apps has) (eqb-true b.number app.number same)
 
   -- no other application has the packets of this one
   pub of_no_other : (b : LoadedApp) → Contains (others_than app.number h.apps) b → (i : ℕ) → is_packet_of app i ≡ true → is_packet_of b i ≡ false

@@ -1,5 +1,5 @@
 -- What stays of a list of applications, and of what each of them has, where some leave.
-use Rattle.std.proofs.Common.{◌≡◌, ℕ, ◌+◌, Bool, true, false, cond, List, [], ◌∷◌, map, refl, sym, ap, ◌∙◌, subst, arith, inl, inr, ◌⊎◌, count_by, ◌++◌}
+use Rattle.std.proofs.Common.{◌≡◌, ℕ, ◌+◌, Bool, true, false, cond, if◌then◌else◌, List, [], ◌∷◌, map, refl, sym, ap, ◌∙◌, subst, arith, inl, inr, ◌⊎◌, count_by, ◌++◌}
 use Rattle.std.proofs.lemmas.{Bool.cases_order, List.get_or_default}
 use Rattle.std.specs.List.{AllPairs, Contains, filter, slice_index_or}
 use Rattle.spin_base.proofs.{Counts.count_by-cons, Members.Among}
@@ -25,8 +25,8 @@ filter_of_map {X} {Y} p f (x ∷ xs) = by_test (p (f x)) (filter_of_map p f xs)
     by_test false e = e
 
 -- one where a test holds
-abbrev one_if : Bool → ℕ
-one_if b = cond b 1 0
+abbrev pub one_if : Bool → ℕ
+one_if b = if b then 1 else 0
 
 -- as many pass a test as before, where all that pass it stay
 pub count_of_filter : {X : Type 0} (p q : X → Bool) (xs : List X) → ((x : X) → p x ≡ true → q x ≡ true) → count_by p (filter q xs) ≡ count_by p xs

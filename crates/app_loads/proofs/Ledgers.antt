@@ -1,27 +1,20 @@
 -- The ledger of asked packets, where nets or a packet come.
 use Rattle.std.proofs.Common.{◌≡◌, ◌≢◌, ℕ, ◌+◌, ◌==◌, ◌&&◌, Bool, true, false, refl, sym, ap, ◌∙◌, subst, arith, inl, inr, ◌⊎◌, List, [], ◌∷◌, ◌++◌, Option, Some, None}
 use Rattle.std.proofs.Common.{if◌then◌else◌, count_by, IsTrue}
-use Rattle.std.proofs.lemmas.Bool.{cases_eq, eq-eqb, and_from, ne_eqb, and_left}
+use Rattle.std.proofs.lemmas.Bool.{cases_eq, eq-eqb, eqb-true, and_from, and_parts, ne_eqb}
 use Rattle.std.proofs.lemmas.{List.Elements.Contains-append_left, Option.same_Some, Option.none-some}
 use Rattle.std.specs.List.{slice_get, slice_set, Contains}
-use Rattle.spin_base.proofs.Counts.{count_by-cons}
+use Rattle.spin_base.proofs.Counts.{count_by-cons, count_by-none}
 use Rattle.spin_base.proofs.Exchange.{PutIn, put_in_before, put_in_gathered, count_put_in}
-use Rattle.spin_base.proofs.Members.{Among, among_contains, contains_among, among_left, among_right, among_either, Contains-first, Contains-later}
+use Rattle.spin_base.proofs.Members.{Among, among_contains, contains_among, among_left, among_right, among_either}
 use Rattle.spin_base.specs.declared.{chips.Spot.Spot, copies.McCopy.McCopy}
 use Rattle.machine_desc.specs.{Branch.Exit, declared.nets.NetPlan.NetPlan}
 use Rattle.machine_desc.specs.{RightTables.IsKeyOf, NetsOn.vertex_at, NetsOn.AreNetsOn, NetsOn.IsWayOn}
 use Rattle.mesh_core.specs.State.{State}
 use Rattle.mesh_core.specs.Trail.{Station, unsent, Mark, is_on_trail, is_packet_on_trail}
-use Rattle.mesh_core.specs.Ledger.{marks_of, marks_at, unsent_marks, input_marks, all_hand_marks, core_marks, delivered_marks, dumped_marks, Asked, label_of, MeetsLedgerFor}
-use Rattle.mesh_core.proofs.{LedgerLaw.one_net, Moves.mark, Ways.some_way}
-
--- what stands behind the unsent copies
-abbrev behind_unsent : State → List Mark
-behind_unsent s = input_marks s ++ (all_hand_marks s ++ (core_marks s ++ (delivered_marks s ++ dumped_marks s)))
-
--- one where a test holds
-abbrev one_if : Bool → ℕ
-one_if b = if b then 1 else 0
+use Rattle.mesh_core.specs.Ledger.{marks_of, marks_at, unsent_marks, Asked, label_of, MeetsLedgerFor}
+use Rattle.mesh_core.proofs.{Counting.count_le, LedgerLaw.one_net, Moves.mark, Ways.some_way}
+use Rattle.app_loads.proofs.LeavingLists.{after_unsent, one_if}
 
 -- ---- more nets
 
@@ -52,14 +45,6 @@ more_nets s nets more asked stand l = record {
   each_asked = l.each_asked;
 }
 
--- none of a list passes a test that each of its items fails
-none_passes : {X : Type 0} (p : X → Bool) (xs : List X) → ((y : X) → Contains xs y → p y ≡ false) → count_by p xs ≡ 0
-none_passes p [] fails = refl
-none_passes p (y ∷ ys) fails =
-    let rest = none_passes p ys (λ z has. fails z (Contains-later y ys z has)) in
-    let here : one_if (p y) ≡ 0 = ap one_if (fails y (Contains-first y ys)) in
-    omega (arith, rest, count_by-cons p y ys, here)
-
 -- ---- one packet more
 
 -- the packets, and one of this number
@@ -77,7 +62,7 @@ pub unsent_in : (s : State) (v : ℕ) (k : McCopy) (q : List McCopy) → slice_g
     PutIn (mark k (unsent v) ∷ []) (marks_of s) (marks_of (record s { unsent = slice_set s.unsent v (q ++ k ∷ []) }))
 unsent_in s v k q at =
     let n_is : v ≡ 0 + v = omega arith in
-    put_in_before (mark k (unsent v) ∷ []) (unsent_marks s) (unsent_marks (record s { unsent = slice_set s.unsent v (q ++ k ∷ []) })) (behind_unsent s)
+    put_in_before (mark k (unsent v) ∷ []) (unsent_marks s) (unsent_marks (record s { unsent = slice_set s.unsent v (q ++ k ∷ []) })) (after_unsent s)
     (put_in_gathered (λ w copies. marks_at (unsent w) copies) (mark k (unsent v) ∷ []) 0 s.unsent v q (q ++ k ∷ []) at
     (subst (λ n. PutIn (mark k (unsent v) ∷ []) (marks_at (unsent n) q) (marks_at (unsent n) (q ++ k ∷ []))) n_is (at_back (unsent v) q)))
   where
@@ -200,7 +185,10 @@ module _ (s : State) (nets : List NetPlan) (asked : ℕ → Option Asked) (i : �
       ]
         where
           none_before : (f u : ℕ) (b : List Exit) → count_by (is_packet_on_trail i f u b) (marks_of s) ≡ 0
-          none_before f u b = none_passes (is_packet_on_trail i f u b) (marks_of s) (λ k' has'. and_left (k'.copy.packet == i) (is_on_trail f u b k') (ne_eqb k'.copy.packet i (other_number k' has')))
+          none_before f u b =
+              let few = count_le (is_packet_on_trail i f u b) (λ (m : Mark). false) (marks_of s) (λ m a' passes.
+              absurd (other_number m (among_contains m (marks_of s) a') (eqb-true m.copy.packet i (and_parts (m.copy.packet == i) (is_on_trail f u b m) passes).0))) in
+              omega (arith, few, count_by-none (marks_of s))
 
       of_its_net' : (j : ℕ) (b : Asked) → also asked i a j ≡ Some b → Contains nets b.net × IsKeyOf b.net.block b.label.key
       of_its_net' j b e = elim (cases_eq j i) [

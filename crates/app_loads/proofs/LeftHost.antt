@@ -1,6 +1,6 @@
 -- A host that an application left.
 use Rattle.std.proofs.Common.{◌≡◌, ◌≢◌, ℕ, ◌+◌, ◌≤◌, ◌==◌, ltb, not, ◌&&◌, true, false, List, ◌++◌, length, refl, sym, ap, ◌∙◌, subst, inl, inr}
-use Rattle.std.proofs.lemmas.Bool.{cases_Bool, false≢true}
+use Rattle.std.proofs.lemmas.Bool.{cases_Bool, false_from_ne_true, false≢true}
 use Rattle.std.proofs.lemmas.List.{length-map, Elements.All-contains, Elements.All-filter, Kept.AllPairs-filter}
 use Rattle.std.specs.List.{All, AllPairs, Contains}
 use Rattle.spin_base.proofs.Members.{among_contains, among_either, among_left, among_right, contains_among}
@@ -19,7 +19,7 @@ use Rattle.app_loads.specs.Regions.{ShareNoPlace, AreFreeBeside, IsRangeWithin, 
 use Rattle.app_loads.specs.{Removing.HasLeft, Taking.AreTaken, Taking.free_places_in, Taking.frees, Unloading.HasUnloaded, Unloading.NoneWaits}
 use Rattle.app_loads.proofs.{Copying.mine_at, Copying.same_part, LeftMesh.mesh_with, LeavingLedger.the_ledger_without}
 use Rattle.app_loads.proofs.Others.{AllPairs-left_in, item_of, only_one, other_in, others_item, own_item, own_pairs, same_tests, with_mine}
-use Rattle.app_loads.proofs.{RightRows.right_rows, Serving.by_taken, Serving.taken_by}
+use Rattle.app_loads.proofs.{RightRows.right_rows, Serving.by_taken, Serving.none_taken, Serving.taken_by}
 
 flip_apart : (a b : Range) → ShareNoPlace a b → ShareNoPlace b a
 flip_apart a b apart region k in_b in_a = apart region k in_a in_b
@@ -86,7 +86,7 @@ module _ (h : Host) (apps : AreApps h) (number : ℕ) (app : LoadedApp) (in_apps
   -- ---- the host
 
   module _ (old new : List Region) (old_is : frees old ≡ h.regions) (given : AreTaken m (all_ranges others) app.ranges old → AreFreeBeside m (all_ranges others) (frees new))
-      (ended : Ended) (mesh : State) (left : HasLeft app h.mesh ended mesh) (none : NoneUnderWay h.mesh app) where
+      (ended : Ended) (mesh : State) (left : HasLeft app h.mesh ended.delivered ended.dumped mesh) (none : NoneUnderWay h.mesh app) where
     abbrev t : List (List Entry)
     t = mesh.setup.tables
 
@@ -95,10 +95,7 @@ module _ (h : Host) (apps : AreApps h) (number : ℕ) (app : LoadedApp) (in_apps
 
     -- no place of another's range is one of the application's
     none_of_mine : (r : Range) → Contains (all_ranges others) r → (region k : ℕ) → range_has region k r ≡ true → is_taken app.ranges region k ≡ false
-    none_of_mine r in_r region k at = elim (cases_Bool (is_taken app.ranges region k)) [
-      | inr no_one ↦ no_one
-      | inl some ↦ (let found = by_taken app.ranges region k some in absurd (apart_from_mine r found.0 in_r found.1 region k at found.2))
-    ]
+    none_of_mine r in_r = none_taken app.ranges r (λ other in_other. apart_from_mine r other in_r in_other)
 
     loaded_now : All (IsLoadedOn m) others
     loaded_now = All-filter (λ (a : LoadedApp). not (a.number == number)) (IsLoadedOn m) h.apps apps.loaded
@@ -135,15 +132,12 @@ module _ (h : Host) (apps : AreApps h) (number : ℕ) (app : LoadedApp) (in_apps
 
         nobodys : (c : Chip) (k : ℕ) → is_taken (all_ranges others) (place_of m (Rows c)) k ≡ false → is_taken app.ranges (place_of m (Rows c)) k ≡ false →
             is_taken (all_ranges h.apps) (place_of m (Rows c)) k ≡ false
-        nobodys c k free not_mine = elim (cases_Bool (is_taken (all_ranges h.apps) (place_of m (Rows c)) k)) [
-          | inr no_one ↦ no_one
-          | inl some ↦
-              let found = by_taken (all_ranges h.apps) (place_of m (Rows c)) k some in
-              elim (item_of h.apps apps.numbers number app in_apps its ranges_in found.0 found.1) [
-                | inl own ↦ absurd (false≢true (sym not_mine ∙ taken_by app.ranges (place_of m (Rows c)) k found.0 own found.2))
-                | inr other ↦ absurd (false≢true (sym free ∙ taken_by (all_ranges others) (place_of m (Rows c)) k found.0 other found.2))
-              ]
-        ]
+        nobodys c k free not_mine = false_from_ne_true (is_taken (all_ranges h.apps) (place_of m (Rows c)) k) (λ some.
+            let found = by_taken (all_ranges h.apps) (place_of m (Rows c)) k some in
+            elim (item_of h.apps apps.numbers number app in_apps its ranges_in found.0 found.1) [
+              | inl own ↦ false≢true (sym not_mine ∙ taken_by app.ranges (place_of m (Rows c)) k found.0 own found.2)
+              | inr other ↦ false≢true (sym free ∙ taken_by (all_ranges others) (place_of m (Rows c)) k found.0 other found.2)
+            ])
 
     ledger_now : MeetsLedgerFor (mesh_without app t h.mesh) (all_nets others) (asked_of others)
     ledger_now = subst (λ n. MeetsLedgerFor (mesh_without app t h.mesh) (all_nets (others_than n h.apps)) (asked_of (others_than n h.apps))) its (the_ledger_without h app t apps in_apps none)

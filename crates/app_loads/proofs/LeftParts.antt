@@ -1,6 +1,6 @@
 -- The fields of a host that an application left, or left not.
-use Rattle.std.proofs.Common.{◌≡◌, ℕ, suc, ◌<◌, ◌==◌, false, List, ◌++◌, length, take, drop, get_or, sym, ap, ◌∙◌, subst, Option, None, Some, Result, Ok, OnOk, inl, inr}
-use Rattle.std.proofs.lemmas.{List.drop-map, List.map-append, List.take-map, Bool.cases_Bool, Bool.eqb-true}
+use Rattle.std.proofs.Common.{◌≡◌, ℕ, suc, ◌<◌, ◌==◌, false, List, ◌++◌, length, take, drop, get_or, sym, ap, ◌∙◌, subst, Option, None, Some, Result, Ok, OnOk}
+use Rattle.std.proofs.lemmas.{List.drop-map, List.map-append, List.take-map, Bool.eqb-true, Bool.false_from_ne_true}
 use Rattle.std.proofs.lemmas.Option.{slice_get-get_or, slice_get_within, same_Some}
 use Rattle.std.specs.Prelude.{IfSome, is_some, position}
 use Rattle.std.specs.List.{slice_get, Contains}
@@ -22,10 +22,9 @@ use Rattle.app_loads.proofs.{LoadedParts.IsOut, LoadedParts.host_is, LoadedParts
 
 -- where no place is found, the number is not loaded
 pub not_loaded : (apps : List LoadedApp) (number : ℕ) → position (λ (app : LoadedApp). app.number == number) apps ≡ None → is_loaded apps number ≡ false
-not_loaded apps number none = elim (cases_Bool (is_loaded apps number)) [
-  | inr none_has ↦ none_has
-  | inl some ↦ (let found = any_among (λ (app : LoadedApp). app.number == number) apps some in absurd (position_nowhere (λ (app : LoadedApp). app.number == number) apps found.0 none found.1 found.2))
-]
+not_loaded apps number none = false_from_ne_true (is_loaded apps number) (λ some.
+    let found = any_among (λ (app : LoadedApp). app.number == number) apps some in
+    position_nowhere (λ (app : LoadedApp). app.number == number) apps found.0 none found.1 found.2)
 
 -- the place that is found is one of the list
 found_below : (apps : List LoadedApp) (number at : ℕ) (d : LoadedApp) → position (λ (app : LoadedApp). app.number == number) apps ≡ Some at → at < length apps
@@ -99,7 +98,7 @@ pub record HasGone (i j : Inside) (mesh : State) (given : List Region) (number a
   pub after : State
   pub new : List Region
   pub back : AreGivenBack mesh.setup.machine app.ranges given new
-  pub left : HasLeft app mesh ended after
+  pub left : HasLeft app mesh ended.delivered ended.dumped after
   pub none : NoneUnderWay mesh app
   pub mesh_is : j.mesh ≡ Some after
   pub regions : j.regions.items ≡ new
@@ -116,8 +115,8 @@ module _ {i j : Inside} {now : Host} {number at : ℕ} {app : LoadedApp} {mesh :
   abbrev new : Host
   new = record { mesh = gone.after; regions = frees gone.new; apps = others_than number old.apps; packets = old.packets }
 
-  left : HasLeft app old.mesh ended gone.after
-  left = subst (λ (s : State). HasLeft app s ended gone.after) (sym (its_mesh leaves)) gone.left
+  left : HasLeft app old.mesh ended.delivered ended.dumped gone.after
+  left = subst (λ (s : State). HasLeft app s ended.delivered ended.dumped gone.after) (sym (its_mesh leaves)) gone.left
 
   is_now : host_of j ≡ new
   is_now =

@@ -1,14 +1,13 @@
 -- A host to which an application came.
 use Rattle.std.proofs.Common.{◌≡◌, ◌≢◌, ℕ, zero, suc, ◌+◌, ◌<◌, ◌≤◌, ◌==◌, true, false, List, [], ◌∷◌, ◌++◌, ◌∙◌, Option, None, Some, ◌&&◌, if◌then◌else◌}
 use Rattle.std.proofs.Common.{length, take, refl, sym, ap, subst, inl, inr, arith, append-nil, append_assoc, ltb, not, get_or}
-use Rattle.std.proofs.lemmas.Bool.{cases_Bool, cases_eq, eq-eqb, eqb-true, false≢true, and_parts, ne_eqb, or_parts}
-use Rattle.std.proofs.lemmas.Grind.{flat_map-append}
+use Rattle.std.proofs.lemmas.Bool.{cases_eq, eq-eqb, eqb-true, false≢true, and_parts, ne_eqb, or_parts}
 use Rattle.std.proofs.lemmas.List.Elements.{All-append, All-contains, All-weaker, filter_map-append, All-push}
 use Rattle.std.proofs.lemmas.List.Folds.{list_any-append}
 use Rattle.std.proofs.lemmas.Option.{slice_get_within, same_Some, none-some, slice_get-get_or}
-use Rattle.std.proofs.lemmas.List.{take_all, same_lists}
+use Rattle.std.proofs.lemmas.List.{flat_map_more, take_all, same_lists}
 use Rattle.std.specs.Option.{option_map_or}
-use Rattle.std.specs.List.{list_any, slice_get, slice_set, All, AllPairs, Contains, flat_map, filter_map, enumerate_from, cons_option}
+use Rattle.std.specs.List.{list_any, slice_get, slice_set, All, AllPairs, Contains, filter_map, enumerate_from, cons_option}
 use Rattle.spin_base.proofs.Members.{Among, Contains-at, among_any, among_left, among_right, among_contains, contains_among}
 use Rattle.spin_base.proofs.Pairs.{AllPairs-append, AllPairs-right, AllPairs-across}
 use Rattle.spin_base.proofs.Places.{All-each, enumerate_more, slice_get_there, slice_get-set_same, slice_get-set_other}
@@ -20,7 +19,7 @@ use Rattle.machine_desc.specs.NetsOn.{AreNetsOn, HaveDisjointBlocks, vertex_at}
 use Rattle.machine_desc.specs.RightTables.{IsKeyOf, table_at}
 use Rattle.range_store.specs.{Views.Region, Regions.AreRuns}
 use Rattle.mesh_core.specs.{State.State, Trail.Mark, Trail.unsent}
-use Rattle.mesh_core.specs.Ledger.{MeetsLedgerFor, marks_of, marks_at, unsent_marks, input_marks, all_hand_marks, core_marks, delivered_marks, dumped_marks}
+use Rattle.mesh_core.specs.Ledger.{MeetsLedgerFor, marks_of, marks_at, unsent_marks}
 use Rattle.mesh_core.specs.Opened.{copy_from, first_copy}
 use Rattle.mesh_core.proofs.Ways.{vertex_at_stands}
 use Rattle.app_loads.specs.declared.answers.{LoadErr.LoadErr, LoadErr.TheVariants.Refused, LoadErr.TheVariants.Memory, LoadRefusal.LoadRefusal}
@@ -38,12 +37,9 @@ use Rattle.app_loads.specs.Taking.{AreTaken, IsDueAlways, frees}
 use Rattle.app_loads.proofs.AppNets.{apps_disjoint, different_of, facts_at, facts_of, key_of_index, own_disjoint, roots_of, sources_in, targets_in, trees_of, usable_spot}
 use Rattle.app_loads.proofs.ClaimCases.{among_flat, flat_among, facts}
 use Rattle.app_loads.proofs.{Copying.mine_at, Copying.same_part, Holes.same_holes, JoinLaws.loaded_from, Ledgers.more_nets}
+use Rattle.app_loads.proofs.LeavingLists.{after_unsent}
 use Rattle.app_loads.proofs.PacketLedger.{asked_is, none_past, other_tables, same_packets, sent_ledger}
-use Rattle.app_loads.proofs.{RightRows.right_rows, Serving.by_taken, Settling.settled_mesh, Settling.usable_there, Others.pairs_with_last, RegionLaws.one_free}
-
--- one item more at the end of a list made of lists
-flat_more : {X Y : Type 0} (f : X → List Y) (xs : List X) (x : X) → flat_map f (xs ++ x ∷ []) ≡ flat_map f xs ++ f x
-flat_more f xs x = flat_map-append f xs (x ∷ []) ∙ ap (λ l. flat_map f xs ++ l) (append-nil (f x))
+use Rattle.app_loads.proofs.{RightRows.right_rows, Serving.none_taken, Settling.settled_mesh, Settling.usable_there, Others.pairs_with_last, RegionLaws.one_free}
 
 -- regions with the same free places are the same
 pub same_frees : (m : Description) (taken : List Range) (xs ys : List Free) → AreFreeBeside m taken xs → AreFreeBeside m taken ys → xs ≡ ys
@@ -139,10 +135,10 @@ module _ (h : Host) (apps : AreApps h) (number : ℕ) (plan : AppPlan) (may : Ma
   before_free = subst (AreFreeBeside m (all_ranges h.apps)) (sym old_is) apps.free
 
   ranges_are : all_ranges all ≡ all_ranges h.apps ++ app.ranges
-  ranges_are = flat_more (λ (a : LoadedApp). a.ranges) h.apps app
+  ranges_are = sym (flat_map_more (λ (a : LoadedApp). a.ranges) [] h.apps app)
 
   nets_are : all_nets all ≡ all_nets h.apps ++ nets_of app
-  nets_are = flat_more nets_of h.apps app
+  nets_are = sym (flat_map_more nets_of [] h.apps app)
 
   taken_now : AreTaken m (all_ranges h.apps) app.ranges new
   taken_now = served.taken (all_ranges h.apps) apps.apart before_free
@@ -190,10 +186,7 @@ module _ (h : Host) (apps : AreApps h) (number : ℕ) (plan : AppPlan) (may : Ma
 
   -- no place of another's range is one of the application's
   none_of_others : (r : Range) → Contains (all_ranges h.apps) r → (region k : ℕ) → range_has region k r ≡ true → is_taken app.ranges region k ≡ false
-  none_of_others r in_r region k mine = elim (cases_Bool (is_taken app.ranges region k)) [
-    | inr none ↦ none
-    | inl some ↦ (let found = by_taken app.ranges region k some in absurd (across r found.0 in_r found.1 region k mine found.2))
-  ]
+  none_of_others r in_r = none_taken app.ranges r (λ other in_other. across r other in_r in_other)
 
   rows_now : HaveRows m t all
   rows_now = record {
@@ -262,7 +255,7 @@ module _ (h : Host) (apps : AreApps h) (number : ℕ) (plan : AppPlan) (may : Ma
     vertices = apps.vertices;
     numbers = pairs_with_last (λ (a b : LoadedApp). a.number ≢ b.number) h.apps app apps.numbers (λ a in_apps same.
         false≢true (sym not_loaded ∙ among_any (λ (x : LoadedApp). x.number == number) a h.apps (contains_among a h.apps in_apps) (eq-eqb a.number number (same ∙ served.number_is))));
-    spots = subst (AllPairs (λ a b. a ≢ b)) (sym (flat_more (λ (a : LoadedApp). a.plan.spots) h.apps app))
+    spots = subst (AllPairs (λ a b. a ≢ b)) (flat_map_more (λ (a : LoadedApp). a.plan.spots) [] h.apps app)
         (AllPairs-append (λ a b. a ≢ b) (all_spots h.apps) app.plan.spots apps.spots on.plan.different
         (All-each (λ a. All (λ b. a ≢ b) app.plan.spots) (all_spots h.apps) (λ a in_a. All-each (λ b. a ≢ b) app.plan.spots (λ b in_b same.
         false≢true (sym (spots_free b in_b) ∙ subst (λ z. is_spot_taken h.apps z ≡ true) same (is_there a in_a))))));
@@ -339,7 +332,7 @@ none_unsent h apps plan may net has v vertex = by_queue (slice_get h.mesh.unsent
     by_queue (Some (k ∷ ks)) e =
         let mark' : Mark = record { copy = k; station = unsent v } in
         let in_unsent : Among mark' (unsent_marks h.mesh) = gathered_among (λ w copies. marks_at (unsent w) copies) mark' h.mesh.unsent v (k ∷ ks) e (inl refl) in
-        let has' : Contains (marks_of h.mesh) mark' = among_contains mark' (marks_of h.mesh) (among_left mark' (unsent_marks h.mesh) (behind h.mesh) in_unsent) in
+        let has' : Contains (marks_of h.mesh) mark' = among_contains mark' (marks_of h.mesh) (among_left mark' (unsent_marks h.mesh) (after_unsent h.mesh) in_unsent) in
         let on = apps.ledger.ledger.on_a_trail mark' has' in
         let from : ℕ = on.3.2 in
         let same_vertex : v ≡ from = eqb-true v from (and_parts (v == from) (k.hop == 0) on.3.5).0 in
@@ -354,6 +347,3 @@ none_unsent h apps plan may net has v vertex = by_queue (slice_get h.mesh.unsent
         let own = All-contains (IsAppNet m' plan.spots) plan.nets net may.valid.nets has in
         let is_free = All-contains (λ z. is_spot_taken h.apps z ≡ false) plan.spots net.source may.free own.source in
         absurd (false≢true (sym is_free ∙ is_taken'))
-      where
-        behind : State → List Mark
-        behind s = input_marks s ++ (all_hand_marks s ++ (core_marks s ++ (delivered_marks s ++ dumped_marks s)))

@@ -1,24 +1,23 @@
 -- Keys of one block of an application are alike: each table gives all of them the same.
-use Rattle.std.proofs.Common.{◌≡◌, ℕ, zero, suc, List, [], ◌∷◌, length, refl, sym, subst, arith, Some}
-use Rattle.std.proofs.lemmas.{List.Elements.All-contains, Option.same_Some}
+use Rattle.std.proofs.Common.{◌≡◌, ℕ, List, length, refl, sym, subst, arith, Some}
+use Rattle.std.proofs.lemmas.{List.Elements.All-contains, Option.slice_get_within}
 use Rattle.std.specs.List.{slice_get, Contains}
 use Rattle.spin_base.proofs.Members.{Contains-at, among_contains, contains_among}
+use Rattle.spin_base.proofs.Places.{slice_get_there}
 use Rattle.spin_base.specs.declared.blocks.Block.{Block}
 use Rattle.machine_desc.specs.{declared.nets.NetPlan.NetPlan, RightTables.IsKeyOf}
 use Rattle.app_loads.specs.declared.{loaded.LoadedApp.LoadedApp, plans.AppNet.AppNet}
 use Rattle.app_loads.specs.Applications.{AreApps, IsLoadedOn}
 use Rattle.app_loads.specs.Host.{Host, all_nets, net_with, nets_of, nets_with}
 use Rattle.app_loads.specs.Running.{AreAlikeInBlocks}
-use Rattle.app_loads.proofs.{AppNets.member_at, ClaimCases.flat_among, RightRows.alike}
+use Rattle.app_loads.proofs.{AppNets.member_at, ClaimCases.flat_among, RightRows.alike, Unsent.nets_with_at}
 
 -- the net that has a block
 net_at : (nets : List AppNet) (blocks : List Block) (i : ℕ) (block : Block) → length blocks ≡ length nets → slice_get blocks i ≡ Some block →
     (x : NetPlan) × (slice_get (nets_with nets blocks) i ≡ Some x) × (x.block ≡ block)
-net_at [] [] i block long e = cc
-net_at [] (b ∷ bs) i block long e = absurd (omega (arith, long))
-net_at (n ∷ ns) [] i block long e = cc
-net_at (n ∷ ns) (b ∷ bs) zero block long e = (net_with n b, refl, same_Some b block e)
-net_at (n ∷ ns) (b ∷ bs) (suc i) block long e = net_at ns bs i block (omega (arith, long)) e
+net_at nets blocks i block long e =
+    let net = slice_get_there nets i (omega (arith, slice_get_within blocks i block e, long)) in
+    (net_with net.0 block, nets_with_at nets blocks i net.0 block net.1 e, refl)
 
 module _ (h : Host) (apps : AreApps h) where
   of_net : (app : LoadedApp) → Contains h.apps app → (block : Block) → Contains app.blocks block → (x : NetPlan) × Contains (all_nets h.apps) x × (x.block ≡ block)

@@ -7,7 +7,7 @@ use Rattle.spin_base.proofs.Members.{Among, among_at, among_contains, among_filt
 use Rattle.spin_base.proofs.Pairs.{AllPairs-append, AllPairs-left, AllPairs-right, AllPairs-across, AllPairs-head, AllPairs-tail}
 use Rattle.spin_base.proofs.Places.{All-each}
 use Rattle.app_loads.specs.{declared.loaded.LoadedApp.LoadedApp, Leaving.others_than}
-use Rattle.app_loads.proofs.ClaimCases.{among_flat, flat_among}
+use Rattle.app_loads.proofs.{ClaimCases.among_flat, ClaimCases.flat_among, LeavingLists.either_pair}
 
 pub same_tests : (a b : Bool) → (a ≡ true → b ≡ true) → (b ≡ true → a ≡ true) → a ≡ b
 same_tests true b forth back = sym (forth refl)
@@ -69,15 +69,12 @@ HaveNumbers apps = AllPairs (λ (a b : LoadedApp). a.number ≢ b.number) apps
 
 -- a number has one application
 pub only_one : (apps : List LoadedApp) → HaveNumbers apps → (a b : LoadedApp) → Among a apps → Among b apps → a.number ≡ b.number → a ≡ b
-only_one [] pairs a b in_a in_b same = absurd in_a
-only_one (z ∷ zs) pairs a b (inl here) (inl here') same = here ∙ sym here'
-only_one (z ∷ zs) pairs a b (inl here) (inr later) same =
-    absurd (All-contains (λ (c : LoadedApp). z.number ≢ c.number) zs b (AllPairs-head (λ (c d : LoadedApp). c.number ≢ d.number) z zs pairs)
-    (among_contains b zs later) (ap (λ (c : LoadedApp). c.number) (sym here) ∙ same))
-only_one (z ∷ zs) pairs a b (inr later) (inl here) same =
-    absurd (All-contains (λ (c : LoadedApp). z.number ≢ c.number) zs a (AllPairs-head (λ (c d : LoadedApp). c.number ≢ d.number) z zs pairs)
-    (among_contains a zs later) (ap (λ (c : LoadedApp). c.number) (sym here) ∙ sym same))
-only_one (z ∷ zs) pairs a b (inr later) (inr later') same = only_one zs (AllPairs-tail (λ (c d : LoadedApp). c.number ≢ d.number) z zs pairs) a b later later' same
+only_one apps numbers a b in_a in_b same =
+    elim (either_pair (λ (c d : LoadedApp). c.number ≢ d.number) apps a b numbers (among_contains a apps in_a) (among_contains b apps in_b)) [
+      | inl one ↦ one
+      | inr (inl differ) ↦ absurd (differ same)
+      | inr (inr differ) ↦ absurd (differ (sym same))
+    ]
 
 abbrev is_other : ℕ → LoadedApp → Bool
 is_other number app = not (app.number == number)

@@ -1,5 +1,5 @@
 -- The ledger of a mesh to which an application's packets came.
-use Rattle.std.proofs.Common.{◌≡◌, ℕ, zero, suc, ◌+◌, ◌-◌, ◌<◌, ◌≤◌, ◌==◌, List, [], ◌∷◌, ◌++◌, length, refl, sym, ap, ◌∙◌, subst, inl, inr, arith, Option, None, Some, if◌then◌else◌}
+use Rattle.std.proofs.Common.{◌≡◌, ◌≢◌, ℕ, zero, suc, ◌+◌, ◌-◌, ◌<◌, ◌≤◌, ◌==◌, List, [], ◌∷◌, ◌++◌, length, refl, sym, ap, ◌∙◌, subst, inl, inr, arith, Option, None, Some, if◌then◌else◌}
 use Rattle.std.proofs.lemmas.Bool.{cases_eq, cases_lt, eq-eqb, le-leb, lt-leb, ne_eqb}
 use Rattle.std.proofs.lemmas.List.{length-map, Elements.All-head, Elements.All-tail}
 use Rattle.std.proofs.lemmas.Option.{slice_get_within, slice_get_past, get_or_from_slice_get}
@@ -31,15 +31,11 @@ module _ (app : LoadedApp) (asked : ℕ → Option Asked) where
   upto zero j = asked j
   upto (suc n) j = if j == app.first + n then asked_by (nets_of app) app.plan.packets n else upto n j
 
-  upto_before : (n j : ℕ) → j < app.first → upto n j ≡ asked j
-  upto_before zero j less = refl
-  upto_before (suc n) j less =
-      ap (λ b. if b then asked_by (nets_of app) app.plan.packets n else upto n j) (ne_eqb j (app.first + n) (λ e. absurd (omega (arith, e, less)))) ∙ upto_before n j less
-
-  upto_past : (n j : ℕ) → app.first + n ≤ j → upto n j ≡ asked j
-  upto_past zero j more = refl
-  upto_past (suc n) j more =
-      ap (λ b. if b then asked_by (nets_of app) app.plan.packets n else upto n j) (ne_eqb j (app.first + n) (λ e. absurd (omega (arith, e, more)))) ∙ upto_past n j (omega (arith, more))
+  upto_else : (n j : ℕ) → ((i : ℕ) → i < n → j ≢ app.first + i) → upto n j ≡ asked j
+  upto_else zero j other = refl
+  upto_else (suc n) j other =
+      ap (λ b. if b then asked_by (nets_of app) app.plan.packets n else upto n j) (ne_eqb j (app.first + n) (other n (omega arith)))
+      ∙ upto_else n j (λ i less. other i (omega (arith, less)))
 
   upto_at : (n j : ℕ) → app.first ≤ j → j < app.first + n → upto n j ≡ asked_by (nets_of app) app.plan.packets (j - app.first)
   upto_at zero j low high = absurd (omega (arith, low, high))
@@ -65,7 +61,7 @@ module _ (app : LoadedApp) (asked : ℕ → Option Asked) where
         let asks : asked_by (nets_of app) app.plan.packets n ≡ Some a = asked_from (nets_of app) app.plan.packets n p one.net sent.3 one.is_net in
         let is_own = own one.net (p.net, slice_get_within (nets_of app) p.net one.net one.is_net, get_or_from_slice_get (nets_of app) p.net one.net one.net one.is_net) in
         let target = some_target s.setup.machine one.net is_own.1 in
-        let free : upto n i ≡ None = upto_past n i (omega arith) ∙ none i (omega arith) in
+        let free : upto n i ≡ None = upto_else n i (λ k less e. omega (arith, less, e)) ∙ none i (omega arith) in
         let more = one_packet_more (record s { unsent = sent.0 }) nets (upto n) i a one.vertex one.queue target.0 before one.at free one.is_vertex is_own.0
         (keyed n p one.net sent.3 one.is_net) target.1 in
         subst (λ (l : List (List McCopy)). MeetsLedgerFor (record s { unsent = l }) nets (upto (suc n))) (sym one.is)
@@ -103,7 +99,7 @@ pub asked_is : (apps : List LoadedApp) (app : LoadedApp) → ((i : ℕ) → app.
     upto app (asked_of apps) (length app.plan.packets) j ≡ asked_of (apps ++ app ∷ []) j
 asked_is apps app none j = elim (cases_lt j app.first) [
   | inl before ↦
-      upto_before app (asked_of apps) (length app.plan.packets) j before
+      upto_else app (asked_of apps) (length app.plan.packets) j (λ i less e. omega (arith, before, e))
       ∙ (sym (either_none (asked_of apps j)) ∙ (ap (either (asked_of apps j))
       (sym (ap (λ b. if b then asked_by (nets_of app) app.plan.packets (j - app.first) else None) (lt-leb app.first j before))) ∙ sym (asked_more apps app j)))
   | inr after ↦
@@ -112,7 +108,7 @@ asked_is apps app none j = elim (cases_lt j app.first) [
         | inl within ↦
             upto_at app (asked_of apps) (length app.plan.packets) j after within
             ∙ (sym (ap (λ b. if b then asked_by (nets_of app) app.plan.packets (j - app.first) else None) (le-leb app.first j after)) ∙ sym no_other)
-        | inr past ↦ upto_past app (asked_of apps) (length app.plan.packets) j past ∙ (none j after ∙ (sym (past_app app j past) ∙ sym no_other))
+        | inr past ↦ upto_else app (asked_of apps) (length app.plan.packets) j (λ i less e. omega (arith, past, less, e)) ∙ (none j after ∙ (sym (past_app app j past) ∙ sym no_other))
       ]
 ]
 

@@ -5,9 +5,8 @@ use Rattle.std.proofs.lemmas.Bool.{cases_Bool, eqb-true, eq-eqb, and_parts, fals
 use Rattle.std.proofs.lemmas.List.{Elements.All-contains, Elements.All-from_get_or, Sorted.IsPermutation-sym, Sorted.Contains-permutation}
 use Rattle.std.proofs.lemmas.Option.{slice_get-get_or, same_Some}
 use Rattle.std.specs.{Int.Bits.and_zero_r, Option.option_map_or, List.slice_get, List.All, List.Contains}
-use Rattle.mesh_core.proofs.{Moves.chip_of-index_of, LedgerLaw.one_net}
-use Rattle.spin_base.proofs.Counts.{count_by-cons}
-use Rattle.spin_base.proofs.Members.{Among, Contains-at, Contains-none, Contains-first, Contains-later, Contains-cases, Contains-map, Contains-unmap, among_contains, contains_among}
+use Rattle.mesh_core.proofs.{Counting.count_some, Moves.chip_of-index_of, LedgerLaw.one_net}
+use Rattle.spin_base.proofs.Members.{Contains-at, Contains-none, Contains-first, Contains-later, Contains-cases, Contains-map, Contains-unmap, among_contains, contains_among}
 use Rattle.spin_base.proofs.Places.{All-each, AllZip-at_first, slice_get-mapped, unmapped}
 use Rattle.spin_base.specs.declared.{blocks.Block.Block, blocks.Entry.Entry, chips.Chip.Chip, chips.Port.Port, routes.Out.Out, routes.Route.Route}
 use Rattle.spin_base.specs.Lookup.{lookup, matches, default_route}
@@ -66,16 +65,6 @@ of_part (y ∷ ys) zero zero j x e = cc
 of_part (y ∷ ys) zero (suc s) zero x e = e
 of_part (y ∷ ys) zero (suc s) (suc j) x e = let z : 0 + suc j ≡ suc (0 + j) = omega arith in ap (slice_get (y ∷ ys)) z ∙ of_part ys 0 s j x e
 of_part (y ∷ ys) (suc p) s j x e = let z : suc p + j ≡ suc (p + j) = omega arith in ap (slice_get (y ∷ ys)) z ∙ of_part ys p s j x e
-
-some_counted : {X : Type 0} (p : X → Bool) (xs : List X) (x : X) → Among x xs → p x ≡ true → 0 < count_by p xs
-some_counted p [] x a hit = absurd a
-some_counted p (y ∷ ys) x (inl here) hit =
-    let one : cond (p y) 1 0 ≡ 1 = ap one_if (ap p (sym here) ∙ hit) in
-    omega (arith, count_by-cons p y ys, one)
-  where
-    one_if : Bool → ℕ
-    one_if b = cond b 1 0
-some_counted p (y ∷ ys) x (inr later) hit = omega (arith, count_by-cons p y ys, some_counted p ys x later hit)
 
 in_parts : (range : Range) (region k : ℕ) → range_has region k range ≡ true → (range.region ≡ region) × (range.place ≤ k) × (k < range.place + range.size)
 in_parts range region k e =
@@ -181,7 +170,7 @@ module _ (m : Description) (tables : List (List Entry)) (apps : List LoadedApp) 
         let back = chip_of-index_of m c inside in
         let counted : 0 < count_by (has_chip m (chip_of m i)) app.plan.nets =
         subst (λ (d : Chip). 0 < count_by (has_chip m d) app.plan.nets) (sym back)
-        (some_counted (has_chip m c) app.plan.nets f.net (contains_among f.net app.plan.nets (Contains-at app.plan.nets own.in_app.0 f.net f.at_net)) on_net) in
+        (let some = count_some (has_chip m c) f.net app.plan.nets on_net (contains_among f.net app.plan.nets (Contains-at app.plan.nets own.in_app.0 f.net f.at_net)) in omega (arith, some)) in
         let claimed = chip_claim m app.plan load.plan i (index_below m c inside) counted in
         let ranged = AllZip-at_first (IsRangeFor m) (claims_of m app.plan) app.ranges load.ranges claimed.1.0 claimed.0 (member_at (claims_of m app.plan) claimed.0 claimed.1) in
         let range : Range = ranged.0 in

@@ -7,15 +7,9 @@ use Rattle.machine_desc.specs.{Description.Description, Live.index_of}
 use Rattle.spin_base.proofs.Places.{slice_get-push_cases}
 use Rattle.spin_base.specs.declared.chips.Chip.{Chip}
 use Rattle.app_loads.specs.{declared.loaded.Range.Range, declared.places.Region.Region, declared.places.Region.TheVariants.Rows}
-use Rattle.app_loads.specs.Regions.{IsRangeWithin, IsRegion, chip_count, place_of, region_size}
+use Rattle.app_loads.specs.Regions.{IsRegion, chip_count, place_of}
 use Rattle.app_loads.specs.Writing.{HasRoom}
-use Rattle.app_loads.proofs.{Copying.place_of_no_rows, Settling.rows_size}
-
--- a range of entries ends within the table
-pub rows_within : (m : Description) (range : Range) (r : Region) (c : Chip) → r ≡ Rows c → place_of m r ≡ range.region → IsRangeWithin m (1 + (chip_count m + chip_count m)) range → range.place + range.size ≤ 1024
-rows_within m range r c is at within =
-    let region : range.region ≡ 1 + (chip_count m + index_of m c) = sym at ∙ ap (place_of m) is in
-    subst (λ n. range.place + range.size ≤ n) (ap (region_size m) region ∙ rows_size m (index_of m c)) within.within
+use Rattle.app_loads.proofs.{Copying.place_of_no_rows}
 
 -- a range of no entries needs none
 pub no_room : (m : Description) (range : Range) (r : Region) → ((c : Chip) → r ≡ Rows c → ⊥) → IsRegion m r → place_of m r ≡ range.region → (room : ℕ) → HasRoom m range room

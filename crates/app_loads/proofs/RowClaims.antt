@@ -1,14 +1,15 @@
 -- How many entries nets need of a chip, counted in the list of the chips of their trees.
 use Rattle.std.proofs.Common.{◌≡◌, ◌≢◌, ℕ, zero, suc, ◌+◌, ◌-◌, ◌*◌, ◌<◌, ◌≤◌, Bool, true, false, ◌||◌, ◌==◌, List, [], ◌∷◌, ◌++◌, ◌∙◌, Option, None, Some, Result, Ok, Err, if◌then◌else◌}
 use Rattle.std.proofs.Common.{get_or, length, refl, sym, ap, inl, inr, arith, OnOk, append_assoc, append-nil, count_by, take}
-use Rattle.std.proofs.lemmas.Bool.{cases_Bool, cases_eq, cases_lt, eq-eqb, ne_eqb}
+use Rattle.std.proofs.lemmas.Bool.{cases_eq, cases_lt, eq-eqb, false_from_ne_true, ne_eqb}
 use Rattle.std.proofs.lemmas.Grind.{flat_map-append}
-use Rattle.std.proofs.lemmas.List.Elements.{All-nil, All-cons, All-head, All-tail, All-append}
+use Rattle.std.proofs.lemmas.List.Elements.{All-nil, All-cons, All-contains, All-head, All-tail, All-weaker}
 use Rattle.std.proofs.lemmas.List.Sorted.{All-permutation, sum_by-IsPermutation}
 use Rattle.std.proofs.lemmas.{List.Sums.sum_by-cons, Option.slice_get_within, Option.get_or_from_slice_get, List.flat_map_more}
 use Rattle.std.specs.List.{list_any, slice_get, All, AllPairs, flat_map, range_with_len, sum_by, Sorted.IsPermutation}
 use Rattle.std.specs.Option.{option_map_or}
-use Rattle.spin_base.proofs.{Equality.chip_eq_true, Counts.count_by-append, Counts.count_by-cons, Pairs.AllPairs-head, Pairs.AllPairs-tail}
+use Rattle.spin_base.proofs.{Equality.chip_eq_true, Counts.count_by-append, Counts.count_by-cons, Pairs.All-flat_map, Pairs.AllPairs-head, Pairs.AllPairs-tail}
+use Rattle.spin_base.proofs.Members.{any_among, among_contains}
 use Rattle.spin_base.proofs.Places.{All-at, slice_get_there, take_more_at}
 use Rattle.spin_base.specs.{declared.chips.Chip.Chip, Equality.chip_eq, declared.wants.Memory.Memory}
 use Rattle.machine_desc.specs.declared.trees.Edge.{Edge}
@@ -18,9 +19,7 @@ use Rattle.machine_desc.proofs.{Live.index_of-chip_of, Live.chip_of-inside, Same
 use Rattle.app_loads.specs.declared.{loaded.Claim.Claim, plans.AppNet.AppNet}
 use Rattle.app_loads.specs.{Regions.chip_count, Claims.has_chip, Claims.entries_claim, Claims.row_claim}
 use Rattle.app_loads.specs.Counting.{HasTree, IsRunEnd, chip_places, end_places, tree_places, run_claim}
-
-abbrev one_if : Bool → ℕ
-one_if b = if b then 1 else 0
+use Rattle.app_loads.proofs.LeavingLists.{one_if}
 
 -- of two tests at most one of which holds
 either_counts : (p q : Bool) → (p ≡ true → q ≡ false) → one_if p + one_if q ≡ one_if (p || q)
@@ -79,23 +78,24 @@ same_of f g a (suc n) same =
     ap (λ l. l ++ flat_map f (range_with_len (a + 1) n)) (same a (omega arith) (omega arith))
     ∙ ap (λ l. g a ++ l) (same_of f g (a + 1) n (λ i low high. same i (omega (arith, low)) (omega (arith, high))))
 
--- one number more that gives something, after some that give nothing
-up_to : {Y : Type 0} (f : ℕ → List Y) (next c : ℕ) → next ≤ c → ((i : ℕ) → next ≤ i → i < c → f i ≡ []) →
-    flat_map f (range_with_len 0 (c + 1)) ≡ flat_map f (range_with_len 0 next) ++ f c
+-- numbers that give nothing, behind others
+up_to : {Y : Type 0} (f : ℕ → List Y) (next c : ℕ) → next ≤ c → ((i : ℕ) → next ≤ i → i < c → f i ≡ []) → flat_map f (range_with_len 0 c) ≡ flat_map f (range_with_len 0 next)
 up_to f next c le none =
     let gap : ℕ = c - next in
-    let parts : c + 1 ≡ (next + gap) + 1 = omega (arith, le) in
-    let place : 0 + (next + gap) ≡ c = omega (arith, le) in
-    let start : 0 + next ≡ next = omega arith in
+    let parts : c ≡ next + gap = omega (arith, le) in
     ap (λ n. flat_map f (range_with_len 0 n)) parts
-    ∙ (ap (flat_map f) (range_parts 0 (next + gap) 1)
-    ∙ (flat_map-append f (range_with_len 0 (next + gap)) (range_with_len (0 + (next + gap)) 1)
-    ∙ (ap (λ l. flat_map f l ++ flat_map f (range_with_len (0 + (next + gap)) 1)) (range_parts 0 next gap)
-    ∙ (ap (λ l. l ++ flat_map f (range_with_len (0 + (next + gap)) 1)) (flat_map-append f (range_with_len 0 next) (range_with_len (0 + next) gap))
-    ∙ (ap (λ l. (flat_map f (range_with_len 0 next) ++ l) ++ flat_map f (range_with_len (0 + (next + gap)) 1))
-    (nothing_of f (0 + next) gap (λ i low high. none i (omega (arith, low)) (omega (arith, high, le))))
-    ∙ (ap (λ l. l ++ flat_map f (range_with_len (0 + (next + gap)) 1)) (append-nil (flat_map f (range_with_len 0 next)))
-    ∙ (ap (λ n. flat_map f (range_with_len 0 next) ++ flat_map f (range_with_len n 1)) place ∙ ap (λ l. flat_map f (range_with_len 0 next) ++ l) (append-nil (f c)))))))))
+    ∙ (ap (flat_map f) (range_parts 0 next gap)
+    ∙ (flat_map-append f (range_with_len 0 next) (range_with_len (0 + next) gap)
+    ∙ (ap (λ l. flat_map f (range_with_len 0 next) ++ l) (nothing_of f (0 + next) gap (λ i low high. none i (omega (arith, low)) (omega (arith, high, le))))
+    ∙ append-nil (flat_map f (range_with_len 0 next)))))
+
+-- one number more
+next_number : {Y : Type 0} (f : ℕ → List Y) (c : ℕ) → flat_map f (range_with_len 0 (c + 1)) ≡ flat_map f (range_with_len 0 c) ++ f c
+next_number f c =
+    let place : 0 + c ≡ c = omega arith in
+    ap (flat_map f) (range_parts 0 c 1)
+    ∙ (flat_map-append f (range_with_len 0 c) (range_with_len (0 + c) 1)
+    ∙ (ap (λ n. flat_map f (range_with_len 0 c) ++ flat_map f (range_with_len n 1)) place ∙ ap (λ l. flat_map f (range_with_len 0 c) ++ l) (append-nil (f c))))
 
 -- ---- runs of equal indices
 
@@ -132,7 +132,8 @@ module _ (m : Description) (chips : List ℕ) where
           ∙ (ap (λ l. l ++ entries_claim m c (end - at)) so_far.is
           ∙ (append_assoc start (flat_map (run_claim m chips) (range_with_len 0 so_far.next)) (entries_claim m c (end - at))
           ∙ ap (λ l. start ++ l) (ap (λ n. flat_map (run_claim m chips) (range_with_len 0 so_far.next) ++ entries_claim m c n) (sym counted)
-          ∙ sym (up_to (run_claim m chips) so_far.next c (so_far.from at c (omega arith) here) (λ i low high. none_there i (λ k x e. apart i low high k x e))))));
+          ∙ sym (next_number (run_claim m chips) c ∙ ap (λ l. l ++ run_claim m chips c)
+          (up_to (run_claim m chips) so_far.next c (so_far.from at c (omega arith) here) (λ i low high. none_there i (λ k x e. apart i low high k x e)))))));
     }
       where
         after_at : at < end
@@ -174,16 +175,8 @@ module _ (m : Description) (chips : List ℕ) where
     pub all_runs : (at : ℕ) (start claims : List Claim) → length chips ≤ at → HaveRuns at start claims → claims ≡ start ++ flat_map (run_claim m chips) (range_with_len 0 (chip_count m))
     all_runs at start claims end so_far =
         so_far.is
-        ∙ ap (λ l. start ++ l) (
-        let gap : ℕ = chip_count m - so_far.next in
-        let parts : so_far.next + gap ≡ chip_count m = omega (arith, so_far.within) in
-        sym (
-        ap (λ n. flat_map (run_claim m chips) (range_with_len 0 n)) (sym parts)
-        ∙ (ap (flat_map (run_claim m chips)) (range_parts 0 so_far.next gap)
-        ∙ (flat_map-append (run_claim m chips) (range_with_len 0 so_far.next) (range_with_len (0 + so_far.next) gap)
-        ∙ (ap (λ l. flat_map (run_claim m chips) (range_with_len 0 so_far.next) ++ l) (nothing_of (run_claim m chips) (0 + so_far.next) gap
-        (λ i low high. none_there i (λ k x e same. let w = so_far.before k x (let v = slice_get_within chips k x e in omega (arith, v, end)) e in absurd (omega (arith, w, same, low)))))
-        ∙ append-nil (flat_map (run_claim m chips) (range_with_len 0 so_far.next)))))))
+        ∙ ap (λ l. start ++ l) (sym (up_to (run_claim m chips) so_far.next (chip_count m) so_far.within
+        (λ i low high. none_there i (λ k x e same. let w = so_far.before k x (let v = slice_get_within chips k x e in omega (arith, v, end)) e in absurd (omega (arith, w, same, low))))))
 
 -- ---- chips of trees
 
@@ -201,14 +194,15 @@ one_case m i c d is below inside = elim (cases_eq (index_of m d) i) [
   | inl same ↦
       let equal : c ≡ d = is ∙ same_index m (chip_of m i) d (chip_of-inside m i below) inside (index_of-chip_of m i ∙ sym same) in
       eq-eqb (index_of m d) i same ∙ sym (chip_eq-from_same c d equal)
-  | inr other ↦ ne_eqb (index_of m d) i other ∙ sym (not_chip (λ equal. other (ap (index_of m) (sym equal ∙ is) ∙ index_of-chip_of m i)))
+  | inr other ↦
+      ne_eqb (index_of m d) i other
+      ∙ sym (false_from_ne_true (chip_eq c d) (λ hit. other (ap (index_of m) (sym (chip_eq_true c d hit) ∙ is) ∙ index_of-chip_of m i)))
 ]
-  where
-    not_chip : (c ≡ d → ⊥) → chip_eq c d ≡ false
-    not_chip differ = elim (cases_Bool (chip_eq c d)) [
-      | inr none ↦ none
-      | inl yes' ↦ absurd (differ (chip_eq_true c d yes'))
-    ]
+
+-- an end that is equal to a chip is the chip
+pub leads_to : (c : Chip) (o : Option Chip) → option_map_or (chip_eq c) o false ≡ true → o ≡ Some c
+leads_to c None hit = cc
+leads_to c (Some d) hit = ap Some (sym (chip_eq_true c d hit))
 
 pub edges_in : (m : Description) (net : AppNet) → HasTree m net → All (λ (e : Edge). IsInside m e.chip) net.tree.edges
 edges_in m net has k d less = live_inside m (get_or net.tree.edges k d).chip (live_ends m (get_or net.tree.edges k d).chip (get_or net.tree.edges k d).dir (has.tree.edges_live k d less)).2
@@ -238,18 +232,12 @@ module _ (m : Description) (i : ℕ) (below : i < m.width * m.height) where
 
   -- an edge that counts leads to the chip
   hit_end : (e : Edge) → hits e ≡ true → end_of m e ≡ Some c
-  hit_end e = by_end (end_of m e)
-    where
-      by_end : (o : Option Chip) → option_map_or (chip_eq c) o false ≡ true → o ≡ Some c
-      by_end None hit = cc
-      by_end (Some d) hit = ap Some (sym (chip_eq_true c d hit))
+  hit_end e = leads_to c (end_of m e)
 
   none_hit : (P : Edge → Type 0) (es : List Edge) → All P es → ((e : Edge) → P e → end_of m e ≡ Some c → ⊥) → list_any hits es ≡ false
-  none_hit P [] all never = refl
-  none_hit P (e ∷ es) all never = elim (cases_Bool (hits e)) [
-    | inl hit ↦ absurd (never e (All-head P e es all) (hit_end e hit))
-    | inr miss ↦ ap (λ b. b || list_any hits es) miss ∙ none_hit P es (All-tail P e es all) never
-  ]
+  none_hit P es all never = false_from_ne_true (list_any hits es) (λ some.
+      let found = any_among hits es some in
+      never found.0 (All-contains P es found.0 all (among_contains found.0 es found.1)) (hit_end found.0 found.2))
 
   -- of edges that lead to different chips at most one counts
   edges_count : (es : List Edge) → All (λ (e : Edge). IsInside m e.chip) es → AllPairs (λ e f. end_of m e ≢ end_of m f) es →
@@ -305,26 +293,21 @@ rows_counted_in m nets chips lent claims start (Ok u) trees same is claimed =
 rows_counted_in m nets chips lent claims start (Err e) trees same is claimed = tt
 
 -- each of the chips is inside the grid
-pub places_inside : (m : Description) (nets : List AppNet) (chips : List ℕ) → All (HasTree m) nets → IsPermutation (flat_map (tree_places m) nets) chips → All (λ i. i < chip_count m) chips
-places_inside m nets chips trees same = All-permutation (λ i. i < chip_count m) (flat_map (tree_places m) nets) chips same (of_nets nets trees)
-  where
-    of_end : (e : Edge) → IsInside m e.chip → All (λ i. i < chip_count m) (end_places m e)
-    of_end e inside = by_end (end_of m e) refl
-      where
-        by_end : (o : Option Chip) → end_of m e ≡ o → All (λ i. i < chip_count m) (chip_places m o)
-        by_end None is = All-nil (λ i. i < chip_count m)
-        by_end (Some d) is = All-cons (λ i. i < chip_count m) (index_of m d) [] (index_below m d (far_inside m e.chip d e.dir inside is)) (All-nil (λ i. i < chip_count m))
+module _ (m : Description) where
+  abbrev Within : ℕ → Type 0
+  Within i = i < chip_count m
 
-    of_edges : (es : List Edge) → All (λ (e : Edge). IsInside m e.chip) es → All (λ i. i < chip_count m) (flat_map (end_places m) es)
-    of_edges [] inside = All-nil (λ i. i < chip_count m)
-    of_edges (e ∷ es) inside =
-        All-append (λ i. i < chip_count m) (end_places m e) (flat_map (end_places m) es) (of_end e (All-head (λ (e : Edge). IsInside m e.chip) e es inside))
-        (of_edges es (All-tail (λ (e : Edge). IsInside m e.chip) e es inside))
+  end_within : (e : Edge) → IsInside m e.chip → (o : Option Chip) → end_of m e ≡ o → All Within (chip_places m o)
+  end_within e inside None is = All-nil Within
+  end_within e inside (Some d) is = All-cons Within (index_of m d) [] (index_below m d (far_inside m e.chip d e.dir inside is)) (All-nil Within)
 
-    of_nets : (ns : List AppNet) → All (HasTree m) ns → All (λ i. i < chip_count m) (flat_map (tree_places m) ns)
-    of_nets [] all = All-nil (λ i. i < chip_count m)
-    of_nets (net ∷ ns) all =
-        let has = All-head (HasTree m) net ns all in
-        All-append (λ i. i < chip_count m) (tree_places m net) (flat_map (tree_places m) ns)
-        (All-cons (λ i. i < chip_count m) (index_of m net.tree.root) (flat_map (end_places m) net.tree.edges) (index_below m net.tree.root has.root) (of_edges net.tree.edges (edges_in m net has)))
-        (of_nets ns (All-tail (HasTree m) net ns all))
+  net_within : (net : AppNet) → HasTree m net → All Within (tree_places m net)
+  net_within net has =
+      All-cons Within (index_of m net.tree.root) (flat_map (end_places m) net.tree.edges) (index_below m net.tree.root has.root)
+      (All-flat_map Within (end_places m) net.tree.edges (All-weaker (λ (e : Edge). IsInside m e.chip) (λ (e : Edge). All Within (end_places m e))
+      (λ e inside. end_within e inside (end_of m e) refl) net.tree.edges (edges_in m net has)))
+
+  pub places_inside : (nets : List AppNet) (chips : List ℕ) → All (HasTree m) nets → IsPermutation (flat_map (tree_places m) nets) chips → All (λ i. i < chip_count m) chips
+  places_inside nets chips trees same =
+      All-permutation Within (flat_map (tree_places m) nets) chips same
+      (All-flat_map Within (tree_places m) nets (All-weaker (HasTree m) (λ (net : AppNet). All Within (tree_places m net)) net_within nets trees))

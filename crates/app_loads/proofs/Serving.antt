@@ -1,8 +1,8 @@
 -- Ranges taken one after the other for claims, and given back.
-use Rattle.std.proofs.Common.{◌≡◌, ◌≢◌, ℕ, ◌+◌, ◌%◌, ◌<◌, ◌≤◌, zero, suc, Bool, true, false, ◌&&◌, ◌||◌, ◌⊎◌, ◌==◌, List, [], ◌∷◌, ◌++◌, ◌∙◌, Option, None, Some, if◌then◌else◌}
+use Rattle.std.proofs.Common.{◌≡◌, ◌≢◌, ℕ, ◌+◌, ◌%◌, ◌<◌, ◌≤◌, zero, suc, true, false, ◌&&◌, ◌||◌, ◌⊎◌, ◌==◌, List, [], ◌∷◌, ◌++◌, ◌∙◌, Option, None, Some, if◌then◌else◌}
 use Rattle.std.proofs.Common.{not, ltb, take, drop, get_or, length, refl, sym, ap, subst, inl, inr, arith, IfSome, append_assoc, append-nil, count_by, replicate}
-use Rattle.std.proofs.lemmas.Bool.{cases_Bool, cases_eq, eqb-true, eq-eqb, and_parts, and_from, lt-ltb, ne_eqb, and_right, or_right}
-use Rattle.std.proofs.lemmas.List.{length-set, length_push, take_at, take-append-le, map-set, drop_more}
+use Rattle.std.proofs.lemmas.Bool.{cases_Bool, cases_eq, eqb-true, eq-eqb, and_parts, and_from, false_from_ne_true, lt-ltb, ne_eqb, and_right, or_right}
+use Rattle.std.proofs.lemmas.List.{length-set, length_push, take_at, take-append-le, map-set, drop_all, drop_more}
 use Rattle.std.proofs.lemmas.List.Elements.{All-nil, All-cons, All-head, All-tail, All-append, All-contains}
 use Rattle.std.proofs.lemmas.List.{Folds.list_any-append, Sums.count_by-le-length}
 use Rattle.std.proofs.lemmas.Option.{slice_get_within, slice_get-get_or, same_Some, none-some}
@@ -23,7 +23,7 @@ use Rattle.app_loads.specs.Regions.{AreFreeBeside, IsFreeBeside, ShareNoPlace, p
 use Rattle.app_loads.specs.Claims.{IsLeastOpenRange, IsOpenRange, IsRefusalDue}
 use Rattle.app_loads.specs.Taking.{free_places_in, frees, range_at, ServesClaim, RefusesClaim, IsFair, IsFairFor, HaveRoom, CanServe, HaveServed, AreTaken}
 use Rattle.app_loads.specs.Taking.{AreTakenAlways, AreServedAlways, IsDueAlways, IsDueOf}
-use Rattle.app_loads.proofs.Others.{pairs_with_last}
+use Rattle.app_loads.proofs.{LeavingLists.one_if, Others.pairs_with_last}
 
 -- ---- lists
 
@@ -39,9 +39,6 @@ set_cases xs i j x y z at e = elim (cases_eq j i) [
 ]
 
 -- ---- how many ranges are of each region
-
-abbrev one_if : Bool → ℕ
-one_if b = if b then 1 else 0
 
 -- how many of the ranges are of a region
 abbrev pub of_region : ℕ → List Range → ℕ
@@ -90,6 +87,12 @@ taken_by ranges region k range has at = among_any (range_has region k) range ran
 -- and the other way round
 pub by_taken : (ranges : List Range) (region k : ℕ) → is_taken ranges region k ≡ true → (range : Range) × Contains ranges range × (range_has region k range ≡ true)
 by_taken ranges region k e = let found = any_among (range_has region k) ranges e in (found.0, among_contains found.0 ranges found.1, found.2)
+
+-- a place of a range that is apart from each of the ranges is none of theirs
+pub none_taken : (ranges : List Range) (range : Range) → ((other : Range) → Contains ranges other → ShareNoPlace range other) → (region k : ℕ) → range_has region k range ≡ true →
+    is_taken ranges region k ≡ false
+none_taken ranges range apart region k here =
+    false_from_ne_true (is_taken ranges region k) (λ some. let found = by_taken ranges region k some in apart found.0 found.1 region k here found.2)
 
 -- the free places beside one range more
 free_beside_more : (m : Description) (taken : List Range) (old : List Region) (p : ℕ) (before after : Region) (range : Range) → range.region ≡ p → AreFreeBeside m taken (frees old) →
@@ -247,12 +250,8 @@ module _ (m : Description) (others : List Range) (range : Range) (rest : List Ra
 
   -- what is left is apart from it
   not_left : (k : ℕ) → in_range range.place range.size k ≡ true → is_taken (others ++ rest) range.region k ≡ false
-  not_left k here = elim (cases_Bool (is_taken (others ++ rest) range.region k)) [
-    | inr none ↦ none
-    | inl some ↦
-        let found = by_taken (others ++ rest) range.region k some in
-        absurd (either_side found.0 found.1 found.2)
-  ]
+  not_left k here =
+      false_from_ne_true (is_taken (others ++ rest) range.region k) (λ some. let found = by_taken (others ++ rest) range.region k some in either_side found.0 found.1 found.2)
     where
       across : All (λ a. All (ShareNoPlace a) (range ∷ rest)) others
       across = AllPairs-across ShareNoPlace others (range ∷ rest) taken.apart
@@ -386,16 +385,7 @@ module _ (ranges : List Range) {others : List Range} {i : ℕ} {regions : List R
 -- where all are given back, none is left
 pub all_back : {m : Description} {others : List Range} {i : ℕ} (ranges : List Range) (regions : List Region) → length ranges ≤ i →
     AreFreeBeside m (others ++ drop i ranges) (frees regions) → AreFreeBeside m others (frees regions)
-all_back {m} {others} {i} ranges regions end free = subst (λ l. AreFreeBeside m l (frees regions)) (ap (λ l. others ++ l) (none_left ranges i end) ∙ append-nil others) free
-  where
-    none_left : {X : Type 0} (xs : List X) (n : ℕ) → length xs ≤ n → drop n xs ≡ []
-    none_left [] n le = nothing n
-      where
-        nothing : {X : Type 0} (n : ℕ) → drop n (let l : List X = [] in l) ≡ []
-        nothing zero = refl
-        nothing (suc n) = refl
-    none_left (x ∷ xs) zero le = absurd (omega (arith, le))
-    none_left (x ∷ xs) (suc n) le = none_left xs n (omega (arith, le))
+all_back {m} {others} {i} ranges regions end free = subst (λ l. AreFreeBeside m l (frees regions)) (ap (λ l. others ++ l) (drop_all i ranges end) ∙ append-nil others) free
 
 -- ---- the claims of a list, in a loop
 

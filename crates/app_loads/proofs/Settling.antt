@@ -1,7 +1,7 @@
 -- An application's rows and packets on a mesh.
-use Rattle.std.proofs.Common.{◌≡◌, ℕ, zero, suc, ◌+◌, ◌-◌, ◌*◌, ◌/◌, ◌%◌, ◌^◌, ◌<◌, ◌≤◌, ◌==◌, Bool, true, false, List, [], ◌∷◌, ◌++◌, ◌∙◌, ◌⊎◌, Option, None, Some, if◌then◌else◌}
+use Rattle.std.proofs.Common.{◌≡◌, ℕ, zero, suc, ◌+◌, ◌-◌, ◌*◌, ◌/◌, ◌%◌, ◌^◌, ◌<◌, ◌≤◌, ◌==◌, true, false, List, [], ◌∷◌, ◌++◌, ◌∙◌, Some, if◌then◌else◌}
 use Rattle.std.proofs.Common.{leb, length, drop, take, map, refl, sym, ap, subst, inl, inr, arith, count_by}
-use Rattle.std.proofs.lemmas.{Bool.cases_Bool, Bool.or_left, Bool.or_right, Bool.or_cases, Bool.Decides.nat_tests, List.length-map, List.length-set}
+use Rattle.std.proofs.lemmas.{Bool.false_from_ne_true, Bool.or_left, Bool.or_right, Bool.or_cases, Bool.Decides.nat_tests, List.length-map, List.length-set}
 use Rattle.std.proofs.lemmas.List.Elements.{All-contains, All-head, All-set, All-push}
 use Rattle.std.proofs.lemmas.List.Sorted.{IsPermutation-refl, length_permutation}
 use Rattle.std.proofs.lemmas.Option.{slice_get_within, same_Some}
@@ -32,9 +32,9 @@ use Rattle.app_loads.specs.Plans.{IsAppNet, IsPacketOfApp}
 use Rattle.app_loads.specs.declared.places.Region.TheVariants.{Rows}
 use Rattle.app_loads.specs.Regions.{chip_count, region_size, IsRangeWithin, place_of}
 use Rattle.app_loads.specs.Sending.{CanSend, IsPacketOn, IsSendingFrom}
-use Rattle.app_loads.specs.Writing.{AreCopied, CanCopy}
+use Rattle.app_loads.specs.Writing.{AreCopied, CanCopy, HaveRooms}
 use Rattle.app_loads.proofs.AppNets.{facts_at, key_of_index, member_at, spot_inside, usable_spot}
-use Rattle.app_loads.proofs.{ClaimCases.row_size, Unsent.nets_with_at}
+use Rattle.app_loads.proofs.{ClaimCases.row_size, LeavingLists.one_if, RowClaims.leads_to, Unsent.nets_with_at}
 
 -- each usable core is in the list of them
 pub usable_there : (m : Description) (s : Spot) → IsUsable m s → Contains (usable_spots m) s
@@ -68,16 +68,9 @@ has_chip-tree m c net e = elim (or_cases (chip_eq c net.tree.root) (list_any (λ
   | inl root ↦ inl (chip_eq_true c net.tree.root root)
   | inr edge ↦ (
       let found = any_among (λ (e : Edge). option_map_or (chip_eq c) (end_of m e) false) net.tree.edges edge in
-      tree_end m net.tree.root net.tree.edges found.0 c (among_contains found.0 net.tree.edges found.1) (by_end (end_of m found.0) found.2)
+      tree_end m net.tree.root net.tree.edges found.0 c (among_contains found.0 net.tree.edges found.1) (leads_to c (end_of m found.0) found.2)
       )
 ]
-  where
-    by_end : (o : Option Chip) → option_map_or (chip_eq c) o false ≡ true → o ≡ Some c
-    by_end None e' = cc
-    by_end (Some d) e' = ap Some (sym (chip_eq_true c d e'))
-
-abbrev one_if : Bool → ℕ
-one_if b = if b then 1 else 0
 
 originals_count : (m : Description) (c : Chip) (nets : List AppNet) (blocks : List Block) (os : List Original) → length blocks ≡ length nets →
     AreOriginals m c (nets_with nets blocks) os → length os ≡ count_by (has_chip m c) nets
@@ -91,12 +84,8 @@ originals_count m c (n ∷ ns) (b ∷ bs) os long (inl on) =
     omega (arith, rest, all, count_by-cons (has_chip m c) n ns, here)
 originals_count m c (n ∷ ns) (b ∷ bs) os long (inr off) =
     let rest = originals_count m c ns bs os (omega (arith, long)) off.1 in
-    let here : one_if (has_chip m c n) ≡ 0 = ap one_if (not_there (cases_Bool (has_chip m c n))) in
+    let here : one_if (has_chip m c n) ≡ 0 = ap one_if (false_from_ne_true (has_chip m c n) (λ there. off.0 (has_chip-tree m c n there))) in
     omega (arith, rest, count_by-cons (has_chip m c) n ns, here)
-  where
-    not_there : (has_chip m c n ≡ true) ⊎ (has_chip m c n ≡ false) → has_chip m c n ≡ false
-    not_there (inl yes') = absurd (off.0 (has_chip-tree m c n yes'))
-    not_there (inr no') = no'
 
 pub plain_count : (m : Description) (c : Chip) (nets : List AppNet) (blocks : List Block) (rows : List Row) → length blocks ≡ length nets →
     IsPlainTable m (nets_with nets blocks) c rows → length rows ≡ count_by (has_chip m c) nets
@@ -203,20 +192,22 @@ module _ (s : State) (app : LoadedApp) (can : CanSettle s app) (mesh : IsMesh s)
   }
 
   module _ {rows lent : List Table} {ranges : List Range} (plain : ArePlain m app rows) (is_rows : lent ≡ rows) (is_ranges : ranges ≡ app.ranges) where
-    pub can_copy : CanCopy m s.setup.tables lent ranges
-    can_copy = subst (λ (l : List Table). CanCopy m s.setup.tables l ranges) (sym is_rows) (subst (CanCopy m s.setup.tables rows) (sym is_ranges) (record {
-      tables_long = mesh.table_list;
-      rows_long = plain.0;
-      each_long = can.long;
-      apart = can.apart;
-      there = λ range has. (All-contains (IsRangeWithin m (1 + (chip_count m + chip_count m))) app.ranges range can.loaded.within has).there;
-      fit = λ range has c t inside region at.
-          let size = range_size s app can range has c inside region in
-          let many = plain_count m c app.plan.nets app.blocks t.rows can.loaded.blocks.all (plain.1 c t inside at) in
-          let within = (All-contains (IsRangeWithin m (1 + (chip_count m + chip_count m))) app.ranges range can.loaded.within has).within in
-          let room : range.place + range.size ≤ 1024 = subst (λ r. range.place + range.size ≤ r) (ap (region_size m) region ∙ rows_size m (index_of m c)) within in
-          (omega (arith, size, many, room), size ∙ sym many);
-    }))
+    pub can_copy : {rooms : List ℕ} → HaveRooms m ranges rooms → CanCopy m s.setup.tables lent ranges rooms
+    can_copy {rooms} room = subst (λ (l : List Table). CanCopy m s.setup.tables l ranges rooms) (sym is_rows)
+        (subst (λ (l : List Range). CanCopy m s.setup.tables rows l rooms) (sym is_ranges) (record {
+          tables_long = mesh.table_list;
+          rows_long = plain.0;
+          each_long = can.long;
+          apart = can.apart;
+          there = λ range has. (All-contains (IsRangeWithin m (1 + (chip_count m + chip_count m))) app.ranges range can.loaded.within has).there;
+          fit = λ range has c t inside region at.
+              let size = range_size s app can range has c inside region in
+              let many = plain_count m c app.plan.nets app.blocks t.rows can.loaded.blocks.all (plain.1 c t inside at) in
+              let within = (All-contains (IsRangeWithin m (1 + (chip_count m + chip_count m))) app.ranges range can.loaded.within has).within in
+              let ends : range.place + range.size ≤ 1024 = subst (λ r. range.place + range.size ≤ r) (ap (region_size m) region ∙ rows_size m (index_of m c)) within in
+              (omega (arith, size, many, ends), size ∙ sym many);
+          room = subst (λ (l : List Range). HaveRooms m l rooms) is_ranges room;
+        }))
 
     pub written : (new : List (List Entry)) → AreCopied m lent ranges s.setup.tables new → AreWritten m app s.setup.tables new
     written new copied =
@@ -297,8 +288,9 @@ module _ {s t : State} {app : LoadedApp} (same : s ≡ t) (can : CanSettle t app
   pub parted_mesh : {given q put : List (List McCopy)} → given ≡ s.unsent → q ≡ given → put ≡ q → IsMesh (record s { unsent = put })
   parted_mesh is kept put_is = subst (λ (l : List (List McCopy)). IsMesh (record s { unsent = l })) (sym (put_is ∙ (kept ∙ is))) whole
 
-  pub parted_copy : {rows lent : List Table} {ranges : List Range} → ArePlain t.setup.machine app rows → lent ≡ rows → ranges ≡ app.ranges → CanCopy s.setup.machine s.setup.tables lent ranges
-  parted_copy {rows} plain = can_copy s app own whole (here rows plain)
+  pub parted_copy : {rows lent : List Table} {ranges : List Range} {rooms : List ℕ} → ArePlain t.setup.machine app rows → lent ≡ rows → ranges ≡ app.ranges →
+      HaveRooms s.setup.machine ranges rooms → CanCopy s.setup.machine s.setup.tables lent ranges rooms
+  parted_copy {rows} plain is_rows is_ranges room = can_copy s app own whole (here rows plain) is_rows is_ranges room
 
   -- packets were sent, and the tables are others
   module _ {given q put : List (List McCopy)} {u : Setup} (is : given ≡ s.unsent) (put_is : put ≡ q) (sent : AreSent s.setup.spots app (length app.plan.packets) given q)

@@ -2,7 +2,7 @@
 use Rattle.std.proofs.Common.{◌≡◌, ◌≢◌, ℕ, ◌==◌, Bool, true, false, not, ◌||◌, List, get_or, refl, sym, ap, ◌∙◌, None, Some, inl, inr}
 use Rattle.std.specs.Prelude.{position}
 use Rattle.std.specs.List.{All, Contains, list_any}
-use Rattle.std.proofs.lemmas.Bool.{both_ways, cases_Bool, eq-eqb, eqb-true, not-true, or_left, or_right}
+use Rattle.std.proofs.lemmas.Bool.{both_ways, cases_Bool, eq-eqb, eqb-true, false_from_ne_true, not-true, or_left, or_right}
 use Rattle.std.proofs.lemmas.List.Elements.{All-contains}
 use Rattle.spin_base.proofs.Equality.{spot_eq_true}
 use Rattle.spin_base.proofs.Members.{Among, Contains-filter, among_any, among_at, among_contains, among_filter, any_among, contains_among}
@@ -94,10 +94,8 @@ module _ (h : Host) (number : ℕ) (apps : AreApps h) (app : LoadedApp) (has : C
   pub spots_beside : (is_spot_taken h.apps s ≡ (is_spot_taken (others_than number h.apps) s || has_spot app)) × (has_spot app ≡ true → is_spot_taken (others_than number h.apps) s ≡ false)
   spots_beside = (
     taken_by,
-    λ mine. elim (cases_Bool (is_spot_taken (others_than number h.apps) s)) [
-      | inl other ↦ (let found = any_among has_spot (others_than number h.apps) other in absurd (other_apart found.0 found.1 found.2 mine))
-      | inr none ↦ none
-    ],
+    λ mine. false_from_ne_true (is_spot_taken (others_than number h.apps) s)
+        (λ other. let found = any_among has_spot (others_than number h.apps) other in other_apart found.0 found.1 found.2 mine),
   )
 
 -- the spots of an application are usable cores

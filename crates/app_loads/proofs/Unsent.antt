@@ -1,13 +1,13 @@
 -- Packets put to the vertices of their nets' sources, and queues emptied.
 use Rattle.std.proofs.Common.{◌≡◌, ◌≢◌, ℕ, zero, suc, ◌+◌, ◌^◌, ◌<◌, ◌≤◌, ◌==◌, List, [], ◌∷◌, ◌++◌, take, get_or, length, refl, sym, ap, ◌∙◌, subst, inl, inr, arith, Option, Some}
 use Rattle.std.proofs.lemmas.Bool.{cases_Bool, cases_eq, eqb-true, eq-eqb, false≢true}
-use Rattle.std.proofs.lemmas.List.{length-set, take_all, same_lists}
+use Rattle.std.proofs.lemmas.List.{length-set, take_all, same_lists, Elements.Contains-push_cases}
 use Rattle.std.proofs.lemmas.Option.{slice_get_within, slice_get-get_or, same_Some, unwrap_or-slice_get}
 use Rattle.std.specs.Prelude.{unwrap_or}
 use Rattle.std.specs.List.{list_any, slice_get, slice_set, All, Contains}
 use Rattle.mesh_core.proofs.ServingLaws.{vertex_at-below}
 use Rattle.mesh_core.specs.State.{Setup}
-use Rattle.spin_base.proofs.Members.{Among, Contains-at, any_among, among_any, among_contains, contains_among}
+use Rattle.spin_base.proofs.Members.{Contains-at, any_among, among_any, among_contains, contains_among}
 use Rattle.spin_base.proofs.Places.{All-at, slice_get_there, slice_get-set_same, slice_get-set_other, slice_get-push_cases, take_more_at}
 use Rattle.spin_base.specs.declared.{blocks.Block.Block, chips.Spot.Spot, copies.McCopy.McCopy, copies.Packet.Packet}
 use Rattle.machine_desc.specs.NetsOn.{vertex_at}
@@ -104,16 +104,7 @@ module _ (sources : List ℕ) (old cur : List (List McCopy)) (queues : All (λ v
   ]
     where
       before : (w : ℕ) → w ≢ v → Contains (take i sources ++ v ∷ []) w → Contains (take i sources) w
-      before w other there = left (take i sources) there
-        where
-          left : (l : List ℕ) → Contains (l ++ v ∷ []) w → Contains l w
-          left l has' = among_contains w l (from_either l (contains_among w (l ++ v ∷ []) has'))
-            where
-              from_either : (ks : List ℕ) → Among w (ks ++ v ∷ []) → Among w ks
-              from_either [] (inl here) = absurd (other here)
-              from_either [] (inr none) = none
-              from_either (k ∷ ks) (inl here) = inl here
-              from_either (k ∷ ks) (inr later) = inr (from_either ks later)
+      before w other there = elim (Contains-push_cases (take i sources) v w there) [ inl early ↦ early | inr last ↦ absurd (other (sym last)) ]
 
   pub emptied_beside : (q : List McCopy) → q ≡ [] → IsSameBeside sources old (slice_set cur v q)
   emptied_beside q none = subst (λ (l : List McCopy). IsSameBeside sources old (slice_set cur v l)) (sym none) cleared_beside

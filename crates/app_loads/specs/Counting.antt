@@ -1,8 +1,7 @@
 -- How often nets have a chip in their trees, as the private functions say it.
-use Rattle.std.specs.Prelude.{◌≡◌, ℕ, ◌^◌, ◌<◌, ◌≤◌, ◌==◌, All, AllPairs, List, [], ◌∷◌, Option, Some, None, count_by, length, slice_get}
+use Rattle.std.specs.Prelude.{◌≡◌, ℕ, ◌<◌, ◌≤◌, ◌==◌, List, [], ◌∷◌, Option, Some, None, count_by, length, slice_get}
 use Rattle.std.specs.List.{flat_map}
 use Rattle.spin_base.specs.declared.chips.Chip.{Chip}
-use Rattle.spin_base.specs.declared.chips.Spot.{Spot}
 use Rattle.machine_desc.specs.declared.trees.Edge.{Edge}
 use Rattle.machine_desc.specs.Description.{Description}
 use Rattle.machine_desc.specs.Live.{index_of, IsInside}
@@ -10,27 +9,11 @@ use Rattle.machine_desc.specs.RoutingTree.{end_of, IsRoutingTree}
 use Rattle.app_loads.specs.declared.loaded.Claim.{Claim}
 use Rattle.app_loads.specs.declared.plans.AppNet.{AppNet}
 use Rattle.app_loads.specs.Claims.{entries_claim}
-use Rattle.app_loads.specs.Regions.{chip_count}
 
 -- a net can need so many keys: at least one, and at most all of 32 bits
 pub record IsKeyCount (keys : ℕ) : Type 0 where
   pub some : 1 ≤ keys
   pub few : keys ≤ 4294967296
-
--- the spots have a number of bytes each, and numbers of 32 bits
-pub record AreNeeds (spots : List Spot) (bytes : List ℕ) : Type 0 where
-  pub each : length bytes ≡ length spots
-  pub few : length spots < 2 ^ 32
-
--- the nets have numbers of 32 bits, and each needs some keys
-pub record NeedKeys (nets : List AppNet) : Type 0 where
-  pub few : length nets < 2 ^ 32
-  pub keys : All (λ (net : AppNet). IsKeyCount net.keys) nets
-
--- the numbers are indices of chips of the machine, in order
-pub record AreIndices (m : Description) (chips : List ℕ) : Type 0 where
-  pub sorted : AllPairs (λ a b. a ≤ b) chips
-  pub inside : All (λ i. i < chip_count m) chips
 
 -- the net has a routing tree, whose root is inside the grid
 pub record HasTree (m : Description) (net : AppNet) : Type 0 where

@@ -1,5 +1,5 @@
 -- Deliveries held in groups (this project's own).
-use Rattle.std.specs.Prelude.{◌≡◌, ◌<◌, ◌≤◌, ℕ, Bool, true, false, not, ◌&&◌, ◌||◌, nat_le, nat_lt, List, ◌++◌}
+use Rattle.std.specs.Prelude.{◌≡◌, ◌<◌, ℕ, Bool, true, false, not, ◌&&◌, ◌||◌, nat_le, nat_lt, List, ◌++◌}
 use Rattle.std.specs.List.{flat_map}
 use Rattle.spin_base.specs.declared.copies.Delivery.{Delivery}
 use Rattle.app_loads.specs.declared.arrivals.Arrival.{Arrival}
@@ -35,16 +35,8 @@ abbrev pub HasPut : Bool → List Delivery → List Delivery → List Delivery �
 HasPut true old more new = new ≡ old ++ more
 HasPut false old more new = new ≡ old
 
--- two lists of these lengths and capacities have room for one group more
-pub record CanHoldOne (own own_room others others_room : ℕ) : Type 0 where
+-- a group is not mixed, and two lists of these lengths and capacities have room for one more
+pub record CanPutOne (app : LoadedApp) (group : Grouped) (own own_room others others_room : ℕ) : Type 0 where
+  pub unmixed : is_mixed_group app group ≡ false
   pub own_holds : own < own_room
   pub others_hold : others < others_room
-
--- a number is at most each of two, or at least
-pub record IsAtMost (n a b : ℕ) : Type 0 where
-  pub first : n ≤ a
-  pub second : n ≤ b
-
-pub record IsAtLeast (n a b : ℕ) : Type 0 where
-  pub first : a ≤ n
-  pub second : b ≤ n

@@ -62,10 +62,6 @@ AreSent spots app (suc n) before after =
     (mid : List (List McCopy)) × (packet : Packet) × AreSent spots app n before mid × (slice_get app.plan.packets n ≡ Some packet) ×
     IsSent spots (nets_of app) (app.first + n) packet mid after
 
--- all packets of an application are
-abbrev pub AreAllSent : List Spot → LoadedApp → List (List McCopy) → List (List McCopy) → Type 0
-AreAllSent spots app before after = AreSent spots app (length app.plan.packets) before after
-
 -- the application's rows stand in its ranges of entries, and all other entries are as they were
 pub record AreWritten (m : Description) (app : LoadedApp) (old new : List (List Entry)) : Type 0 where
   pub all : length new ≡ length old

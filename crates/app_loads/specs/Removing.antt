@@ -1,16 +1,16 @@
 -- What unloading an application makes of the parts of a host, as the private functions say it.
 use Rattle.std.specs.Prelude.{◌≡◌, ◌≤◌, ℕ, List, Option, IfSome, filter, length}
 use Rattle.spin_base.specs.declared.chips.Chip.{Chip}
+use Rattle.spin_base.specs.declared.copies.Delivery.{Delivery}
+use Rattle.spin_base.specs.declared.copies.DumpRec.{DumpRec}
 use Rattle.spin_base.specs.declared.sizes.TheConstants.{ROUTER_ENTRIES}
 use Rattle.machine_desc.specs.Live.{IsInside}
 use Rattle.range_store.specs.Views.{Region}
 use Rattle.machine_desc.specs.RightTables.{table_at}
 use Rattle.mesh_core.specs.State.{State}
 use Rattle.mesh_drain.specs.Draining.{SendAlone}
-use Rattle.app_loads.specs.declared.answers.Ended.{Ended}
 use Rattle.app_loads.specs.declared.answers.UnloadErr.{UnloadErr}
 use Rattle.app_loads.specs.declared.answers.UnloadErr.TheVariants.{NotLoaded, Waiting, Memory}
-use Rattle.app_loads.specs.declared.leaving.Left.{Left}
 use Rattle.app_loads.specs.declared.loaded.LoadedApp.{LoadedApp}
 use Rattle.app_loads.specs.declared.loaded.Range.{Range}
 use Rattle.app_loads.specs.Leaving.{IsLeastUnderWay, is_delivery_of, is_record_of, mesh_without}
@@ -30,17 +30,10 @@ pub record CanLeaveFrom (s : State) (regions : List Region) (senders : Option (L
   pub can : CanLeave s regions app
   pub known : IfSome senders (λ vertices. SendAlone vertices s)
 
--- The mesh has the application's rows, deliveries and dump records no more.
-pub record HasLeft (app : LoadedApp) (old : State) (ended : Ended) (new : State) : Type 0 where
-  pub delivered : ended.delivered ≡ filter (is_delivery_of app) old.delivered
-  pub dumped : ended.dumped ≡ filter (is_record_of app) old.dumped
-  pub mesh : new ≡ mesh_without app new.setup.tables old
-  pub cleared : AreUnused old.setup.machine app.ranges old.setup.tables new.setup.tables
-
--- the same of a mesh of which no delivery is held apart
-pub record HasLeftMesh (app : LoadedApp) (old : State) (left : Left) (new : State) : Type 0 where
-  pub delivered : left.delivered ≡ filter (is_delivery_of app) old.delivered
-  pub dumped : left.dumped ≡ filter (is_record_of app) old.dumped
+-- The mesh has the application's rows, and its deliveries and dump records, which are these, no more.
+pub record HasLeft (app : LoadedApp) (old : State) (deliveries : List Delivery) (records : List DumpRec) (new : State) : Type 0 where
+  pub delivered : deliveries ≡ filter (is_delivery_of app) old.delivered
+  pub dumped : records ≡ filter (is_record_of app) old.dumped
   pub mesh : new ≡ mesh_without app new.setup.tables old
   pub cleared : AreUnused old.setup.machine app.ranges old.setup.tables new.setup.tables
 

@@ -1,5 +1,5 @@
 -- What draining does to a host (this project's own).
-use Rattle.std.specs.Prelude.{◌≡◌, ℕ, List, [], ◌∷◌, ◌++◌, Contains, Option, Some, IfSome, slice_get, slice_set}
+use Rattle.std.specs.Prelude.{◌≡◌, ◌≢◌, ℕ, ◌<◌, List, [], ◌∷◌, ◌++◌, Contains, Option, Some, IfSome, length, slice_get, slice_set}
 use Rattle.std.specs.BTreeMap.{BTreeMap, get}
 use Rattle.std.specs.Ordering.{nat_cmp}
 use Rattle.machine_desc.specs.RightTables.{IsKeyOf}
@@ -42,6 +42,29 @@ pub record IsClean (earlier : List Delivery) (s : State) : Type 0 where
   pub quiet : NothingWaits s
   pub none_delivered : s.delivered ≡ []
   pub none_dumped : s.dumped ≡ []
+
+-- A clean mesh has the vertex, and keys of one block are alike.
+pub record CanSendAll (earlier : List Delivery) (s : State) (v : ℕ) (apps : List LoadedApp) : Type 0 where
+  pub clean : IsClean earlier s
+  pub there : v < length s.setup.spots
+  pub alike : AreAlikeInBlocks s.setup apps
+
+-- the vertex is there, and has a packet unsent
+pub record HasUnsent (s : State) (v : ℕ) : Type 0 where
+  pub there : v < length s.setup.spots
+  pub some : slice_get s.unsent v ≢ Some []
+
+-- A clean mesh has the vertex, which has a packet unsent.
+pub record HasSomeUnsent (earlier : List Delivery) (s : State) (v : ℕ) : Type 0 where
+  pub clean : IsClean earlier s
+  pub there : v < length s.setup.spots
+  pub some : slice_get s.unsent v ≢ Some []
+
+-- This copy is the first one.
+pub record HasFirstUnsent (earlier : List Delivery) (s : State) (v : ℕ) (copy : McCopy) : Type 0 where
+  pub clean : IsClean earlier s
+  pub there : v < length s.setup.spots
+  pub first : (rest : List McCopy) × (slice_get s.unsent v ≡ Some (copy ∷ rest))
 
 -- The parts are those of a mesh, and the same is known of its senders.
 pub record AreKnownIn (parts : State) (senders : Option (List ℕ)) : Type 0 where

@@ -40,14 +40,15 @@ pub record HaveRooms (m : Description) (ranges : List Range) (rooms : List ℕ) 
   pub all : length ranges ≤ length rooms
   pub each : (i : ℕ) (range : Range) (room : ℕ) → slice_get ranges i ≡ Some range → slice_get rooms i ≡ Some room → HasRoom m range room
 
--- there are a table and rows for each chip, and the ranges share no entry and fit
-pub record CanCopy (m : Description) (tables : List (List Entry)) (rows : List Table) (ranges : List Range) : Type 0 where
+-- there are a table and rows for each chip, and the ranges share no entry, fit, and have room
+pub record CanCopy (m : Description) (tables : List (List Entry)) (rows : List Table) (ranges : List Range) (rooms : List ℕ) : Type 0 where
   pub tables_long : length tables ≡ chip_count m
   pub rows_long : length rows ≡ chip_count m
   pub each_long : (c : Chip) → IsInside m c → length (table_at m tables c) ≡ ROUTER_ENTRIES
   pub apart : AllPairs ShareNoPlace ranges
   pub there : (range : Range) → Contains ranges range → range.region < 1 + (chip_count m + chip_count m)
   pub fit : (range : Range) → Contains ranges range → FitsTable m rows range
+  pub room : HaveRooms m ranges rooms
 
 -- each range of entries has the rows of its chip, and all other entries are as they were
 pub record AreCopied (m : Description) (rows : List Table) (ranges : List Range) (old new : List (List Entry)) : Type 0 where

@@ -7,7 +7,7 @@ ghost use Rattle.machine_desc.specs.Live.{IsInside};
 ghost use Rattle.app_graph.specs.ValidGraph.{IsFixedFor};
 ghost use Rattle.app_loads.specs.declared.plans.AppNet.{AppNet as ANet};
 ghost use Rattle.app_loads.specs.Claims.{claims_of, memory_claim, fixed_claim, key_claim, entries_claim, row_claim, size_for};
-ghost use Rattle.app_loads.specs.Counting.{AreIndices, AreNeeds, HasTree, IsKeyCount, NeedKeys, IsRunEnd, end_places, run_claim, tree_places};
+ghost use Rattle.app_loads.specs.Counting.{HasTree, IsKeyCount, IsRunEnd, end_places, run_claim, tree_places};
 ghost use Rattle.app_loads.specs.Plans.{IsPlan, IsAppNet};
 ghost use Rattle.app_loads.specs.Regions.{chip_count};
 
@@ -21,6 +21,32 @@ use std::alloc::Global;
 
 // How many keys there are: those of 32 bits.
 pub const ALL_KEYS: u64 = 4_294_967_296;
+
+// Spots, each with a number of bytes, which have numbers of 32 bits.
+#[derive(Clone, Copy)]
+struct Needs<'a> {
+    spots: &'a [Spot],
+    bytes: &'a [u32],
+    ghost each: { length bytes.now ≡ length spots.now },
+    ghost few: { length spots.now < 2 ^ 32 },
+}
+
+// Nets, which have numbers of 32 bits, and each of which needs some keys.
+#[derive(Clone, Copy)]
+struct NumberedNets<'a> {
+    list: &'a [AppNet],
+    ghost few: { length list.now < 2 ^ 32 },
+    ghost keys: { All (λ (net : ANet). IsKeyCount net.keys) list.now },
+}
+
+// Indices of chips of a machine, in order.
+#[derive(Clone, Copy)]
+struct ChipIndices<'a> {
+    machine: &'a Machine,
+    list: &'a [u32],
+    ghost sorted: { AllPairs (λ a b. a ≤ b) list.now },
+    ghost inside: { All (λ i. i < chip_count machine.now) list.now },
+}
 
 // The claims of a plan, in the order in which they are served: memory vertex by vertex, the fixed blocks of its nets, the blocks of
 // its other nets, and entries chip by chip.
@@ -37,21 +63,25 @@ pub(crate) fn claims_of(
     let chips = machine.chips();
     prove!(plan.spots.len() <= 24 * chips);
     let mut claims = Vec::new(alloc);
-    claim_memory(&mut claims, plan.spots.as_slice(), plan.sdram.as_slice())?;
-    claim_fixed(&mut claims, plan.nets.as_slice())?;
-    claim_keys(&mut claims, plan.nets.as_slice())?;
-    claim_rows(alloc, &mut claims, machine, plan.nets.as_slice())?;
+    let spots = plan.spots.as_slice();
+    let bytes = plan.sdram.as_slice();
+    let needs = Needs { spots, bytes };
+    claim_memory(&mut claims, needs)?;
+    let list = plan.nets.as_slice();
+    let nets = NumberedNets { list };
+    claim_fixed(&mut claims, nets)?;
+    claim_keys(&mut claims, nets)?;
+    claim_rows(alloc, &mut claims, machine, list)?;
     Ok(claims)
 }
 
 // Each vertex's memory.
-fn claim_memory(claims: &mut Vec<Claim>, spots: &[Spot], sdram: &[u32]) -> Result<(), Memory>
-    requires { AreNeeds spots.now sdram.now }
+fn claim_memory(claims: &mut Vec<Claim>, needs: Needs) -> Result<(), Memory>
     ensures { OnOk result (claims.new.items ≡ claims.old.items
-        ++ gathered memory_claim 0 (zip spots.now sdram.now)) }
+        ++ gathered memory_claim 0 (zip needs.entry.spots.now needs.entry.bytes.now)) }
 {
-    for (vertex, spot) in spots.iter().enumerate() {
-        push_memory(claims, vertex as u32, *spot, sdram[vertex])?;
+    for (vertex, spot) in needs.spots.iter().enumerate() {
+        push_memory(claims, vertex as u32, *spot, needs.bytes[vertex])?;
     }
     Ok(())
 }
@@ -74,12 +104,12 @@ fn push_memory(claims: &mut Vec<Claim>, vertex: u32, spot: Spot, bytes: u32) -> 
 }
 
 // The fixed blocks.
-fn claim_fixed(claims: &mut Vec<Claim>, nets: &[AppNet]) -> Result<(), Memory>
-    requires { length nets.now < 2 ^ 32 }
+fn claim_fixed(claims: &mut Vec<Claim>, nets: NumberedNets) -> Result<(), Memory>
     ensures { OnOk result (claims.new.items ≡ claims.old.items
-        ++ gathered (λ j (net : ANet). fixed_claim j net.fixed) 0 nets.now) }
+        ++ gathered (λ j (net : ANet). fixed_claim j net.fixed) 0 nets.entry.list.now) }
 {
-    for (net, wanted) in nets.iter().enumerate() {
+    let list = nets.list;
+    for (net, wanted) in list.iter().enumerate() {
         push_fixed(claims, net as u32, wanted.fixed)?;
     }
     Ok(())
@@ -102,12 +132,12 @@ fn push_fixed(claims: &mut Vec<Claim>, net: u32, fixed: Option<Block>) -> Result
 }
 
 // The blocks of the nets that have no fixed one.
-fn claim_keys(claims: &mut Vec<Claim>, nets: &[AppNet]) -> Result<(), Memory>
-    requires { NeedKeys nets.now }
+fn claim_keys(claims: &mut Vec<Claim>, nets: NumberedNets) -> Result<(), Memory>
     ensures { OnOk result (claims.new.items ≡ claims.old.items
-        ++ gathered (λ j (net : ANet). key_claim j net.keys net.fixed) 0 nets.now) }
+        ++ gathered (λ j (net : ANet). key_claim j net.keys net.fixed) 0 nets.entry.list.now) }
 {
-    for (net, wanted) in nets.iter().enumerate() {
+    let list = nets.list;
+    for (net, wanted) in list.iter().enumerate() {
         push_keys(claims, net as u32, wanted.keys, wanted.fixed)?;
     }
     Ok(())
@@ -156,19 +186,23 @@ fn claim_rows(
         ++ flat_map (row_claim machine.now nets.now) (range_with_len 0 (chip_count machine.now))) }
 {
     let chips = tree_chips(alloc, machine, nets)?;
-    claim_runs(claims, machine, &chips)
+    let indices = ChipIndices {
+        machine,
+        list: &chips,
+    };
+    claim_runs(claims, indices)
 }
 
 // Entries for each run of equal indices in a list in order: as many as the run is long.
-fn claim_runs(claims: &mut Vec<Claim>, machine: &Machine, chips: &[u32]) -> Result<(), Memory>
-    requires { AreIndices machine.now chips.now }
+fn claim_runs(claims: &mut Vec<Claim>, indices: ChipIndices) -> Result<(), Memory>
     ensures { OnOk result (claims.new.items ≡ claims.old.items
-        ++ flat_map (run_claim machine.now chips.now) (range_with_len 0 (chip_count machine.now))) }
+        ++ flat_map (run_claim indices.entry.machine.now indices.entry.list.now)
+        (range_with_len 0 (chip_count indices.entry.machine.now))) }
 {
     let mut at = 0;
-    'runs: while at < chips.len() {
-        let end = run_end(chips, at);
-        push_rows(claims, machine, chips[at], (end - at) as u64)?;
+    'runs: while at < indices.list.len() {
+        let end = run_end(indices.list, at);
+        push_rows(claims, indices.machine, indices.list[at], (end - at) as u64)?;
         at = end;
     }
     Ok(())

@@ -9,7 +9,7 @@ ghost use Rattle.app_loads.specs.Earlier.{with_earlier};
 ghost use Rattle.app_loads.specs.Grouping.{all_grouped};
 ghost use Rattle.app_loads.specs.Groups.{last_arrivals};
 ghost use Rattle.spin_base.specs.declared.blocks.Block.{Block as ABlock};
-ghost use Rattle.app_loads.specs.Running.{AreAlikeInBlocks, AreKnown, CanDrain, Comes, HasBroughtMore, HasMovedMesh, IsClean};
+ghost use Rattle.app_loads.specs.Running.{AreAlikeInBlocks, AreKnown, CanDrain, CanSendAll, Comes, HasBroughtMore, HasFirstUnsent, HasMovedMesh, HasSomeUnsent, HasUnsent, IsClean};
 
 use crate::apps::Apps;
 use crate::groups::Groups;
@@ -82,9 +82,7 @@ fn drain_known_from(
     vertices: &[usize],
     apps: &[LoadedApp],
 ) -> Result<(), Memory>
-    requires kept { MeetsSomeLedger mesh.old }
-    requires alone { SendAlone vertices.now mesh.old }
-    requires alike { AreAlikeInBlocks mesh.old.setup apps.now }
+    requires { CanDrain mesh.old (Some vertices.now) apps.now }
     ensures at_rest { OnOk result (IsAtRest mesh.new) }
     ensures moved { IsMoved mesh.old mesh.new }
 {
@@ -126,9 +124,7 @@ fn send_all(
     vertex: u32,
     apps: &[LoadedApp],
 ) -> Result<(), Memory>
-    requires clean { IsClean (all_grouped earlier.old) mesh.old }
-    requires there { vertex < length mesh.old.setup.spots }
-    requires alike { AreAlikeInBlocks mesh.old.setup apps.now }
+    requires { CanSendAll (all_grouped earlier.old) mesh.old vertex apps.now }
     ensures reached { IsReachedDropless (with_earlier (all_grouped earlier.old) mesh.old)
         (with_earlier (all_grouped earlier.new) mesh.new) }
     ensures clean { OnOk result (IsClean (all_grouped earlier.new) mesh.new) }
@@ -153,9 +149,7 @@ fn send_next(
     known: &mut Known,
     last: Option<Block>,
 ) -> Result<Option<Block>, Memory>
-    requires clean { IsClean (all_grouped earlier.old) mesh.old }
-    requires there { vertex < length mesh.old.setup.spots }
-    requires some { slice_get mesh.old.unsent vertex ≢ Some [] }
+    requires can { HasSomeUnsent (all_grouped earlier.old) mesh.old vertex }
     requires known { AreKnown mesh.old.setup vertex apps.now known.old }
     requires last { IfSome last (Comes mesh.old.setup vertex (last_arrivals earlier.old)) }
     ensures reached { IsReachedDropless (with_earlier (all_grouped earlier.old) mesh.old)
@@ -189,9 +183,7 @@ fn send_new(
     apps: &[LoadedApp],
     known: &mut Known,
 ) -> Result<Option<Block>, Memory>
-    requires clean { IsClean (all_grouped earlier.old) mesh.old }
-    requires there { vertex < length mesh.old.setup.spots }
-    requires first { (rest : List Copy) × (slice_get mesh.old.unsent vertex ≡ Some (copy ∷ rest)) }
+    requires sends { HasFirstUnsent (all_grouped earlier.old) mesh.old vertex copy }
     requires known { AreKnown mesh.old.setup vertex apps.now known.old }
     ensures reached { IsReachedDropless (with_earlier (all_grouped earlier.old) mesh.old)
         (with_earlier (all_grouped earlier.new) mesh.new) }
@@ -219,8 +211,7 @@ fn send_new(
 
 // The first copy that a vertex has not sent yet.
 fn first_unsent(mesh: &Mesh, vertex: u32) -> McCopy
-    requires there { vertex < length mesh.now.setup.spots }
-    requires some { slice_get mesh.now.unsent vertex ≢ Some [] }
+    requires { HasUnsent mesh.now vertex }
     ensures { (rest : List Copy) × (slice_get mesh.now.unsent vertex ≡ Some (result ∷ rest)) }
 {
     mesh.unsent(vertex)[0]
@@ -243,9 +234,7 @@ fn send_again(
     vertex: u32,
     copy: McCopy,
 ) -> Result<(), Memory>
-    requires clean { IsClean (all_grouped earlier.old) mesh.old }
-    requires there { vertex < length mesh.old.setup.spots }
-    requires first { (rest : List Copy) × (slice_get mesh.old.unsent vertex ≡ Some (copy ∷ rest)) }
+    requires sends { HasFirstUnsent (all_grouped earlier.old) mesh.old vertex copy }
     requires comes { (block : ABlock) × IsKeyOf block copy.key × Comes mesh.old.setup vertex (last_arrivals earlier.old) block }
     ensures reached { IsReachedDropless (with_earlier (all_grouped earlier.old) mesh.old)
         (with_earlier (all_grouped earlier.new) mesh.new) }
@@ -270,11 +259,9 @@ fn send_to(
     copy: McCopy,
     to: &KnownBlock,
 ) -> Result<Option<Block>, Memory>
-    requires clean { IsClean (all_grouped earlier.old) mesh.old }
-    requires there { vertex < length mesh.old.setup.spots }
-    requires first { (rest : List Copy) × (slice_get mesh.old.unsent vertex ≡ Some (copy ∷ rest)) }
-    requires key { IsKeyOf to.now.block copy.key }
-    requires comes { Comes mesh.old.setup vertex to.now.arrivals to.now.block }
+    requires sends { HasFirstUnsent (all_grouped earlier.old) mesh.old vertex copy }
+    requires comes { IsKeyOf to.now.block copy.key
+        × Comes mesh.old.setup vertex to.now.arrivals to.now.block }
     ensures reached { IsReachedDropless (with_earlier (all_grouped earlier.old) mesh.old)
         (with_earlier (all_grouped earlier.new) mesh.new) }
     ensures clean { OnOk result (IsClean (all_grouped earlier.new) mesh.new) }
@@ -292,9 +279,7 @@ fn send_to(
 
 // A vertex sends its first packet, whose deliveries are held apart.
 fn send_one(alloc: Global, mesh: &mut Mesh, earlier: &mut Groups, vertex: u32) -> Result<(), Memory>
-    requires clean { IsClean (all_grouped earlier.old) mesh.old }
-    requires there { vertex < length mesh.old.setup.spots }
-    requires some { slice_get mesh.old.unsent vertex ≢ Some [] }
+    requires { HasSomeUnsent (all_grouped earlier.old) mesh.old vertex }
     ensures reached { IsReachedDropless (with_earlier (all_grouped earlier.old) mesh.old)
         (with_earlier (all_grouped earlier.new) mesh.new) }
     ensures clean { OnOk result (IsClean (all_grouped earlier.new) mesh.new) }

@@ -1,7 +1,7 @@
 // Deliveries of packets that came to the same vertices.
-ghost use Rattle.std.specs.Prelude.{◌≡◌, ◌-◌, ◌++◌, ◌∷◌, [], All, List, IfOk, IfSome, OnOk, OnErr, length, map, slice_get, true, false};
+ghost use Rattle.std.specs.Prelude.{◌≡◌, ◌-◌, ◌≤◌, ◌++◌, ◌∷◌, [], All, List, IfOk, IfSome, OnOk, OnErr, length, map, slice_get, true, false};
 ghost use Rattle.spin_base.specs.declared.copies.Delivery.{Delivery as ADelivery};
-ghost use Rattle.app_loads.specs.Grouping.{HasPut, IsAtLeast, IsAtMost, is_others_group, is_own_group};
+ghost use Rattle.app_loads.specs.Grouping.{HasPut, is_others_group, is_own_group};
 ghost use Rattle.app_loads.specs.declared.group.Sent.{Sent as SentOnce};
 ghost use Rattle.app_loads.specs.Groups.{EndsWith, arrival_of, deliveries_at, deliveries_in, delivery_of, sent_of};
 ghost use Rattle.app_loads.specs.Leaving.{is_delivery_of};
@@ -227,13 +227,15 @@ fn push_packet(sent: Sent, arrivals: &[Arrival], list: &mut Seq<Delivery>) -> Re
 }
 
 fn lesser(a: u32, b: u32) -> u32
-    ensures { IsAtMost result a b }
+    ensures first { result ≤ a }
+    ensures second { result ≤ b }
 {
     if a < b { a } else { b }
 }
 
 fn greater(a: u32, b: u32) -> u32
-    ensures { IsAtLeast result a b }
+    ensures first { a ≤ result }
+    ensures second { b ≤ result }
 {
     if a < b { b } else { a }
 }

@@ -2,7 +2,7 @@
 ghost use Rattle.std.specs.Prelude.{◌≡◌, ◌≤◌, ◌+◌, ◌++◌, ◌∷◌, [], IfOk, IfSome, OnOk, OnErr, drop, filter, length, not, vec_capacity, vec_len, true, false};
 ghost use Rattle.std.specs.List.{list_any};
 ghost use Rattle.spin_base.specs.declared.copies.Delivery.{Delivery as ADelivery};
-ghost use Rattle.app_loads.specs.Grouping.{CanHoldOne, HasPut, all_grouped, is_mixed_group};
+ghost use Rattle.app_loads.specs.Grouping.{CanPutOne, HasPut, all_grouped, is_mixed_group};
 ghost use Rattle.app_loads.specs.Groups.{deliveries_at, last_arrivals, sent_of};
 ghost use Rattle.app_loads.specs.Leaving.{is_delivery_of};
 ghost use Rattle.app_loads.specs.Parting.{HasRoomFor};
@@ -227,8 +227,7 @@ fn is_mixed(group: &Group, app: &LoadedApp) -> bool
 
 // Puts a group into one of two lists: that of the application's, or that of all others. How many of its deliveries are the application's.
 fn put_by(group: Group, app: &LoadedApp, own: &mut Vec<Group>, others: &mut Vec<Group>) -> usize
-    requires unmixed { is_mixed_group app.now group ≡ false }
-    requires room { CanHoldOne (vec_len own.old) (vec_capacity own.old) (vec_len others.old)
+    requires { CanPutOne app.now group (vec_len own.old) (vec_capacity own.old) (vec_len others.old)
         (vec_capacity others.old) }
     ensures own { all_grouped own.new.items
         ≡ all_grouped own.old.items ++ filter (is_delivery_of app.now) group.deliveries }

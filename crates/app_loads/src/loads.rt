@@ -6,7 +6,7 @@ ghost use Rattle.app_loads.specs.Joining.{AreKeyed, CanJoin, CanServePlan, CanSe
 ghost use Rattle.app_loads.specs.Loading.{HasLoaded, IsWhyNotLoaded};
 ghost use Rattle.app_loads.specs.Plans.{MayLoad};
 ghost use Rattle.app_loads.specs.Taking.{AreFreeAgain, HaveRoom, IsDueAlways};
-ghost use Rattle.app_loads.specs.Writing.{AreCopied, CanCopy, HaveRooms, tables_in};
+ghost use Rattle.app_loads.specs.Writing.{AreCopied, CanCopy, tables_in};
 
 use crate::answers::{LoadErr, LoadRefusal};
 use crate::apps::{Apps, add, put, reserve_one};
@@ -15,7 +15,7 @@ use crate::loaded::{Claim, LoadedApp, Range};
 use crate::meshes::KeptMesh;
 use crate::plans::AppPlan;
 use crate::regions::{give_all, take_all};
-use crate::rows::{originals_of, rooms_for, write_rows};
+use crate::rows::{RangesOn, originals_of, rooms_for, write_rows};
 use crate::sends::{send, with_sources};
 use machine_desc::Machine;
 use mesh_core::{Mesh, MeshSetup};
@@ -208,7 +208,11 @@ fn settle_mesh(alloc: Global, mesh: Mesh, app: &LoadedApp) -> (Mesh, Result<(), 
     let Ok(rows) = originals_of(alloc, mesh.machine(), app) else {
         return (mesh, Err(Memory));
     };
-    let Ok(rooms) = rooms_for(alloc, mesh.machine(), app.ranges.as_slice()) else {
+    let own = RangesOn {
+        machine: mesh.machine(),
+        list: app.ranges.as_slice(),
+    };
+    let Ok(rooms) = rooms_for(alloc, own) else {
         return (mesh, Err(Memory));
     };
     let mut parts = mesh.take_apart();
@@ -235,8 +239,8 @@ fn install(
     ranges: &[Range],
     rooms: Vec<Room>,
 )
-    requires can { CanCopy setup.old.machine setup.old.tables (tables_in rows.now) ranges.now }
-    requires room { HaveRooms setup.old.machine ranges.now rooms.items }
+    requires { CanCopy setup.old.machine setup.old.tables (tables_in rows.now) ranges.now
+        rooms.items }
     ensures setup { setup.new ≡ record setup.old { tables = setup.new.tables } }
     ensures copied { AreCopied
         setup.old.machine (tables_in rows.now) ranges.now setup.old.tables setup.new.tables }

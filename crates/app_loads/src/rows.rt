@@ -93,31 +93,46 @@ fn net_with(alloc: Global, net: &AppNet, block: Block) -> Result<NetPlan, Memory
     })
 }
 
+// Ranges, each within its region of a machine.
+#[derive(Clone, Copy)]
+pub(crate) struct RangesOn<'a> {
+    pub machine: &'a Machine,
+    pub list: &'a [Range],
+    pub ghost within: { All (IsRangeWithin machine.now
+        (1 + (chip_count machine.now + chip_count machine.now))) list.now },
+}
+
+// One of them.
+#[derive(Clone, Copy)]
+struct RangeOn<'a> {
+    machine: &'a Machine,
+    range: &'a Range,
+    ghost within: { IsRangeWithin machine.now
+        (1 + (chip_count machine.now + chip_count machine.now)) range.now },
+}
+
 // Room for the places of each range of entries, in their tables.
-pub(crate) fn rooms_for(
-    alloc: Global,
-    machine: &Machine,
-    ranges: &[Range],
-) -> Result<Vec<Room>, Memory>
-    requires { All (IsRangeWithin machine.now (1 + (chip_count machine.now + chip_count machine.now)))
-        ranges.now }
-    ensures { IfOk result (λ rooms. HaveRooms machine.now ranges.now rooms.items) }
+pub(crate) fn rooms_for(alloc: Global, ranges: RangesOn) -> Result<Vec<Room>, Memory>
+    ensures { IfOk result (λ rooms. HaveRooms ranges.entry.machine.now ranges.entry.list.now
+        rooms.items) }
 {
-    let mut rooms = Vec::with_capacity(alloc, ranges.len())?;
-    for range in ranges {
-        rooms.push(room_for(alloc, machine, range)?)?;
+    let mut rooms = Vec::with_capacity(alloc, ranges.list.len())?;
+    for range in ranges.list {
+        let one = RangeOn {
+            machine: ranges.machine,
+            range,
+        };
+        rooms.push(room_for(alloc, one)?)?;
     }
     Ok(rooms)
 }
 
 // Room for the places of a range, if it is one of entries.
-fn room_for(alloc: Global, machine: &Machine, range: &Range) -> Result<Room, Memory>
-    requires { IsRangeWithin machine.now (1 + (chip_count machine.now + chip_count machine.now))
-        range.now }
-    ensures { IfOk result (HasRoom machine.now range.now) }
+fn room_for(alloc: Global, one: RangeOn) -> Result<Room, Memory>
+    ensures { IfOk result (HasRoom one.entry.machine.now one.entry.range.now) }
 {
-    match Region::at(machine, range.region) {
-        Region::Rows(_) => Room::new(alloc, (range.place + range.size) as u32),
+    match Region::at(one.machine, one.range.region) {
+        Region::Rows(_) => Room::new(alloc, (one.range.place + one.range.size) as u32),
         _ => Ok(Room::none(alloc)),
     }
 }
@@ -131,8 +146,7 @@ pub(crate) fn write_rows(
     ranges: &[Range],
     rooms: Vec<Room>,
 )
-    requires can { CanCopy machine.now tables.old (tables_in lists.now) ranges.now }
-    requires room { HaveRooms machine.now ranges.now rooms.items }
+    requires { CanCopy machine.now tables.old (tables_in lists.now) ranges.now rooms.items }
     ensures { AreCopied machine.now (tables_in lists.now) ranges.now tables.old tables.new }
 {
     let mut rooms = rooms.into_iter();

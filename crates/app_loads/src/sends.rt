@@ -4,7 +4,7 @@ ghost use Rattle.std.specs.Option.{option_to_list};
 ghost use Rattle.mesh_core.specs.State.{vertex_behind};
 ghost use Rattle.spin_base.specs.declared.routes.Out.TheVariants.{Core};
 ghost use Rattle.spin_base.specs.declared.chips.Spot.{Spot as ASpot};
-ghost use Rattle.app_loads.specs.Joining.{AreAllSent};
+ghost use Rattle.app_loads.specs.Joining.{AreSent};
 ghost use Rattle.app_loads.specs.Sending.{AreCleared, AreSources, AreWithSources, CanAdd, CanSend, IsSameBeside, IsSendingFrom};
 
 use crate::loaded::LoadedApp;
@@ -22,7 +22,8 @@ pub(crate) fn send(
     app: &LoadedApp,
 ) -> Result<(), Memory>
     requires { CanSend setup.now app.now unsent.old }
-    ensures sent { OnOk result (AreAllSent setup.now.spots app.now unsent.old unsent.new) }
+    ensures sent { OnOk result (AreSent setup.now.spots app.now
+        (length app.now.plan.packets) unsent.old unsent.new) }
     ensures refused { OnErr result (unsent.new ≡ unsent.old) }
 {
     let sources = source_vertices(alloc, setup, app.plan.nets.as_slice())?;
@@ -58,7 +59,7 @@ fn add_packets(
     requires { CanAdd sources.now app.now unsent.old }
     ensures sent { OnOk result ((spots : List ASpot) →
         AreSources spots app.now.plan.nets sources.now
-        → AreAllSent spots app.now unsent.old unsent.new) }
+        → AreSent spots app.now (length app.now.plan.packets) unsent.old unsent.new) }
     ensures refused { OnErr result (IsSameBeside sources.now unsent.old unsent.new) }
 {
     for (at, packet) in app.plan.packets.as_slice().iter().enumerate() {

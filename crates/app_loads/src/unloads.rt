@@ -7,7 +7,7 @@ ghost use Rattle.app_loads.specs.Earlier.{with_earlier};
 ghost use Rattle.app_loads.specs.Grouping.{all_grouped, is_mixed_group};
 ghost use Rattle.app_loads.specs.Leaving.{IsPartedBy, NoneUnderWay};
 ghost use Rattle.app_loads.specs.Parting.{CanPart};
-ghost use Rattle.app_loads.specs.Removing.{CanLeaveFrom, HasLeft, HasLeftMesh, IsWhyHere};
+ghost use Rattle.app_loads.specs.Removing.{CanLeaveFrom, HasLeft, IsWhyHere};
 ghost use Rattle.app_loads.specs.Taking.{AreFewOf, AreGivenBack, HaveRoom, frees};
 ghost use Rattle.app_loads.specs.Unloading.{HasUnloaded, IsWhyNotUnloaded, NoneWaits};
 ghost use Rattle.app_loads.specs.Writing.{AreUnused, CanClear};
@@ -85,7 +85,8 @@ fn leave(
     app: &LoadedApp,
 ) -> (KeptMesh, Result<Ended, UnloadErr>)
     requires { CanLeaveFrom mesh regions.old senders.now app.now }
-    ensures left { IfOk result.1 (λ ended. HasLeft app.now mesh ended result.0) }
+    ensures left { IfOk result.1 (λ ended.
+        HasLeft app.now mesh ended.delivered ended.dumped result.0) }
     ensures none { OnOk result.1 (NoneUnderWay mesh app.now) }
     ensures given { OnOk result.1
         (AreGivenBack mesh.setup.machine app.now.ranges regions.old regions.new) }
@@ -155,7 +156,8 @@ fn leave_ready(
         senders.now app.now }
     requires ready { CanPart app.now earlier mesh.delivered room }
     ensures left { IfOk result.1 (λ ended.
-        HasLeft app.now (with_earlier (all_grouped earlier) mesh) ended result.0) }
+        HasLeft app.now (with_earlier (all_grouped earlier) mesh) ended.delivered ended.dumped
+        result.0) }
     ensures none { OnOk result.1 (NoneUnderWay (with_earlier (all_grouped earlier) mesh) app.now) }
     ensures given { OnOk result.1
         (AreGivenBack mesh.setup.machine app.now.ranges regions.old regions.new) }
@@ -188,7 +190,8 @@ fn leave_mesh(
     app: &LoadedApp,
 ) -> (Mesh, Result<Left, UnloadErr>)
     requires { CanLeaveFrom mesh regions.old senders.now app.now }
-    ensures left { IfOk result.1 (λ left. HasLeftMesh app.now mesh left result.0) }
+    ensures left { IfOk result.1 (λ left.
+        HasLeft app.now mesh left.delivered left.dumped result.0) }
     ensures none { OnOk result.1 (NoneUnderWay mesh app.now) }
     ensures given { OnOk result.1
         (AreGivenBack mesh.setup.machine app.now.ranges regions.old regions.new) }

@@ -4,8 +4,8 @@ use Rattle.app_loads.specs.Regions.{chip_count}
 use Rattle.app_loads.proofs.RowClaims.{rows_counted_in, places_inside}
 use Rattle.app_loads.proofs.claims.claim_rows.Goals as goal
 
-pub claim_runs-requires : goal.claim_runs-requires
-claim_runs-requires c = record {
+pub invariant_of-indices : goal.invariant_of-indices
+invariant_of-indices c = record {
   inside = subst (All (λ i. i < chip_count c.args.machine.now)) (sym c.deref.ensures.value)
       (places_inside c.args.machine.now c.args.nets.now c.in_ok-chips.chips.items c.requires c.in_ok-chips.ensures.same);
   sorted = subst (λ (l : List ℕ). AllPairs (λ a b. a ≤ b) l) (sym c.deref.ensures.value) c.in_ok-chips.ensures.sorted;
@@ -13,5 +13,5 @@ claim_runs-requires c = record {
 
 pub returns : goal.returns
 returns c =
-    rows_counted_in c.args.machine.now c.args.nets.now c.in_ok-chips.chips.items c.deref.result.now c.claim_runs.new.claims.items c.args.claims.now.items c.claim_runs.result c.requires
-    c.in_ok-chips.ensures.same c.deref.ensures.value c.claim_runs.ensures
+    rows_counted_in c.args.machine.now c.args.nets.now c.in_ok-chips.chips.items c.deref.result.now c.claim_runs.new.claims.items c.args.claims.now.items c.claim_runs.result
+    c.requires c.in_ok-chips.ensures.same c.deref.ensures.value c.claim_runs.ensures

@@ -10,18 +10,19 @@ pub prove-unreachable-requires : goal.prove-unreachable-requires
 prove-unreachable-requires c =
     omega (arith, few_spots c.args.machine.now c.args.plan.now.spots c.requires.different c.requires.usable, c.chips-chips.ensures.total, c.len.ensures, c.if-prove.true)
 
-pub claim_keys-requires : goal.claim_keys-requires
-claim_keys-requires c = record {
-  keys = subst (λ (l : List AppNet). All (λ (net : AppNet). IsKeyCount net.keys) l) (sym c.as_slice-4.ensures)
+pub invariant_of-nets : goal.invariant_of-nets
+invariant_of-nets c = record {
+  few = omega (arith, ap length c.as_slice-list.ensures, c.requires.few_nets);
+  keys = subst (λ (l : List AppNet). All (λ (net : AppNet). IsKeyCount net.keys) l) (sym c.as_slice-list.ensures)
       (All-weaker (IsAppNet c.args.machine.now c.args.plan.now.spots) (λ (net : AppNet). IsKeyCount net.keys)
-      (λ net is. record { some = is.some_key; few = is.few_keys }) c.args.plan.now.nets c.requires.nets);
-  few = omega (arith, ap length c.as_slice-4.ensures, c.requires.few_nets);
+      (λ (net : AppNet) is. record { some = is.some_key; few = is.few_keys }) c.args.plan.now.nets c.requires.nets);
 }
 
 pub returns-clause-claims : goal.returns-clause-claims
 returns-clause-claims c =
-    claims_joined c.args.machine.now c.args.plan.now _ _ _ _ _ _ _ _ _ _ c.new-claims.ensures.items c.as_slice.ensures
-    c.as_slice-2.ensures c.in_ok-claim_memory.ensures c.as_slice-3.ensures c.in_ok-claim_fixed.ensures c.as_slice-4.ensures c.in_ok-claim_keys.ensures c.as_slice-5.ensures c.in_ok-claim_rows.ensures
+    claims_joined c.args.machine.now c.args.plan.now _ _ _ _ _ _ _ _ _ _ c.new-claims.ensures.items c.as_slice-spots.ensures
+    c.as_slice-bytes.ensures c.in_ok-claim_memory.ensures c.as_slice-list.ensures c.in_ok-claim_fixed.ensures c.as_slice-list.ensures c.in_ok-claim_keys.ensures c.as_slice-list.ensures
+    c.in_ok-claim_rows.ensures
 
 pub returns-clause-few : goal.returns-clause-few
 returns-clause-few c =

@@ -3,21 +3,14 @@ use Rattle.mesh_core.specs.{Queues.drop_front, State.State}
 use Rattle.mesh_drain.specs.Draining.{IsReachedDropless}
 use Rattle.mesh_drain.proofs.Frame.{reached_none}
 use Rattle.app_loads.specs.{Earlier.with_earlier, Grouping.all_grouped, Groups.last_arrivals}
-use Rattle.app_loads.proofs.Kept.{again_clean, again_reached, dropped}
+use Rattle.app_loads.proofs.Kept.{again_clean, again_reached}
 use Rattle.app_loads.proofs.drains.send_again.Goals as goal
 
 pub returns-clause-reached : goal.returns-clause-reached
-returns-clause-reached c =
-    again_reached (all_grouped c.args.earlier.now) (all_grouped c.repeat.new.self) c.args.mesh.now c.drop_unsent.new.self c.args.vertex c.args.copy c.requires.first.0
-    (last_arrivals c.args.earlier.now)
-    c.requires.clean c.requires.first.1 c.requires.comes.0 c.requires.comes.1 c.requires.comes.2 c.in_ok-repeat.ensures.put
-    (dropped c.args.mesh.now c.drop_unsent.new.self c.args.vertex c.args.copy c.requires.first.0 c.requires.first.1 c.drop_unsent.ensures)
+returns-clause-reached c = again_reached (last_arrivals c.args.earlier.now) c.requires.sends c.requires.comes.1 c.requires.comes.2 c.in_ok-repeat.ensures.put c.drop_unsent.ensures
 
 pub returns-clause-clean : goal.returns-clause-clean
-returns-clause-clean c =
-    again_clean (all_grouped c.args.earlier.now) (all_grouped c.repeat.new.self) c.args.mesh.now c.drop_unsent.new.self c.args.vertex c.args.copy c.requires.first.0 (last_arrivals c.args.earlier.now)
-    c.requires.clean c.requires.first.1 c.requires.comes.0 c.requires.comes.1 c.requires.comes.2 c.in_ok-repeat.ensures.put
-    (dropped c.args.mesh.now c.drop_unsent.new.self c.args.vertex c.args.copy c.requires.first.0 c.requires.first.1 c.drop_unsent.ensures)
+returns-clause-clean c = again_clean (last_arrivals c.args.earlier.now) c.requires.sends c.requires.comes.1 c.requires.comes.2 c.in_ok-repeat.ensures.put c.drop_unsent.ensures
 
 pub returns-clause-unsent : goal.returns-clause-unsent
 returns-clause-unsent c rest at = ap (λ (s : State). s.unsent) c.drop_unsent.ensures ∙ ap (drop_front c.args.mesh.now.unsent c.args.vertex) at

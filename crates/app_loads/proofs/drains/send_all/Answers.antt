@@ -1,3 +1,5 @@
+use Rattle.std.proofs.Common.{◌∙◌, sym}
+use Rattle.std.proofs.lemmas.Option.{same_Some}
 use Rattle.mesh_drain.proofs.Frame.{reached_none, reached_then}
 use Rattle.mesh_drain.proofs.Turns.{all_sent_there, as_before, is_none, is_some', one_less, there_still, was_there}
 use Rattle.app_loads.specs.{Earlier.with_earlier, Grouping.all_grouped}
@@ -17,9 +19,13 @@ pub unsent-requires : goal.unsent-requires
 unsent-requires c =
     there_still (with_earlier (all_grouped c.args.earlier.now) c.args.mesh.now) (with_earlier (all_grouped c.packets.earlier) c.packets.mesh) c.args.vertex c.packets.invariant.reached c.requires.there
 
-pub send_next-requires-clause-there : goal.send_next-requires-clause-there
-send_next-requires-clause-there c =
-    there_still (with_earlier (all_grouped c.args.earlier.now) c.args.mesh.now) (with_earlier (all_grouped c.packets.earlier) c.packets.mesh) c.args.vertex c.packets.invariant.reached c.requires.there
+pub send_next-requires-clause-can : goal.send_next-requires-clause-can
+send_next-requires-clause-can c = record {
+  clean = c.packets.invariant.clean;
+  there = there_still (with_earlier (all_grouped c.args.earlier.now) c.args.mesh.now) (with_earlier (all_grouped c.packets.earlier) c.packets.mesh) c.args.vertex
+      c.packets.invariant.reached c.requires.there;
+  some = λ none. is_some' c.unsent.result.now c.packets-test.ensures (same_Some _ _ (sym c.unsent.ensures ∙ none));
+}
 
 pub packets-smaller : goal.packets-smaller
 packets-smaller c =

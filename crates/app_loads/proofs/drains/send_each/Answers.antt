@@ -18,16 +18,15 @@ loop-vertex-init c = record {
   unsent = c.requires.alone.others;
 }
 
-pub send_all-requires-clause-there : goal.send_all-requires-clause-there
-send_all-requires-clause-there c =
-    sender_there (with_earlier (all_grouped c.args.earlier.now) c.args.mesh.now) (with_earlier (all_grouped c.loop-vertex.earlier) c.loop-vertex.mesh) c.args.vertices.now c.loop-vertex.vertex-index _
-    (alone_with (all_grouped c.args.earlier.now) c.args.mesh.now c.args.vertices.now c.requires.alone) c.loop-vertex.invariant.reached c.loop-vertex-test.true
-
-pub send_all-requires-clause-alike : goal.send_all-requires-clause-alike
-send_all-requires-clause-alike c =
-    subst (λ u. AreAlikeInBlocks u c.args.apps.now)
-    (sym (setup_reached (with_earlier (all_grouped c.args.earlier.now) c.args.mesh.now) (with_earlier (all_grouped c.loop-vertex.earlier) c.loop-vertex.mesh) c.loop-vertex.invariant.reached))
-    c.requires.alike
+pub send_all-requires : goal.send_all-requires
+send_all-requires c = record {
+  clean = c.loop-vertex.invariant.clean;
+  there = sender_there (with_earlier (all_grouped c.args.earlier.now) c.args.mesh.now) (with_earlier (all_grouped c.loop-vertex.earlier) c.loop-vertex.mesh) c.args.vertices.now
+      c.loop-vertex.vertex-index _ (alone_with (all_grouped c.args.earlier.now) c.args.mesh.now c.args.vertices.now c.requires.alone) c.loop-vertex.invariant.reached c.loop-vertex-test.true;
+  alike = subst (λ u. AreAlikeInBlocks u c.args.apps.now)
+      (sym (setup_reached (with_earlier (all_grouped c.args.earlier.now) c.args.mesh.now) (with_earlier (all_grouped c.loop-vertex.earlier) c.loop-vertex.mesh) c.loop-vertex.invariant.reached))
+      c.requires.alike;
+}
 
 pub loop-vertex-preserved : goal.loop-vertex-preserved
 loop-vertex-preserved c =

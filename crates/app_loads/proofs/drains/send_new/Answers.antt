@@ -6,8 +6,10 @@ use Rattle.app_loads.proofs.Kept.{comes_again, known_still, some_first}
 use Rattle.app_loads.proofs.drains.send_new.Goals as goal
 use Rattle.app_loads.proofs.drains.send_new.Goals.{After-ends_with, After-block_of}
 
-pub send_one-requires-clause-some : goal.send_one-requires-clause-some
-send_one-requires-clause-some c = some_first _ c.args.copy c.requires.first.0 c.requires.first.1
+pub send_one-requires : goal.send_one-requires
+send_one-requires c =
+    let first = c.requires.sends.first in
+    record { clean = c.requires.sends.clean; there = c.requires.sends.there; some = some_first _ c.args.copy first.0 first.1 }
 
 -- what was known is known still
 still : (c : After-ends_with) → AreKnown c.send_one.new.mesh.setup c.args.vertex c.args.apps.now c.args.known.now
@@ -20,7 +22,7 @@ comes : (c : After-block_of) (block : Block) → IsBlockWith c.args.apps.now c.a
     Comes c.send_one.new.mesh.setup c.args.vertex (last_arrivals c.join.new.self) block
 comes c block with' known =
     comes_again (all_grouped c.args.earlier.now) (all_grouped c.send_one.new.earlier) c.send_one.new.mesh.setup c.args.vertex c.len-before.result c.args.copy (last_arrivals c.join.new.self) block
-    (c.in_ok-send_one.ensures.brought c.args.copy c.requires.first.0 c.requires.first.1) c.len-before.ensures
+    (c.in_ok-send_one.ensures.brought c.args.copy c.requires.sends.first.0 c.requires.sends.first.1) c.len-before.ensures
     (ap (drop c.len-before.result) (sym (c.join.ensures ∙ ap all_grouped c.share_near.ensures)) ∙ c.ends_with.ensures c.if-not-ends_with.false)
     (λ other its. known.alike block c.args.copy.key other with' its)
 

@@ -4,6 +4,9 @@ use Rattle.app_loads.specs.{Groups.last_arrivals, Running.Comes}
 use Rattle.app_loads.proofs.Kept.{known_still, ok_anyway}
 use Rattle.app_loads.proofs.drains.send_next.Goals as goal
 
+pub first_unsent-copy-requires : goal.first_unsent-copy-requires
+first_unsent-copy-requires c = record { there = c.requires.can.there; some = c.requires.can.some }
+
 pub send_again-requires-clause-comes : goal.send_again-requires-clause-comes
 send_again-requires-clause-comes c =
     let is = c.is_last.ensures c.if-is_last.true in
@@ -12,7 +15,16 @@ send_again-requires-clause-comes c =
 pub send_to-requires-clause-comes : goal.send_to-requires-clause-comes
 send_to-requires-clause-comes c =
     let it = c.in-Some.ensures in
-    c.requires.known.come it.first c.in-Some.it.now it.is
+    (it.has, c.requires.known.come it.first c.in-Some.it.now it.is)
+
+pub send_again-requires-clause-sends : goal.send_again-requires-clause-sends
+send_again-requires-clause-sends c = record { clean = c.requires.can.clean; there = c.requires.can.there; first = c.first_unsent-copy.ensures }
+
+pub send_to-requires-clause-sends : goal.send_to-requires-clause-sends
+send_to-requires-clause-sends c = record { clean = c.requires.can.clean; there = c.requires.can.there; first = c.first_unsent-copy.ensures }
+
+pub send_new-requires-clause-sends : goal.send_new-requires-clause-sends
+send_new-requires-clause-sends c = record { clean = c.requires.can.clean; there = c.requires.can.there; first = c.first_unsent-copy.ensures }
 
 pub returns-then-is_last-clause-known : goal.returns-then-is_last-clause-known
 returns-then-is_last-clause-known c = known_still c.args.mesh.now.setup c.send_again.new.mesh.setup c.args.vertex c.args.apps.now c.args.known.now c.send_again.ensures.setup c.requires.known

@@ -3,20 +3,14 @@ use Rattle.mesh_core.specs.{Queues.drop_front, State.State}
 use Rattle.mesh_drain.specs.Draining.{IsReachedDropless}
 use Rattle.mesh_drain.proofs.Frame.{reached_none}
 use Rattle.app_loads.specs.{Earlier.with_earlier, Grouping.all_grouped, Groups.last_arrivals}
-use Rattle.app_loads.proofs.Kept.{again_clean, again_reached, comes_there, dropped}
+use Rattle.app_loads.proofs.Kept.{again_clean, again_reached, comes_there}
 use Rattle.app_loads.proofs.drains.send_to.Goals as goal
 
 pub returns-clause-reached : goal.returns-clause-reached
-returns-clause-reached c =
-    again_reached (all_grouped c.args.earlier.now) (all_grouped c.put.new.self) c.args.mesh.now c.drop_unsent.new.self c.args.vertex c.args.copy c.requires.first.0 c.args.to.now.arrivals
-    c.requires.clean c.requires.first.1 c.args.to.now.block c.requires.key c.requires.comes c.in_ok-put.ensures.put
-    (dropped c.args.mesh.now c.drop_unsent.new.self c.args.vertex c.args.copy c.requires.first.0 c.requires.first.1 c.drop_unsent.ensures)
+returns-clause-reached c = again_reached c.args.to.now.arrivals c.requires.sends c.requires.comes.0 c.requires.comes.1 c.in_ok-put.ensures.put c.drop_unsent.ensures
 
 pub returns-clause-clean : goal.returns-clause-clean
-returns-clause-clean c =
-    again_clean (all_grouped c.args.earlier.now) (all_grouped c.put.new.self) c.args.mesh.now c.drop_unsent.new.self c.args.vertex c.args.copy c.requires.first.0 c.args.to.now.arrivals
-    c.requires.clean c.requires.first.1 c.args.to.now.block c.requires.key c.requires.comes c.in_ok-put.ensures.put
-    (dropped c.args.mesh.now c.drop_unsent.new.self c.args.vertex c.args.copy c.requires.first.0 c.requires.first.1 c.drop_unsent.ensures)
+returns-clause-clean c = again_clean c.args.to.now.arrivals c.requires.sends c.requires.comes.0 c.requires.comes.1 c.in_ok-put.ensures.put c.drop_unsent.ensures
 
 pub returns-clause-unsent : goal.returns-clause-unsent
 returns-clause-unsent c first rest at = ap (λ (s : State). s.unsent) c.drop_unsent.ensures ∙ ap (drop_front c.args.mesh.now.unsent c.args.vertex) at
@@ -24,7 +18,7 @@ returns-clause-unsent c first rest at = ap (λ (s : State). s.unsent) c.drop_uns
 pub returns-clause-last : goal.returns-clause-last
 returns-clause-last c =
     comes_there c.args.mesh.now.setup c.drop_unsent.new.self.setup c.args.vertex c.args.to.now.block c.args.to.now.arrivals (last_arrivals c.put.new.self)
-    (ap (λ (s : State). s.setup) c.drop_unsent.ensures) c.in_ok-put.ensures.arrivals c.requires.comes
+    (ap (λ (s : State). s.setup) c.drop_unsent.ensures) c.in_ok-put.ensures.arrivals c.requires.comes.1
 
 pub returns-in_err-put-clause-reached : goal.returns-in_err-put-clause-reached
 returns-in_err-put-clause-reached c =

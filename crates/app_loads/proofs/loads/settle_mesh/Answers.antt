@@ -31,17 +31,14 @@ put_together-requires-in-Err c =
     parted_mesh (c.parts.view_is ∙ c.take_apart-parts.ensures.parts) c.requires c.take_apart-parts.ensures.mesh
     c.deref_mut.ensures.value c.in-Err.ensures.refused (with_items_is c.parts.inside.unsent c.send.new.unsent (c.send.auto.unsent ∙ c.deref_mut.ensures.len))
 
-pub install-requires-clause-room : goal.install-requires-clause-room
-install-requires-clause-room c =
+pub install-requires : goal.install-requires
+install-requires c =
     let rooms = c.in-Ok-rooms_for.rooms.items in
     let machine_is = ap (λ (s : State). s.setup.machine) (c.parts.view_is ∙ c.take_apart-parts.ensures.parts) in
-    subst (λ (m : Description). HaveRooms m c.as_slice-in-Ok-send-2.result.now rooms) (c.machine-2.ensures ∙ sym machine_is)
-    (subst (λ (l : List Range). HaveRooms c.machine-2.result.now l rooms) (c.as_slice.ensures ∙ sym c.as_slice-in-Ok-send-2.ensures) c.in-Ok-rooms_for.ensures)
-
-pub install-requires-clause-can : goal.install-requires-clause-can
-install-requires-clause-can c =
     parted_copy (c.parts.view_is ∙ c.take_apart-parts.ensures.parts) c.requires c.take_apart-parts.ensures.mesh
     (subst (λ (m : Description). ArePlain m c.args.app.now (tables_in c.in-Ok.rows)) c.machine.ensures (c.in-Ok.ensures.long, c.in-Ok.ensures.plain)) (ap tables_in c.as_slice-in-Ok-send.ensures) c.as_slice-in-Ok-send-2.ensures
+    (subst (λ (m : Description). HaveRooms m c.as_slice-in-Ok-send-2.result.now rooms) (c.machine-2.ensures ∙ sym machine_is)
+    (subst (λ (l : List Range). HaveRooms c.machine-2.result.now l rooms) (c.as_slice.ensures ∙ sym c.as_slice-in-Ok-send-2.ensures) c.in-Ok-rooms_for.ensures))
 
 pub put_together-requires : goal.put_together-requires
 put_together-requires c =
@@ -56,8 +53,9 @@ returns-in-Ok-send-clause-settled c =
     c.put_together.ensures (subst (λ (m : Description). ArePlain m c.args.app.now (tables_in c.in-Ok.rows)) c.machine.ensures (c.in-Ok.ensures.long, c.in-Ok.ensures.plain))
     (ap tables_in c.as_slice-in-Ok-send.ensures) c.as_slice-in-Ok-send-2.ensures c.install.ensures.copied
 
-pub rooms_for-requires : goal.rooms_for-requires
-rooms_for-requires c =
-    subst (λ (m : Description). All (IsRangeWithin m (1 + (chip_count m + chip_count m))) c.as_slice.result.now) (sym c.machine-2.ensures)
-    (subst (λ (l : List Range). All (IsRangeWithin c.args.mesh.setup.machine (1 + (chip_count c.args.mesh.setup.machine + chip_count c.args.mesh.setup.machine))) l)
-    (sym c.as_slice.ensures) c.requires.loaded.within)
+pub invariant_of-own : goal.invariant_of-own
+invariant_of-own c = record {
+  within = subst (λ (m : Description). All (IsRangeWithin m (1 + (chip_count m + chip_count m))) c.as_slice.result.now) (sym c.machine-2.ensures)
+      (subst (λ (l : List Range). All (IsRangeWithin c.args.mesh.setup.machine (1 + (chip_count c.args.mesh.setup.machine + chip_count c.args.mesh.setup.machine))) l)
+      (sym c.as_slice.ensures) c.requires.loaded.within);
+}

@@ -3,4 +3,4 @@ use Rattle.app_loads.proofs.rows.rooms_for.Given as goal
 
 -- the ranges so far have room
 abbrev pub invariant-loop-range : goal.invariant-loop-range
-invariant-loop-range l = HaveRoomTo l.machine l.range-index l.ranges l.rooms.items
+invariant-loop-range l = HaveRoomTo l.ranges.machine.now l.range-index l.ranges.list.now l.rooms.items

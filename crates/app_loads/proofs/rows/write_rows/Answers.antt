@@ -8,63 +8,63 @@ use Rattle.app_loads.specs.Writing.{AreCopied, tables_in}
 use Rattle.app_loads.proofs.rows.write_rows.Goals as goal
 
 pub bounds-tables-at : goal.bounds-tables-at
-bounds-tables-at c = j_in_tables _ c.requires.can c.loop-range-test.true c.loop-range.invariant.copied (of_chip c.in-Rows.is c.at.ensures.its c.at.ensures.place c.index-at.ensures.value)
+bounds-tables-at c = j_in_tables _ c.requires c.loop-range-test.true c.loop-range.invariant.copied (of_chip c.in-Rows.is c.at.ensures.its c.at.ensures.place c.index-at.ensures.value)
 
 pub bounds-lists-at : goal.bounds-lists-at
 bounds-lists-at c =
-    let below = j_in_rows _ c.requires.can c.loop-range-test.true c.loop-range.invariant.copied (of_chip c.in-Rows.is c.at.ensures.its c.at.ensures.place c.index-at.ensures.value) in
+    let below = j_in_rows _ c.requires c.loop-range-test.true c.loop-range.invariant.copied (of_chip c.in-Rows.is c.at.ensures.its c.at.ensures.place c.index-at.ensures.value) in
     let as_long = length-map c.args.lists.now table_of_sorted in
     omega (arith, below, as_long)
 
 pub offset_bounds-tables-at : goal.offset_bounds-tables-at
 offset_bounds-tables-at c =
-    let below = j_below _ c.requires.can c.loop-range-test.true c.loop-range.invariant.copied (of_chip c.in-Rows.is c.at.ensures.its c.at.ensures.place c.index-at.ensures.value) in
+    let below = j_below _ c.requires c.loop-range-test.true c.loop-range.invariant.copied (of_chip c.in-Rows.is c.at.ensures.its c.at.ensures.place c.index-at.ensures.value) in
     let few = c.index-at.ensures.few in
     record { fits = omega (arith, below, few) }
 
 pub offset_bounds-lists-at : goal.offset_bounds-lists-at
 offset_bounds-lists-at c =
-    let below = j_below _ c.requires.can c.loop-range-test.true c.loop-range.invariant.copied (of_chip c.in-Rows.is c.at.ensures.its c.at.ensures.place c.index-at.ensures.value) in
+    let below = j_below _ c.requires c.loop-range-test.true c.loop-range.invariant.copied (of_chip c.in-Rows.is c.at.ensures.its c.at.ensures.place c.index-at.ensures.value) in
     let few = c.index-at.ensures.few in
     record { fits = omega (arith, below, few) }
 
 pub overflow_cast-range : goal.overflow_cast-range
 overflow_cast-range c =
     let of = of_chip c.in-Rows.is c.at.ensures.its c.at.ensures.place c.index-at.ensures.value in
-    record { fits = place_small _ c.requires.can c.loop-range-test.true c.loop-range.invariant.copied of c.index-tables-at.result (table_of_sorted []) }
+    record { fits = place_small _ c.requires c.loop-range-test.true c.loop-range.invariant.copied of c.index-tables-at.result (table_of_sorted []) }
 
 pub put_rows-requires : goal.put_rows-requires
 put_rows-requires c =
     let of = of_chip c.in-Rows.is c.at.ensures.its c.at.ensures.place c.index-at.ensures.value in
-    let fits = R_fits _ c.requires.can c.loop-range-test.true c.loop-range.invariant.copied of c.index-tables-at.result (table_of_sorted c.index-lists-at.result) in
+    let fits = R_fits _ c.requires c.loop-range-test.true c.loop-range.invariant.copied of c.index-tables-at.result (table_of_sorted c.index-lists-at.result) in
     let same = ap length (rows_listed c.as_slice.result.now c.args.lists.now c.index-at.result c.index-lists-at.result (c.as_slice.ensures ∙ c.index-lists-at.is)) in
     let as_long = length-map c.as_slice.result.now row_of_mark in
-    let size = R_size _ c.requires.can c.loop-range-test.true c.loop-range.invariant.copied of c.index-tables-at.result (table_of_sorted c.index-lists-at.result) in
+    let size = R_size _ c.requires c.loop-range-test.true c.loop-range.invariant.copied of c.index-tables-at.result (table_of_sorted c.index-lists-at.result) in
     let i = c.loop-range.range-index in
     let next = left_first c.args.rooms.items i c.next_room-room.result _ (sym c.loop-range.invariant.left ∙ c.next_room-room.ensures) in
     let room = c.requires.room.each i _ c.next_room-room.result (slice_get-get_or c.args.ranges.now i _ c.loop-range-test.true) next.0 c.in-Rows.chip of.region_is in
     record {
       has = record {
-        size = T_long _ c.requires.can c.loop-range-test.true c.loop-range.invariant.copied of c.index-tables-at.result (table_of_sorted c.index-lists-at.result);
+        size = T_long _ c.requires c.loop-range-test.true c.loop-range.invariant.copied of c.index-tables-at.result (table_of_sorted c.index-lists-at.result);
         fits = omega (arith, fits, same, as_long);
       };
       fits = omega (arith, room, size, same, as_long);
     }
 
 pub at-requires : goal.at-requires
-at-requires c = there _ c.requires.can c.loop-range-test.true c.loop-range.invariant.copied
+at-requires c = there _ c.requires c.loop-range-test.true c.loop-range.invariant.copied
 
 pub loop-range-preserved : goal.loop-range-preserved
 loop-range-preserved c = record {
   copied = elim c.match-at.branch [
     | goal.in-Rows w ↦
         subst (AreCopied c.args.machine.now (tables_in c.args.lists.now) (take (c.loop-range.range-index + 1) c.args.ranges.now) c.args.tables.now) (sym w.tables-is)
-        (copied_more _ c.requires.can c.loop-range-test.true c.loop-range.invariant.copied (of_chip w.in-Rows.is c.at.ensures.its c.at.ensures.place w.index-at.ensures.value)
+        (copied_more _ c.requires c.loop-range-test.true c.loop-range.invariant.copied (of_chip w.in-Rows.is c.at.ensures.its c.at.ensures.place w.index-at.ensures.value)
         w.index-tables-at.result (table_of_sorted w.index-lists-at.result) _ refl w.put_rows.new.table
         (put_listed _ _ _ _ c.args.lists.now _ w.index-lists-at.result w.put_rows.ensures (w.as_slice.ensures ∙ w.index-lists-at.is)))
     | goal.in_default w ↦
         subst (AreCopied c.args.machine.now (tables_in c.args.lists.now) (take (c.loop-range.range-index + 1) c.args.ranges.now) c.args.tables.now) (sym w.tables-is)
-        (copied_skip _ c.requires.can c.loop-range-test.true c.loop-range.invariant.copied (place_of_no_rows c.args.machine.now c.at.result w.in_default.not-Rows c.at.ensures.its _ c.at.ensures.place))
+        (copied_skip _ c.requires c.loop-range-test.true c.loop-range.invariant.copied (place_of_no_rows c.args.machine.now c.at.result w.in_default.not-Rows c.at.ensures.its _ c.at.ensures.place))
   ];
   left = (left_first c.args.rooms.items c.loop-range.range-index c.next_room-room.result _ (sym c.loop-range.invariant.left ∙ c.next_room-room.ensures)).1;
 }

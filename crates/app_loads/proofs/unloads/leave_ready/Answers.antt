@@ -1,12 +1,13 @@
 use Rattle.std.proofs.Common.{IfErr, IfOk, OnOk, Result, subst}
 use Rattle.app_loads.specs.declared.{answers.UnloadErr.UnloadErr, leaving.Left.Left}
-use Rattle.app_loads.specs.{Grouping.all_grouped, Leaving.NoneUnderWay, Leaving.is_delivery_of, Removing.HasLeftMesh, Removing.IsWhyHere}
+use Rattle.app_loads.specs.{Grouping.all_grouped, Leaving.NoneUnderWay, Leaving.is_delivery_of, Removing.HasLeft, Removing.IsWhyHere}
 use Rattle.app_loads.proofs.Kept.{few_own, none_with, why_with}
 use Rattle.app_loads.proofs.unloads.leave_ready.Goals as goal
 
 pub of-delivered-requires : goal.of-delivered-requires
 of-delivered-requires c =
-    let has = subst (λ (r : Result Left UnloadErr). IfOk r (λ left. HasLeftMesh c.args.app.now c.args.mesh left c.leave_mesh-mesh.result.0)) c.in-Ok.is c.leave_mesh-mesh.ensures.left in
+    let has = subst (λ (r : Result Left UnloadErr). IfOk r (λ (left : Left). HasLeft c.args.app.now c.args.mesh left.delivered left.dumped c.leave_mesh-mesh.result.0)) c.in-Ok.is
+    c.leave_mesh-mesh.ensures.left in
     few_own (is_delivery_of c.args.app.now) (all_grouped c.args.earlier) c.args.mesh.delivered
     (all_grouped c.part-own.result.0) c.in-Ok.left.delivered c.part-own.ensures.own has.delivered c.requires.ready.countable
 

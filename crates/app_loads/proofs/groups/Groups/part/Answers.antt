@@ -1,4 +1,6 @@
-use Rattle.std.proofs.Common.{◌≡◌, ◌∙◌, List, [], ap, arith, length, not}
+use Rattle.std.proofs.Common.{◌≡◌, ◌∙◌, List, [], ap, arith, length, not, sym}
+use Rattle.std.proofs.lemmas.Bool.{or_parts}
+use Rattle.std.specs.List.{list_any}
 use Rattle.std.proofs.lemmas.Grind.{common_steps}
 use Rattle.std.specs.{Prelude.vec_capacity, Prelude.vec_len, Vec.Iter.into_iter_items}
 use Rattle.spin_base.proofs.Places.{none_within}
@@ -13,6 +15,16 @@ overflow_sub-others_count c =
     (c.self.invariant ∙ ap (λ (gs : List Grouped). length (all_grouped gs)) c.self.view_is) c.loop-group.invariant.4 c.in-Some.group.deliveries
     (all_grouped (into_iter_items c.next.new.self)) c.put_by-others_count.result
     (rest_is (is_delivery_of c.args.app.now) (all_grouped c.loop-group.own.items) (all_grouped c.args.self) c.in-Some.ensures.steps.0 c.loop-group.invariant.2) c.put_by-others_count.ensures.count
+
+pub put_by-others_count-requires : goal.put_by-others_count-requires
+put_by-others_count-requires c =
+    let is = c.in-Some.ensures.steps.0 in
+    let long = ap length is in
+    record {
+      unmixed = (or_parts (is_mixed_group c.args.app.now c.in-Some.group) _ (sym (ap (list_any (is_mixed_group c.args.app.now)) is) ∙ c.loop-group.invariant.7)).0;
+      own_holds = omega (arith, long, c.loop-group.invariant.5);
+      others_hold = omega (arith, long, c.loop-group.invariant.6);
+    }
 
 pub invariant_of-result-2 : goal.invariant_of-result-2
 invariant_of-result-2 c =
