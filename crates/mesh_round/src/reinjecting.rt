@@ -63,32 +63,14 @@ pub fn reinject<R: Threads + Wait + Sync, G: Gate>(
     ensures refused { IfErr result (λ b. HasPasses pace.patience pace.turns mesh b.0) }
     ensures ready { IfErr result (λ b. MayGoOn b.0) }
 {
-    match pass_parts(rt, alloc, mesh.take_apart(), pace, gate) {
+    let parts = mesh.take_apart();
+    let layout = match Layout::of(alloc, &parts, pace.workers) {
+        Ok(layout) => layout,
+        Err(e) => return Err((Mesh::put_together(parts), e)),
+    };
+    match pass_on(rt, alloc, parts, &layout, pace, gate) {
         Ok(parts) => Ok(Mesh::put_together(parts)),
         Err((parts, e)) => Err((Mesh::put_together(parts), e)),
-    }
-}
-
-// Rounds and copies put back, in turn, on the parts of a mesh.
-fn pass_parts<R: Threads + Wait + Sync, G: Gate>(
-    rt: &R,
-    alloc: Global,
-    parts: MeshParts,
-    pace: Pace,
-    gate: &G,
-) -> Result<MeshParts, (MeshParts, Memory)>
-    requires ready { MayGoOn parts }
-    requires ledger { IsOfNets parts }
-    ensures passes { IfOk result (HasPasses pace.patience pace.turns parts) }
-    ensures ready { IfOk result MayGoOn }
-    ensures at_rest { IfOk result IsAtRest }
-    ensures no_record { IfOk result (λ n. n.dumped ≡ []) }
-    ensures refused { IfErr result (λ b. HasPasses pace.patience pace.turns parts b.0) }
-    ensures ready_still { IfErr result (λ b. MayGoOn b.0) }
-{
-    match Layout::of(alloc, &parts, pace.workers) {
-        Ok(layout) => pass_on(rt, alloc, parts, &layout, pace, gate),
-        Err(e) => Err((parts, e)),
     }
 }
 

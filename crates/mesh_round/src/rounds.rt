@@ -37,29 +37,14 @@ pub fn round<R: Threads + Wait + Sync, G: Gate>(
     ensures no_hand { IfOk result HasNoHand }
     ensures back { IfErr result (λ b. b.0 ≡ mesh) }
 {
-    match play_parts(rt, alloc, mesh.take_apart(), pace, number, gate) {
+    let parts = mesh.take_apart();
+    let layout = match Layout::of(alloc, &parts, pace.workers) {
+        Ok(layout) => layout,
+        Err(e) => return Err((Mesh::put_together(parts), e)),
+    };
+    match play_on(rt, alloc, parts, &layout, pace, number, gate) {
         Ok(parts) => Ok(Mesh::put_together(parts)),
         Err((parts, e)) => Err((Mesh::put_together(parts), e)),
-    }
-}
-
-// One round on the parts of a mesh.
-fn play_parts<R: Threads + Wait + Sync, G: Gate>(
-    rt: &R,
-    alloc: Global,
-    parts: MeshParts,
-    pace: Pace,
-    number: u32,
-    gate: &G,
-) -> Result<MeshParts, (MeshParts, Memory)>
-    requires { MayGoOn parts }
-    ensures round { IfOk result (LeadsByRound pace.patience pace.turns parts) }
-    ensures ready { IfOk result MayGoOn }
-    ensures back { IfErr result (λ b. b.0 ≡ parts) }
-{
-    match Layout::of(alloc, &parts, pace.workers) {
-        Ok(layout) => play_on(rt, alloc, parts, &layout, pace, number, gate),
-        Err(e) => Err((parts, e)),
     }
 }
 
