@@ -88,24 +88,6 @@ pub fn spin<Rt: Threads + Wait + Sync, S: Source, K: Sink, G: Gate>(
         ¬ FaultsRose (K.faults sink.old) (K.faults sink.new)
         → (result.status ≡ 0) ⊎ (result.status ≡ 9) }
 {
-    answered(rt, alloc, words, source, sink, gate)
-}
-
-// What `spin` does, and how it ends.
-fn answered<R: Threads + Wait + Sync, S: Source, K: Sink, G: Gate>(
-    rt: &R,
-    alloc: Global,
-    words: &[String],
-    source: &mut S,
-    sink: &mut K,
-    gate: &G,
-) -> Outcome
-    ensures status { result.status ≡ status_at result.refusal }
-    ensures ends { Ends (texts_of words.now)
-        (reading_of S.left S.faults source.old source.new)
-        (writing_of K.written K.faults sink.old sink.new)
-        result }
-{
     match made_of(rt, alloc, words, source, gate) {
         Ok(made) => write_text(made, sink),
         Err(refusal) => {
