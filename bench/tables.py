@@ -263,7 +263,8 @@ def covering(asked):
     for kind in asked.kind:
         before = None
         for count in asked.rows:
-            spent = show_programs(f"{kind}, {count} nets", programs, ["tables"], KINDS[kind](count), asked.runs)
+            found = show_programs(f"{kind}, {count} nets", programs, ["tables"], KINDS[kind](count), asked.runs)
+            spent = [min(it.spent for it in listed) for listed in found]
             if before:
                 print(f"    {', '.join(f'{now / then:.1f}' for now, then in zip(spent, before))} times the time before")
             before = spent
