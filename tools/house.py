@@ -26,7 +26,7 @@ ALONE = r"\((Tests alone|No command)"
 # No count may grow beyond these. Whoever lowers one lowers its bound.
 MOST = {
     "conditions a function, in hundredths": 58,
-    "conditions of one function": 5,
+    "conditions of one function": 4,
     "lines of proofs": 83562,
     "lines of proofs longer than 200 characters": 604,
     "lines of proofs longer than 300 characters": 0,

@@ -159,7 +159,6 @@ fn set_live_senders(
     requires floor { IsFloorOf setup.now floor.now }
     requires long { length table.now ≡ 2 * grid_size setup.now }
     requires live { IsLiveIndex setup.now index }
-    requires below { index < grid_size setup.now }
     requires before { HaveSenders setup.now table.now index 0 homes.old.items }
     ensures { HaveSenders setup.now table.now index 24 homes.new.items }
 {
