@@ -1,19 +1,13 @@
 -- What it means that a tree wants an output at a chip: an edge leaves by it, or it leads to a target there.
+use Rattle.std.proofs.Common.{arith}
 use Rattle.std.proofs.Common.{◌≡◌, true, List, refl, sym, ap, ◌∙◌, subst, inl, inr, ◌⊎◌}
 use Rattle.std.specs.List.{Contains}
-use Rattle.std.proofs.lemmas.Bool.{and_parts, and_from, or_cases, or_left, or_right, false≢true}
-use Rattle.std.proofs.lemmas.List.Folds.{Any-from_list_any, list_any_at}
-use Rattle.spin_base.specs.declared.chips.Chip.{Chip}
-use Rattle.spin_base.specs.declared.chips.Dir.{Dir}
-use Rattle.spin_base.specs.declared.chips.Spot.{Spot}
-use Rattle.spin_base.specs.declared.routes.Out.{Out}
-use Rattle.spin_base.specs.declared.routes.Out.TheVariants.{Link, Core}
+use Rattle.std.proofs.lemmas.{Bool.and_parts, Bool.and_from, Bool.or_cases, Bool.or_left, Bool.or_right, Bool.false≢true, List.Folds.Any-from_list_any, List.Folds.list_any_at}
+use Rattle.spin_base.specs.declared.{chips.Chip.Chip, chips.Dir.Dir, chips.Spot.Spot, routes.Out.Out, routes.Out.TheVariants.Link, routes.Out.TheVariants.Core}
 use Rattle.spin_base.specs.Outputs.{out_of}
 use Rattle.spin_base.proofs.Equality.{chip_eq_true, chip_eq_same, out_eq_true, out_eq_same}
-use Rattle.machine_desc.specs.declared.trees.Edge.{Edge}
-use Rattle.machine_desc.specs.Equality.{edge_eq}
+use Rattle.machine_desc.specs.{declared.trees.Edge.Edge, Equality.edge_eq, Outputs.is_edge_out, Outputs.leads_to_spot, Outputs.is_wanted}
 use Rattle.machine_desc.proofs.Same.{edge_eq-true, edge_eq_self}
-use Rattle.machine_desc.specs.Outputs.{is_edge_out, leads_to_spot, is_wanted}
 
 -- the edge by which an output leaves a chip
 pub edge_out : (edges : List Edge) (c : Chip) (o : Out) → is_edge_out edges c o ≡ true → (d : Dir) × (o ≡ Link d) × Contains edges (record { chip = c; dir = d })
@@ -38,9 +32,7 @@ pub wanted_cases : (edges : List Edge) (targets : List Spot) (c : Chip) (o : Out
 wanted_cases edges targets c o h = elim (or_cases _ _ h) [
   | inl edge ↦ inl (edge_out edges c o edge)
   | inr end ↦
-      let found = Any-from_list_any (leads_to_spot c o) targets end in
-      let leads = spot_of_out c o found.1 found.4 in
-      inr (found.1, (found.0, found.2, found.3), leads.0, leads.1)
+      grind (arith, Any-from_list_any (leads_to_spot c o) targets end, spot_of_out c o (Any-from_list_any (leads_to_spot c o) targets end).1 (Any-from_list_any (leads_to_spot c o) targets end).4)
 ]
 
 pub edge_wanted : (edges : List Edge) (targets : List Spot) (e : Edge) → Contains edges e → is_wanted edges targets e.chip (Link e.dir) ≡ true
