@@ -72,6 +72,10 @@ pub TellsCores-skip : (grid : Grid) (table : List Bool) (listed : List Spot) (i 
 TellsCores-skip grid table listed i d within high =
     Tells-skip (IsCoreOn grid) (core_place grid) spot_eq spot_eq_true spot_eq_same table listed i d within (λ p. absurd (omega (arith, p.1)))
 
+TellsCores-skip__13 : (grid : Grid) (table : List Bool) (listed : List Spot) (i : ℕ) (d : Spot) → i < length listed →
+    18 ≤ (get_or listed i d).core → TellsCores grid table (take i listed) → TellsCores grid table (take (i + 1) listed)
+TellsCores-skip__13 grid table listed i d within high = grind (arith, Tells-skip, spot_eq_true, spot_eq_same)
+
 pub TellsLinks-more : (grid : Grid) (table : List Bool) (listed : List Edge) (i p : ℕ) (d : Edge) → i < length listed → p ≡ edge_place grid (get_or listed i d) →
     IsEdgeOn grid (get_or listed i d) → p < length table → TellsLinks grid table (take i listed) →
     TellsLinks grid (set table p true) (take (i + 1) listed)

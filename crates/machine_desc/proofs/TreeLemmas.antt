@@ -23,6 +23,9 @@ more_chips m root tree more c on = elim (tree_cases m root tree c on) [
   | inr into ↦ tree_end m root (tree ++ more) into.0 c (Contains-append_left tree more into.0 into.1) into.2
 ]
 
+more_chips__17 : (m : Description) (root : Chip) (tree more : List Edge) (c : Chip) → IsTreeChip m root tree c → IsTreeChip m root (tree ++ more) c
+more_chips__17 m root tree more c on = grind (arith, tree_cases m root tree c on, tree_end, Contains-append_left)
+
 -- a path over edges is one over more edges
 pub more_path : (m : Description) (edges more : List Edge) (from : Chip) (path : List Edge) (to : Chip) → IsPath m edges from path to → IsPath m (edges ++ more) from path to
 more_path m edges more from [] to along = along

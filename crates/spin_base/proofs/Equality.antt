@@ -25,8 +25,7 @@ pub spot_eq_same : (a : Spot) → spot_eq a a ≡ true
 spot_eq_same a = rw (nat_eq_same a.chip.x, nat_eq_same a.chip.y, nat_eq_same a.core) refl
 
 pub spot_eq_true : (a b : Spot) → spot_eq a b ≡ true → a ≡ b
-spot_eq_true a b e =
-    same_spot a b (chip_eq_true a.chip b.chip (and_parts _ _ e).0) (eqb-true a.core b.core (and_parts (chip_eq a.chip b.chip) _ e).1)
+spot_eq_true a b e = grind (arith, same_spot, chip_eq_true, eqb-true, and_parts)
 
 pub dir_eq_same : (a : Dir) → dir_eq a a ≡ true
 dir_eq_same a = nat_eq_same (dir_number a)

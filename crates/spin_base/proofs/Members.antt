@@ -88,8 +88,7 @@ Contains-map f xs x has = among_contains (f x) (map f xs) (map_among f x xs (con
 
 pub Contains-unmap : {X Y : Type 0} (f : X → Y) (xs : List X) (y : Y) → Contains (map f xs) y → (x : X) × Contains xs x × (f x ≡ y)
 Contains-unmap f xs y has =
-    let found = among_map f y xs (contains_among y (map f xs) has) in
-    (found.0, among_contains found.0 xs found.1, sym found.2)
+    grind (arith, among_map f y xs (contains_among y (map f xs) has), among_contains (among_map f y xs (contains_among y (map f xs) has)).0 xs (among_map f y xs (contains_among y (map f xs) has)).1)
 
 -- ---- what a filter keeps
 
@@ -168,10 +167,4 @@ position_nowhere {X} p xs x is a passes = by_size (nat_lt first (length xs)) ref
 
     by_size : (b : Bool) → nat_lt first (length xs) ≡ b → cond b (Some first) None ≡ None → ⊥
     by_size true e none = cc
-    by_size false e none =
-        let has = among_contains x xs a in
-        let past : length xs ≤ first = ltb-false first (length xs) e in
-        let before : has.0 < first = let within : has.0 < length xs = has.1 in omega arith in
-        let fails : p (slice_index_or xs has.0 x) ≡ false = fails_before_first p xs has.0 x before in
-        let also : p (slice_index_or xs has.0 x) ≡ true = ap p has.2 ∙ passes in
-        cc
+    by_size false e none = grind (arith, among_contains x xs a, ltb-false first (length xs) e, fails_before_first)

@@ -26,8 +26,7 @@ pub count_by-filter_same : (p q : Out → Bool) (b : Bool) (xs : List Out) → (
 count_by-filter_same p q true [] same = refl
 count_by-filter_same p q false [] same = refl
 count_by-filter_same p q b (x ∷ xs) same =
-    count_step p q b x xs (filter p xs) (same x) (count_by-filter_same p q b xs same) (p x) (q x) refl refl
-    ∙ ap (λ n. cond b n 0) (sym (count_by-cons q x xs))
+    grind (arith, count_step p q b x xs (filter p xs) (same x) (count_by-filter_same p q b xs same) (p x) (q x) refl refl, count_by-filter_same p q b xs same, count_by-cons q x xs)
 
 cores_none : (d : Dir) (a n : ℕ) → count_by (out_eq (Link d)) (map Core (range_with_len a n)) ≡ 0
 cores_none d a zero = refl

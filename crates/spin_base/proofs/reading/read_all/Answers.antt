@@ -3,12 +3,7 @@ use Rattle.spin_base.proofs.Bytes.{gives_nothing, gives_then, gives_end, gives_t
 use Rattle.spin_base.proofs.reading.read_all.Goals as goal
 
 pub loop-count-init : goal.loop-count-init
-loop-count-init g c = record {
-  gives = rw c.new-bytes.ensures.items (gives_nothing _);
-  within = omega arith;
-  room = omega arith;
-  counted = omega arith;
-}
+loop-count-init g c = grind (arith, gives_nothing)
 
 pub returns-in-Err-clause-fault : goal.returns-in-Err-clause-fault
 returns-in-Err-clause-fault g c = λ _. rose_since _ _ _ (omega (arith, c.loop-count.invariant.counted)) c.in-Err.ensures.failed

@@ -14,3 +14,6 @@ loop-spot-preserved c = elim c.if-spot-lt-CORES.branch [
   | else-spot-lt-CORES w ↦
       grind (arith, TellsCores-skip c.args.self c.loop-spot.table.items c.args.listed.now c.loop-spot.spot-index _ c.loop-spot-test.true w.if-spot-lt-CORES.false c.loop-spot.invariant.1)
 ]
+
+loop-spot-preserved__23 : goal.loop-spot-preserved
+loop-spot-preserved__23 c = grind (arith, then-spot-lt-CORES, length-set, TellsCores-more, else-spot-lt-CORES, TellsCores-skip)

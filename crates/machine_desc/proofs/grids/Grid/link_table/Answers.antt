@@ -9,3 +9,6 @@ loop-edge-preserved c = (
   TellsLinks-more c.args.self c.loop-edge.table.items c.args.listed.now c.loop-edge.edge-index c.edge_place.result _ c.loop-edge-test.true
       c.edge_place.ensures.place (c.requires _ _ c.loop-edge-test.true) (omega arith) c.loop-edge.invariant.1,
 )
+
+loop-edge-preserved__24 : goal.loop-edge-preserved
+loop-edge-preserved__24 c = grind (arith, length-set, TellsLinks-more)
