@@ -1,0 +1,362 @@
+#!/usr/bin/env python3
+"""Makes the proofs of a crate shorter where `grind` finds by itself what a body spells out.
+
+    tools/shorter_proofs.py bodies CRATE       from the top of the repository, with the libraries below the crate built
+    tools/shorter_proofs.py blocks CRATE       (tools/take_libraries.py)
+    tools/shorter_proofs.py imports CRATE..    needs no prover
+
+`bodies` looks at each body of two lines and more. Beside its lemma it writes a second one of the same statement, whose body is `grind`
+with the lemmas that the first one cites: with their arguments where these are known at the head of the body, by their bare names
+elsewhere. One `rt check` of the crate tries all of them, since one that fails keeps no other from being checked. Each that is proved
+takes the place of the first body, and the second lemma goes. `blocks` does the same for the parts of a body that stays: a case, a
+field, a `let`. `imports` drops the names that a file of proofs does not use, adds those of the tactics, and writes those of one
+folder on one line.
+
+No verdict rests on it: `rt ci` proves what it leaves.
+"""
+import glob
+import os
+import re
+import subprocess
+import sys
+
+WIDTH = 200
+WORD = re.compile(r"[^\s(){}\[\],;]+")
+# What begins and ends a word in a proof.
+BEFORE, BEHIND = r"(?<![^\s(\[{,;!])", r"(?=[\s)\]},;.]|$)"
+STOPS = {"∙", "in", "↦", "|", "=", "→", "×", "⊎", "let", ":", "≡", "<", "≤", "+", "-", "*", "==", "&&", "||", "++", "∷", "elim", "λ"}
+TACTICS = {
+    "arith": "use Rattle.std.proofs.Common.{arith}",
+    "rules": "use Rattle.std.proofs.Common.{rules}",
+}
+
+
+def read(file):
+    with open(file, encoding="utf-8") as text:
+        return text.read().split("\n")
+
+
+def write(file, lines):
+    with open(file, "w", encoding="utf-8") as text:
+        text.write("\n".join(lines))
+
+
+def files_of(crate):
+    return sorted(glob.glob(f"crates/{crate}/proofs/**/*.antt", recursive=True))
+
+
+def indent(line):
+    return len(line) - len(line.lstrip())
+
+
+def lemmas_in(lines):
+    """Each lemma of a file: its name, the lines of its statement, of what it unfolds, and of each of its equations, and its end."""
+    found, at = [], 0
+    while at < len(lines):
+        head = re.match(r"^( *)(?:pub )?([^\s(){}:,.;=]+) : ", lines[at])
+        if not head or head[2] in ("let", "in", "module"):
+            at += 1
+            continue
+        depth, name, end = len(head[1]), re.escape(head[2]), at + 1
+        while end < len(lines) and lines[end].strip() and indent(lines[end]) > depth:
+            end += 1
+        stated, unfolds, equations = (at, end), [], []
+        while end < len(lines) and re.match(rf"^ {{{depth}}}(unfolding|by_parts|measure)\b", lines[end]):
+            unfolds.append(lines[end])
+            end += 1
+        while end < len(lines) and re.match(rf"^ {{{depth}}}{name}( .*)?$", lines[end]):
+            begin, end = end, end + 1
+            closing = re.compile(rf"^ {{{depth}}}[\])}}]")
+            while end < len(lines) and lines[end].strip() and (indent(lines[end]) > depth or closing.match(lines[end])):
+                end += 1
+            equations.append((begin, end))
+        is_whole = not any(re.search(r"\bwhere\b", it) for it in lines[at : end + 1])
+        if equations and is_whole:
+            found.append((head[2], stated, unfolds, equations, end))
+        at = max(end, at + 1)
+    return found
+
+
+def cited_names(lines):
+    """The names of lemmas that a file imports."""
+    found = set()
+    for line in lines:
+        names = re.match(r"use (\S+?)\.\{(.*)\}\s*$", line)
+        for name in names[2].split(", ") if names else []:
+            whole = f"{names[1]}.{name.strip()}"
+            last = whole.rpartition(".")[2]
+            is_common = whole.startswith("Rattle.std.proofs.Common.")
+            if is_common and re.match(r"^[a-z_]+([-_][a-z_-]+)+$", last) or ".proofs" in whole and not is_common:
+                found.add(last)
+    return found
+
+
+def bound_in(body):
+    """The names that a body binds: by λ, and in the patterns of its cases."""
+    heads = re.findall(r"λ ((?:\([^()]*\)|[^\s.()]+)(?:\s+(?:\([^()]*\)|[^\s.()]+))*)\. ", body) + re.findall(r"(?:^|\s)\| (.*?) ↦", body)
+    return {name for head in heads for name in re.findall(r"[^\s(){}:,]+", head)}
+
+
+def without_lets(body):
+    """The definitions with which a body begins, by name, and what is behind them."""
+    lets, rest = [], body.strip()
+    while rest.startswith("let "):
+        depth, level, end = 0, 1, None
+        for mark in re.finditer(r"[(\[{]|[)\]}]|(?<![^\s(])let(?!\S)|(?<!\S)in(?!\S)", rest[4:]):
+            depth += {"(": 1, "[": 1, "{": 1, ")": -1, "]": -1, "}": -1}.get(mark[0], 0)
+            if depth == 0:
+                level += {"let": 1, "in": -1}.get(mark[0], 0)
+            if level == 0:
+                end = 4 + mark.start()
+                break
+        named = re.match(r"(\S+)(?: : (.*?))? = (.*)$", rest[4:end].strip(), re.S) if end else None
+        if not named:
+            break
+        lets.append((named[1], named[3].strip()))
+        rest = rest[end + 2 :].strip()
+    return lets, rest
+
+
+def put_in(text, values):
+    for name, value in values.items():
+        text = re.sub(f"{BEFORE}{re.escape(name)}{BEHIND}", lambda _, it=value: f"({it})", text)
+    return text
+
+
+def end_of_part(text, at):
+    """Where the part of a term ends that begins here: a word, or what stands in brackets, with its fields."""
+    if text[at] not in "([{":
+        word = WORD.match(text, at)
+        return word.end() if word else None
+    depth = 0
+    for end in range(at, len(text)):
+        depth += {"(": 1, "[": 1, "{": 1, ")": -1, "]": -1, "}": -1}.get(text[end], 0)
+        if depth == 0:
+            field = re.compile(r"(\.[\w'-]+)+").match(text, end + 1)
+            return field.end() if field else end + 1
+    return None
+
+
+def calls_in(text, lemmas):
+    """The terms whose head is one of these lemmas, but those within another."""
+    found, done = [], 0
+    for head in re.finditer(rf"{BEFORE}[^\s(){{}}\[\],;]+", text):
+        if head[0] not in lemmas or head.start() < done:
+            continue
+        end = head.end()
+        while end + 1 < len(text) and text[end] == " " and text[end + 1] not in ")]},;[":
+            word = WORD.match(text, end + 1)
+            part = None if word and word[0] in STOPS else end_of_part(text, end + 1)
+            if part is None:
+                break
+            end = part
+        found.append(text[head.start() : end])
+        done = end
+    return found
+
+
+def facts_of(body, lemmas, own):
+    """What `grind` gets in place of a body: the lemmas that it cites, with their arguments where nothing in the body binds these."""
+    flat = re.sub(r"\s+", " ", re.sub(r"--.*", "", body)).strip()
+    lets, rest = without_lets(flat)
+    values = {}
+    for name, value in lets:
+        values[name] = put_in(value, values)
+    bound = bound_in(flat) | (set(re.findall(r"(?<![^\s(])let (\S+)", flat)) - set(values))
+    closed, bare, texts = [], [], [put_in(rest, values), *reversed(values.values())]
+    while texts:
+        for call in calls_in(texts.pop(), lemmas | {own}):
+            head = WORD.match(call)[0]
+            words = {it.split(".")[0] for it in WORD.findall(call)}
+            if words & bound or "_" in words or "λ" in call or " let " in call or "elim" in call:
+                bare += [head] * (head not in (own, *bare))
+                texts.append(call[len(head) :])
+                continue
+            inner = [it for it in calls_in(call[len(head) :], lemmas | {own}) if " " in it]
+            closed += [it for it in dict.fromkeys([call, *inner]) if it not in closed]
+    heads = {WORD.match(it)[0] for it in closed}
+    facts = closed + [it for it in bare if it not in heads]
+    return f"grind (arith, {', '.join(facts)})" if facts else "grind arith"
+
+
+def laid_out(head, text, depth, room):
+    """The head and the text on one line, or on two where that is too long; nothing where they need as much room as there was."""
+    one, two = [f"{head} {text}"], [head, " " * (depth + 4) + text]
+    lines = one if len(one[0]) <= WIDTH else two
+    return lines if max(map(len, lines)) <= WIDTH and len(lines) < room else None
+
+
+def bodies(lines, lemma, lemmas):
+    """Each body of two lines and more, as where it stands and what may stand there instead."""
+    name, _, _, equations, _ = lemma
+    for begin, end in equations:
+        head = re.match(rf"^( *{re.escape(name)}(?: .*?)? =)( .*)?$", lines[begin])
+        if end - begin > 1 and head:
+            body = "\n".join([head[2] or "", *lines[begin + 1 : end]])
+            new = laid_out(head[1], facts_of(body, lemmas, name), indent(lines[begin]), end - begin)
+            if new:
+                yield begin, end, new
+
+
+def blocks(lines, lemma, lemmas):
+    """Each part of a body, of two lines and more, that stands behind ↦ or =."""
+    name, _, _, equations, _ = lemma
+    for first, last in equations:
+        for begin in range(first + 1, last):
+            depth, end = indent(lines[begin]), begin + 1
+            while end < last and indent(lines[end]) > depth:
+                end += 1
+            is_open = lines[begin][-1:] in "[({"
+            if end < last and is_open and indent(lines[end]) == depth and re.match(r"^ *[\])}]+[;,]?( in)?$", lines[end]):
+                end += 1
+            heads = (r"^ *\| .*? ↦(?= |$)", r"^ *(let )?[^\s(){}:,;=]+ =(?= |$)", r"^ *let [^\s(){}:,;=]+ : .*? =(?= |$)")
+            head = next((it for it in (re.match(each, lines[begin]) for each in heads) if it), None)
+            tail = re.search(r"(;|,| in|)$", lines[end - 1])[1]
+            is_let = lines[begin].lstrip().startswith("let ")
+            if end - begin < 2 or not head or is_let and tail != " in" and lines[end : end + 1] != [" " * depth + "in"]:
+                continue
+            body = "\n".join([lines[begin][head.end() :], *lines[begin + 1 : end]])
+            text = facts_of(body.removesuffix(tail), lemmas, name) + tail
+            new = laid_out(head[0], text, depth, end - begin)
+            if new:
+                yield begin, end, new
+
+
+def planted(file, parts, count):
+    """The file with a second lemma for each part, and what each of these puts where, by its name."""
+    lines, tries, added = read(file), {}, []
+    lemmas = cited_names(lines)
+    own = {it[0] for it in lemmas_in(lines)}
+    for lemma in lemmas_in(lines):
+        name, stated, unfolds, equations, end = lemma
+        for begin, over, new in parts(lines, lemma, (lemmas | own) - {name}):
+            other = f"{name}__{count + len(tries)}"
+            text = lines[stated[0] : stated[1]] + unfolds
+            for first, last in equations:
+                is_here = first <= begin < last
+                text += lines[first:begin] + new + lines[over:last] if is_here else lines[first:last]
+            text = [re.sub(f"{BEFORE}{re.escape(name)}{BEHIND}", other, it) for it in text]
+            text[0] = re.sub(r"^( *)pub ", r"\1", text[0])
+            added.append((end, ["", *text]))
+            tries[other] = (file, begin, over, new)
+    for end, text in reversed(added):
+        lines[end:end] = text
+    return with_tactics(lines), tries
+
+
+def with_tactics(lines):
+    """A file with the names of the tactics that it uses among its imports."""
+    uses = [it for it in lines if it.startswith("use ")]
+    text = "\n".join(lines)
+    lacking = [line for name, line in TACTICS.items() if re.search(rf"[( ,]{name}[,)\s]", text) and not any(re.search(rf"[{{ ]{name}[,}}]", it) for it in uses)]
+    at = next((k for k, it in enumerate(lines) if it.startswith("use ")), 0)
+    return lines[:at] + lacking + lines[at:]
+
+
+def shorten(crate, parts):
+    before = {file: read(file) for file in files_of(crate)}
+    tries = {}
+    for file in before:
+        lines, more = planted(file, parts, len(tries))
+        if more:
+            write(file, lines)
+            tries |= more
+    print(f"{crate}: {len(tries)} tries", flush=True)
+    ran = subprocess.run(["rt", "check", "--jobs", "1"], cwd=f"crates/{crate}", stdout=subprocess.PIPE, stderr=subprocess.STDOUT, errors="replace", check=False)
+    for file, lines in before.items():
+        write(file, lines)
+    if f"fn {crate}::" not in ran.stdout:
+        print(ran.stdout[-2000:], "\nno verdict: nothing was changed")
+        return 1
+    refused = set(re.findall(r"([^\s`,()]+__\d+)", ran.stdout))
+    broken = re.findall(r"^\.?/?(proofs/\S+\.antt):\d+:\d+: error: (?!`|\d+ declaration)", ran.stdout, re.M)
+    good = [it for name, it in tries.items() if name not in refused and it[0] not in {f"crates/{crate}/{file}" for file in broken}]
+    taken, gain = [], 0
+    for file, begin, end, new in sorted(good, key=lambda it: it[1] - it[2] + len(it[3])):
+        if all(file != other or end <= first or begin >= last for other, first, last, _ in taken):
+            taken.append((file, begin, end, new))
+            gain += end - begin - len(new)
+    for file in {it[0] for it in taken}:
+        lines = read(file)
+        for _, begin, end, new in sorted((it for it in taken if it[0] == file), key=lambda it: -it[1]):
+            lines[begin:end] = new
+        write(file, with_tactics(lines))
+    print(f"{crate}: {len(taken)} of {len(tries)} taken, {gain} lines fewer")
+    return 0
+
+
+def is_used(item, body):
+    name = item.partition(" as ")[2] or item.rpartition(".")[2]
+    if "◌" in name:
+        return all(part in body for part in name.split("◌"))
+    return re.search(rf"(?<![^\s(){{}}\[\],;.∥!?]){re.escape(name)}(?=[\s(){{}}\[\],;.∥]|$)", body) is not None
+
+
+def one_line(items):
+    """One line of imports, with the path that all share before the brackets."""
+    paths = [it.split(".") for it in items]
+    same = 0
+    while same < min(map(len, paths)) - 1 and len({it[same] for it in paths}) == 1:
+        same += 1
+    return f"use {'.'.join(paths[0][:same])}.{{{', '.join('.'.join(it[same:]) for it in paths)}}}"
+
+
+def folder_of(item):
+    parts = item.split(".")[:-1]
+    return "Rattle.std.proofs.Common" if item.startswith("Rattle.std.proofs.Common.") else ".".join(parts[:3])
+
+
+def imported(lines, body):
+    """The lines of imports for the names that the body uses, those of one folder together."""
+    groups = {}
+    for line in lines:
+        names = re.match(r"use (\S+?)\.\{(.*)\}\s*$", line)
+        items = [f"{names[1]}.{it.strip()}" for it in names[2].split(", ")] if names else [line[4:].strip()]
+        for item in items:
+            if is_used(item, body):
+                alone = not names or " as " in item
+                group = groups.setdefault((item, line) if alone else folder_of(item), [])
+                group += [item] * (item not in group)
+    found = []
+    for folder, items in groups.items():
+        if isinstance(folder, tuple):
+            item, line = folder
+            module, _, name = item.partition(" as ")[0].rpartition(".")
+            found.append(f"use {module}.{{{name} as {item.partition(' as ')[2]}}}" if "{" in line else line)
+            continue
+        row = []
+        for item in sorted(items, key=lambda it, all_of=items: next(k for k, other in enumerate(all_of) if other.rpartition(".")[0] == it.rpartition(".")[0])):
+            if row and len(one_line([*row, item])) > WIDTH:
+                found.append(one_line(row))
+                row = []
+            row.append(item)
+        found.append(one_line(row))
+    return found
+
+
+def tidy_imports(crate):
+    count = 0
+    for file in files_of(crate):
+        lines = with_tactics(read(file))
+        places = [k for k, it in enumerate(lines) if it.startswith("use ")]
+        if not places or places != list(range(places[0], places[-1] + 1)) or any(it.startswith("pub use") for it in lines):
+            continue
+        body = "\n".join(re.sub(r"--.*", "", it) for it in lines[: places[0]] + lines[places[-1] + 1 :])
+        new = imported(lines[places[0] : places[-1] + 1], body)
+        count += len(places) - len(new)
+        lines[places[0] : places[-1] + 1] = new
+        write(file, lines)
+    print(f"{crate}: {count} lines of imports fewer")
+    return 0
+
+
+def main(what, *crates):
+    os.chdir(os.path.dirname(os.path.dirname(os.path.realpath(__file__))))
+    work = {"bodies": lambda it: shorten(it, bodies), "blocks": lambda it: shorten(it, blocks), "imports": tidy_imports}[what]
+    return max(map(work, crates))
+
+
+if __name__ == "__main__":
+    if len(sys.argv) < 3 or sys.argv[1] not in ("bodies", "blocks", "imports"):
+        sys.exit(__doc__)
+    sys.exit(main(*sys.argv[1:]))
