@@ -1,8 +1,8 @@
 -- Which keys the halves of a block have.
 use Rattle.std.proofs.Common.{◌≡◌, ℕ, ◌-◌, ◌^◌, ◌<◌, ◌⊎◌, ◌==◌, true, false, min, max, inl, inr, sym, ap, ◌∙◌, arith}
 use Rattle.std.specs.{Prelude.bit_and, Prelude.bit_or, Prelude.bit_xor, Int.bit_at}
-use Rattle.std.proofs.lemmas.{Bool.eq-eqb, Bool.Decides.eqb_tells, Nat.pow_pos}
-use Rattle.std.proofs.lemmas.Nat.Bits.{and_pow, bit_at_and, bit_at_or, bit_at_xor, bit_at-lt, bit_at-pow_same, bit_at-pow_other}
+use Rattle.std.proofs.lemmas.{Bool.eq-eqb, Bool.Decides.eqb_tells, Nat.pow_pos, Nat.Bits.and_pow, Nat.Bits.bit_at_and, Nat.Bits.bit_at_or, Nat.Bits.bit_at_xor, Nat.Bits.bit_at-lt}
+use Rattle.std.proofs.lemmas.Nat.Bits.{bit_at-pow_same, bit_at-pow_other}
 use Rattle.spin_base.specs.declared.blocks.Block.{Block}
 use Rattle.tern_word.specs.Ternary.{Matches, Intersects, Wants}
 use Rattle.tern_word.proofs.BlockLaws.{Matches-wants, Matches-from_wants, meet_where_agree, agree_where_meet}

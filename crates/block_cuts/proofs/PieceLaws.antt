@@ -1,15 +1,14 @@
 -- The pieces of a block are the block less the others.
 use Rattle.std.proofs.Common.{◌≡◌, ℕ, zero, suc, ◌+◌, ◌-◌, ◌^◌, ◌<◌, ◌≤◌, ◌⊎◌, Bool, true, false, inl, inr, List, [], ◌∷◌, ◌++◌, length, get_or, Some, None, refl, sym, ap, ◌∙◌, subst, arith}
 use Rattle.std.specs.{Prelude.AllPairs, Prelude.Option, Prelude.IfSome, Prelude.if◌then◌else◌, Prelude.nat_le, List.flat_map, Int.bit_at}
-use Rattle.std.proofs.lemmas.Bool.{cases_lt, Decides.eqb_tells, Decides.leb_tells}
-use Rattle.std.proofs.lemmas.List.{Elements.All-nil, Elements.All-cons, Elements.All-head, Elements.All-tail, Kept.AllPairs-cons}
-use Rattle.std.proofs.lemmas.{Nat.Bits.bit_at-lt, Nat.Bits.bit_at_above, Option.none-some, Option.same_Some}
+use Rattle.std.proofs.lemmas.{Bool.cases_lt, Bool.Decides.eqb_tells, Bool.Decides.leb_tells, List.Elements.All-nil, List.Elements.All-cons, List.Elements.All-head, List.Elements.All-tail}
+use Rattle.std.proofs.lemmas.{List.Kept.AllPairs-cons, Nat.Bits.bit_at-lt, Nat.Bits.bit_at_above, Option.none-some, Option.same_Some}
 use Rattle.spin_base.proofs.Pairs.{AllPairs-nil}
 use Rattle.spin_base.specs.declared.blocks.Block.{Block}
 use Rattle.tern_word.specs.Ternary.{Matches, Intersects}
 use Rattle.tern_word.proofs.BlockLaws.{Matches-wants, Matches-from_wants}
-use Rattle.block_cuts.specs.Cuts.{is_cut_at, less, less_of, own_half, other_half, meets, apart_of, cut_by, cut_from, cut}
-use Rattle.block_cuts.specs.Pieces.{ArePieces, HasPiece, NoneHas}
+use Rattle.block_cuts.specs.{Cuts.is_cut_at, Cuts.less, Cuts.less_of, Cuts.own_half, Cuts.other_half, Cuts.meets, Cuts.apart_of, Cuts.cut_by, Cuts.cut_from, Cuts.cut, Pieces.ArePieces}
+use Rattle.block_cuts.specs.Pieces.{HasPiece, NoneHas}
 use Rattle.block_cuts.proofs.HalfLaws.{cut_cases, meets_tells, own_in, own_bit, own_has, own_wants_here, own_wants, wants_own, other_in, other_bit, other_has}
 
 -- one of the pieces has the key
@@ -75,27 +74,13 @@ less_whole (suc i) p e k above agree m miss = elim (cut_cases p e i) [
     turned other = grind (arith, other, bit_at-lt e.key i, bit_at-lt k i)
 
     own_above : bit_at p.mask i ≡ 0 → bit_at e.mask i ≡ 1 → Above i (own_half p e (2 ^ i)) e
-    own_above free cares j from on = elim (cases_lt i j) [
-      | inl higher ↦ (own_wants p e i free cares j (bit_at p.key j) (record { cares = above j higher on; value = refl })).cares
-      | inr here ↦ let same : i ≡ j = omega arith in subst (λ n. bit_at (own_half p e (2 ^ i)).mask n ≡ 1) same (own_wants_here p e i free cares).cares
-    ]
+    own_above free cares j from on = grind (arith, cases_lt i j, own_wants_here p e i free cares, own_wants)
 
     own_agree : bit_at p.mask i ≡ 0 → bit_at e.mask i ≡ 1 → Agree (own_half p e (2 ^ i)) e
-    own_agree free cares j own on = elim (wants_own p e i free cares j (bit_at (own_half p e (2 ^ i)).key j) (record { cares = own; value = refl })) [
-      | inl this ↦ this.1 ∙ ap (bit_at e.key) (sym this.0)
-      | inr of_p ↦ sym of_p.value ∙ agree j of_p.cares on
-    ]
+    own_agree free cares j own on = grind (arith, wants_own p e i free cares j (bit_at (own_half p e (2 ^ i)).key j) (record { cares = own; value = refl }), agree)
 
     still_above : (bit_at p.mask i ≡ 1) ⊎ (bit_at e.mask i ≡ 0) → Above i p e
-    still_above which j from on = elim (cases_lt i j) [
-      | inl higher ↦ above j higher on
-      | inr here ↦
-          let same : i ≡ j = omega arith in
-          elim which [
-            | inl cares ↦ subst (λ n. bit_at p.mask n ≡ 1) same cares
-            | inr off ↦ absurd (omega (arith, ap (bit_at e.mask) same, off, on))
-          ]
-    ]
+    still_above which j from on = grind (arith, cases_lt i j)
 
 less_apart : (i : ℕ) (p e : Block) → Apart (less i p e)
 less_apart zero p e = tt
@@ -211,16 +196,7 @@ record IsCut (ps es final : List Block) : Type 0 where
 
 cut_from_is : (room : ℕ) (block : Block) (es ps final : List Block) → ((k : ℕ) → k < 2 ^ 32 → Has ps k → Matches block k) → cut_from room block ps es ≡ Some final → IsCut ps es final
 cut_from_is room block [] ps final inside same = grind (arith, same_Some ps final (where_few (nat_le (length ps) room) (Some ps) final same), where_few (nat_le (length ps) room) (Some ps) final same)
-cut_from_is room block (e ∷ es) ps final inside same =
-    let rest = cut_from_is room block es (cut_by block e ps) final (λ k small has. inside k small (by_sub block e ps inside k small has).0)
-    (where_few (nat_le (length ps) room) (cut_from room block (cut_by block e ps) es) final same) in record {
-      sub = λ k small has.
-          let after = rest.sub k small has in
-          let before = by_sub block e ps inside k small after.0 in
-          (before.0, (before.1, after.1));
-      whole = λ k has free. rest.whole k (by_whole block e ps k has free.0) free.1;
-      apart = λ apart. rest.apart (by_apart block e ps apart);
-    }
+cut_from_is room block (e ∷ es) ps final inside same = grind (arith, where_few (nat_le (length ps) room) (cut_from room block (cut_by block e ps) es) final same, by_sub, by_whole, by_apart)
 
 -- ---- the same, of all items of a list
 

@@ -4,8 +4,8 @@ use Rattle.std.proofs.lemmas.Bool.{lt-ltb, le-ltb, eq-eqb, ne_eqb, cases_lt, cas
 use Rattle.std.proofs.Math.Nat.{mod-eq_of_lt, mod_self, add-mod_right}
 use Rattle.spin_base.specs.declared.chips.Dir.{Dir, TheVariants.East, TheVariants.NorthEast, TheVariants.North, TheVariants.West, TheVariants.SouthWest, TheVariants.South}
 use Rattle.spin_base.specs.Links.{opposite_of}
-use Rattle.machine_desc.specs.declared.steps.Step.{Step, TheVariants.Back, TheVariants.Stay, TheVariants.Ahead}
-use Rattle.machine_desc.specs.Live.{stepped, x_step, y_step}
+use Rattle.machine_desc.specs.{declared.steps.Step.Step, declared.steps.Step.TheVariants.Back, declared.steps.Step.TheVariants.Stay, declared.steps.Step.TheVariants.Ahead, Live.stepped, Live.x_step}
+use Rattle.machine_desc.specs.Live.{y_step}
 
 pub turned : Step → Step
 turned Back = Ahead
@@ -46,26 +46,17 @@ back_inside n w p h =
     let below : n - 1 < w = omega arith in
     ap (λ k. k % w) same ∙ (add-mod_right (n - 1) w ∙ mod-eq_of_lt below)
 
-back_inside__0 : (n w : ℕ) → 0 < n → n < w → (n + (w - 1)) % w ≡ n - 1
-back_inside__0 n w p h = grind (arith, add-mod_right (n - 1) w, mod-eq_of_lt (omega arith))
-
 back_after_ahead : (n w : ℕ) → n < w → ((n + 1) % w + (w - 1)) % w ≡ n
 back_after_ahead n w h = elim (cases_lt (n + 1) w) [
   | inl inside ↦ ap (λ k. (k + (w - 1)) % w) (ahead_inside n w inside) ∙ (back_inside (n + 1) w (omega arith) inside ∙ omega arith)
   | inr last ↦ ap (λ k. (k + (w - 1)) % w) (ahead_last n w (omega arith)) ∙ (back_first w (omega arith) ∙ omega arith)
 ]
 
-back_after_ahead__1 : (n w : ℕ) → n < w → ((n + 1) % w + (w - 1)) % w ≡ n
-back_after_ahead__1 n w h = grind (arith, cases_lt (n + 1) w, ahead_last n w (omega arith), back_first w (omega arith), ahead_inside, back_inside)
-
 ahead_after_back : (n w : ℕ) → n < w → ((n + (w - 1)) % w + 1) % w ≡ n
 ahead_after_back n w h = elim (cases_eq n 0) [
   | inl first ↦ ap (λ k. ((k + (w - 1)) % w + 1) % w) first ∙ (ap (λ k. (k + 1) % w) (back_first w (omega arith)) ∙ (ahead_last (w - 1) w (omega arith) ∙ sym first))
   | inr other ↦ ap (λ k. (k + 1) % w) (back_inside n w (omega arith) h) ∙ (ahead_inside (n - 1) w (omega arith) ∙ omega arith)
 ]
-
-ahead_after_back__2 : (n w : ℕ) → n < w → ((n + (w - 1)) % w + 1) % w ≡ n
-ahead_after_back__2 n w h = grind (arith, cases_eq n 0, back_first w (omega arith), ahead_last (w - 1) w (omega arith), back_inside n w (omega arith) h, ahead_inside (n - 1) w (omega arith))
 
 -- A step that leads from n inside to k leads inside, and the step the other way leads from k back to n.
 pub stepped_back : (wrap : Bool) (w : ℕ) (s : Step) (n k : ℕ) → n < w → stepped wrap w s n ≡ Some k → stepped wrap w (turned s) k ≡ Some n
@@ -74,50 +65,8 @@ stepped_back true w Stay n k h e = sym e
 stepped_back false w Stay n k h e = sym e
 stepped_back true w Ahead n k h e = grind (arith, back_after_ahead n w h)
 stepped_back true w Back n k h e = grind (arith, ahead_after_back n w h)
-stepped_back false w Ahead n k h e = elim (cases_lt (n + 1) w) [
-  | inl inside ↦
-      let same : Some (n + 1) ≡ Some k = sym (cond-true (ltb (n + 1) w) (Some (n + 1)) None (lt-ltb _ _ inside)) ∙ e in
-      let is : n + 1 ≡ k = cc in
-      cond-false (eqb k 0) None (Some (k - 1)) (ne_eqb _ _ (omega arith)) ∙ ap Some (omega arith)
-  | inr last ↦ grind (arith, cond-false (ltb (n + 1) w) (Some (n + 1)) None (le-ltb _ _ last), le-ltb _ _ last)
-]
-stepped_back false w Back n k h e = elim (cases_eq n 0) [
-  | inl first ↦ let none : None ≡ Some k = sym (cond-true (eqb n 0) None (Some (n - 1)) (eq-eqb _ _ first)) ∙ e in cc
-  | inr other ↦
-      let same : Some (n - 1) ≡ Some k = sym (cond-false (eqb n 0) None (Some (n - 1)) (ne_eqb _ _ other)) ∙ e in
-      let is : n - 1 ≡ k = cc in
-      cond-true (ltb (k + 1) w) (Some (k + 1)) None (lt-ltb _ _ (omega arith)) ∙ ap Some (omega arith)
-]
-
-stepped_back__3 : (wrap : Bool) (w : ℕ) (s : Step) (n k : ℕ) → n < w → stepped wrap w s n ≡ Some k → stepped wrap w (turned s) k ≡ Some n
-unfolding turned
-stepped_back__3 true w Stay n k h e = sym e
-stepped_back__3 false w Stay n k h e = sym e
-stepped_back__3 true w Ahead n k h e = grind (arith, back_after_ahead n w h)
-stepped_back__3 true w Back n k h e = grind (arith, ahead_after_back n w h)
-stepped_back__3 false w Ahead n k h e = grind (arith, cases_lt (n + 1) w, cond-true, cond-false, le-ltb, ne_eqb, lt-ltb)
-stepped_back__3 false w Back n k h e = elim (cases_eq n 0) [
-  | inl first ↦ let none : None ≡ Some k = sym (cond-true (eqb n 0) None (Some (n - 1)) (eq-eqb _ _ first)) ∙ e in cc
-  | inr other ↦
-      let same : Some (n - 1) ≡ Some k = sym (cond-false (eqb n 0) None (Some (n - 1)) (ne_eqb _ _ other)) ∙ e in
-      let is : n - 1 ≡ k = cc in
-      cond-true (ltb (k + 1) w) (Some (k + 1)) None (lt-ltb _ _ (omega arith)) ∙ ap Some (omega arith)
-]
-
-stepped_back__4 : (wrap : Bool) (w : ℕ) (s : Step) (n k : ℕ) → n < w → stepped wrap w s n ≡ Some k → stepped wrap w (turned s) k ≡ Some n
-unfolding turned
-stepped_back__4 true w Stay n k h e = sym e
-stepped_back__4 false w Stay n k h e = sym e
-stepped_back__4 true w Ahead n k h e = grind (arith, back_after_ahead n w h)
-stepped_back__4 true w Back n k h e = grind (arith, ahead_after_back n w h)
-stepped_back__4 false w Ahead n k h e = elim (cases_lt (n + 1) w) [
-  | inl inside ↦
-      let same : Some (n + 1) ≡ Some k = sym (cond-true (ltb (n + 1) w) (Some (n + 1)) None (lt-ltb _ _ inside)) ∙ e in
-      let is : n + 1 ≡ k = cc in
-      cond-false (eqb k 0) None (Some (k - 1)) (ne_eqb _ _ (omega arith)) ∙ ap Some (omega arith)
-  | inr last ↦ grind (arith, cond-false (ltb (n + 1) w) (Some (n + 1)) None (le-ltb _ _ last), le-ltb _ _ last)
-]
-stepped_back__4 false w Back n k h e = grind (arith, cases_eq n 0, cond-true, cond-false, lt-ltb, ne_eqb, eq-eqb)
+stepped_back false w Ahead n k h e = grind (arith, cases_lt (n + 1) w, cond-true, cond-false, le-ltb, ne_eqb, lt-ltb)
+stepped_back false w Back n k h e = grind (arith, cases_eq n 0, cond-true, cond-false, lt-ltb, ne_eqb, eq-eqb)
 
 pub stepped_inside : (wrap : Bool) (w : ℕ) (s : Step) (n k : ℕ) → n < w → stepped wrap w s n ≡ Some k → k < w
 stepped_inside true w Stay n k h e = let same : n ≡ k = cc in omega arith

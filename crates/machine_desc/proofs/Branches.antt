@@ -1,17 +1,17 @@
 -- Branches of one routing tree: where they pass, that together they pass everywhere, and that none is long.
 use Rattle.std.proofs.Common.{◌≡◌, ◌≢◌, ℕ, zero, suc, ◌+◌, ◌*◌, ◌<◌, ◌≤◌, eqb, List, [], ◌∷◌, ◌++◌, length, get_or, map, Some, None, refl, sym, ap, ◌∙◌, subst, arith, inl, inr, ◌⊎◌}
 use Rattle.std.specs.List.{slice_get, Contains}
-use Rattle.std.proofs.lemmas.{Bool.eqb-true, Bool.ne_eqb, List.get_or_default, List.get_or-map, List.length-map, List.length-append, List.map-append}
-use Rattle.std.proofs.lemmas.{List.Elements.All-contains, List.Elements.Contains-push, List.Elements.Contains-append_left, Map.Keys.IsDistinct-from_apart}
-use Rattle.std.proofs.lemmas.{Map.Steps.length-le_from_distinct_below, Map.Views.Contains-from_any, Option.slice_get-get_or}
+use Rattle.std.proofs.lemmas.{Bool.eqb-true, Bool.ne_eqb, List.get_or_default, List.get_or-map, List.length-map, List.length-append, List.map-append, List.Elements.All-contains}
+use Rattle.std.proofs.lemmas.{List.Elements.Contains-push, List.Elements.Contains-append_left, Map.Keys.IsDistinct-from_apart, Map.Steps.length-le_from_distinct_below, Map.Views.Contains-from_any}
+use Rattle.std.proofs.lemmas.Option.{slice_get-get_or}
 use Rattle.spin_base.specs.declared.{chips.Chip.Chip, chips.Spot.Spot, chips.Dir.Dir, chips.Port.Port, chips.Port.TheVariants.Local, routes.Out.TheVariants.Link}
 use Rattle.spin_base.specs.{Links.opposite_of, Outputs.out_of}
 use Rattle.spin_base.specs.declared.chips.Port.TheVariants.{Link as ByLink}
-use Rattle.machine_desc.specs.{declared.trees.Edge.Edge, Description.Description, Live.far_of, Live.IsInside, Live.IsLiveChip, Live.index_of}
-use Rattle.machine_desc.specs.RoutingTree.{end_of, IsTreeChip, IsPath, IsTreeTo, IsRoutingTree}
-use Rattle.machine_desc.specs.Branch.{Exit, GoesOn, IsWay, IsBranch, port_after, arrival_from, arrival_at}
-use Rattle.machine_desc.proofs.{Far.live_inside, Far.far_inside, Far.same_index, Far.index_below, Same.same_edge}
-use Rattle.machine_desc.proofs.TreeLemmas.{path_more, path_in_tree, one_edge_into, edge_lives, root_lives_with_edge}
+use Rattle.machine_desc.specs.{declared.trees.Edge.Edge, Description.Description, Live.far_of, Live.IsInside, Live.IsLiveChip, Live.index_of, RoutingTree.end_of, RoutingTree.IsTreeChip}
+use Rattle.machine_desc.specs.{RoutingTree.IsPath, RoutingTree.IsTreeTo, RoutingTree.IsRoutingTree, Branch.Exit, Branch.GoesOn, Branch.IsWay, Branch.IsBranch, Branch.port_after, Branch.arrival_from}
+use Rattle.machine_desc.specs.Branch.{arrival_at}
+use Rattle.machine_desc.proofs.{Far.live_inside, Far.far_inside, Far.same_index, Far.index_below, Same.same_edge, TreeLemmas.path_more, TreeLemmas.path_in_tree, TreeLemmas.one_edge_into}
+use Rattle.machine_desc.proofs.TreeLemmas.{edge_lives, root_lives_with_edge}
 
 -- numbers below n of which no two are the same are at most n
 pub length_le_from_apart : (xs : List ℕ) (n : ℕ) → ((i j d : ℕ) → i < j → j < length xs → get_or xs i d ≢ get_or xs j d) →
@@ -20,10 +20,6 @@ length_le_from_apart xs n apart below =
     length-le_from_distinct_below xs n
     (IsDistinct-from_apart eqb xs (λ i j d lt within. ne_eqb (get_or xs i d) (get_or xs j d) (apart i j d lt within)))
     (λ q h. let has = Contains-from_any {eq = eqb} eqb-true q xs h in subst (λ (k : ℕ). k < n) has.2 (below has.0 q has.1))
-
-length_le_from_apart__5 : (xs : List ℕ) (n : ℕ) → ((i j d : ℕ) → i < j → j < length xs → get_or xs i d ≢ get_or xs j d) →
-    ((i d : ℕ) → i < length xs → get_or xs i d < n) → length xs ≤ n
-length_le_from_apart__5 xs n apart below = grind (arith, length-le_from_distinct_below, IsDistinct-from_apart, Contains-from_any, below, eqb-true, ne_eqb, get_or, apart, within)
 
 -- the exit of an edge
 abbrev pub exit_of : Edge → Exit
@@ -59,34 +55,8 @@ comes_by m edges s from port (y ∷ ys) k x way h =
 
     place : Later → (d : Dir) (c : Chip) → y.out ≡ Link d → Contains edges (record { chip = from; dir = d }) → far_of m from d ≡ Some c →
         IsWay m edges s c ys → (j : ℕ) → slice_get ys j ≡ Some x → ComesBy m edges (y ∷ ys) port j x.chip
-    place on d c is has leads rest zero h = record {
-      edge = record { chip = from; dir = d };
-      in_tree = has;
-      leads = leads ∙ ap Some (sym (way_first m edges s c ys x rest h));
-      before = ap Some (same_exit y (record { chip = from; out = Link d }) way.0 is);
-      arrives = ap port_after is;
-    }
-    place on d c is has leads rest (suc j) h =
-        let later : ComesBy m edges ys (port_after y.out) j x.chip = on c rest j h in
-        record { edge = later.edge; in_tree = later.in_tree; leads = later.leads; before = later.before; arrives = later.arrives }
-
-    place__6 : Later → (d : Dir) (c : Chip) → y.out ≡ Link d → Contains edges (record { chip = from; dir = d }) → far_of m from d ≡ Some c →
-        IsWay m edges s c ys → (j : ℕ) → slice_get ys j ≡ Some x → ComesBy m edges (y ∷ ys) port j x.chip
-    place__6 on d c is has leads rest zero h = grind (arith, way_first m edges s c ys x rest h, same_exit y (record { chip = from; out = Link d }) way.0 is)
-    place__6 on d c is has leads rest (suc j) h =
-        let later : ComesBy m edges ys (port_after y.out) j x.chip = on c rest j h in
-        record { edge = later.edge; in_tree = later.in_tree; leads = later.leads; before = later.before; arrives = later.arrives }
-
-    place__7 : Later → (d : Dir) (c : Chip) → y.out ≡ Link d → Contains edges (record { chip = from; dir = d }) → far_of m from d ≡ Some c →
-        IsWay m edges s c ys → (j : ℕ) → slice_get ys j ≡ Some x → ComesBy m edges (y ∷ ys) port j x.chip
-    place__7 on d c is has leads rest zero h = record {
-      edge = record { chip = from; dir = d };
-      in_tree = has;
-      leads = leads ∙ ap Some (sym (way_first m edges s c ys x rest h));
-      before = ap Some (same_exit y (record { chip = from; out = Link d }) way.0 is);
-      arrives = ap port_after is;
-    }
-    place__7 on d c is has leads rest (suc j) h = grind arith
+    place on d c is has leads rest zero h = grind (arith, way_first m edges s c ys x rest h, same_exit y (record { chip = from; out = Link d }) way.0 is)
+    place on d c is has leads rest (suc j) h = grind arith
 
     leaves : Later → GoesOn m edges s from y.out ys (λ e. IsWay m edges s e ys) → ComesBy m edges (y ∷ ys) port k x.chip
     leaves on (inl (d, is, has, (e, far, rest))) = place on d e is has far rest k h
@@ -113,19 +83,8 @@ exit_leads m edges s from (y ∷ ys) zero x way h = subst (ExitLeads m edges s (
     next (z ∷ zs) c rest = (z, rest.0, refl)
 
     leaves : GoesOn m edges s from y.out ys (λ e. IsWay m edges s e ys) → ExitLeads m edges s (y ∷ ys) zero y
-    leaves (inl (d, is, has, (e, far, rest))) =
-        let z = next ys e rest in
-        inl (
-          d,
-          is,
-          subst (λ (c : Chip). Contains edges (record { chip = c; dir = d })) (sym way.0) has,
-          (z.0, subst (λ (c : Chip). far_of m c d ≡ Some z.0.chip) (sym way.0) (far ∙ ap Some (sym z.1)), z.2),
-        )
+    leaves (inl (d, is, has, (e, far, rest))) = grind (arith, next ys e rest)
     leaves (inr (at, is, last)) = inr (at ∙ sym way.0, is, ap (λ zs. suc (length zs)) last)
-
-    leaves__8 : GoesOn m edges s from y.out ys (λ e. IsWay m edges s e ys) → ExitLeads m edges s (y ∷ ys) zero y
-    leaves__8 (inl (d, is, has, (e, far, rest))) = grind (arith, next ys e rest)
-    leaves__8 (inr (at, is, last)) = inr (at ∙ sym way.0, is, ap (λ zs. suc (length zs)) last)
 exit_leads m edges s from (y ∷ ys) (suc i) x way h = leaves (λ c rest. exit_leads m edges s c ys i x rest h) way.1
   where
     later : ExitLeads m edges s ys i x → ExitLeads m edges s (y ∷ ys) (suc i) x
@@ -239,11 +198,6 @@ module _ (m : Description) (root : Chip) (edges : List Edge) (targets : List Chi
         | inr target ↦ (c, target, ([], refl))
       ]
 
-  goes_down__9 : IsLiveChip m root → (room : ℕ) (c : Chip) (path : List Edge) → IsPath m edges root path c → m.width * m.height ≤ length path + room →
-      (to : Chip) × Contains targets to × ((down : List Edge) × IsPath m edges c down to)
-  goes_down__9 root_lives zero c path along few = grind (arith, path_short root_lives c path along)
-  goes_down__9 root_lives (suc room) c path along few = grind (arith, path_in_tree, edge_lives, path_more, length-append, below)
-
   -- Each target chip has a branch, to each of its spots.
   pub target_on_branch : (s : Spot) → Contains targets s.chip → (xs : List Exit) × IsBranch m root edges s xs × Contains xs (last_exit s)
   target_on_branch s has =
@@ -284,9 +238,6 @@ chip_of_target targets c has =
     let s : Spot = get_or targets has.0 nothing in
     (s, (has.0, within, get_or_default targets has.0 s nothing within), sym (get_or-map (λ s. s.chip) targets has.0 nothing c within) ∙ has.2)
 
-chip_of_target__10 : (targets : List Spot) (c : Chip) → Contains (map (λ s. s.chip) targets) c → (s : Spot) × Contains targets s × (s.chip ≡ c)
-chip_of_target__10 targets c has = grind (arith, get_or targets has.0 (record { chip = c; core = 0 }), length-map, get_or_default, get_or-map)
-
 target_chip : (targets : List Spot) (s : Spot) → Contains targets s → Contains (map (λ t. t.chip) targets) s.chip
 target_chip targets s has = grind (arith, length-map, get_or-map)
 
@@ -296,18 +247,7 @@ pub end_on_branch : (m : Description) (root : Chip) (edges : List Edge) (targets
 end_on_branch m root edges targets tree s has =
     target_on_branch m root edges (map (λ t. t.chip) targets) tree s (target_chip targets s has)
 
-end_on_branch__11 : (m : Description) (root : Chip) (edges : List Edge) (targets : List Spot) → IsRoutingTree m root edges targets →
-    (s : Spot) → Contains targets s → (xs : List Exit) × IsBranch m root edges s xs × Contains xs (last_exit s)
-end_on_branch__11 m root edges targets tree s has = grind (arith, target_chip targets s has, target_on_branch)
-
 -- Each edge of a routing tree lies on a branch to some target.
 pub link_on_branch : (m : Description) (root : Chip) (edges : List Edge) (targets : List Spot) → IsRoutingTree m root edges targets →
     (e : Edge) → Contains edges e → (s : Spot) × Contains targets s × ((xs : List Exit) × IsBranch m root edges s xs × Contains xs (exit_of e))
-link_on_branch m root edges targets tree e has =
-    let below = edge_on_branch m root edges (map (λ t. t.chip) targets) tree e has in
-    let s = chip_of_target targets below.0 below.1 in
-    (s.0, s.1, below.2 s.0 s.2)
-
-link_on_branch__12 : (m : Description) (root : Chip) (edges : List Edge) (targets : List Spot) → IsRoutingTree m root edges targets →
-    (e : Edge) → Contains edges e → (s : Spot) × Contains targets s × ((xs : List Exit) × IsBranch m root edges s xs × Contains xs (exit_of e))
-link_on_branch__12 m root edges targets tree e has = grind (arith, edge_on_branch, chip_of_target)
+link_on_branch m root edges targets tree e has = grind (arith, edge_on_branch, chip_of_target)

@@ -1,13 +1,12 @@
 -- A table that tells which things are listed, as the list is read.
-use Rattle.std.proofs.Common.{◌≡◌, ℕ, ◌+◌, ◌<◌, ◌≤◌, Bool, true, false, ◌||◌, List, length, get_or, take, set, replicate, sym, ap, ◌∙◌, subst, arith, inl, inr}
+use Rattle.std.proofs.Common.{◌≡◌, ℕ, ◌+◌, ◌<◌, ◌≤◌, Bool, true, false, ◌||◌, List, length, get_or, take, set, replicate, arith, inl, inr}
 use Rattle.std.specs.List.{list_any}
-use Rattle.std.proofs.lemmas.{Bool.cases_eq, Bool.cases_lt, Bool.or_right, Bool.false_from_ne_true, Nat.same_from_place}
-use Rattle.std.proofs.lemmas.List.{get_or-set_same, get_or-set_other, get_or-replicate, get_or_past, length-replicate, Folds.list_any_more}
-use Rattle.std.proofs.Math.Bool.{or-false}
+use Rattle.std.proofs.lemmas.{Bool.cases_eq, Bool.cases_lt, Bool.or_right, Bool.false_from_ne_true, Nat.same_from_place, List.get_or-set_same, List.get_or-set_other, List.get_or-replicate}
+use Rattle.std.proofs.{lemmas.List.get_or_past, lemmas.List.length-replicate, lemmas.List.Folds.list_any_more, Math.Bool.or-false}
 use Rattle.spin_base.specs.{declared.chips.Chip.Chip, declared.chips.Spot.Spot, Equality.chip_eq, Equality.spot_eq, Links.dir_number}
 use Rattle.spin_base.proofs.Equality.{chip_eq_true, chip_eq_same, spot_eq_true, spot_eq_same}
-use Rattle.machine_desc.specs.{declared.trees.Edge.Edge, declared.grids.Grid.Grid, Equality.edge_eq}
-use Rattle.machine_desc.specs.Tables.{TellsListed, IsOn, IsCoreOn, IsEdgeOn, chip_place, core_place, edge_place, TellsChips, TellsCores, TellsLinks}
+use Rattle.machine_desc.specs.{declared.trees.Edge.Edge, declared.grids.Grid.Grid, Equality.edge_eq, Tables.TellsListed, Tables.IsOn, Tables.IsCoreOn, Tables.IsEdgeOn, Tables.chip_place}
+use Rattle.machine_desc.specs.Tables.{core_place, edge_place, TellsChips, TellsCores, TellsLinks}
 use Rattle.machine_desc.proofs.Same.{same_chip, same_spot, same_edge, same_dir, below_six, edge_eq-true, edge_eq_self}
 
 -- a clear table tells of the empty list
@@ -71,10 +70,6 @@ pub TellsCores-skip : (grid : Grid) (table : List Bool) (listed : List Spot) (i 
     18 ≤ (get_or listed i d).core → TellsCores grid table (take i listed) → TellsCores grid table (take (i + 1) listed)
 TellsCores-skip grid table listed i d within high =
     Tells-skip (IsCoreOn grid) (core_place grid) spot_eq spot_eq_true spot_eq_same table listed i d within (λ p. absurd (omega (arith, p.1)))
-
-TellsCores-skip__13 : (grid : Grid) (table : List Bool) (listed : List Spot) (i : ℕ) (d : Spot) → i < length listed →
-    18 ≤ (get_or listed i d).core → TellsCores grid table (take i listed) → TellsCores grid table (take (i + 1) listed)
-TellsCores-skip__13 grid table listed i d within high = grind (arith, Tells-skip, spot_eq_true, spot_eq_same)
 
 pub TellsLinks-more : (grid : Grid) (table : List Bool) (listed : List Edge) (i p : ℕ) (d : Edge) → i < length listed → p ≡ edge_place grid (get_or listed i d) →
     IsEdgeOn grid (get_or listed i d) → p < length table → TellsLinks grid table (take i listed) →

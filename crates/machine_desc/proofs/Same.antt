@@ -15,12 +15,7 @@ pub same_edge : (a b : Edge) → a.chip ≡ b.chip → a.dir ≡ b.dir → a ≡
 same_edge a b p q = grind arith
 
 pub edge_eq-true : (a b : Edge) → edge_eq a b ≡ true → a ≡ b
-edge_eq-true a b h =
-    let parts = and_parts _ _ h in
-    same_edge a b (chip_eq_true _ _ parts.0) (dir_eq_true _ _ parts.1)
-
-edge_eq-true__14 : (a b : Edge) → edge_eq a b ≡ true → a ≡ b
-edge_eq-true__14 a b h = grind (arith, and_parts, same_edge, chip_eq_true, dir_eq_true)
+edge_eq-true a b h = grind (arith, and_parts, same_edge, chip_eq_true, dir_eq_true)
 
 pub edge_eq_self : (a : Edge) → edge_eq a a ≡ true
 edge_eq_self a = and_from _ _ (chip_eq_same a.chip) (dir_eq_same a.dir)

@@ -8,26 +8,12 @@ use Rattle.machine_desc.proofs.Same.{same_spot}
 
 -- a usable core is one of 1 to 17 of a live chip
 pub usable_parts : (m : Description) (s : Spot) → IsUsable m s → IsLiveChip m s.chip × (1 ≤ s.core) × (s.core ≤ 17)
-usable_parts m s h =
-    let parts = and_parts _ _ h in
-    let core = and_parts _ _ (and_parts _ _ parts.1).0 in
-    (parts.0, leb-true _ _ core.0, leb-true _ _ core.1)
-
-usable_parts__15 : (m : Description) (s : Spot) → IsUsable m s → IsLiveChip m s.chip × (1 ≤ s.core) × (s.core ≤ 17)
-usable_parts__15 m s h = grind (arith, and_parts, leb-true)
+usable_parts m s h = grind (arith, and_parts, leb-true)
 
 -- the place of a device is one of 18 to 23 of a live chip, and the link is not live
 pub device_parts : (m : Description) (s : Spot) → is_device_place m s ≡ true →
     IsLiveChip m s.chip × (18 ≤ s.core) × (s.core < 24) × (is_live_link m s.chip (dir_at (s.core - 18)) ≡ false)
-device_parts m s h =
-    let parts = and_parts _ _ h in
-    let rest = and_parts _ _ parts.1 in
-    let core = and_parts _ _ rest.0 in
-    (parts.0, leb-true _ _ core.0, ltb-true _ _ core.1, not-true _ rest.1)
-
-device_parts__16 : (m : Description) (s : Spot) → is_device_place m s ≡ true →
-    IsLiveChip m s.chip × (18 ≤ s.core) × (s.core < 24) × (is_live_link m s.chip (dir_at (s.core - 18)) ≡ false)
-device_parts__16 m s h = grind (arith, and_parts, leb-true, ltb-true, not-true)
+device_parts m s h = grind (arith, and_parts, leb-true, ltb-true, not-true)
 
 pub site_cases : (m : Description) (s : Spot) → IsSite m s → IsUsable m s ⊎ (is_device_place m s ≡ true)
 site_cases m s h = or_cases _ _ h

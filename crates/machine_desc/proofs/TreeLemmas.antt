@@ -3,8 +3,8 @@ use Rattle.std.proofs.Common.{arith, ◌≡◌, List, [], ◌∷◌, ◌++◌, g
 use Rattle.std.specs.List.{Contains}
 use Rattle.std.proofs.lemmas.{Bool.cases_order, List.get_or_default, List.Elements.All-contains, List.Elements.Contains-append_left}
 use Rattle.spin_base.specs.declared.chips.Chip.{Chip}
-use Rattle.machine_desc.specs.{declared.trees.Edge.Edge, Description.Description, Live.IsLiveChip, Live.IsLiveLink}
-use Rattle.machine_desc.specs.RoutingTree.{end_of, IsTreeChip, IsPath, IsTreeTo}
+use Rattle.machine_desc.specs.{declared.trees.Edge.Edge, Description.Description, Live.IsLiveChip, Live.IsLiveLink, RoutingTree.end_of, RoutingTree.IsTreeChip, RoutingTree.IsPath}
+use Rattle.machine_desc.specs.RoutingTree.{IsTreeTo}
 use Rattle.machine_desc.proofs.Far.{live_ends}
 
 -- a chip into which an edge of the tree leads is a chip of the tree
@@ -22,9 +22,6 @@ more_chips m root tree more c on = elim (tree_cases m root tree c on) [
   | inl at ↦ inl at
   | inr into ↦ tree_end m root (tree ++ more) into.0 c (Contains-append_left tree more into.0 into.1) into.2
 ]
-
-more_chips__17 : (m : Description) (root : Chip) (tree more : List Edge) (c : Chip) → IsTreeChip m root tree c → IsTreeChip m root (tree ++ more) c
-more_chips__17 m root tree more c on = grind (arith, tree_cases m root tree c on, tree_end, Contains-append_left)
 
 -- a path over edges is one over more edges
 pub more_path : (m : Description) (edges more : List Edge) (from : Chip) (path : List Edge) (to : Chip) → IsPath m edges from path to → IsPath m (edges ++ more) from path to

@@ -4,10 +4,9 @@ use Rattle.std.proofs.Common.{◌≡◌, ◌≢◌, ℕ, suc, ◌<◌, List, [],
 use Rattle.std.specs.List as lists
 use Rattle.std.specs.List.{All, AllPairs, flat_map, slice_get, Sorted.IsPermutation}
 use Rattle.std.proofs.Math.ListN as whole
-use Rattle.std.proofs.{Math.ListN.length-set, lemmas.Bool.cases_eq, lemmas.Bool.cases_order}
-use Rattle.std.proofs.lemmas.List.{length-map, get_or-map, get_or-set_same, get_or-set_other, Edits.swap_is, Edits.length-swap}
-use Rattle.std.proofs.lemmas.List.{Elements.All-nil, Elements.All-cons, Elements.All-head, Elements.All-tail, Elements.All-append, Kept.AllPairs-cons, Sorted.IsPermutation-keeps}
-use Rattle.std.proofs.lemmas.Option.{slice_get_within, get_or_from_slice_get}
+use Rattle.std.proofs.{Math.ListN.length-set, lemmas.Bool.cases_eq, lemmas.Bool.cases_order, lemmas.List.length-map, lemmas.List.get_or-map, lemmas.List.get_or-set_same, lemmas.List.get_or-set_other}
+use Rattle.std.proofs.lemmas.List.{Edits.swap_is, Edits.length-swap, Elements.All-nil, Elements.All-cons, Elements.All-head, Elements.All-tail, Elements.All-append, Kept.AllPairs-cons}
+use Rattle.std.proofs.lemmas.{List.Sorted.IsPermutation-keeps, Option.slice_get_within, Option.get_or_from_slice_get}
 
 -- ---- all items of joined lists
 
