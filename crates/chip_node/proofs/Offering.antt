@@ -9,10 +9,7 @@ use Rattle.link_queue.specs.declared.links.Tx.{Tx}
 use Rattle.link_queue.specs.Ends.{IsRx, IsTx, taking}
 use Rattle.chip_node.specs.Going.{TakerGoes}
 use Rattle.link_queue.specs.TheRule.{put_of}
-use Rattle.spin_base.specs.declared.copies.McCopy.{McCopy}
-use Rattle.link_queue.specs.declared.links.Offered.{Offered}
-use Rattle.link_queue.specs.declared.links.Offered.TheVariants.{Taken, Full}
-use Rattle.link_queue.specs.Moves.{MatchOffered, RefusesOffer}
+use Rattle.link_queue.specs.Moves.{RefusesOffer}
 use Rattle.chip_node.specs.declared.ends.InEnd.{InEnd}
 use Rattle.chip_node.specs.declared.ends.OutEnd.{OutEnd}
 use Rattle.chip_node.specs.Ends.{IsInEndOf, IsOutEndOf}
@@ -37,13 +34,8 @@ pub out_end_read : (links : List Link) (e : OutEnd) (l : Link) → IsOutEndOf li
 out_end_read links e l h is = subst (λ m. IsTx m e.tx) (sym (is ∙ get_or_from_slice_get links e.link h.of l h.stands)) h.is_end
 
 -- an offer is refused
-refuses_one : (cap : ℕ) (v u : Known) → RefusesOffer cap v u → v.cap ≡ cap → RefusesOffers 1 v u
+pub refuses_one : (cap : ℕ) (v u : Known) → RefusesOffer cap v u → v.cap ≡ cap → RefusesOffers 1 v u
 refuses_one cap v u r is = record { noted = r.noted; looked = λ _. r.looked; full = λ _. (let full = r.full in omega arith) }
-
-pub offer_answer : (x : Offered) (P : Type 0) (k : McCopy) (cap : ℕ) (v u : Known) → MatchOffered x P (λ back. (back ≡ k) × RefusesOffer cap v u) → v.cap ≡ cap →
-    MatchOffered x P (λ back. (back ≡ k) × RefusesOffers 1 v u)
-offer_answer Taken P k cap v u h is = h
-offer_answer (Full back) P k cap v u h is = (h.0, refuses_one cap v u h.1 is)
 
 -- one offer more is refused
 pub refuses_more : (n : ℕ) (v w u : Known) → RefusesOffers n v w → RefusesOffers 1 w u → RefusesOffers (n + 1) v u
