@@ -1,13 +1,12 @@
 -- An end stays an end of its link, and one offer more is refused.
-use Rattle.std.proofs.Common.{◌≡◌, ℕ, ◌+◌, List, [], ◌∷◌, ◌++◌, length, get_or, replicate, append-nil, refl, sym, ap, subst, ◌∙◌, append_assoc, arith}
+use Rattle.std.proofs.Common.{◌≡◌, ℕ, ◌+◌, List, [], ◌∷◌, ◌++◌, length, get_or, replicate, sym, ap, subst, ◌∙◌, append_assoc, arith}
 use Rattle.std.proofs.lemmas.List.{replicate_more}
 use Rattle.std.proofs.lemmas.Option.{get_or_from_slice_get}
 use Rattle.link_queue.specs.declared.known.Known.{Known}
 use Rattle.link_queue.specs.declared.links.Link.{Link}
 use Rattle.link_queue.specs.declared.links.Rx.{Rx}
 use Rattle.link_queue.specs.declared.links.Tx.{Tx}
-use Rattle.link_queue.specs.Ends.{IsRx, IsTx, taking}
-use Rattle.chip_node.specs.Going.{TakerGoes}
+use Rattle.link_queue.specs.Ends.{IsRx, IsTx}
 use Rattle.link_queue.specs.TheRule.{put_of}
 use Rattle.link_queue.specs.Moves.{RefusesOffer}
 use Rattle.chip_node.specs.declared.ends.InEnd.{InEnd}
@@ -48,11 +47,3 @@ refuses_more n v w u h r =
       looked = λ _. sym (ap (λ (x : Known). x.held) h.noted) ∙ r.looked (omega arith) ∙ ap (λ (x : Known). x.cap) h.noted;
       full = λ _. (let full = r.full (omega arith) in let same = ap (λ (x : Known). length (put_of x)) h.noted in let cap_is = ap (λ (x : Known). x.cap) h.noted in omega arith);
     }
-
--- an end that knows what it knew took nothing
-pub taker_known : (e : InEnd) (rx : Rx) → taking rx ≡ taking e.rx → TakerGoes [] e (record { link = e.link; rx = rx })
-taker_known e rx same = record {
-  link = refl;
-  first = ap (λ v. v.first) same;
-  took = ap (λ v. v.took) same ∙ sym (append-nil (taking e.rx).took);
-}

@@ -1,4 +1,3 @@
-use Rattle.std.proofs.Common.{◌∙◌}
 use Rattle.chip_node.proofs.Offering.{out_end_read, out_end_stays, refuses_more, refuses_one}
 use Rattle.chip_node.proofs.ends.OutEnd.send.Goals as goal
 
