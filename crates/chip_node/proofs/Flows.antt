@@ -200,7 +200,6 @@ holds_sender_on cap patience a b xs q h s =
 pub ready_router_on : (cap patience : ℕ) (links : List Link) (r : RouterNode) (a b : Holdings) (xs : List Item) → Goes cap patience a xs b → AreEndsOf links b.ends.items →
     IsReadyRouter links r a → IsReadyRouter links r b
 ready_router_on cap patience links r a b xs h ends ready = record {
-  outputs = ready.outputs;
   senders = λ o q behind. holds_sender_on cap patience a b xs q h (ready.senders o q behind);
   differ = ready.differ;
   apart = ready.apart;

@@ -72,8 +72,7 @@ pub looks_on : (cap patience : ℕ) (entries : List Entry) (r : RouterNode) (por
 looks_on most patience entries r port a b (Took t) c s l = record {
   goes = stays_goes most patience a b c _ s l.goes;
   given = l.given;
-  numbered = l.numbered;
-  differ = l.differ;
+  outs = l.outs;
   room = l.room;
 }
 looks_on most patience entries r port a b Empty c s l = (stays_on a b c s l.0, idle_before a b _ s l.1)

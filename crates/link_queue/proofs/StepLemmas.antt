@@ -9,7 +9,7 @@ use Rattle.crossbeam_queue.proofs.Lists.{at_set}
 use Rattle.spin_base.specs.declared.copies.McCopy.{McCopy}
 use Rattle.link_queue.specs.declared.known.Known.{Known}
 use Rattle.link_queue.specs.TheRule.{put_of, IsFullNote, IsNoneNote, StartsWith, SenderFits, ReceiverFits, FitsRule, Kept}
-use Rattle.link_queue.specs.Ups.{NoNotes, Rests}
+use Rattle.link_queue.specs.Ups.{NoNotes, PoppedTo, Rests}
 use Rattle.link_queue.specs.Steps.{blank, newborn, placed, offered, popped, full_noted, none_noted, told, sender_of, receiver_of, joined, renewed, SeenFull, SeenEmpty, Balanced}
 
 abbrev Each : (ℕ → Known → Type 0) → List Known → Type 0
@@ -322,6 +322,28 @@ begins = record {
     λ _. record { seated = e; knows = refl; room = omega arith; begins = ([], refl); noted = λ i d inside. absurd (omega arith) },
   ));
 }
+
+-- ---- a link that is emptied
+
+-- a seat that popped fewer copies than were held finds some
+pub some_left : (v w : Known) (held got none : List McCopy) → Balanced v held → PoppedTo v got w → Balanced w none → length got < length held
+    → length none ≡ 0 → ⊥
+some_left v w held got none first popped last fewer nothing =
+    let took = ap length popped.took_is ∙ length-append v.took got in
+    let before = ap length first.0 ∙ length-append v.took held in
+    let after = ap length last.0 ∙ length-append w.took none in
+    omega (arith, took, before, after, ap length popped.put)
+
+-- one that popped as many as were held popped all
+pub all_popped : (s t v w : Known) (held got left : List McCopy) → v ≡ joined s t → Balanced v held → PoppedTo v got w → Balanced w left
+    → length got ≡ length held → put_of s ≡ t.took ++ got
+all_popped s t v w held got [] is first popped last many =
+    subst (λ (u : Known). put_of u ≡ u.took ++ got) is (sym popped.put ∙ last.0 ∙ append-nil w.took ∙ popped.took_is)
+all_popped s t v w held got (x ∷ xs) is first popped last many =
+    let took = ap length popped.took_is ∙ length-append v.took got in
+    let before = ap length first.0 ∙ length-append v.took held in
+    let after = ap length last.0 ∙ length-append w.took (x ∷ xs) in
+    absurd (omega (arith, took, before, after, ap length popped.put, many))
 
 -- ---- a link that rests
 

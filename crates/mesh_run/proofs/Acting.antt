@@ -1,7 +1,7 @@
 -- What one turn of the actor at a place does to a share, and turns one after the other.
 use Rattle.std.proofs.Common.{◌≡◌, ◌≢◌, ◌⊎◌, ℕ, zero, suc, ◌+◌, ◌*◌, ◌/◌, ◌%◌, ◌<◌, ◌≤◌, Bool, true, false, List, [], ◌∷◌}
 use Rattle.std.proofs.Common.{◌++◌, length, take, drop, Option, None, Some, refl, sym, ap, ◌∙◌, subst, arith, inl, inr}
-use Rattle.std.proofs.lemmas.List.{length-take, length-drop, Elements.All-append, Elements.All-nil, Elements.All-weaker}
+use Rattle.std.proofs.lemmas.List.{Elements.All-append, Elements.All-nil, Elements.All-weaker}
 use Rattle.std.proofs.lemmas.{Bool.cases_eq, Nat.div-add-mod', Nat.mod_below, Option.slice_get_within}
 use Rattle.std.specs.List.{All, slice_get, slice_index_or}
 use Rattle.spin_base.proofs.{Outputs.out_number_below, Places.All-each, Places.both_none}
@@ -67,12 +67,6 @@ module _ (u : Setup) (f : Floor) where
   pub live_index : (i : ℕ) → is_live_chip u.machine (chip_of u.machine i) ≡ true → IsLiveIndex u i
   live_index i live = record { live = live; is = index_of-chip_of u.machine i }
 
-  router_outputs : (i : ℕ) (r : RouterNode) → IsFloorOf u f → i < grid_size u → IsFloorRouter u f i r → length r.behind.now ≡ 24
-  router_outputs i r of below is =
-      let taken = length-take 24 (drop (24 * i) f.behind.items) in
-      let dropped = length-drop (24 * i) f.behind.items in
-      omega (arith, ap length is.3, taken, dropped, of.behind_long, below)
-
   pub router_of : (i : ℕ) (r : RouterNode) → IsFloorOf u f → i < grid_size u → is_live_chip u.machine (chip_of u.machine i) ≡ true → IsFloorRouter u f i r → IsRouterOf u i r
   router_of i r of below live is = record {
     live = live_index i live;
@@ -97,22 +91,20 @@ module _ (u : Setup) (f : Floor) where
   bit_within (Core p) below = omega (arith, below)
 
   -- an output behind which a router knows a queue has a bit
-  has_bit : (r : RouterNode) (o : Out) (q : ℕ) → length r.behind.now ≡ 24 → place_at_router r.behind.now o ≡ Some q → IsOutput o
-  has_bit r o q long is =
+  has_bit : (r : RouterNode) (o : Out) (q : ℕ) → place_at_router r.behind.now o ≡ Some q → IsOutput o
+  has_bit r o q is =
       let at = something (slice_get r.behind.now (out_number o)) q is in
-      bit_within o (let within = slice_get_within r.behind.now (out_number o) at.0 at.1 in omega (arith, within, long))
+      bit_within o (let within = slice_get_within r.behind.now (out_number o) at.0 at.1 in omega (arith, within, r.outputs))
 
   module _ (links : List QueueLink) (s : Share) where
     pub ready_router : (i : ℕ) (r : RouterNode) → IsFloorOf u f → IsShareOf u links s → i < grid_size u → is_live_chip u.machine (chip_of u.machine i) ≡ true → IsFloorRouter u f i r →
         IsInRun s.from s.to (router_place i) → IsReadyRouter links r s.hold
     ready_router i r of share below live is within =
-        let long = router_outputs i r of below is in
         let router = router_of i r of below live is in
         let inside = live_inside u.machine (chip_of u.machine i) live in
         let at : (o : Out) (q : ℕ) → place_at_router r.behind.now o ≡ Some q → place_behind u (chip_of u.machine i) o ≡ Some q =
-        λ o q behind. sym (router.behind o (has_bit r o q long behind)) ∙ behind in
+        λ o q behind. sym (router.behind o (has_bit r o q behind)) ∙ behind in
         record {
-          outputs = long;
           senders = λ o q behind. share.routers i o q router.live within (at o q behind);
           differ = λ o p q one two o_is p_is. (one_output u (chip_of u.machine i) (chip_of u.machine i) o p q inside inside (at o q one) (at p q two)).1;
           apart = λ o port behind.

@@ -93,7 +93,8 @@ impl Floor {
     /// The queues behind the outputs of a chip.
     pub fn behind(&self, index: usize) -> &[Option<Behind>]
         requires { 24 * index + 24 ≤ length self.now.behind.items }
-        ensures { result.now ≡ take 24 (drop (24 * index) self.now.behind.items) }
+        ensures places { result.now ≡ take 24 (drop (24 * index) self.now.behind.items) }
+        ensures long { length result.now ≡ 24 }
     {
         &self.behind[OUT_COUNT * index..OUT_COUNT * index + OUT_COUNT]
     }

@@ -8,7 +8,7 @@ ghost use Rattle.mesh_run.specs.Standing.{HoldsAll, RisenTo};
 ghost use Rattle.mesh_run.specs.Queues.{AreUp, AreEnds, DownTo, IsDown, IsUp, RaisesLink, RestAll, RestsAt, StayUp, UpAt, WasUp, free_places_of, places_for, queue_of_link};
 
 use crate::standing::{Rising, Standing};
-use link_queue::{AtRest, LinkEnds, link_down, link_up, rest};
+use link_queue::{AtRest, FirstList, LentLink, LinkEnds, WholeLink, link_down, link_up, rest};
 use spin_base::{Fifo, McCopy, Memory, Seq};
 use std::alloc::Global;
 use std::sync::Wait;
@@ -72,7 +72,7 @@ fn raise_link<R: Wait>(
 {
     let list = copied(alloc, queue)?;
     let cap = places.for_held(list.len());
-    match link_up(rt, alloc, list, cap) {
+    match link_up(rt, alloc, FirstList { list, cap }) {
         Ok(ends) => {
             rising.put(ends);
             Ok(())
@@ -112,7 +112,12 @@ fn rest_at<R: Wait>(rt: &R, standing: &mut Standing, place: usize) -> usize
         → slice_get ends place ≡ Some old → RestsAt ends place old standing.new result }
 {
     let (tx, rx) = standing.take_ends(place);
-    let AtRest { tx, rx, held, .. } = rest(rt, &standing.links[place], tx, rx);
+    let lent = LentLink {
+        link: &standing.links[place],
+        tx,
+        rx,
+    };
+    let AtRest { tx, rx, held, .. } = rest(rt, lent);
     standing.put_ends(place, tx, rx);
     held
 }
@@ -212,5 +217,6 @@ fn down<R: Wait>(rt: &R, ends: LinkEnds) -> Fifo<McCopy>
     ensures { IsDown ends result }
 {
     let LinkEnds { link, tx, rx, room } = ends;
-    Fifo::from_seq(link_down(rt, link, tx, rx, room))
+    let whole = WholeLink { link, tx, rx, room };
+    Fifo::from_seq(link_down(rt, whole))
 }

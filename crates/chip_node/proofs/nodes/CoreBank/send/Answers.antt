@@ -46,7 +46,7 @@ returns-in-Dumped-clause-acts g c =
     stays_at a _ (injection_place b.index) old new w (end_stays_refuses c.args.around.capacity 1 old new c.in-Dumped.ensures.served) refl refl refl
 
 pub returns-in-Dumped-clause-idle : goal.returns-in-Dumped-clause-idle
-returns-in-Dumped-clause-idle g c = λ moved roomy.
+returns-in-Dumped-clause-idle g c = λ is moved roomy.
     inr (
       c.index_mut.result.now,
       sender_stands c.requires.sender c.index_mut.result.now c.index_mut.ensures.value,

@@ -29,7 +29,7 @@ loop-out-preserved g c =
       serves = serves_more c.args.around.capacity c.args.around.patience r c.args.copy c.args.hold.now c.loop-out.hold c.serve.new.hold outs i s below read refl c.serve.ensures.nowhere
           before.serves c.serve.ensures.goes;
       ready = c.serve.ensures.ready;
-      behind = room_left c.args.around.capacity c.args.around.links.now r c.loop-out.hold c.serve.new.hold outs i o before.ready c.requires.numbered c.requires.differ below read
+      behind = room_left c.args.around.capacity c.args.around.links.now r c.loop-out.hold c.serve.new.hold outs i o before.ready c.requires.outs below read
           before.behind c.serve.ensures.elsewhere;
       records = (let records = before.records in let spare = c.serve.ensures.spare in omega arith);
     }

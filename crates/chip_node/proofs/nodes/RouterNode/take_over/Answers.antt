@@ -25,8 +25,7 @@ returns-in-Some-clause-looks g c =
     record {
       goes = took_goes c.args.around.capacity c.args.around.patience r.index c.args.port c.in-Some.copy a _ old new w c.in-Some.ensures.some refl refl refl;
       given = given;
-      numbered = c.outputs_of-outs.ensures.numbered;
-      differ = c.outputs_of-outs.ensures.differ;
+      outs = c.outputs_of-outs.ensures.outs;
       room = room_kept c.args.around.capacity c.args.around.links.now r c.args.port _ a _ old new c.requires.ready w refl
           (subst (λ (l : List Out). HasRoomForOuts c.args.around.capacity r l a) (sym given)
           (room_for_all c.args.around.capacity r.table.now r c.args.port c.in-Some.copy a (c.if-not-has_room_everywhere.ensures.yes refl)));

@@ -1,6 +1,6 @@
 use Rattle.std.proofs.Common.{◌≡◌, [], length}
 use Rattle.link_queue.specs.Ends.{IsTx, IsRx, sending, taking}
-use Rattle.link_queue.proofs.rests.AtRest.pour.Given as goal
+use Rattle.link_queue.proofs.rests.AtRest.widened.Given as goal
 
 -- what was taken of one link was taken of the offers to the other
 abbrev pub invariant-loop : goal.invariant-loop
