@@ -14,7 +14,7 @@ use Rattle.spin_base.proofs.Pairs.{AllPairs-left, AllPairs-right, AllPairs-acros
 use Rattle.spin_base.proofs.Places.{All-each, slice_get-mapped, slice_get-push_cases, slice_get-set_same, slice_get-set_other, set-slice_get}
 use Rattle.spin_base.proofs.Members.{any_among, among_any, contains_among, among_contains, among_right, among_either}
 use Rattle.machine_desc.specs.Description.{Description}
-use Rattle.range_store.specs.{Views.Region, Regions.AreRuns, Regions.is_free, Regions.in_range}
+use Rattle.range_store.specs.{Views.CanGive, Views.Region, Regions.AreRuns, Regions.is_free, Regions.in_range}
 use Rattle.range_store.proofs.HolePlaces.{clash}
 use Rattle.app_loads.specs.declared.answers.LoadErr.{LoadErr, TheVariants.Memory, TheVariants.Refused}
 use Rattle.app_loads.specs.declared.loaded.{Claim.Claim, Range.Range}
@@ -352,12 +352,6 @@ module _ (ranges : List Range) {others : List Range} {i : ℕ} {regions : List R
   at_place : slice_get regions range.region ≡ Some before
   at_place = slice_get-get_or regions range.region e there_at
 
-  pub within_at : range.place + range.size ≤ before.size
-  within_at = give_within m others range rest regions here before at_place
-
-  pub taken_at : (k : ℕ) → in_range range.place range.size k ≡ true → is_free before.holes k ≡ false
-  taken_at = give_taken m others range rest regions here before at_place
-
   pub back_at : (after : Region) → after.size ≡ before.size → AreRuns 0 after.size after.holes →
       ((k : ℕ) → is_free after.holes k ≡ (is_free before.holes k || in_range range.place range.size k)) → AreTaken m others rest (slice_set regions range.region after)
   back_at after size runs free = given_back m others range rest regions here before at_place after (slice_set regions range.region after) refl size runs free
@@ -366,10 +360,14 @@ module _ (ranges : List Range) {others : List Range} {i : ℕ} {regions : List R
     counted : (n : ℕ) → count_by (λ (x : Range). x.region == n) (drop i ranges) ≡ one_if (range.region == n) + count_by (λ (x : Range). x.region == n) rest
     counted n = ap (count_by (λ (x : Range). x.region == n)) dropped ∙ count_by-cons (λ (x : Range). x.region == n) range rest
 
-    pub spare_at : 0 < before.spare
-    spare_at =
-        let one : one_if (range.region == range.region) ≡ 1 = ap one_if (eq-eqb range.region range.region refl) in
-        omega (arith, room range.region before at_place, counted range.region, one)
+    pub can_give : CanGive before range.place range.size
+    can_give =
+        let one : one_if (range.region == range.region) ≡ 1 = ap one_if (eq-eqb range.region range.region refl) in record {
+          some = (All-head (IsRangeWithin m (length regions)) range rest here.within).some;
+          within = give_within m others range rest regions here before at_place;
+          taken = give_taken m others range rest regions here before at_place;
+          spare = omega (arith, room range.region before at_place, counted range.region, one);
+        }
 
     pub room_at : (after : Region) → before.spare ≤ after.spare + 1 → HaveRoom rest (slice_set regions range.region after)
     room_at after spare n region is = elim (set_cases regions range.region n before after region at_place is) [

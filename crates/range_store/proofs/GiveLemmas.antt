@@ -8,8 +8,8 @@ use Rattle.std.proofs.lemmas.List.Folds.{list_any-append}
 use Rattle.std.proofs.lemmas.Option.{slice_get-get_or, slice_get_within}
 use Rattle.range_store.specs.declared.holes.Hole.{Hole}
 use Rattle.range_store.specs.Fits.{AreNeighbours}
-use Rattle.range_store.specs.Regions.{AreRuns, has_range, is_free, in_range, hole_end}
-use Rattle.range_store.proofs.RunLemmas.{next, runs_split, runs_join, earlier, fits_any, drop_got}
+use Rattle.range_store.specs.Regions.{AreRuns, NoneIsFree, has_range, is_free, in_range, hole_end}
+use Rattle.range_store.proofs.RunLemmas.{next, runs_split, runs_join, earlier, fits_any, drop_got, split_got, some_len}
 use Rattle.range_store.proofs.HolePlaces.{clash, has_from}
 
 -- one hole in place of some, of which it has the places, and those of a range
@@ -42,9 +42,6 @@ take_got [] i h e = cc
 take_got (x ∷ xs) zero h e = let same : x ≡ h = cc in ap (λ y. y ∷ []) same
 take_got (x ∷ xs) (suc i) h e = ap (λ r. x ∷ r) (take_got xs i h e)
 
-split_got : (xs : List Hole) (i : ℕ) (h : Hole) → slice_get xs i ≡ Some h → xs ≡ take i xs ++ (h ∷ drop (suc i) xs)
-split_got xs i h e = sym (take-append-drop i xs) ∙ ap (λ d. take i xs ++ d) (drop_got xs i h e)
-
 get_dropped : (xs : List Hole) (i : ℕ) (h : Hole) → slice_get (drop i xs) 0 ≡ Some h → slice_get xs i ≡ Some h
 get_dropped xs zero h e = e
 get_dropped [] (suc i) h e = cc
@@ -67,11 +64,8 @@ later : (from to n : ℕ) (post : List Hole) → AreRuns from n post → ((h : H
 later from to n [] runs first = tt
 later from to n (h ∷ hs) runs first = (first h refl, runs.1, runs.2, runs.3)
 
-some_len : (from n : ℕ) (xs : List Hole) (i : ℕ) (h : Hole) → AreRuns from n xs → slice_get xs i ≡ Some h → (0 < h.len) × (hole_end h ≤ n)
-some_len from n xs i h runs e = let r = (runs_split from n (take i xs) (h ∷ drop (suc i) xs) (subst (AreRuns from n) (split_got xs i h e) runs)).1 in (r.1, r.2)
-
 module _ (n p s a : ℕ) (xs : List Hole) (some : 0 < s) (within : p + s ≤ n) (runs : AreRuns 0 n xs)
-    (taken : (k : ℕ) → in_range p s k ≡ true → is_free xs k ≡ false)
+    (taken : NoneIsFree xs p s)
     (before : (k : ℕ) (h : Hole) → k < a → slice_get xs k ≡ Some h → h.place < p)
     (first : (h : Hole) → slice_get xs a ≡ Some h → p ≤ h.place) where
   free_at : (i : ℕ) (h : Hole) (k : ℕ) → slice_get xs i ≡ Some h → h.place ≤ k → k < hole_end h → is_free xs k ≡ true
@@ -178,7 +172,7 @@ module _ (n p s a : ℕ) (xs : List Hole) (some : 0 < s) (within : p + s ≤ n) 
       (earlier (hole_end r + 1) (hole_end m + 1) n _ (after_right r f) (omega arith))
 
 module _ {n p s a : ℕ} {xs lent : List Hole} {left right : Option Hole} (some : 0 < s) (within : p + s ≤ n) (runs : AreRuns 0 n xs)
-    (taken : (k : ℕ) → in_range p s k ≡ true → is_free xs k ≡ false) (same : lent ≡ xs) (lent_near : AreNeighbours lent p (p + s) a left right) where
+    (same : lent ≡ xs) (lent_near : AreNeighbours lent p (p + s) a left right) where
   near : AreNeighbours xs p (p + s) a left right
   near = subst (λ l. AreNeighbours l p (p + s) a left right) same lent_near
 
@@ -192,22 +186,22 @@ module _ {n p s a : ℕ} {xs lent : List Hole} {left right : Option Hole} (some 
   abbrev Put : List Hole → Type 0
   Put ys = ((k : ℕ) → is_free ys k ≡ (is_free xs k || in_range p s k)) × AreRuns 0 n ys
 
-  pub arm_none : left ≡ None → right ≡ None → Put (take a xs ++ record { place = p; len = s } ∷ drop a xs)
-  arm_none l r = give_none n p s a xs some within runs taken near.before near.first near.within (subst LeftIs l near.left_is) (subst RightIs r near.right_is)
+  pub arm_none : NoneIsFree xs p s → left ≡ None → right ≡ None → Put (take a xs ++ record { place = p; len = s } ∷ drop a xs)
+  arm_none taken l r = give_none n p s a xs some within runs taken near.before near.first near.within (subst LeftIs l near.left_is) (subst RightIs r near.right_is)
 
-  pub arm_right : {y : Hole} → left ≡ None → right ≡ Some y → Put (set xs a (record { place = p; len = s + y.len }))
-  arm_right {y} l r =
+  pub arm_right : {y : Hole} → NoneIsFree xs p s → left ≡ None → right ≡ Some y → Put (set xs a (record { place = p; len = s + y.len }))
+  arm_right {y} taken l r =
       let is = subst RightIs r near.right_is in
       give_right n p s a xs some within runs taken near.before near.first y near.within (subst LeftIs l near.left_is) is.0 is.1
 
-  pub arm_left : {x : Hole} → left ≡ Some x → right ≡ None → Put (set xs (a - 1) (record { place = x.place; len = x.len + s }))
-  arm_left {x} l r =
+  pub arm_left : {x : Hole} → NoneIsFree xs p s → left ≡ Some x → right ≡ None → Put (set xs (a - 1) (record { place = x.place; len = x.len + s }))
+  arm_left {x} taken l r =
       let is = subst LeftIs l near.left_is in
       give_left n p s a xs some within runs taken near.before near.first x is.0 is.1 is.2 (subst RightIs r near.right_is)
 
-  pub arm_both : {x y : Hole} → left ≡ Some x → right ≡ Some y
+  pub arm_both : {x y : Hole} → NoneIsFree xs p s → left ≡ Some x → right ≡ Some y
       → Put (set (take a xs ++ drop (suc a) xs) (a - 1) (record { place = x.place; len = x.len + s + y.len }))
-  arm_both {x} {y} l r =
+  arm_both {x} {y} taken l r =
       let is = subst LeftIs l near.left_is in
       let at = subst RightIs r near.right_is in
       give_both n p s a xs some within runs taken near.before near.first x y is.0 is.1 is.2 at.0 at.1

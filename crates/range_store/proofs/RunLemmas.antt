@@ -174,6 +174,12 @@ drop_got [] i h e = cc
 drop_got (x ∷ xs) zero h e = cc
 drop_got (x ∷ xs) (suc i) h e = drop_got xs i h e
 
+pub split_got : (xs : List Hole) (i : ℕ) (h : Hole) → slice_get xs i ≡ Some h → xs ≡ take i xs ++ (h ∷ drop (suc i) xs)
+split_got xs i h e = sym (take-append-drop i xs) ∙ ap (λ d. take i xs ++ d) (drop_got xs i h e)
+
+pub some_len : (from n : ℕ) (xs : List Hole) (i : ℕ) (h : Hole) → AreRuns from n xs → slice_get xs i ≡ Some h → (0 < h.len) × (hole_end h ≤ n)
+some_len from n xs i h runs e = let r = (runs_split from n (take i xs) (h ∷ drop (suc i) xs) (subst (AreRuns from n) (split_got xs i h e) runs)).1 in (r.1, r.2)
+
 module _ (xs : List Hole) (i p s : ℕ) (h : Hole) (inside : i < length xs) (low : h.place ≤ p) (high : p + s ≤ hole_end h) where
   abbrev left : Hole
   left = record { place = h.place; len = p - h.place }
@@ -209,15 +215,14 @@ module _ (xs : List Hole) (i p s : ℕ) (h : Hole) (inside : i < length xs) (low
       ∙ to_rest (left ∷ []) (right ∷ []) (hole_some h.place p (omega arith)) (hole_some (p + s) (hole_end h) (omega arith))
 
 -- the element that was read is the hole in which the range fits
-pub read_hole : (xs : List Hole) (i p s : ℕ) (r : Hole) → FitsAt xs i p s → r ≡ get_or xs i r → AreRuns 0 4294967296 xs
+pub read_hole : (xs : List Hole) (i p s : ℕ) (r : Hole) → FitsAt xs i p s → r ≡ get_or xs i r
     → (r.place ≤ p) × (p + s ≤ hole_end r) × (hole_end r ≤ 4294967296) × ((h : Hole) → slice_get xs i ≡ Some h → r ≡ h)
-read_hole xs i p s r f is runs =
+read_hole xs i p s r f is =
     let same : (h : Hole) → slice_get xs i ≡ Some h → r ≡ h = λ h e. is ∙ (got xs i h r e).0 in
     let facts = has_facts p s f.hole f.fits in
-    let below = end_below 0 4294967296 xs i r runs f.inside in
     subst (λ (z : Hole). (z.place ≤ p) × (p + s ≤ hole_end z) × (hole_end z ≤ 4294967296) × ((h : Hole) → slice_get xs i ≡ Some h → z ≡ h))
     (sym (same f.hole f.is))
-    (facts.0, facts.1, subst (λ (z : Hole). hole_end z ≤ 4294967296) ((got xs i f.hole r f.is).0) below, λ h e. sym (same f.hole f.is) ∙ same h e)
+    (facts.0, facts.1, f.below, λ h e. sym (same f.hole f.is) ∙ same h e)
 
 pub fits_any : (xs : List Hole) (i : ℕ) (h : Hole) (size place : ℕ) → slice_get xs i ≡ Some h → has_range place size h ≡ true → is_hole_range xs place size ≡ true
 fits_any [] i h size place is fits = cc

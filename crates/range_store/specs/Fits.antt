@@ -3,12 +3,13 @@ use Rattle.std.specs.Prelude.{◌≡◌, ◌≢◌, ℕ, ◌-◌, ◌%◌, ◌<�
 use Rattle.range_store.specs.declared.holes.Hole.{Hole}
 use Rattle.range_store.specs.Regions.{has_range, hole_end}
 
--- the range lies in the hole at that place of the list
+-- the range lies in the hole at that place of the list, which ends at 2^32 at most
 pub record FitsAt (holes : List Hole) (at place size : ℕ) : Type 0 where
   pub hole : Hole
   pub is : slice_get holes at ≡ Some hole
   pub inside : at < length holes
   pub fits : has_range place size hole ≡ true
+  pub below : hole_end hole ≤ 4294967296
 
 -- the least multiple of align, of those from one place on, from which a range lies in this hole
 pub record IsLeastIn (h : Hole) (from size align place : ℕ) : Type 0 where

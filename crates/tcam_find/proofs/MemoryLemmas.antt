@@ -1,7 +1,7 @@
 -- The entries of a memory, which stand in groups of eight.
 use Rattle.std.proofs.Common.{◌≡◌, ℕ, ◌+◌, ◌*◌, ◌/◌, ◌<◌, ◌≤◌, eqb, Bool, true, false, List, [], ◌∷◌, ◌++◌, length, get_or, set, replicate, bit_and, refl, sym, ap, ◌∙◌, subst, arith, zero, suc, Some, None, slice_get, ◌-◌, inl, inr}
 use Rattle.std.proofs.lemmas.Bool.{cases_lt, eqb-false, eqb-true}
-use Rattle.std.proofs.lemmas.List.{length-replicate, length-append, length-set, length_push, append_assoc, get_or-replicate, replicate-append-replicate, set-append_left, set-append_right}
+use Rattle.std.proofs.lemmas.List.{length-replicate, length-append, length-set, set_past, length_push, append_assoc, get_or-replicate, replicate-append-replicate, set-append_left, set-append_right}
 use Rattle.std.proofs.lemmas.Grind.{flat_map-append}
 use Rattle.std.proofs.lemmas.Option.{slice_get-get_or, slice_get_within}
 use Rattle.std.proofs.lemmas.List.Elements.{All-cons, All-head, All-nil, All-replicate, All-set, All-tail}
@@ -190,13 +190,13 @@ lookup_none (x ∷ xs) n key port none =
 pub passed_over : (gs : List Group) (group next key : ℕ)
     → ((i : ℕ) (x : Group) → i < group → slice_get gs i ≡ Some x → NoneMatches key (entries_in x))
     → ((x : Group) → slice_get gs group ≡ Some x → NoneMatches key (entries_in x))
-    → ((i : ℕ) (x : Group) → group + 1 ≤ i → i < next → slice_get gs i ≡ Some x → NoneMatches key (entries_in x))
+    → ((i : ℕ) (x : Group) → 1 ≤ i → group + 1 ≤ i → i < next → slice_get gs i ≡ Some x → NoneMatches key (entries_in x))
     → (i : ℕ) (x : Group) → i < next → slice_get gs i ≡ Some x → NoneMatches key (entries_in x)
 passed_over gs group next key before here others i x early got =
     elim (cases_lt i group) [
       | inl less ↦ before i x less got
       | inr late ↦ elim (cases_lt group i) [
-        | inl more ↦ others i x (omega (arith, more)) early got
+        | inl more ↦ others i x (omega (arith, more)) (omega (arith, more)) early got
         | inr equal ↦ (let same : i ≡ group = omega (arith, late, equal) in here x (ap (slice_get gs) (sym same) ∙ got))
       ]
     ]
@@ -297,8 +297,12 @@ common_cleared gs common values i j g h got put others =
     common_after gs common values common values i j g h unused got put others (λ k key miss. miss) (λ key miss. unused_matches key)
 
 -- an entry behind the groups is unused as it is
-pub clear_behind : (gs : List Group) (k : ℕ) → length gs ≤ k / 8 → k < 1024 → entries_held gs ≡ set (entries_held gs) k unused
-clear_behind gs k behind below = sym (set-slice_get (entries_held gs) k unused (get_behind_groups gs k behind below))
+pub clear_behind : (gs : List Group) (k : ℕ) → length gs ≤ 128 → length gs ≤ k / 8 → entries_held gs ≡ set (entries_held gs) k unused
+clear_behind gs k few behind =
+    elim (cases_lt k 1024) [
+      | inl below ↦ sym (set-slice_get (entries_held gs) k unused (get_behind_groups gs k behind below))
+      | inr past ↦ sym (set_past (entries_held gs) k unused (rw (length_held gs few) past))
+    ]
 
 pub lengthened_none : (gs : List Group) → AreLengthened gs gs
 lengthened_none gs = record { few = λ few. few; held = refl; others = λ common values knows. knows }
