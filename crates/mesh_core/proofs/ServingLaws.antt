@@ -17,7 +17,7 @@ use Rattle.machine_desc.specs.{Description.Description, Live.index_of, Live.IsSi
 use Rattle.machine_desc.proofs.{Same.same_spot, Sites.site_parts}
 use Rattle.mesh_core.specs.State.{State, Hand, vertex_behind}
 use Rattle.mesh_core.specs.{Step.in_hand, Step.outputs, Step.outs_without, Serving.hands_after}
-use Rattle.mesh_core.proofs.VertexTableLaws.{vertex_at-from}
+use Rattle.mesh_core.proofs.VertexTableLaws.{vertex_at-from, no_place}
 
 -- a hand served an output
 pub hands_after-some : (hands : List (Option Hand)) (i : ℕ) (o : Out) (d x r : Option Hand) (h : Hand) → i < length hands → get_or hands i d ≡ Some h →
@@ -75,10 +75,6 @@ vertex_behind-link m spots t d is sites =
     let out : Link d ≡ out_of t.core = ap Link (sym (dir_at-dir_number d) ∙ ap dir_at (sym number)) ∙ sym (out_of-device t.core (omega (arith, is))) in
     vertex_behind-is spots (Link d) t out
     (λ k e below f. spot_of_link (get_or spots k e).core d (site_parts m (get_or spots k e) (sites k e below)).1 f ∙ sym is)
-
-no_place : (t : Spot → Bool) (xs : List Spot) (n : ℕ) → All (λ x. t x ≡ false) xs → position_from t n xs ≡ None
-no_place t [] n none = refl
-no_place t (x ∷ xs) n none = rw (All-head (λ z. t z ≡ false) x xs none) (no_place t xs (n + 1) (All-tail (λ z. t z ≡ false) x xs none))
 
 -- no vertex is behind a core beyond 17
 pub vertex_behind-beyond : (spots : List Spot) (c : Chip) (p : ℕ) → 18 ≤ p → vertex_behind spots c (Core p) ≡ None

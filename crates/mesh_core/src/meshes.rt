@@ -53,9 +53,7 @@ impl Mesh {
         ensures { IfOk result (λ mesh. mesh ≡ empty_mesh setup) }
     {
         every_setup_has_sites(&setup);
-        let chips = setup.machine().chips();
-        let vertices = setup.spots().len();
-        let lists = EmptyLists::new(alloc, vertices, chips)?;
+        let lists = EmptyLists::new(alloc, &setup)?;
         Ok(Mesh {
             setup,
             unsent: lists.unsent,
@@ -131,11 +129,10 @@ impl Mesh {
         self.setup.spots()
     }
 
-    /// Puts a copy that has passed no router at the end of those that vertex `vertex` has not sent yet. After a refusal
-    /// the mesh is as before.
+    /// Puts a copy that has passed no router at the end of those that vertex `vertex` has not sent yet, if there is such a
+    /// vertex. After a refusal the mesh is as before.
     pub fn add(&mut self, vertex: u32, copy: McCopy) -> Result<(), Memory>
-        requires exists { vertex < length self.old.setup.spots }
-        requires at_start { copy.hop ≡ 0 }
+        requires { copy.hop ≡ 0 }
         ensures ok { OnOk result (self.new
             ≡ record self.old {
               unsent = push_at self.old.unsent vertex copy
@@ -148,7 +145,6 @@ impl Mesh {
 
     /// Takes away the first copy that vertex `vertex` has not sent yet, if there is one. It takes constant time and no memory.
     pub fn drop_unsent(&mut self, vertex: u32)
-        requires { vertex < length self.old.setup.spots }
         ensures { self.new
             ≡ record self.old {
               unsent = drop_front self.old.unsent vertex (slice_get self.old.unsent vertex);

@@ -11,11 +11,6 @@ use Rattle.mesh_core.proofs.WalkingUp.{Walked, target_is_site, found_at_core, fo
 use Rattle.mesh_core.proofs.Searching.{edges_inside}
 use Rattle.mesh_core.proofs.meshes.Mesh.where_is.Goals as goal
 
-pub at_core-requires-clause-site : goal.at_core-requires-clause-site
-at_core-requires-clause-site c =
-    target_is_site c.args.self.now c.args.net.now c.args.packet c.requires.tracked c.args.target c.requires.is_target
-    (subst IsMesh c.self.view_is c.self.invariant)
-
 pub out_of-out-requires : goal.out_of-out-requires
 out_of-out-requires c =
     (site_parts c.args.self.now.setup.machine c.args.target
@@ -31,8 +26,8 @@ loop-init c =
     subst (λ (o : Out). Walked c.args.self.now c.args.net.now c.args.packet c.args.target 0 c.args.target.chip o) (sym c.out_of-out.ensures)
     (walk_begins c.args.self.now c.args.net.now c.args.packet c.requires.tracked c.args.target c.requires.is_target c.in_default.ensures)
 
-pub at_output-requires-clause-inside : goal.at_output-requires-clause-inside
-at_output-requires-clause-inside c =
+pub at_output-requires : goal.at_output-requires
+at_output-requires c =
     walk_inside c.args.self.now c.args.net.now c.args.packet c.requires.tracked c.args.target c.requires.is_target
     (subst IsMesh c.self.view_is c.self.invariant) c.loop.counter c.loop.chip c.loop.out c.loop.invariant
 
@@ -42,11 +37,9 @@ returns-in-Some-at_output c =
     c.loop.counter c.loop.chip c.loop.out c.loop.invariant c.in-Some-at_output.found c.in-Some-at_output.ensures
 
 pub at_port-requires : goal.at_port-requires
-at_port-requires c = record {
-  inside =
-      walk_inside c.args.self.now c.args.net.now c.args.packet c.requires.tracked c.args.target c.requires.is_target
-      (subst IsMesh c.self.view_is c.self.invariant) c.loop.counter c.loop.chip c.loop.out c.loop.invariant;
-}
+at_port-requires c =
+    walk_inside c.args.self.now c.args.net.now c.args.packet c.requires.tracked c.args.target c.requires.is_target
+    (subst IsMesh c.self.view_is c.self.invariant) c.loop.counter c.loop.chip c.loop.out c.loop.invariant
 
 pub returns-in-Some-at_port : goal.returns-in-Some-at_port
 returns-in-Some-at_port c =
