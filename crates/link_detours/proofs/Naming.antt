@@ -58,18 +58,6 @@ pub record Spreading (m : Description) (set words : List ℕ) (grown left : ℕ)
   pub told : (x : ℕ) → (bit_at grown x ≡ 1 → ⊥) → get_or set x 0 ≡ get_or words x 0
   pub grew : (grown ≡ 0) ⊎ ((x : ℕ) × (get_or set x 0 ≡ get_or words x 0 → ⊥))
 
-pub spreading_start : (m : Description) (set words : List ℕ) (grown near : ℕ) → grown ≡ 0 → words ≡ set → length set ≡ m.width → All (λ w. w < 2 ^ 64) set →
-    IsSpreadBut m set near → Spreading m set words grown near
-spreading_start m set words grown near none same long fits others = record {
-  long = ap length same ∙ long;
-  fits = subst (All (λ w. w < 2 ^ 64)) (sym same) fits;
-  rises = λ x. (let is : get_or words x 0 ≡ get_or set x 0 = ap (λ s. get_or s x 0) same in omega (arith, is));
-  done = λ c inside off. (λ bit. inl (subst (λ s. IsIn s c) same bit), λ by. subst (λ s. IsIn s c) (sym same) (others c inside off by));
-  rest = λ x bit. ap (λ s. get_or s x 0) same;
-  told = λ x off. ap (λ s. get_or s x 0) (sym same);
-  grew = inl none;
-}
-
 abbrev pub without : ℕ → ℕ → ℕ
 without left x = bit_and left (bit_not w64 (1 * 2 ^ x % 2 ^ bits w64))
 
@@ -158,19 +146,6 @@ module _ (left x : ℕ) (few : x < 64) (here : bit_at left x ≡ 1) where
       told = now.told;
       grew = now.grew;
     }
-
--- no column is left
-pub spreading_end : (m : Description) (set words : List ℕ) (grown left : ℕ) → left ≡ 0 → Spreading m set words grown left →
-    (c : Chip) → IsInside m c → IsIn words c ↔ IsSpread m set c
-spreading_end m set words grown left none now c inside = now.done c inside (λ bit.
-    let clear : bit_at left c.x ≡ 0 = ap (λ n. bit_at n c.x) none ∙ bit_at-zero c.x in omega (arith, clear, bit))
-
--- a set that has not changed names no column
-pub spreading_same : (m : Description) (set words : List ℕ) (grown left : ℕ) → Spreading m set words grown left → set ≡ words → grown ≡ 0
-spreading_same m set words grown left now same = elim now.grew [
-  | inl none ↦ none
-  | inr differs ↦ absurd (differs.1 (ap (λ s. get_or s differs.0 0) same))
-]
 
 -- and where no column is named the set has not changed
 pub none_grew : (old new : List ℕ) (grown : ℕ) → length old ≡ length new → grown ≡ 0 →

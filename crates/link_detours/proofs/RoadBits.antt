@@ -23,9 +23,6 @@ pub record TellsTo (m : Description) (x : ℕ) (d : Dir) (word i : ℕ) : Type 0
   pub told : (y : ℕ) → y < i → (bit_at word y ≡ 1) ↔ IsLiveLink m (chip_of_column x y) d
   pub clear : (y : ℕ) → i ≤ y → bit_at word y ≡ 0
 
-pub TellsTo-none : (m : Description) (x : ℕ) (d : Dir) → TellsTo m x d 0 0
-TellsTo-none m x d = record { told = λ y below. absurd (omega (arith, below)); clear = λ y _. bit_at-zero y }
-
 pub TellsTo-set : (m : Description) (x : ℕ) (d : Dir) (word i : ℕ) → i < 64 → IsLiveLink m (chip_of_column x i) d → TellsTo m x d word i →
     TellsTo m x d (bit_or word (1 * 2 ^ i % 2 ^ bits w64)) (i + 1)
 TellsTo-set m x d word i few lives so_far = record {
@@ -60,9 +57,6 @@ pub record RoadsTo (m : Description) (words : List ℕ) (i : ℕ) : Type 0 where
   pub long : length words ≡ i
   pub told : (x y : ℕ) (d : Dir) → x * 6 + dir_number d < i → y < m.height →
       (bit_at (get_or words (x * 6 + dir_number d) 0) y ≡ 1) ↔ IsLiveLink m (chip_of_column x y) d
-
-pub RoadsTo-none : (m : Description) (words : List ℕ) → words ≡ [] → RoadsTo m words 0
-RoadsTo-none m words e = record { long = ap length e; told = λ x y d below _. absurd (omega (arith, below)) }
 
 -- and one word more
 pub RoadsTo-more : (m : Description) (words : List ℕ) (i x word : ℕ) (d : Dir) → x * 6 + dir_number d ≡ i →

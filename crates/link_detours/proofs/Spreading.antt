@@ -66,14 +66,6 @@ pub record SpreadTo (m : Description) (set : List ℕ) (x word i : ℕ) : Type 0
   pub new : (y : ℕ) (d : Dir) → y < m.height → dir_number d < i → LeadsInto m set (chip_of_column x y) d → bit_at word y ≡ 1
   pub only : (y : ℕ) → y < m.height → bit_at word y ≡ 1 → IsSpread m set (chip_of_column x y)
 
-pub SpreadTo-none : (m : Description) (set : List ℕ) (x word : ℕ) → word ≡ get_or set x 0 → SpreadTo m set x word 0
-SpreadTo-none m set x word is = record {
-  rises = omega (arith, is);
-  old = λ y bit. ap (λ n. bit_at n y) is ∙ bit;
-  new = λ y d inside none leads. absurd (omega (arith, none));
-  only = λ y inside bit. inl (ap (λ n. bit_at n y) (sym is) ∙ bit);
-}
-
 pub SpreadTo-more : (m : Description) (set : List ℕ) (x word i leading : ℕ) (d : Dir) → dir_number d ≡ i →
     ((y : ℕ) → y < m.height → (bit_at leading y ≡ 1) ↔ LeadsInto m set (chip_of_column x y) d) →
     SpreadTo m set x word i → SpreadTo m set x (bit_or word leading) (i + 1)

@@ -14,9 +14,9 @@ ghost use Rattle.net_plans.specs.Ways.{AreRoutedNets, CanRoute, CanRouteAt, Have
 
 use crate::targets::{target_chips, targets_of};
 use app_graph::{Graph, Net};
-use link_detours::{Ground, RepairErr, Roads, repair};
+use link_detours::{BrokenTree, Ground, RepairErr, Roads, repair};
 use machine_desc::{Machine, NetPlan, Tree};
-use ner_trees::{Grown, ner};
+use ner_trees::{Ends, Grown, ner};
 use rayon::prelude::*;
 use spin_base::{Block, Chip, Memory, Seq, Shared, Spot};
 use std::alloc::{AllocError, Global};
@@ -193,10 +193,15 @@ pub fn net_plan(
     let source = *spots.get(net.source as usize);
     let targets = targets_of(alloc, spots, &net.targets)?;
     let chips = target_chips(alloc, machine, source.chip, &targets)?;
+    let ends = Ends {
+        machine,
+        root: source.chip,
+        targets: &chips,
+    };
     let Grown {
         tree: grown,
         joins: _,
-    } = ner(alloc, machine, source.chip, &chips)?;
+    } = ner(alloc, ends)?;
     let ground = Ground { machine, roads };
     let tree = with_detours(alloc, ground, grown, &chips)?;
     Ok(NetPlan {
@@ -222,8 +227,15 @@ fn with_detours(
         chips.now) }
     ensures cut_off { IfErr result (IsRepairCause ground.entry.machine.now tree.root chips.now) }
 {
-    if ground.roads.carry(ground.machine, tree.edges.as_slice()) {
+    let edges = tree.edges.as_slice();
+    if ground.carry(edges) {
         return Ok(tree);
     }
-    repair(alloc, ground, &tree, chips)
+    let broken = BrokenTree {
+        ground,
+        root: tree.root,
+        edges,
+        targets: chips.as_slice(),
+    };
+    repair(alloc, broken)
 }

@@ -8,7 +8,7 @@ ghost use Rattle.net_plans.specs.Keys.{nowhere, spot_numbered, chip_of_key, AreN
 use crate::boards::{board_of, cores_on};
 use crate::orders::each_once;
 use machine_desc::Machine;
-use ner_trees::distance;
+use ner_trees::{ChipPair, distance};
 use spin_base::{Chip, Memory, Seq, Spot};
 use std::alloc::Global;
 
@@ -136,7 +136,12 @@ fn chip_keys(alloc: Global, root: Root, targets: &Seq<Spot>) -> Result<Vec<(u32,
     for i in 0..targets.len() {
         let chip = targets.get(i).chip;
         if !ends_at(&keys, chip) {
-            keys.push((distance(root.machine, root.chip, chip), chip.x, chip.y))?;
+            let pair = ChipPair {
+                machine: root.machine,
+                from: root.chip,
+                to: chip,
+            };
+            keys.push((distance(pair), chip.x, chip.y))?;
         }
     }
     Ok(keys)

@@ -20,12 +20,12 @@ pub target_chips-requires-clause-targets_inside : goal.target_chips-requires-cla
 target_chips-requires-clause-targets_inside c =
     of_targets (λ s. IsInside c.args.machine.now s.chip) c.args.spots.now c.args.net.now.targets c.in_ok-targets.targets c.in_ok-targets.ensures (all_inside c.args.machine.now c.args.spots.now c.requires.sites)
 
-pub ner-requires-clause-root_inside : goal.ner-requires-clause-root_inside
-ner-requires-clause-root_inside c =
+pub invariant_of-ends-clause-root_inside : goal.invariant_of-ends-clause-root_inside
+invariant_of-ends-clause-root_inside c =
     All-at (λ s. IsInside c.args.machine.now s.chip) c.args.spots.now c.args.net.now.source c.get-source.result.now (all_inside c.args.machine.now c.args.spots.now c.requires.sites) c.get-source.ensures
 
-pub ner-requires-clause-targets_inside : goal.ner-requires-clause-targets_inside
-ner-requires-clause-targets_inside c =
+pub invariant_of-ends-clause-targets_inside : goal.invariant_of-ends-clause-targets_inside
+invariant_of-ends-clause-targets_inside c =
     of_chips (IsInside c.args.machine.now) c.args.machine.now c.get-source.result.now.chip c.in_ok-targets.targets c.in_ok-chips.chips c.in_ok-chips.ensures
     (of_targets (λ s. IsInside c.args.machine.now s.chip) c.args.spots.now c.args.net.now.targets c.in_ok-targets.targets c.in_ok-targets.ensures (all_inside c.args.machine.now c.args.spots.now c.requires.sites))
 

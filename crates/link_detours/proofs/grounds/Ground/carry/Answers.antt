@@ -3,11 +3,11 @@ use Rattle.std.proofs.lemmas.Bool.{false≢true}
 use Rattle.std.proofs.lemmas.List.{take_all}
 use Rattle.std.proofs.lemmas.List.Elements.{All-more}
 use Rattle.machine_desc.specs.Live.{IsLiveLink}
-use Rattle.link_detours.proofs.roads.Roads.carry.Goals as goal
+use Rattle.link_detours.proofs.grounds.Ground.carry.Goals as goal
 
 pub loop-edge-preserved : goal.loop-edge-preserved
 loop-edge-preserved c =
-    All-more (λ e. IsLiveLink c.args.machine.now e.chip e.dir) c.args.edges.now c.loop-edge.edge-index _ c.loop-edge-test.true c.loop-edge.invariant
+    All-more (λ e. IsLiveLink c.args.self.machine.now e.chip e.dir) c.args.edges.now c.loop-edge.edge-index _ c.loop-edge-test.true c.loop-edge.invariant
     (sym c.has.ensures ∙ c.if-not-has.false)
 
 pub returns-then-not-has : goal.returns-then-not-has
