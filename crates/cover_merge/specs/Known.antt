@@ -15,7 +15,6 @@ use Rattle.cover_merge.specs.declared.keeping.Kept.{Kept}
 use Rattle.cover_merge.specs.declared.keeping.Most.{Most}
 use Rattle.cover_merge.specs.declared.knowing.Known.{Known}
 use Rattle.cover_merge.specs.declared.links.Links.{Links}
-use Rattle.cover_merge.specs.declared.times.Times.{Times}
 
 -- What is kept of the routes is so, for each of which something is kept.
 abbrev pub AreRoutesKept : List ℕ → List Row → List (Option Kept) → Type 0

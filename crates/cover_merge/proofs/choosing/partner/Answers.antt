@@ -1,5 +1,5 @@
 -- The first row of the route that may pair is the first partner.
-use Rattle.std.proofs.Common.{◌<◌, ◌∙◌, ◌∷◌, [], length, get_or, refl, sym, subst, arith}
+use Rattle.std.proofs.Common.{◌<◌, ◌∙◌, ◌∷◌, [], length, refl, sym, subst, arith}
 use Rattle.cover_merge.specs.Merge.{IsLegal}
 use Rattle.cover_merge.specs.Covering.{IsLegalPair}
 use Rattle.cover_merge.specs.Tried.{AreTried, AreChangesFrom, AreNewerOf}
