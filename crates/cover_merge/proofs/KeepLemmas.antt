@@ -209,6 +209,11 @@ left_set P Q old now new c v inside is before others here = record {
         let was = before.each k it (sym (get_or-set_other now c k v None apart) ∙ found) in
         (was.0, others k it apart was.1)
 
+-- what is left where nothing is kept of one route
+pub forgotten : (kept : List (Option Kept)) (n : ℕ) → n < length kept → AreStillKept (λ k it. k ≢ n) kept (set kept n None)
+forgotten kept n low =
+    left_set (λ (k : ℕ) (it : Kept). k ≡ k) (λ (k : ℕ) (it : Kept). k ≢ n) kept kept _ n None low refl (left_all (λ (k : ℕ) (it : Kept). k ≡ k) kept (λ k it is. refl)) (λ k it apart same. apart) (λ it is. absurd (none_some it is))
+
 -- of one route more it is shown
 pub left_more : (P : Kept → Type 0) (old now : List (Option Kept)) (i : ℕ) → AreStillKept (λ k it. k < i → P it) old now → ((it : Kept) → get_or now i None ≡ Some it → P it) → AreStillKept (λ k it. k < i + 1 → P it) old now
 left_more P old now i before here = record {

@@ -2,10 +2,10 @@
 use Rattle.std.proofs.Common.{◌≡◌, ◌∙◌, ◌+◌, ◌-◌, ◌<◌, [], ℕ, List, sym, ap, subst, length, get_or, arith}
 use Rattle.std.specs.Prelude.{All, AllPairs, insert}
 use Rattle.tern_word.specs.declared.tables.Row.{Row}
-use Rattle.tern_word.specs.SoundTable.{IsOrdered}
+use Rattle.tern_word.specs.SoundTable.{IsSound}
 use Rattle.tern_word.specs.Ternary.{generality}
 use Rattle.cover_merge.specs.Merge.{after, merged_block, insert_place}
-use Rattle.cover_merge.specs.Rivals.{AreRivalsAfter, AreRivalsAt, IsRivaled}
+use Rattle.cover_merge.specs.Rivals.{AreRivalsAfter, AreRivalsAt, CanMerge, IsRivaled}
 use Rattle.cover_merge.specs.Spans.{AreSpansOf}
 use Rattle.cover_merge.specs.declared.rivals.Rivals.{Rivals}
 use Rattle.cover_merge.proofs.ApplyLemmas.{left, members_before}
@@ -33,6 +33,11 @@ serials_here c =
     c.as_slice-members.result.now c.renew_all.new.rivals.serials.items c.replace_all.new.items.items c.place_in-place.result c.merged_rival-merged.result.serial
     c.as_slice-members.ensures c.in_ok-renew_all.ensures.serials (place_here (goal.at.overflow_sub-at c).After-place_in-place) c.merged_rival-merged.ensures.serial c.replace_all.ensures
 
+pub renew_all-requires-clause-can : goal.renew_all-requires-clause-can
+renew_all-requires-clause-can c =
+    subst (λ l. CanMerge l c.args.rivals.now c.as_slice-members.result.now c.args.met.now) (sym c.as_slice-2.ensures)
+    (subst (λ l. CanMerge c.args.table.now.rows c.args.rivals.now l c.args.met.now) (sym c.as_slice-members.ensures) c.requires)
+
 pub invariant_of-gaps : goal.invariant_of-gaps
 invariant_of-gaps c =
     let rows = c.args.table.now.rows in
@@ -47,8 +52,8 @@ invariant_of-gaps c =
 pub overflow_sub-at : goal.overflow_sub-at
 overflow_sub-at c = omega (arith, stands_here (goal.at.overflow_sub-at c).After-place_in-place)
 
-pub rivals_behind-requires-clause-ordered : goal.rivals_behind-requires-clause-ordered
-rivals_behind-requires-clause-ordered c = subst IsOrdered (sym (c.as_slice-4.ensures ∙ c.in_ok-apply.ensures.ok)) c.requires.merge.legal.ordered
+pub rivals_behind-requires-clause-sound : goal.rivals_behind-requires-clause-sound
+rivals_behind-requires-clause-sound c = subst IsSound (sym (c.as_slice-4.ensures ∙ c.in_ok-apply.ensures.ok)) c.requires.merge.legal
 
 pub rivals_behind-requires-clause-one_each : goal.rivals_behind-requires-clause-one_each
 rivals_behind-requires-clause-one_each c =

@@ -43,26 +43,20 @@ loop-i-init c =
       leads = λ outer low. subst (LeadsWithin rows outer low xs) (sym whole) (LeadsWithin.stands xs);
     }
 
-pub passes-requires-clause-inside : goal.passes-requires-clause-inside
-passes-requires-clause-inside c =
-    let old = c.loop-i.invariant in
-    last_within c.args.table.rows.now c.loop-i.set.items c.loop-i.i c.loop-i.kept c.loop-i-test.true old.gap old.within old.set c.index.result.now c.index.ensures
-
 pub index-requires : goal.index-requires
 index-requires c = omega (arith, c.loop-i-test.true, c.loop-i.invariant.gap, c.loop-i.invariant.within)
 
-pub passes-requires-clause-one_route : goal.passes-requires-clause-one_route
-passes-requires-clause-one_route c r less found =
+pub passes-requires : goal.passes-requires
+passes-requires c =
+    let rows = c.args.table.rows.now in
     let xs = c.loop-i.set.items in
     let old = c.loop-i.invariant in
-    alike_behind c.args.table.rows.now xs c.loop-i.i c.loop-i.kept c.loop-i-test.true old.gap old.within old.set c.index.result.now c.index.ensures r less
-    (subst (λ l. has_row l r ≡ true) (rest_of c.loop-i.kept c.deref-in-loop-i.result.now xs c.deref-in-loop-i.ensures.value) found)
-
-pub passes-requires-clause-in_range : goal.passes-requires-clause-in_range
-passes-requires-clause-in_range c =
-    let xs = c.loop-i.set.items in
-    subst (All (λ s. s < length c.args.table.rows.now)) (sym (rest_of c.loop-i.kept c.deref-in-loop-i.result.now xs c.deref-in-loop-i.ensures.value))
-    (All-right (λ s. s < length c.args.table.rows.now) (take c.loop-i.i xs) (drop c.loop-i.kept xs) c.loop-i.invariant.set.in_range)
+    let rest = rest_of c.loop-i.kept c.deref-in-loop-i.result.now xs c.deref-in-loop-i.ensures.value in record {
+      inside = last_within rows xs c.loop-i.i c.loop-i.kept c.loop-i-test.true old.gap old.within old.set c.index.result.now c.index.ensures;
+      one_route = λ r less found.
+          alike_behind rows xs c.loop-i.i c.loop-i.kept c.loop-i-test.true old.gap old.within old.set c.index.result.now c.index.ensures r less (subst (λ l. has_row l r ≡ true) rest found);
+      in_range = subst (All (λ s. s < length rows)) (sym rest) (All-right (λ s. s < length rows) (take c.loop-i.i xs) (drop c.loop-i.kept xs) old.set.in_range);
+    }
 
 pub loop-i-preserved-then-passes : goal.loop-i-preserved-then-passes
 loop-i-preserved-then-passes c =
