@@ -1,8 +1,7 @@
 // Reads the run part of a job.
-ghost use Rattle.std.specs.Prelude.{◌≡◌, ◌+◌, ◌*◌, ◌<◌, ◌≤◌, ◌-◌, [], length, map, codes, option_map, IfOk, All, Some, None};
+ghost use Rattle.std.specs.Prelude.{◌≡◌, ◌+◌, ◌*◌, ◌<◌, ◌≤◌, ◌-◌, [], length, map, codes, IfOk, All, Some, None};
 ghost use Rattle.serde_json.specs.View.{view};
 ghost use Rattle.serde_json.specs.Data.{null};
-ghost use Rattle.job_text.specs.Fields.{object_value};
 ghost use Rattle.job_text.specs.Reading.{GivesOrFaults, ◌▹◌};
 ghost use Rattle.machine_desc.specs.Live.{live_count_of};
 ghost use Rattle.app_graph.specs.ValidGraph.{IsValidGraph};
@@ -10,7 +9,7 @@ ghost use Rattle.app_graph.specs.RunPart.{key_count_of, IsPacketOf, IsRunOf};
 ghost use Rattle.job_readers.specs.Members.{number_member_faults, number_member, optional_number};
 ghost use Rattle.job_readers.specs.Job.{job_own_faults};
 ghost use Rattle.job_readers.specs.GraphPart.{net_names};
-ghost use Rattle.job_readers.specs.RunPart.{packet_net_faults, packet_net, packets_faults, packets_value, events_faults, events_value, places_faults, run_members_faults, run_members, optional_object_faults, run_faults, run_value};
+ghost use Rattle.job_readers.specs.RunPart.{packets_faults, packets_value, events_faults, events_value, places_faults, run_members_faults, run_members, run_faults, run_value};
 ghost use Rattle.job_text.specs.Paths.{path_text};
 
 use crate::events::events;
@@ -29,26 +28,6 @@ const MOST_PACKETS: u64 = 65536;
 
 /// The most places of all queues together.
 const MOST_PLACES: u64 = 16777216;
-
-// The net of a packet.
-#[tactic(auto, unfolding(crate::specs::RunPart::packet_net_faults, crate::specs::RunPart::packet_net))]
-fn net_of_packet(
-    alloc: Global,
-    item: &Value,
-    path: &Path<'_>,
-    names: &Names,
-    graph: &Graph,
-) -> Result<u32, TextErr>
-    requires { names.now ≡ net_names graph.now.nets }
-    ensures read { GivesOrFaults (λ i. i) result
-        (packet_net_faults graph.now.nets (path_text path.now)
-        (view item.now))
-        (packet_net graph.now.nets (view item.now)) }
-    ensures below { IfOk result (λ i. i < length graph.now.nets) }
-{
-    let path = Path::Member(path, "net");
-    reference(alloc, member(item, "net"), &path, names)
-}
 
 // The last key of a net, counted from 0.
 fn last_key(graph: &Graph, net: u32) -> u64
@@ -101,10 +80,11 @@ impl<'a, 'b> ItemReader for Senders<'a, 'b> {
 
     ghost Holds = { λ among. IsPacketOf among.graph.now.nets };
 
-    #[tactic(auto, using(crate::proofs::Firsts::firsts), unfolding(crate::specs::RunPart::packet_faults, crate::specs::RunPart::packet_value))]
+    #[tactic(auto, using(crate::proofs::Firsts::firsts), unfolding(crate::specs::RunPart::packet_faults, crate::specs::RunPart::packet_net_faults, crate::specs::RunPart::packet_net, crate::specs::RunPart::packet_value))]
     fn read(&self, alloc: Global, item: &Value, path: &Path<'_>) -> Result<Packet, TextErr> {
         let item = object(alloc, Some(item), path)?;
-        let net = net_of_packet(alloc, item, path, self.names, self.graph)?;
+        let sender = Path::Member(path, "net");
+        let net = reference(alloc, member(item, "net"), &sender, self.names)?;
         let last = last_key(self.graph, net);
         let index = number_of(alloc, item, path, "index", (0, last), None)? as u32;
         let payload = payload_of(alloc, item, path)?;
@@ -231,36 +211,12 @@ fn absent_run(
     run_members(alloc, &absent, path, machine, graph)
 }
 
-// The run part at a path.
-#[tactic(auto, using(crate::proofs::Firsts::firsts), unfolding(crate::specs::RunPart::optional_object_faults))]
-fn run_in(
-    alloc: Global,
-    v: Option<&Value>,
-    path: &Path<'_>,
-    machine: &Machine,
-    graph: &Graph,
-) -> Result<RunPart, TextErr>
-    requires { IsValidGraph graph.now }
-    ensures read { GivesOrFaults (λ r. r) result
-        (optional_object_faults (path_text path.now) (option_map (λ d. view d.now) v.entry)
-        ▹ run_members_faults (live_count_of machine.now) graph.now (path_text path.now)
-        (object_value (option_map (λ d. view d.now) v.entry)))
-        (run_members graph.now (object_value (option_map (λ d. view d.now) v.entry))) }
-    ensures found { IfOk result (IsRunOf graph.now) }
-{
-    let Some(found) = v else {
-        return absent_run(alloc, path, machine, graph);
-    };
-    let run = object(alloc, Some(found), path)?;
-    run_members(alloc, run, path, machine, graph)
-}
-
 /// The run part of the job at a path, for its machine and its graph.
 ///
 /// # Errors
 ///
 /// `Fault` with the first fault of the job's own shape and of its run part; `Memory`.
-#[tactic(auto, using(crate::proofs::Firsts::firsts), unfolding(crate::specs::Job::job_own_faults, crate::specs::RunPart::run_faults, crate::specs::RunPart::run_value))]
+#[tactic(auto, using(crate::proofs::Firsts::firsts), unfolding(crate::specs::Job::job_own_faults, crate::specs::RunPart::optional_object_faults, crate::specs::RunPart::run_faults, crate::specs::RunPart::run_value))]
 pub fn run_of(
     alloc: Global,
     job: &Value,
@@ -277,5 +233,9 @@ pub fn run_of(
 {
     let found = field(alloc, job, path, "run")?;
     let path = Path::Member(path, "run");
-    run_in(alloc, found, &path, machine, graph)
+    let Some(found) = found else {
+        return absent_run(alloc, &path, machine, graph);
+    };
+    let run = object(alloc, Some(found), &path)?;
+    run_members(alloc, run, &path, machine, graph)
 }

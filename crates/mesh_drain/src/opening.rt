@@ -1,5 +1,5 @@
 // The mesh of a job before its first event.
-ghost use Rattle.std.specs.Prelude.{◌≡◌, ◌+◌, ◌*◌, ◌<◌, ◌^◌, All, Contains, map, length, IfOk, OnOk, []};
+ghost use Rattle.std.specs.Prelude.{◌≡◌, ◌*◌, ◌<◌, ◌^◌, All, Contains, map, length, IfOk, OnOk, []};
 ghost use Rattle.mesh_core.specs.State.{IsMesh};
 ghost use Rattle.mesh_core.specs.Opened.{opened_mesh, AreOfNets};
 ghost use Rattle.mesh_drain.specs.Opening.{source_vertex_of, AreListed};
@@ -7,7 +7,7 @@ ghost use Rattle.mesh_drain.specs.Opening.{source_vertex_of, AreListed};
 use machine_desc::NetPlan;
 use mesh_core::laws::{every_mesh_is_one, every_setup_has_sites};
 use mesh_core::{Mesh, MeshSetup};
-use spin_base::{Block, McCopy, Memory, Packet};
+use spin_base::{McCopy, Memory, Packet};
 use std::alloc::Global;
 
 /// The mesh of a job before its first event. Packet number `i` of the list stands unsent at its net's source, with the key that it
@@ -51,7 +51,12 @@ fn add_packets(
     every_mesh_is_one(mesh);
     for (number, packet) in packets.iter().enumerate() {
         let net = packet.net as usize;
-        let copy = first_copy(number as u32, nets[net].block, *packet);
+        let copy = McCopy {
+            packet: number as u32,
+            key: nets[net].block.key + packet.index,
+            payload: packet.payload,
+            hop: 0,
+        };
         mesh.add(sources[net] as u32, copy)?;
     }
     Ok(())
@@ -70,23 +75,4 @@ fn source_vertices(alloc: Global, setup: &MeshSetup, nets: &[NetPlan]) -> Result
         vertices.push(vertex)?;
     }
     Ok(vertices)
-}
-
-// The copy of a packet before it is sent.
-fn first_copy(number: u32, block: Block, packet: Packet) -> McCopy
-    requires { block.key + packet.index < 2 ^ 32 }
-    ensures { result
-        ≡ record {
-          packet = number;
-          key = block.key + packet.index;
-          payload = packet.payload;
-          hop = 0;
-        } }
-{
-    McCopy {
-        packet: number,
-        key: block.key + packet.index,
-        payload: packet.payload,
-        hop: 0,
-    }
 }

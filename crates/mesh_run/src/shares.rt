@@ -1,7 +1,7 @@
 // One worker's share of a mesh, and its turns of a round.
 ghost use Rattle.std.specs.Prelude.{◌≡◌, ◌<◌, ◌≤◌, ℕ, All, length, slice_index_or};
 ghost use Rattle.mesh_run.specs.Floors.{IsFloorOf};
-ghost use Rattle.mesh_run.specs.Shares.{ActsAt, IsShareOf, PlaysAndStays, PlaysOne, PlaysRound, PlaysTurns};
+ghost use Rattle.mesh_run.specs.Shares.{ActsAt, IsShareOf, PlaysAndStays, PlaysRound, PlaysTurns};
 
 use crate::floors::Floor;
 use crate::paces::Round;
@@ -80,30 +80,17 @@ impl Share {
                 }
             }
             if at < self.to {
-                self.turn_one(rt, ground, number, at, all);
-            }
-            at += 1;
-        }
-    }
-
-    // One turn of the actor at a place.
-    fn turn_one<R: Wait>(&mut self, rt: &R, ground: Ground, number: u32, at: usize, all: bool)
-        requires floor { IsFloorOf ground.setup.now ground.floor.now }
-        requires share { IsShareOf ground.setup.now ground.around.links.now self.old }
-        requires above { self.old.from ≤ at }
-        requires below { at < self.old.to }
-        ensures plays { PlaysOne ground.entry.setup.now ground.entry.around.patience at self.old
-            self.new }
-        ensures share { IsShareOf ground.entry.setup.now ground.entry.around.links.now self.new }
-    {
-        match self.act(rt, ground, number, at, all) {
-            Turn::Moved => self.moved = true,
-            Turn::Waits => self.short.set(at),
-            Turn::Nothing => {
-                if !self.polled.has(at) {
-                    self.awake.clear(at);
+                match self.act(rt, ground, number, at, all) {
+                    Turn::Moved => self.moved = true,
+                    Turn::Waits => self.short.set(at),
+                    Turn::Nothing => {
+                        if !self.polled.has(at) {
+                            self.awake.clear(at);
+                        }
+                    }
                 }
             }
+            at += 1;
         }
     }
 
