@@ -4,15 +4,12 @@ use Rattle.std.proofs.lemmas.List.{same_lists, Elements.All-head, Elements.All-t
 use Rattle.std.specs.List.{All, Contains, filter, flat_map}
 use Rattle.spin_base.proofs.Members.{Among}
 use Rattle.spin_base.specs.declared.copies.{McCopy.McCopy, DumpRec.DumpRec}
-use Rattle.mesh_core.specs.State.{Hand, Setup, State, IsMesh}
-use Rattle.mesh_core.specs.{Trail.Mark, Trail.IsUnderWayAt, Ledger.marks_of, Ledger.MeetsLedgerFor, Expected.IsAtRest, Expected.NothingWaits}
+use Rattle.mesh_core.specs.{State.Hand, State.Setup, State.State, State.IsMesh, Trail.Mark, Trail.IsUnderWayAt, Ledger.marks_of, Ledger.MeetsLedgerFor, Expected.IsAtRest, Expected.NothingWaits}
 use Rattle.mesh_core.proofs.Fixed.{setup_after}
-use Rattle.app_loads.specs.declared.{answers.Ended.Ended, loaded.LoadedApp.LoadedApp}
-use Rattle.app_loads.specs.{Alike.AreAlike, Alike.IsQuiet, Applications.AreApps, Host.Host, Host.all_nets, Host.asked_of}
+use Rattle.app_loads.specs.{declared.answers.Ended.Ended, declared.loaded.LoadedApp.LoadedApp, Alike.AreAlike, Alike.IsQuiet, Applications.AreApps, Host.Host, Host.all_nets, Host.asked_of}
 use Rattle.app_loads.specs.Leaving.{held_packets, is_delivery_of, is_packet_of, is_record_of, mesh_without, NoneUnderWay, others_than, packet_numbers_of, WaitsIn}
 use Rattle.app_loads.specs.{Opening.usable_spots, Running.HasMovedMesh, Unloading.HasUnloaded}
-use Rattle.app_loads.proofs.Delivered.{HasOneWay, no_more}
-use Rattle.app_loads.proofs.LeavingLeast.{listed_waits, under_way, waits_listed}
+use Rattle.app_loads.proofs.{Delivered.HasOneWay, Delivered.no_more, LeavingLeast.listed_waits, LeavingLeast.under_way, LeavingLeast.waits_listed}
 
 pub alike_too : (h g : Host) → AreAlike h g → AreAlike g h
 alike_too h g alike = record {

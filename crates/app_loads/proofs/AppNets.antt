@@ -1,25 +1,20 @@
 -- The nets of a loaded application: their blocks are ranges of their own, and their trees stand on its spots.
 use Rattle.std.proofs.Common.{◌≡◌, ◌≢◌, ℕ, zero, suc, ◌+◌, ◌^◌, ◌<◌, ◌≤◌, ◌==◌, ◌↔◌, true, List, [], ◌∷◌, get_or, refl, sym, ap, ◌∙◌, subst, inl, inr, arith, Some}
-use Rattle.std.proofs.lemmas.Bool.{cases_eq, cases_lt, and_from, eq-eqb}
-use Rattle.std.proofs.lemmas.List.Elements.{All-contains, All-weaker}
-use Rattle.std.proofs.lemmas.Option.{slice_get-get_or, slice_get_within, get_or_from_slice_get, same_Some}
+use Rattle.std.proofs.lemmas.{Bool.cases_eq, Bool.cases_lt, Bool.and_from, Bool.eq-eqb, List.Elements.All-contains, List.Elements.All-weaker, Option.slice_get-get_or, Option.slice_get_within}
+use Rattle.std.proofs.lemmas.Option.{get_or_from_slice_get, same_Some}
 use Rattle.std.specs.List.{slice_get, All, AllPairs, AllZip, Contains}
 use Rattle.key_alloc.proofs.Ranges.{in_from}
 use Rattle.spin_base.proofs.{Members.Contains-at, Places.All-at, Places.All-each, Places.AllZip-at_first}
 use Rattle.spin_base.specs.declared.{blocks.Block.Block, chips.Spot.Spot}
-use Rattle.machine_desc.specs.{Description.Description, Live.IsInside, Live.IsUsable, RoutingTree.IsRoutingTree}
-use Rattle.machine_desc.specs.{declared.nets.NetPlan.NetPlan, NetsOn.HaveDisjointBlocks, RightTables.IsKeyOf}
+use Rattle.machine_desc.specs.{Description.Description, Live.IsInside, Live.IsUsable, RoutingTree.IsRoutingTree, declared.nets.NetPlan.NetPlan, NetsOn.HaveDisjointBlocks, RightTables.IsKeyOf}
 use Rattle.machine_desc.proofs.{Far.live_inside, Sites.usable_parts}
 use Rattle.range_store.specs.Regions.{in_range}
 use Rattle.tern_word.specs.Ternary.{Matches}
 use Rattle.net_tables.specs.PlainTable.{AreRoutedApart}
-use Rattle.app_loads.specs.declared.answers.LoadRefusal.TheVariants.{KeysOut}
-use Rattle.app_loads.specs.declared.{loaded.Claim.Claim, loaded.LoadedApp.LoadedApp, loaded.Range.Range, plans.AppNet.AppNet}
-use Rattle.app_loads.specs.Applications.{IsLoadedOn, IsRangeFor}
-use Rattle.app_loads.specs.{Claims.claims_of, Claims.IsBlockOf, Host.net_with, Host.nets_with, Host.nets_of, Plans.IsAppNet, Plans.IsSpotBefore}
+use Rattle.app_loads.specs.declared.{answers.LoadRefusal.TheVariants.KeysOut, loaded.Claim.Claim, loaded.LoadedApp.LoadedApp, loaded.Range.Range, plans.AppNet.AppNet}
+use Rattle.app_loads.specs.{Applications.IsLoadedOn, Applications.IsRangeFor, Claims.claims_of, Claims.IsBlockOf, Host.net_with, Host.nets_with, Host.nets_of, Plans.IsAppNet, Plans.IsSpotBefore}
 use Rattle.app_loads.specs.Regions.{place_of, ShareNoPlace, range_has}
-use Rattle.app_loads.proofs.Blocks.{block_keys}
-use Rattle.app_loads.proofs.ClaimCases.{facts, same_net, IsKeyClaim}
+use Rattle.app_loads.proofs.{Blocks.block_keys, ClaimCases.facts, ClaimCases.same_net, ClaimCases.IsKeyClaim}
 
 -- a net with its block is made of the net and the block of its place
 pub nets_with_parts : (nets : List AppNet) (blocks : List Block) (i : ℕ) (x : NetPlan) → slice_get (nets_with nets blocks) i ≡ Some x →

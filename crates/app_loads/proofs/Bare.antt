@@ -1,10 +1,9 @@
 -- What holds of a host without an application.
-use Rattle.std.proofs.Common.{◌≡◌, ℕ, ◌+◌, ◌-◌, ◌*◌, ◌/◌, ◌%◌, ◌<◌, ◌≤◌, zero, suc, ◌∙◌, List, [], ◌∷◌, ◌++◌, Option, Some, None, Bool, true, false, ◌&&◌, if◌then◌else◌, ◌==◌}
-use Rattle.std.proofs.Common.{refl, sym, ap, subst, arith, inl, inr, length, replicate, not, get_or, leb, ltb}
-use Rattle.std.proofs.lemmas.Bool.{cases_lt, leb-false, leb-true, Decides.nat_tests}
-use Rattle.std.proofs.lemmas.List.{get_or-replicate, length-replicate, length-append, get_or_append_left, get_or-append_right}
-use Rattle.std.proofs.lemmas.List.Elements.{All-nil, All-replicate}
-use Rattle.std.proofs.lemmas.Option.{slice_get-get_or, slice_get_within, get_or_from_slice_get, same_Some}
+use Rattle.std.proofs.Common.{◌≡◌, ℕ, ◌+◌, ◌-◌, ◌*◌, ◌/◌, ◌%◌, ◌<◌, ◌≤◌, zero, suc, ◌∙◌, List, [], ◌∷◌, ◌++◌, Option, Some, None, Bool, true, false, ◌&&◌, if◌then◌else◌, ◌==◌, refl, sym, ap, subst}
+use Rattle.std.proofs.Common.{arith, inl, inr, length, replicate, not, get_or, leb, ltb}
+use Rattle.std.proofs.lemmas.{Bool.cases_lt, Bool.leb-false, Bool.leb-true, Bool.Decides.nat_tests, List.get_or-replicate, List.length-replicate, List.length-append, List.get_or_append_left}
+use Rattle.std.proofs.lemmas.{List.get_or-append_right, List.Elements.All-nil, List.Elements.All-replicate, Option.slice_get-get_or, Option.slice_get_within, Option.get_or_from_slice_get}
+use Rattle.std.proofs.lemmas.Option.{same_Some}
 use Rattle.std.specs.List.{slice_get, Contains}
 use Rattle.spin_base.proofs.{Members.Contains-none, Gathering.gathered_nothing}
 use Rattle.spin_base.specs.declared.{blocks.Entry.Entry, chips.Chip.Chip, chips.Spot.Spot, copies.McCopy.McCopy}
@@ -12,14 +11,10 @@ use Rattle.machine_desc.specs.{Description.Description, Live.index_of, Live.chip
 use Rattle.machine_desc.proofs.Far.{index_below}
 use Rattle.range_store.specs.Regions.{AreRuns, hole_of, is_free}
 use Rattle.tcam_find.specs.Memory.{empty_memory, unused}
-use Rattle.mesh_core.specs.State.{Setup, State, Hand, IsMesh}
-use Rattle.mesh_core.specs.Trail.{Mark, unsent, in_queue, at_core}
-use Rattle.mesh_core.specs.Ledger.{marks_of, marks_at, hand_marks, port_of, unsent_marks, input_marks, all_hand_marks, core_marks, MeetsLedgerFor}
-use Rattle.mesh_core.specs.Opened.{empty_mesh}
-use Rattle.app_loads.specs.declared.loaded.LoadedApp.{LoadedApp}
-use Rattle.app_loads.specs.Host.{Free, Host, asked_of}
-use Rattle.app_loads.specs.Regions.{all_free, open_regions, chip_count, region_size, IsFreeBeside}
-use Rattle.app_loads.specs.{Applications.AreApps, Opening.bare_mesh, Opening.bare_host}
+use Rattle.mesh_core.specs.{State.Setup, State.State, State.Hand, State.IsMesh, Trail.Mark, Trail.unsent, Trail.in_queue, Trail.at_core, Ledger.marks_of, Ledger.marks_at, Ledger.hand_marks}
+use Rattle.mesh_core.specs.{Ledger.port_of, Ledger.unsent_marks, Ledger.input_marks, Ledger.all_hand_marks, Ledger.core_marks, Ledger.MeetsLedgerFor, Opened.empty_mesh}
+use Rattle.app_loads.specs.{declared.loaded.LoadedApp.LoadedApp, Host.Free, Host.Host, Host.asked_of, Regions.all_free, Regions.open_regions, Regions.chip_count, Regions.region_size}
+use Rattle.app_loads.specs.{Regions.IsFreeBeside, Applications.AreApps, Opening.bare_mesh, Opening.bare_host}
 use Rattle.app_loads.proofs.Resting.{rest_alone}
 use Rattle.mesh_drain.specs.Draining.{SendAlone}
 

@@ -1,29 +1,22 @@
 -- Rows put into ranges of entries.
-use Rattle.std.proofs.Common.{◌≡◌, ◌≢◌, ℕ, zero, suc, ◌+◌, ◌<◌, ◌≤◌, true, false, ◌||◌, ◌&&◌, ◌==◌, List, [], ◌∷◌, ◌++◌, take, drop, get_or, length, map, set, refl, sym}
-use Rattle.std.proofs.Common.{ap, ◌∙◌, subst, inl, inr, ◌⊎◌, arith, Some, append_assoc}
-use Rattle.std.proofs.Math.Seq.{drop-cons}
-use Rattle.std.proofs.lemmas.Bool.{cases_eq, cases_lt, eq-eqb, and_from, false_from_ne_true, or_parts}
-use Rattle.std.proofs.Math.ListN.{get_or-map}
-use Rattle.std.proofs.lemmas.List.{length-set, length-append, length-take-le, length-map, length-drop, map-append, set_at, get_or-take, take_all, take_at, drop_at}
-use Rattle.std.proofs.lemmas.List.{Elements.Contains-push_cases, Folds.list_any-append}
-use Rattle.std.proofs.lemmas.Option.{slice_get_within, slice_get-get_or, get_or_from_slice_get, same_Some}
+use Rattle.std.proofs.Common.{◌≡◌, ◌≢◌, ℕ, zero, suc, ◌+◌, ◌<◌, ◌≤◌, true, false, ◌||◌, ◌&&◌, ◌==◌, List, [], ◌∷◌, ◌++◌, take, drop, get_or, length, map, set, refl, sym, ap, ◌∙◌, subst, inl, inr, ◌⊎◌}
+use Rattle.std.proofs.Common.{arith, Some, append_assoc}
+use Rattle.std.proofs.{Math.Seq.drop-cons, lemmas.Bool.cases_eq, lemmas.Bool.cases_lt, lemmas.Bool.eq-eqb, lemmas.Bool.and_from, lemmas.Bool.false_from_ne_true, lemmas.Bool.or_parts}
+use Rattle.std.proofs.{Math.ListN.get_or-map, lemmas.List.length-set, lemmas.List.length-append, lemmas.List.length-take-le, lemmas.List.length-map, lemmas.List.length-drop, lemmas.List.map-append}
+use Rattle.std.proofs.lemmas.{List.set_at, List.get_or-take, List.take_all, List.take_at, List.drop_at, List.Elements.Contains-push_cases, List.Folds.list_any-append, Option.slice_get_within}
+use Rattle.std.proofs.lemmas.Option.{slice_get-get_or, get_or_from_slice_get, same_Some}
 use Rattle.std.specs.List.{AllZip, slice_get, slice_set, Contains}
 use Rattle.key_alloc.proofs.Ranges.{in_from}
-use Rattle.spin_base.proofs.Members.{Contains-at}
-use Rattle.spin_base.proofs.Places.{AllZip-more, slice_get-set_same, slice_get-set_other, take_more_at, map_more_at}
+use Rattle.spin_base.proofs.{Members.Contains-at, Places.AllZip-more, Places.slice_get-set_same, Places.slice_get-set_other, Places.take_more_at, Places.map_more_at}
 use Rattle.spin_base.specs.declared.{blocks.Entry.Entry, chips.Chip.Chip}
 use Rattle.machine_desc.specs.{Description.Description, Live.index_of, Live.IsInside, RightTables.table_at}
 use Rattle.machine_desc.proofs.Far.{index_below}
 use Rattle.range_store.specs.Regions.{in_range}
 use Rattle.range_store.proofs.HolePlaces.{clash}
-use Rattle.tern_word.specs.declared.tables.{Row.Row, Table.Table}
-use Rattle.tern_word.specs.Entries.{entry_of}
-use Rattle.net_tables.specs.declared.marks.Mark.{Mark}
-use Rattle.net_tables.specs.Marks.{IsTableOf, row_of_mark, table_of_sorted}
-use Rattle.app_loads.specs.declared.{loaded.Range.Range, places.Region.Region}
-use Rattle.app_loads.specs.declared.places.Region.TheVariants.{Keys, Memory, Rows}
-use Rattle.app_loads.specs.Regions.{ShareNoPlace, IsRegion, chip_count, range_has, is_taken, place_of}
-use Rattle.app_loads.specs.Writing.{AreCopied, CanCopy, tables_in}
+use Rattle.tern_word.specs.{declared.tables.Row.Row, declared.tables.Table.Table, Entries.entry_of}
+use Rattle.net_tables.specs.{declared.marks.Mark.Mark, Marks.IsTableOf, Marks.row_of_mark, Marks.table_of_sorted}
+use Rattle.app_loads.specs.declared.{loaded.Range.Range, places.Region.Region, places.Region.TheVariants.Keys, places.Region.TheVariants.Memory, places.Region.TheVariants.Rows}
+use Rattle.app_loads.specs.{Regions.ShareNoPlace, Regions.IsRegion, Regions.chip_count, Regions.range_has, Regions.is_taken, Regions.place_of, Writing.AreCopied, Writing.CanCopy, Writing.tables_in}
 
 -- ---- a list with a part written
 

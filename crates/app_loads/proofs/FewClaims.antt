@@ -4,13 +4,9 @@ use Rattle.std.proofs.lemmas.{List.length-append, List.FromFn.length-range_with_
 use Rattle.std.specs.{Prelude.zip, List.flat_map, List.range_with_len}
 use Rattle.spin_base.specs.{Gathered.gathered, declared.blocks.Block.Block}
 use Rattle.machine_desc.specs.{Description.Description, Description.HasSize, Live.chip_of}
-use Rattle.app_loads.specs.declared.answers.LoadRefusal.TheVariants.{MemoryOut, RowsOut}
-use Rattle.app_loads.specs.declared.{loaded.Claim.Claim, loaded.LoadedApp.LoadedApp, plans.AppNet.AppNet, plans.AppPlan.AppPlan}
-use Rattle.app_loads.specs.Applications.{IsLoadedOn, IsRangeFor}
-use Rattle.app_loads.specs.Claims.{claims_of, fixed_claim, has_chip, key_claim, memory_claim, row_claim}
-use Rattle.app_loads.specs.Plans.{IsPlan}
-use Rattle.app_loads.specs.declared.places.Region.TheVariants.{Memory, Rows}
-use Rattle.app_loads.specs.Regions.{chip_count}
+use Rattle.app_loads.specs.declared.{answers.LoadRefusal.TheVariants.MemoryOut, answers.LoadRefusal.TheVariants.RowsOut, loaded.Claim.Claim, loaded.LoadedApp.LoadedApp, plans.AppNet.AppNet}
+use Rattle.app_loads.specs.{declared.plans.AppPlan.AppPlan, Applications.IsLoadedOn, Applications.IsRangeFor, Claims.claims_of, Claims.fixed_claim, Claims.has_chip, Claims.key_claim}
+use Rattle.app_loads.specs.{Claims.memory_claim, Claims.row_claim, Plans.IsPlan, declared.places.Region.TheVariants.Memory, declared.places.Region.TheVariants.Rows, Regions.chip_count}
 use Rattle.app_loads.proofs.FewSpots.{few_spots}
 
 one_unless : (b : Bool) (claim : Claim) → length (if b then [] else claim ∷ []) ≤ 1

@@ -1,19 +1,16 @@
 -- Deliveries held in groups.
-use Rattle.std.proofs.Common.{◌≡◌, ◌≢◌, ℕ, zero, suc, ◌+◌, ◌-◌, ◌<◌, ◌≤◌, Bool, true, false, not, ◌&&◌, ◌||◌, List, [], ◌∷◌, ◌++◌, drop, take, length, refl, sym, ap}
-use Rattle.std.proofs.Common.{◌∙◌, subst, arith, cond, inl, inr, leb, ltb, Some, Result, Ok, Err, IfOk, OnErr}
+use Rattle.std.proofs.Common.{◌≡◌, ◌≢◌, ℕ, zero, suc, ◌+◌, ◌-◌, ◌<◌, ◌≤◌, Bool, true, false, not, ◌&&◌, ◌||◌, List, [], ◌∷◌, ◌++◌, drop, take, length, refl, sym, ap, ◌∙◌, subst, arith, cond, inl, inr}
+use Rattle.std.proofs.Common.{leb, ltb, Some, Result, Ok, Err, IfOk, OnErr}
 use Rattle.std.proofs.lemmas.Bool.{and_from, and_parts, cases_Bool, cases_lt, false≢true, le-leb, leb-true, lt-ltb, ltb-true, not-false, not-true, or_parts}
-use Rattle.std.proofs.lemmas.Grind.{flat_map-append}
-use Rattle.std.proofs.lemmas.List.{append_assoc, append-nil, drop_at, length-append, length-map, length-set, set-get_or, take_all}
-use Rattle.std.proofs.lemmas.List.Elements.{All-head, All-map, All-tail, All-weaker, filter-append}
-use Rattle.std.proofs.lemmas.List.Filters.{length-filter_both}
+use Rattle.std.proofs.lemmas.{Grind.flat_map-append, List.append_assoc, List.append-nil, List.drop_at, List.length-append, List.length-map, List.length-set, List.set-get_or, List.take_all}
+use Rattle.std.proofs.lemmas.List.{Elements.All-head, Elements.All-map, Elements.All-tail, Elements.All-weaker, Elements.filter-append, Filters.length-filter_both}
 use Rattle.std.proofs.lemmas.Option.{same_Some, slice_get-get_or, slice_get_within}
 use Rattle.std.specs.List.{All, filter, list_any, slice_get, slice_index_or, slice_set}
 use Rattle.spin_base.proofs.{Pairs.All-flat_map, Places.take_more_at}
 use Rattle.spin_base.specs.declared.copies.{Delivery.Delivery, McCopy.McCopy}
-use Rattle.app_loads.specs.declared.{arrivals.Arrival.Arrival, group.Group.TheInside.Inside, group.Sent.Sent, loaded.LoadedApp.LoadedApp}
-use Rattle.app_loads.specs.Grouping.{Grouped, HasPut, all_grouped, is_mixed_group, is_others_group, is_own_group}
-use Rattle.app_loads.specs.Groups.{EndsWith, IsBetween, IsGroup, deliveries_at, deliveries_in, delivery_of, grouped_of, last_arrivals, sent_of}
-use Rattle.app_loads.specs.Leaving.{is_delivery_of, is_packet_of}
+use Rattle.app_loads.specs.{declared.arrivals.Arrival.Arrival, declared.group.Group.TheInside.Inside, declared.group.Sent.Sent, declared.loaded.LoadedApp.LoadedApp, Grouping.Grouped, Grouping.HasPut}
+use Rattle.app_loads.specs.{Grouping.all_grouped, Grouping.is_mixed_group, Grouping.is_others_group, Grouping.is_own_group, Groups.EndsWith, Groups.IsBetween, Groups.IsGroup, Groups.deliveries_at}
+use Rattle.app_loads.specs.{Groups.deliveries_in, Groups.delivery_of, Groups.grouped_of, Groups.last_arrivals, Groups.sent_of, Leaving.is_delivery_of, Leaving.is_packet_of}
 
 -- ---- one group
 

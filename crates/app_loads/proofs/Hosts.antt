@@ -3,8 +3,7 @@ use Rattle.std.proofs.Common.{◌≡◌, ℕ, List, refl, sym, ap, subst, Option
 use Rattle.std.specs.Prelude.{IfSome}
 use Rattle.spin_base.specs.declared.{copies.Event.Event, wants.Memory.Memory}
 use Rattle.mesh_core.specs.{declared.places.Did.Did, State.State, Step.after_event}
-use Rattle.app_loads.specs.declared.apps.Apps.TheInside.{Inside}
-use Rattle.app_loads.specs.{Host.Host, Applications.AreApps, Inner.mesh_in, Inner.host_of, Inner.IsHost, Running.AreAlikeInBlocks, Running.HasMovedMesh}
+use Rattle.app_loads.specs.{declared.apps.Apps.TheInside.Inside, Host.Host, Applications.AreApps, Inner.mesh_in, Inner.host_of, Inner.IsHost, Running.AreAlikeInBlocks, Running.HasMovedMesh}
 use Rattle.app_loads.proofs.{Keeping.apps_after, Keeping.apps_kept, OneBlock.alike_in_blocks}
 use Rattle.mesh_drain.specs.Draining.{MeetsSomeLedger, IsAfter, IsMoved, SendAlone}
 use Rattle.mesh_drain.proofs.Moving.{after_none, after_one}

@@ -1,14 +1,12 @@
 -- What holds of a host holds after events of its mesh.
 use Rattle.std.proofs.Common.{◌≡◌, sym, subst}
 use Rattle.std.specs.List.{All}
-use Rattle.mesh_core.specs.State.{Setup, State, IsMesh}
-use Rattle.mesh_core.specs.Ledger.{MeetsLedgerFor, label_of}
+use Rattle.mesh_core.specs.{State.Setup, State.State, State.IsMesh, Ledger.MeetsLedgerFor, Ledger.label_of}
 use Rattle.mesh_core.proofs.EventsLaw.{IsMesh-after_events, events_keep_for}
 use Rattle.machine_desc.specs.RightTables.{AreRight}
 use Rattle.mesh_drain.specs.Draining.{MeetsSomeLedger, IsAfter}
 use Rattle.mesh_drain.proofs.Moving.{after_setup}
-use Rattle.app_loads.specs.Host.{Host, all_nets, all_ranges, asked_of}
-use Rattle.app_loads.specs.{Regions.AreFreeBeside, Applications.AreApps, Applications.IsLoadedOn, Applications.HaveRows, Opening.usable_spots}
+use Rattle.app_loads.specs.{Host.Host, Host.all_nets, Host.all_ranges, Host.asked_of, Regions.AreFreeBeside, Applications.AreApps, Applications.IsLoadedOn, Applications.HaveRows, Opening.usable_spots}
 
 -- another mesh of the same setup
 other_mesh : (h : Host) (mesh : State) → mesh.setup ≡ h.mesh.setup → IsMesh mesh → MeetsLedgerFor mesh (all_nets h.apps) (asked_of h.apps) → AreApps h →

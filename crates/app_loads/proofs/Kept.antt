@@ -1,23 +1,18 @@
 -- A mesh whose earlier deliveries are held apart, seen as one mesh.
-use Rattle.std.proofs.Common.{◌≡◌, ◌≢◌, Bool, ℕ, ◌+◌, ◌^◌, ◌<◌, List, [], ◌++◌, ◌∷◌, cond, drop, length, refl, sym, ap, ◌∙◌, subst, inl, inr, arith, Option, Result, Ok, Err, OnOk, Some, map}
-use Rattle.std.proofs.{Common.nat_cmp, lemmas.Bool.cases_Bool, lemmas.Bool.eq-eqb, lemmas.Option.none-some, lemmas.Option.same_Some}
-use Rattle.std.proofs.lemmas.List.{append-nil, drop_at, map-append, Sums.count_by-le-length, Sums.length-filter}
-use Rattle.std.specs.{BTreeMap.BTreeMap, BTreeMap.Updates, BTreeMap.get, BTreeMap.is_at, Map.lookup, Ordering.is_eq}
-use Rattle.std.specs.List.{Contains, filter, slice_get, slice_index_or, slice_set}
+use Rattle.std.proofs.Common.{◌≡◌, ◌≢◌, Bool, ℕ, ◌+◌, ◌^◌, ◌<◌, List, [], ◌++◌, ◌∷◌, cond, drop, length, refl, sym, ap, ◌∙◌, subst, inl, inr, arith, Option, Result, Ok, Err, OnOk, Some, map, nat_cmp}
+use Rattle.std.proofs.lemmas.{Bool.cases_Bool, Bool.eq-eqb, Option.none-some, Option.same_Some, List.append-nil, List.drop_at, List.map-append, List.Sums.count_by-le-length, List.Sums.length-filter}
+use Rattle.std.specs.{BTreeMap.BTreeMap, BTreeMap.Updates, BTreeMap.get, BTreeMap.is_at, Map.lookup, Ordering.is_eq, List.Contains, List.filter, List.slice_get, List.slice_index_or, List.slice_set}
 use Rattle.spin_base.proofs.Members.{Among, among_contains, among_either, among_left, among_map, among_right, contains_among}
 use Rattle.spin_base.specs.declared.{blocks.Block.Block, copies.Delivery.Delivery, copies.McCopy.McCopy}
 use Rattle.machine_desc.specs.RightTables.{IsKeyOf}
-use Rattle.mesh_core.specs.Expected.{NothingWaits}
-use Rattle.mesh_core.specs.Ledger.{all_hand_marks, core_marks, delivered_marks, dumped_marks, input_marks, marks_of, unsent_marks}
+use Rattle.mesh_core.specs.{Expected.NothingWaits, Ledger.all_hand_marks, Ledger.core_marks, Ledger.delivered_marks, Ledger.dumped_marks, Ledger.input_marks, Ledger.marks_of, Ledger.unsent_marks}
 use Rattle.mesh_core.specs.{Queues.drop_front, State.Setup, State.State, State.IsMesh, Trail.Mark, Trail.IsUnderWayAt, Trail.delivered}
 use Rattle.mesh_drain.specs.Draining.{AreRoutedAlike, BringsAlways, HasBrought, IsMoved, IsReachedDropless, MaySend, SendAlone, of_packet}
 use Rattle.mesh_drain.proofs.Frame.{dumped_reached, kept_reached, setup_reached}
 use Rattle.app_loads.specs.declared.answers.UnloadErr.{UnloadErr, TheVariants.NotLoaded, TheVariants.Waiting, TheVariants.Memory}
-use Rattle.app_loads.specs.declared.{known.KnownBlock.KnownBlock, loaded.LoadedApp.LoadedApp}
-use Rattle.app_loads.specs.{Earlier.with_earlier, Joining.CanSettle, Leaving.NoneUnderWay, Leaving.WaitsIn, Removing.IsWhyHere}
-use Rattle.app_loads.specs.declared.arrivals.Arrival.{Arrival}
-use Rattle.app_loads.specs.Groups.{deliveries_at, sent_of}
-use Rattle.app_loads.specs.Running.{AreAlikeInBlocks, AreKnown, Comes, HasBroughtMore, HasFirstUnsent, IsClean}
+use Rattle.app_loads.specs.{declared.known.KnownBlock.KnownBlock, declared.loaded.LoadedApp.LoadedApp, Earlier.with_earlier, Joining.CanSettle, Leaving.NoneUnderWay, Leaving.WaitsIn}
+use Rattle.app_loads.specs.{Removing.IsWhyHere, declared.arrivals.Arrival.Arrival, Groups.deliveries_at, Groups.sent_of, Running.AreAlikeInBlocks, Running.AreKnown, Running.Comes}
+use Rattle.app_loads.specs.Running.{HasBroughtMore, HasFirstUnsent, IsClean}
 use Rattle.app_loads.proofs.{Earlier.kept_without, Earlier.reached_with, LeftMesh.mesh_with}
 
 -- what follows where a call was answered

@@ -1,27 +1,22 @@
 -- The ledger of a mesh without the deliveries and dump records of an application of which no packet is under way.
-use Rattle.std.proofs.Common.{◌≡◌, ◌≢◌, ℕ, ◌+◌, ◌-◌, ◌/◌, ◌%◌, ◌<◌, ◌≤◌, ◌==◌, Bool, true, false, List, [], ◌∷◌, ◌++◌, ◌∙◌, ◌⊎◌, Option, None, Some, if◌then◌else◌}
-use Rattle.std.proofs.Common.{leb, ltb, not, cond, length, refl, sym, ap, subst, inl, inr, arith, IsTrue, count_by}
+use Rattle.std.proofs.Common.{◌≡◌, ◌≢◌, ℕ, ◌+◌, ◌-◌, ◌/◌, ◌%◌, ◌<◌, ◌≤◌, ◌==◌, Bool, true, false, List, [], ◌∷◌, ◌++◌, ◌∙◌, ◌⊎◌, Option, None, Some, if◌then◌else◌, leb, ltb, not, cond, length, refl}
+use Rattle.std.proofs.Common.{sym, ap, subst, inl, inr, arith, IsTrue, count_by}
 use Rattle.std.proofs.lemmas.Bool.{cases_Bool, cases_lt, and_from, leb-true, lt-ltb, ltb-true, and_parts, eqb-true, eq-eqb, not-true, Decides.nat_tests}
-use Rattle.std.proofs.lemmas.List.Elements.{filter-append, Contains-append_left, Contains-append_right}
-use Rattle.std.proofs.lemmas.Option.{slice_get_past}
+use Rattle.std.proofs.lemmas.{List.Elements.filter-append, List.Elements.Contains-append_left, List.Elements.Contains-append_right, Option.slice_get_past}
 use Rattle.std.specs.List.{filter, All, AllPairs, Contains}
 use Rattle.spin_base.proofs.Members.{Among, among_contains, contains_among, among_left, among_right, among_map, Contains-first, Contains-later, Contains-from_filter, Contains-filter}
 use Rattle.spin_base.proofs.Gathering.{among_gathered}
 use Rattle.spin_base.specs.declared.{blocks.Entry.Entry, chips.Spot.Spot, copies.McCopy.McCopy, copies.Delivery.Delivery, copies.DumpRec.DumpRec}
-use Rattle.machine_desc.specs.{Description.Description, Live.chip_of, Branch.Exit, RoutingTree.IsRoutingTree, declared.nets.NetPlan.NetPlan}
-use Rattle.machine_desc.specs.{RightTables.IsKeyOf, NetsOn.AreNetsOn, NetsOn.IsWayOn}
-use Rattle.mesh_core.specs.State.{State, Hand}
-use Rattle.mesh_core.specs.Trail.{Station, unsent, in_queue, in_hand, at_core, delivered, dumped, Mark, is_on_trail, is_packet_on_trail, IsUnderWayAt}
-use Rattle.mesh_core.specs.Ledger.{marks_of, marks_at, hand_marks, port_of, unsent_marks, input_marks, all_hand_marks, core_marks, delivered_marks, dumped_marks, Asked, label_of, MeetsLedgerFor}
-use Rattle.mesh_core.specs.Opened.{asked_at, asked_by}
+use Rattle.machine_desc.specs.{Description.Description, Live.chip_of, Branch.Exit, RoutingTree.IsRoutingTree, declared.nets.NetPlan.NetPlan, RightTables.IsKeyOf, NetsOn.AreNetsOn, NetsOn.IsWayOn}
+use Rattle.mesh_core.specs.{State.State, State.Hand, Trail.Station, Trail.unsent, Trail.in_queue, Trail.in_hand, Trail.at_core, Trail.delivered, Trail.dumped, Trail.Mark, Trail.is_on_trail}
+use Rattle.mesh_core.specs.{Trail.is_packet_on_trail, Trail.IsUnderWayAt, Ledger.marks_of, Ledger.marks_at, Ledger.hand_marks, Ledger.port_of, Ledger.unsent_marks, Ledger.input_marks}
+use Rattle.mesh_core.specs.{Ledger.all_hand_marks, Ledger.core_marks, Ledger.delivered_marks, Ledger.dumped_marks, Ledger.Asked, Ledger.label_of, Ledger.MeetsLedgerFor, Opened.asked_at}
+use Rattle.mesh_core.specs.Opened.{asked_by}
 use Rattle.mesh_core.proofs.{AskedPackets.asked_parts, AskedPackets.net_in_list, LedgerLaw.one_net, Moves.mark}
-use Rattle.app_loads.specs.declared.loaded.LoadedApp.{LoadedApp}
-use Rattle.app_loads.specs.Host.{Host, all_nets, asked_of, asked_of_app, either, nets_of}
-use Rattle.app_loads.specs.Applications.{AreApps, HaveOtherNumbers}
-use Rattle.app_loads.specs.Leaving.{is_packet_of, NoneUnderWay, others_than, mesh_without}
-use Rattle.app_loads.proofs.Ledgers.{own_net}
-use Rattle.app_loads.proofs.LeavingLists.{after_cores, after_hands, after_inputs, after_unsent, filter_stays, filter_of_map, count_of_filter, either_pair}
-use Rattle.app_loads.proofs.Others.{All-left_in, AllPairs-left_in, Contains-left_in, only_one}
+use Rattle.app_loads.specs.{declared.loaded.LoadedApp.LoadedApp, Host.Host, Host.all_nets, Host.asked_of, Host.asked_of_app, Host.either, Host.nets_of, Applications.AreApps}
+use Rattle.app_loads.specs.{Applications.HaveOtherNumbers, Leaving.is_packet_of, Leaving.NoneUnderWay, Leaving.others_than, Leaving.mesh_without}
+use Rattle.app_loads.proofs.{Ledgers.own_net, LeavingLists.after_cores, LeavingLists.after_hands, LeavingLists.after_inputs, LeavingLists.after_unsent, LeavingLists.filter_stays}
+use Rattle.app_loads.proofs.{LeavingLists.filter_of_map, LeavingLists.count_of_filter, LeavingLists.either_pair, Others.All-left_in, Others.AllPairs-left_in, Others.Contains-left_in, Others.only_one}
 
 -- a test and its opposite
 opposite_false : (b : Bool) → (b ≡ true → ⊥) → not b ≡ true

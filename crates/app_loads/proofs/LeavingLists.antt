@@ -3,8 +3,7 @@ use Rattle.std.proofs.Common.{◌≡◌, ℕ, ◌+◌, Bool, true, false, cond, 
 use Rattle.std.proofs.lemmas.{Bool.cases_order, List.get_or_default}
 use Rattle.std.specs.List.{AllPairs, Contains, filter, slice_index_or}
 use Rattle.spin_base.proofs.{Counts.count_by-cons, Members.Among}
-use Rattle.mesh_core.specs.{State.State, Trail.Mark}
-use Rattle.mesh_core.specs.Ledger.{all_hand_marks, core_marks, delivered_marks, dumped_marks, input_marks}
+use Rattle.mesh_core.specs.{State.State, Trail.Mark, Ledger.all_hand_marks, Ledger.core_marks, Ledger.delivered_marks, Ledger.dumped_marks, Ledger.input_marks}
 
 -- ---- lists
 

@@ -1,19 +1,16 @@
 -- The fields of a host to which an application came, or came not.
 use Rattle.std.proofs.Common.{◌≡◌, ℕ, ◌+◌, ◌^◌, ◌<◌, true, false, List, [], ◌∷◌, ◌++◌, length, refl, sym, ap, ◌∙◌, subst, inl, Option, None, Some, Result, Ok, Err, OnOk, OnErr}
 use Rattle.std.proofs.lemmas.List.{map-append, Elements.All-contains}
-use Rattle.std.specs.Prelude.{IfSome, is_err, is_some}
-use Rattle.std.specs.List.{Contains}
+use Rattle.std.specs.{Prelude.IfSome, Prelude.is_err, Prelude.is_some, List.Contains}
 use Rattle.spin_base.proofs.Members.{among_contains, among_right}
 use Rattle.range_store.specs.Views.{Region}
 use Rattle.mesh_core.specs.State.{State}
 use Rattle.mesh_drain.specs.Draining.{SendAlone}
-use Rattle.app_loads.specs.declared.{answers.LoadErr.LoadErr, apps.Apps.TheInside.Inside, loaded.LoadedApp.LoadedApp, plans.AppPlan.AppPlan}
-use Rattle.app_loads.specs.{Applications.AreApps, Applications.IsLoadedOn, Claims.claims_of, Host.Free, Host.Host, Host.all_ranges, Host.is_loaded}
-use Rattle.app_loads.specs.Inner.{host_of, IsHost, mesh_in, numbers_of}
-use Rattle.app_loads.specs.{Joining.CanJoin, Joining.IsServedApp, Joining.IsSettled, Loading.HasLoaded, Loading.IsWhyNotLoaded, Plans.MayLoad}
-use Rattle.app_loads.specs.{Regions.AreFreeBeside, Taking.AreFreeAgain, Taking.IsDueAlways, Taking.frees, Sending.AreWithSources}
-use Rattle.app_loads.proofs.LoadedHost.{apps_now, loaded_host, none_unsent, same_frees, why_not}
-use Rattle.app_loads.proofs.Resting.{with_alone}
+use Rattle.app_loads.specs.{declared.answers.LoadErr.LoadErr, declared.apps.Apps.TheInside.Inside, declared.loaded.LoadedApp.LoadedApp, declared.plans.AppPlan.AppPlan, Applications.AreApps}
+use Rattle.app_loads.specs.{Applications.IsLoadedOn, Claims.claims_of, Host.Free, Host.Host, Host.all_ranges, Host.is_loaded, Inner.host_of, Inner.IsHost, Inner.mesh_in, Inner.numbers_of}
+use Rattle.app_loads.specs.{Joining.CanJoin, Joining.IsServedApp, Joining.IsSettled, Loading.HasLoaded, Loading.IsWhyNotLoaded, Plans.MayLoad, Regions.AreFreeBeside, Taking.AreFreeAgain}
+use Rattle.app_loads.specs.{Taking.IsDueAlways, Taking.frees, Sending.AreWithSources}
+use Rattle.app_loads.proofs.{LoadedHost.apps_now, LoadedHost.loaded_host, LoadedHost.none_unsent, LoadedHost.same_frees, LoadedHost.why_not, Resting.with_alone}
 
 one_host : (a b : State) (r s : List Free) (p q : List LoadedApp) (n k : ℕ) → a ≡ b → r ≡ s → p ≡ q → n ≡ k →
     (let x : Host = record { mesh = a; regions = r; apps = p; packets = n } in let y : Host = record { mesh = b; regions = s; apps = q; packets = k } in x ≡ y)

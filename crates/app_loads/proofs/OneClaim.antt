@@ -8,12 +8,10 @@ use Rattle.machine_desc.specs.{Description.Description, Live.chip_of}
 use Rattle.tern_word.proofs.BlockLaws.{same_block}
 use Rattle.key_alloc.specs.KeyBlocks.{size_of}
 use Rattle.mesh_core.proofs.Counting.{count_some, counts_one}
-use Rattle.app_loads.specs.declared.answers.LoadRefusal.{LoadRefusal}
-use Rattle.app_loads.specs.declared.answers.LoadRefusal.TheVariants as refusals
-use Rattle.app_loads.specs.declared.{loaded.Claim.Claim, loaded.Range.Range, plans.AppNet.AppNet, plans.AppPlan.AppPlan}
+use Rattle.app_loads.specs.declared.{answers.LoadRefusal.LoadRefusal, loaded.Claim.Claim, loaded.Range.Range, plans.AppNet.AppNet, plans.AppPlan.AppPlan}
 use Rattle.app_loads.specs.Claims.{claims_of, fixed_claim, has_chip, IsBlockOf, key_claim, memory_claim, row_claim, size_for}
-use Rattle.app_loads.specs.declared.places.Region.TheVariants.{Keys, Memory, Rows}
-use Rattle.app_loads.specs.Regions.{chip_count}
+use Rattle.app_loads.specs.{declared.places.Region.TheVariants.Keys, declared.places.Region.TheVariants.Memory, declared.places.Region.TheVariants.Rows, Regions.chip_count}
+use Rattle.app_loads.specs.declared.answers.LoadRefusal.TheVariants as refusals
 
 -- whether a claim is for the keys of a net
 abbrev names_net : ℕ → LoadRefusal → Bool

@@ -1,11 +1,10 @@
 -- Lists of an application's items beside those of all others.
 use Rattle.std.proofs.Common.{◌≡◌, ◌≢◌, ℕ, zero, suc, ◌==◌, Bool, true, false, not, List, [], ◌∷◌, ◌++◌, take, drop, sym, ap, ◌∙◌, refl, subst, inl, inr, ◌⊎◌, arith, Some, get_or}
-use Rattle.std.proofs.lemmas.Bool.{cases_Bool, cond_both, cond-true, cond-false, eq-eqb, eqb-true, false≢true, ne_eqb}
-use Rattle.std.proofs.lemmas.{List.Elements.All-contains, List.Elements.All-weaker, Option.same_Some, Option.slice_get-get_or, List.Quantifiers.all_pairs_push}
+use Rattle.std.proofs.lemmas.{Bool.cases_Bool, Bool.cond_both, Bool.cond-true, Bool.cond-false, Bool.eq-eqb, Bool.eqb-true, Bool.false≢true, Bool.ne_eqb, List.Elements.All-contains}
+use Rattle.std.proofs.lemmas.{List.Elements.All-weaker, Option.same_Some, Option.slice_get-get_or, List.Quantifiers.all_pairs_push}
 use Rattle.std.specs.List.{slice_get, All, AllPairs, Contains, filter, flat_map}
 use Rattle.spin_base.proofs.Members.{Among, among_at, among_contains, among_filter, contains_among, Contains-filter, Contains-from_filter, Contains-at}
-use Rattle.spin_base.proofs.Pairs.{AllPairs-append, AllPairs-left, AllPairs-right, AllPairs-across, AllPairs-head, AllPairs-tail}
-use Rattle.spin_base.proofs.Places.{All-each}
+use Rattle.spin_base.proofs.{Pairs.AllPairs-append, Pairs.AllPairs-left, Pairs.AllPairs-right, Pairs.AllPairs-across, Pairs.AllPairs-head, Pairs.AllPairs-tail, Places.All-each}
 use Rattle.app_loads.specs.{declared.loaded.LoadedApp.LoadedApp, Leaving.others_than}
 use Rattle.app_loads.proofs.{ClaimCases.among_flat, ClaimCases.flat_among, LeavingLists.either_pair}
 

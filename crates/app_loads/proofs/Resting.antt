@@ -7,16 +7,13 @@ use Rattle.spin_base.proofs.Places.{All-at, All-each, slice_get-set_other}
 use Rattle.spin_base.specs.declared.{blocks.Entry.Entry, chips.Spot.Spot, copies.McCopy.McCopy, routes.Out.TheVariants.Core}
 use Rattle.machine_desc.specs.{Description.Description, Outputs.leads_to_spot, declared.nets.NetPlan.NetPlan, NetsOn.vertex_at}
 use Rattle.machine_desc.proofs.Sites.{usable_parts}
-use Rattle.mesh_core.specs.State.{State, vertex_behind}
-use Rattle.mesh_core.specs.Expected.{IsAtRest, NothingWaits}
+use Rattle.mesh_core.specs.{State.State, State.vertex_behind, Expected.IsAtRest, Expected.NothingWaits}
 use Rattle.mesh_core.proofs.ServingLaws.{vertex_behind-core}
 use Rattle.mesh_drain.specs.Draining.{SendAlone}
 use Rattle.mesh_drain.proofs.Senders.{Unsent}
-use Rattle.app_loads.specs.declared.{loaded.LoadedApp.LoadedApp, plans.AppNet.AppNet}
-use Rattle.app_loads.specs.{Applications.IsLoadedOn, Host.nets_of, Joining.AreSent, Joining.IsSettled, Leaving.mesh_without}
+use Rattle.app_loads.specs.{declared.loaded.LoadedApp.LoadedApp, declared.plans.AppNet.AppNet, Applications.IsLoadedOn, Host.nets_of, Joining.AreSent, Joining.IsSettled, Leaving.mesh_without}
 use Rattle.app_loads.specs.Sending.{AreWithSources, source_vertex}
-use Rattle.app_loads.proofs.AppNets.{facts_of, usable_spot}
-use Rattle.app_loads.proofs.ClaimCases.{among_flat, flat_among}
+use Rattle.app_loads.proofs.{AppNets.facts_of, AppNets.usable_spot, ClaimCases.among_flat, ClaimCases.flat_among}
 
 -- ---- after a load
 

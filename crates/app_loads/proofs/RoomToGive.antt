@@ -4,10 +4,8 @@ use Rattle.std.proofs.lemmas.{Option.slice_get-get_or, List.length-take, List.ma
 use Rattle.std.specs.List.{slice_get, slice_set, All}
 use Rattle.spin_base.proofs.Places.{slice_get-mapped, set-slice_get, take_more_at}
 use Rattle.range_store.specs.Views.{Region}
-use Rattle.app_loads.specs.declared.loaded.Range.{Range}
-use Rattle.app_loads.specs.Taking.{free_places_in, frees, HaveRoom}
-use Rattle.app_loads.proofs.Serving.{counted_push, more_here, none_elsewhere, of_region, set_cases}
-use Rattle.app_loads.proofs.RegionLaws.{one_free}
+use Rattle.app_loads.specs.{declared.loaded.Range.Range, Taking.free_places_in, Taking.frees, Taking.HaveRoom}
+use Rattle.app_loads.proofs.{Serving.counted_push, Serving.more_here, Serving.none_elsewhere, Serving.of_region, Serving.set_cases, RegionLaws.one_free}
 
 module _ (ranges : List Range) {i : ℕ} (d : Range) (below : i < length ranges) where
   abbrev range : Range

@@ -1,15 +1,13 @@
 -- Room for the rows of an application.
 use Rattle.std.proofs.Common.{◌≡◌, ℕ, ◌+◌, ◌≤◌, zero, suc, List, [], ◌∷◌, ◌++◌, length, drop, sym, ap, ◌∙◌, arith, inl, inr, Some, subst}
 use Rattle.std.specs.List.{slice_get}
-use Rattle.std.proofs.lemmas.List.{length_push}
-use Rattle.std.proofs.lemmas.Option.{same_Some, slice_get_within}
+use Rattle.std.proofs.lemmas.{List.length_push, Option.same_Some, Option.slice_get_within}
 use Rattle.machine_desc.specs.{Description.Description, Live.index_of}
 use Rattle.spin_base.proofs.Places.{slice_get-push_cases}
 use Rattle.spin_base.specs.declared.chips.Chip.{Chip}
-use Rattle.app_loads.specs.{declared.loaded.Range.Range, declared.places.Region.Region, declared.places.Region.TheVariants.Rows}
-use Rattle.app_loads.specs.Regions.{IsRegion, chip_count, place_of}
+use Rattle.app_loads.specs.{declared.loaded.Range.Range, declared.places.Region.Region, declared.places.Region.TheVariants.Rows, Regions.IsRegion, Regions.chip_count, Regions.place_of}
 use Rattle.app_loads.specs.Writing.{HasRoom}
-use Rattle.app_loads.proofs.{Copying.place_of_no_rows}
+use Rattle.app_loads.proofs.Copying.{place_of_no_rows}
 
 -- a range of no entries needs none
 pub no_room : (m : Description) (range : Range) (r : Region) → ((c : Chip) → r ≡ Rows c → ⊥) → IsRegion m r → place_of m r ≡ range.region → (room : ℕ) → HasRoom m range room

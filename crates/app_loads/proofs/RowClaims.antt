@@ -1,24 +1,17 @@
 -- How many entries nets need of a chip, counted in the list of the chips of their trees.
-use Rattle.std.proofs.Common.{◌≡◌, ◌≢◌, ℕ, zero, suc, ◌+◌, ◌-◌, ◌*◌, ◌<◌, ◌≤◌, Bool, true, false, ◌||◌, ◌==◌, List, [], ◌∷◌, ◌++◌, ◌∙◌, Option, None, Some, Result, Ok, Err, if◌then◌else◌}
-use Rattle.std.proofs.Common.{get_or, length, refl, sym, ap, inl, inr, arith, OnOk, append_assoc, append-nil, count_by, take}
-use Rattle.std.proofs.lemmas.Bool.{cases_eq, cases_lt, eq-eqb, false_from_ne_true, ne_eqb}
-use Rattle.std.proofs.lemmas.Grind.{flat_map-append}
-use Rattle.std.proofs.lemmas.List.Elements.{All-nil, All-cons, All-contains, All-head, All-tail, All-weaker}
-use Rattle.std.proofs.lemmas.List.Sorted.{All-permutation, sum_by-IsPermutation}
-use Rattle.std.proofs.lemmas.{List.Sums.sum_by-cons, Option.slice_get_within, Option.get_or_from_slice_get, List.flat_map_more}
-use Rattle.std.specs.List.{list_any, slice_get, All, AllPairs, flat_map, range_with_len, sum_by, Sorted.IsPermutation}
-use Rattle.std.specs.Option.{option_map_or}
-use Rattle.spin_base.proofs.{Equality.chip_eq_true, Counts.count_by-append, Counts.count_by-cons, Pairs.All-flat_map, Pairs.AllPairs-head, Pairs.AllPairs-tail}
-use Rattle.spin_base.proofs.Members.{any_among, among_contains}
-use Rattle.spin_base.proofs.Places.{All-at, slice_get_there, take_more_at}
+use Rattle.std.proofs.Common.{◌≡◌, ◌≢◌, ℕ, zero, suc, ◌+◌, ◌-◌, ◌*◌, ◌<◌, ◌≤◌, Bool, true, false, ◌||◌, ◌==◌, List, [], ◌∷◌, ◌++◌, ◌∙◌, Option, None, Some, Result, Ok, Err, get_or, length, refl, sym}
+use Rattle.std.proofs.Common.{ap, inl, inr, arith, OnOk, append_assoc, append-nil, count_by, take}
+use Rattle.std.proofs.lemmas.{Bool.cases_eq, Bool.cases_lt, Bool.eq-eqb, Bool.false_from_ne_true, Bool.ne_eqb, Grind.flat_map-append, List.Elements.All-nil, List.Elements.All-cons}
+use Rattle.std.proofs.lemmas.List.{Elements.All-contains, Elements.All-head, Elements.All-tail, Elements.All-weaker, Sorted.All-permutation, Sorted.sum_by-IsPermutation, Sums.sum_by-cons}
+use Rattle.std.proofs.lemmas.{Option.slice_get_within, Option.get_or_from_slice_get, List.flat_map_more}
+use Rattle.std.specs.{List.list_any, List.slice_get, List.All, List.AllPairs, List.flat_map, List.range_with_len, List.sum_by, List.Sorted.IsPermutation, Option.option_map_or}
+use Rattle.spin_base.proofs.{Equality.chip_eq_true, Counts.count_by-append, Counts.count_by-cons, Pairs.All-flat_map, Pairs.AllPairs-head, Pairs.AllPairs-tail, Members.any_among}
+use Rattle.spin_base.proofs.{Members.among_contains, Places.All-at, Places.slice_get_there, Places.take_more_at}
 use Rattle.spin_base.specs.{declared.chips.Chip.Chip, Equality.chip_eq, declared.wants.Memory.Memory}
-use Rattle.machine_desc.specs.declared.trees.Edge.{Edge}
-use Rattle.machine_desc.specs.{Description.Description, Live.index_of, Live.chip_of, Live.IsInside, RoutingTree.end_of}
-use Rattle.machine_desc.proofs.Far.{far_inside, index_below, same_index, live_ends, live_inside}
-use Rattle.machine_desc.proofs.{Live.index_of-chip_of, Live.chip_of-inside, Same.chip_eq-from_same}
-use Rattle.app_loads.specs.declared.{loaded.Claim.Claim, plans.AppNet.AppNet}
-use Rattle.app_loads.specs.{Regions.chip_count, Claims.has_chip, Claims.entries_claim, Claims.row_claim}
-use Rattle.app_loads.specs.Counting.{HasTree, IsRunEnd, chip_places, end_places, tree_places, run_claim}
+use Rattle.machine_desc.specs.{declared.trees.Edge.Edge, Description.Description, Live.index_of, Live.chip_of, Live.IsInside, RoutingTree.end_of}
+use Rattle.machine_desc.proofs.{Far.far_inside, Far.index_below, Far.same_index, Far.live_ends, Far.live_inside, Live.index_of-chip_of, Live.chip_of-inside, Same.chip_eq-from_same}
+use Rattle.app_loads.specs.{declared.loaded.Claim.Claim, declared.plans.AppNet.AppNet, Regions.chip_count, Claims.has_chip, Claims.entries_claim, Claims.row_claim, Counting.HasTree, Counting.IsRunEnd}
+use Rattle.app_loads.specs.Counting.{chip_places, end_places, tree_places, run_claim}
 use Rattle.app_loads.proofs.LeavingLists.{one_if}
 
 -- of two tests at most one of which holds

@@ -1,28 +1,22 @@
 -- Ranges taken one after the other for claims, and given back.
-use Rattle.std.proofs.Common.{◌≡◌, ◌≢◌, ℕ, ◌+◌, ◌%◌, ◌<◌, ◌≤◌, zero, suc, true, false, ◌&&◌, ◌||◌, ◌⊎◌, ◌==◌, List, [], ◌∷◌, ◌++◌, ◌∙◌, Option, None, Some, if◌then◌else◌}
-use Rattle.std.proofs.Common.{not, ltb, take, drop, get_or, length, refl, sym, ap, subst, inl, inr, arith, IfSome, append_assoc, append-nil, count_by, replicate}
+use Rattle.std.proofs.Common.{◌≡◌, ◌≢◌, ℕ, ◌+◌, ◌%◌, ◌<◌, ◌≤◌, zero, suc, true, false, ◌&&◌, ◌||◌, ◌⊎◌, ◌==◌, List, [], ◌∷◌, ◌++◌, ◌∙◌, Option, None, Some, not, ltb, take, drop, get_or, length, refl}
+use Rattle.std.proofs.Common.{sym, ap, subst, inl, inr, arith, IfSome, append_assoc, append-nil, count_by, replicate}
 use Rattle.std.proofs.lemmas.Bool.{cases_Bool, cases_eq, eqb-true, eq-eqb, and_parts, and_from, false_from_ne_true, lt-ltb, ne_eqb, and_right, or_right}
-use Rattle.std.proofs.lemmas.List.{length-set, length_push, take_at, take-append-le, map-set, drop_all, drop_more}
-use Rattle.std.proofs.lemmas.List.Elements.{All-nil, All-cons, All-head, All-tail, All-append, All-contains}
-use Rattle.std.proofs.lemmas.List.{Folds.list_any-append, Sums.count_by-le-length}
-use Rattle.std.proofs.lemmas.Option.{slice_get_within, slice_get-get_or, same_Some, none-some}
-use Rattle.std.proofs.Math.Bool.{or-false}
+use Rattle.std.proofs.lemmas.List.{length-set, length_push, take_at, take-append-le, map-set, drop_all, drop_more, Elements.All-nil, Elements.All-cons, Elements.All-head, Elements.All-tail}
+use Rattle.std.proofs.lemmas.{List.Elements.All-append, List.Elements.All-contains, List.Folds.list_any-append, List.Sums.count_by-le-length, Option.slice_get_within, Option.slice_get-get_or}
+use Rattle.std.proofs.{lemmas.Option.same_Some, lemmas.Option.none-some, Math.Bool.or-false}
 use Rattle.std.specs.List.{slice_get, slice_set, All, AllPairs, Contains}
 use Rattle.key_alloc.proofs.Ranges.{in_facts}
-use Rattle.spin_base.proofs.Counts.{count_by-append, count_by-cons}
-use Rattle.spin_base.proofs.Pairs.{AllPairs-left, AllPairs-right, AllPairs-across, AllPairs-append, AllPairs-head, AllPairs-tail}
-use Rattle.spin_base.proofs.Places.{All-each, slice_get-mapped, slice_get-push_cases, slice_get-set_same, slice_get-set_other, set-slice_get}
+use Rattle.spin_base.proofs.{Counts.count_by-append, Counts.count_by-cons, Pairs.AllPairs-left, Pairs.AllPairs-right, Pairs.AllPairs-across, Pairs.AllPairs-append, Pairs.AllPairs-head}
+use Rattle.spin_base.proofs.{Pairs.AllPairs-tail, Places.All-each, Places.slice_get-mapped, Places.slice_get-push_cases, Places.slice_get-set_same, Places.slice_get-set_other, Places.set-slice_get}
 use Rattle.spin_base.proofs.Members.{any_among, among_any, contains_among, among_contains, among_right, among_either}
 use Rattle.machine_desc.specs.Description.{Description}
 use Rattle.range_store.specs.{Views.CanGive, Views.Region, Regions.AreRuns, Regions.is_free, Regions.in_range}
 use Rattle.range_store.proofs.HolePlaces.{clash}
-use Rattle.app_loads.specs.declared.answers.LoadErr.{LoadErr, TheVariants.Memory, TheVariants.Refused}
-use Rattle.app_loads.specs.declared.loaded.{Claim.Claim, Range.Range}
-use Rattle.app_loads.specs.Host.{Free}
-use Rattle.app_loads.specs.Regions.{AreFreeBeside, IsFreeBeside, ShareNoPlace, place_of, range_has, is_taken, region_size, IsRangeWithin}
-use Rattle.app_loads.specs.Claims.{IsLeastOpenRange, IsOpenRange, IsRefusalDue}
-use Rattle.app_loads.specs.Taking.{free_places_in, frees, range_at, ServesClaim, RefusesClaim, IsFair, IsFairFor, HaveRoom, CanServe, HaveServed, AreTaken}
-use Rattle.app_loads.specs.Taking.{AreTakenAlways, AreServedAlways, IsDueAlways, IsDueOf}
+use Rattle.app_loads.specs.declared.{answers.LoadErr.LoadErr, answers.LoadErr.TheVariants.Memory, answers.LoadErr.TheVariants.Refused, loaded.Claim.Claim, loaded.Range.Range}
+use Rattle.app_loads.specs.{Host.Free, Regions.AreFreeBeside, Regions.IsFreeBeside, Regions.ShareNoPlace, Regions.place_of, Regions.range_has, Regions.is_taken, Regions.region_size}
+use Rattle.app_loads.specs.{Regions.IsRangeWithin, Claims.IsLeastOpenRange, Claims.IsOpenRange, Claims.IsRefusalDue, Taking.free_places_in, Taking.frees, Taking.range_at, Taking.ServesClaim}
+use Rattle.app_loads.specs.Taking.{RefusesClaim, IsFair, IsFairFor, HaveRoom, CanServe, HaveServed, AreTaken, AreTakenAlways, AreServedAlways, IsDueAlways, IsDueOf}
 use Rattle.app_loads.proofs.{LeavingLists.one_if, Others.pairs_with_last}
 
 -- ---- lists

@@ -1,40 +1,27 @@
 -- An application's rows and packets on a mesh.
-use Rattle.std.proofs.Common.{◌≡◌, ℕ, zero, suc, ◌+◌, ◌-◌, ◌*◌, ◌/◌, ◌%◌, ◌^◌, ◌<◌, ◌≤◌, ◌==◌, true, false, List, [], ◌∷◌, ◌++◌, ◌∙◌, Some, if◌then◌else◌}
-use Rattle.std.proofs.Common.{leb, length, drop, take, map, refl, sym, ap, subst, inl, inr, arith, count_by}
-use Rattle.std.proofs.lemmas.{Bool.false_from_ne_true, Bool.or_left, Bool.or_right, Bool.or_cases, Bool.Decides.nat_tests, List.length-map, List.length-set}
-use Rattle.std.proofs.lemmas.List.Elements.{All-contains, All-head, All-set, All-push}
-use Rattle.std.proofs.lemmas.List.Sorted.{IsPermutation-refl, length_permutation}
-use Rattle.std.proofs.lemmas.Option.{slice_get_within, same_Some}
-use Rattle.std.specs.Option.{option_map_or}
-use Rattle.std.specs.List.{list_any, slice_get, All, Contains}
+use Rattle.std.proofs.Common.{◌≡◌, ℕ, zero, suc, ◌+◌, ◌-◌, ◌*◌, ◌/◌, ◌%◌, ◌^◌, ◌<◌, ◌≤◌, ◌==◌, true, false, List, [], ◌∷◌, ◌++◌, ◌∙◌, Some, if◌then◌else◌, leb, length, drop, take, map, refl, sym, ap}
+use Rattle.std.proofs.Common.{subst, inl, inr, arith, count_by}
+use Rattle.std.proofs.lemmas.{Bool.false_from_ne_true, Bool.or_left, Bool.or_right, Bool.or_cases, Bool.Decides.nat_tests, List.length-map, List.length-set, List.Elements.All-contains}
+use Rattle.std.proofs.lemmas.{List.Elements.All-head, List.Elements.All-set, List.Elements.All-push, List.Sorted.IsPermutation-refl, List.Sorted.length_permutation, Option.slice_get_within}
+use Rattle.std.proofs.lemmas.Option.{same_Some}
+use Rattle.std.specs.{Option.option_map_or, List.list_any, List.slice_get, List.All, List.Contains}
 use Rattle.mesh_core.proofs.{Moves.chip_of-index_of, Ways.vertex_there}
 use Rattle.mesh_core.specs.State.{Setup, State, IsMesh}
-use Rattle.spin_base.proofs.{Equality.chip_eq_true, Counts.count_by-cons}
-use Rattle.spin_base.proofs.Members.{Contains-at, Contains-filter, among_any, any_among, among_contains, contains_among}
-use Rattle.spin_base.proofs.Places.{All-at, All-each, AllZip-at_second, slice_get_there}
-use Rattle.spin_base.proofs.Ranges.{slice_get-map_range}
-use Rattle.spin_base.specs.declared.{blocks.Block.Block, blocks.Entry.Entry, chips.Chip.Chip, chips.Spot.Spot}
-use Rattle.spin_base.specs.declared.copies.{Delivery.Delivery, DumpRec.DumpRec, McCopy.McCopy, Packet.Packet}
-use Rattle.spin_base.specs.Equality.{chip_eq}
-use Rattle.machine_desc.specs.{declared.trees.Edge.Edge, Description.Description}
-use Rattle.machine_desc.specs.Live.{index_of, chip_of, is_usable, IsInside, IsUsable}
-use Rattle.machine_desc.specs.{RoutingTree.end_of, RoutingTree.IsTreeChip, RightTables.table_at}
-use Rattle.machine_desc.proofs.{Far.index_below, Far.live_inside, Same.chip_eq-from_same, Same.same_spot, Sites.usable_parts}
-use Rattle.machine_desc.proofs.TreeLemmas.{tree_cases, tree_end}
-use Rattle.tern_word.specs.declared.tables.{Row.Row, Table.Table}
-use Rattle.tern_word.specs.SoundTable.{Original}
+use Rattle.spin_base.proofs.{Equality.chip_eq_true, Counts.count_by-cons, Members.Contains-at, Members.Contains-filter, Members.among_any, Members.any_among, Members.among_contains}
+use Rattle.spin_base.proofs.{Members.contains_among, Places.All-at, Places.All-each, Places.AllZip-at_second, Places.slice_get_there, Ranges.slice_get-map_range}
+use Rattle.spin_base.specs.declared.{blocks.Block.Block, blocks.Entry.Entry, chips.Chip.Chip, chips.Spot.Spot, copies.Delivery.Delivery, copies.DumpRec.DumpRec, copies.McCopy.McCopy}
+use Rattle.spin_base.specs.{declared.copies.Packet.Packet, Equality.chip_eq}
+use Rattle.machine_desc.specs.{declared.trees.Edge.Edge, Description.Description, Live.index_of, Live.chip_of, Live.is_usable, Live.IsInside, Live.IsUsable, RoutingTree.end_of, RoutingTree.IsTreeChip}
+use Rattle.machine_desc.specs.RightTables.{table_at}
+use Rattle.machine_desc.proofs.{Far.index_below, Far.live_inside, Same.chip_eq-from_same, Same.same_spot, Sites.usable_parts, TreeLemmas.tree_cases, TreeLemmas.tree_end}
+use Rattle.tern_word.specs.{declared.tables.Row.Row, declared.tables.Table.Table, SoundTable.Original}
 use Rattle.net_tables.specs.PlainTable.{AreOriginals, AtEach, IsPlainTable, row_of}
-use Rattle.app_loads.specs.declared.{loaded.LoadedApp.LoadedApp, loaded.Range.Range, plans.AppNet.AppNet}
-use Rattle.app_loads.specs.{Applications.IsRangeFor, Claims.claims_of, Claims.has_chip, Host.net_with, Host.nets_with, Host.nets_of}
-use Rattle.app_loads.specs.Joining.{AreSent, AreWritten, CanSettle, IsSettled}
-use Rattle.app_loads.specs.Opening.{grid_spots, spot_of, usable_spots}
-use Rattle.app_loads.specs.Plans.{IsAppNet, IsPacketOfApp}
-use Rattle.app_loads.specs.declared.places.Region.TheVariants.{Rows}
-use Rattle.app_loads.specs.Regions.{chip_count, region_size, IsRangeWithin, place_of}
-use Rattle.app_loads.specs.Sending.{CanSend, IsPacketOn, IsSendingFrom}
-use Rattle.app_loads.specs.Writing.{AreCopied, CanCopy, HaveRooms}
-use Rattle.app_loads.proofs.AppNets.{facts_at, key_of_index, member_at, spot_inside, usable_spot}
-use Rattle.app_loads.proofs.{ClaimCases.row_size, LeavingLists.one_if, RowClaims.leads_to, Unsent.nets_with_at}
+use Rattle.app_loads.specs.{declared.loaded.LoadedApp.LoadedApp, declared.loaded.Range.Range, declared.plans.AppNet.AppNet, Applications.IsRangeFor, Claims.claims_of, Claims.has_chip, Host.net_with}
+use Rattle.app_loads.specs.{Host.nets_with, Host.nets_of, Joining.AreSent, Joining.AreWritten, Joining.CanSettle, Joining.IsSettled, Opening.grid_spots, Opening.spot_of, Opening.usable_spots}
+use Rattle.app_loads.specs.{Plans.IsAppNet, Plans.IsPacketOfApp, declared.places.Region.TheVariants.Rows, Regions.chip_count, Regions.region_size, Regions.IsRangeWithin, Regions.place_of}
+use Rattle.app_loads.specs.{Sending.CanSend, Sending.IsPacketOn, Sending.IsSendingFrom, Writing.AreCopied, Writing.CanCopy, Writing.HaveRooms}
+use Rattle.app_loads.proofs.{AppNets.facts_at, AppNets.key_of_index, AppNets.member_at, AppNets.spot_inside, AppNets.usable_spot, ClaimCases.row_size, LeavingLists.one_if, RowClaims.leads_to}
+use Rattle.app_loads.proofs.Unsent.{nets_with_at}
 
 -- each usable core is in the list of them
 pub usable_there : (m : Description) (s : Spot) → IsUsable m s → Contains (usable_spots m) s

@@ -1,12 +1,10 @@
 -- The usable cores of a machine as a list.
 use Rattle.std.proofs.Common.{◌≡◌, ◌≢◌, ℕ, ◌+◌, ◌*◌, ◌/◌, ◌%◌, refl, sym, ap, ◌∙◌, arith, List, [], ◌∷◌, ◌++◌, map, length, Bool, true, false, cond}
 use Rattle.std.specs.List.{All, AllPairs, filter, range_with_len, slice_index_or}
-use Rattle.std.proofs.lemmas.List.Kept.{AllPairs-filter}
-use Rattle.std.proofs.lemmas.List.FromFn.{filter_of_map_range_with_len_more, get_or-map-range_with_len, length-map-range_with_len}
+use Rattle.std.proofs.lemmas.List.{Kept.AllPairs-filter, FromFn.filter_of_map_range_with_len_more, FromFn.get_or-map-range_with_len, FromFn.length-map-range_with_len}
 use Rattle.spin_base.proofs.{Members.Contains-from_filter, Places.All-each}
 use Rattle.spin_base.specs.declared.chips.Spot.{Spot}
-use Rattle.machine_desc.specs.Description.{Description}
-use Rattle.machine_desc.specs.Live.{index_of, chip_of, is_usable, IsSite}
+use Rattle.machine_desc.specs.{Description.Description, Live.index_of, Live.chip_of, Live.is_usable, Live.IsSite}
 use Rattle.machine_desc.proofs.{Live.index_of-chip_of, Sites.usable_site}
 use Rattle.app_loads.specs.Opening.{spot_of, grid_spots, usable_spots}
 

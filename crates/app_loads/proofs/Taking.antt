@@ -1,15 +1,12 @@
 -- What taking a range does to the free places of a region, and which range is the first.
 use Rattle.std.proofs.Common.{◌≡◌, ℕ, ◌+◌, ◌-◌, ◌%◌, ◌<◌, ◌≤◌, Bool, true, false, not, ◌&&◌, ◌||◌, ◌==◌, ltb, List, [], ◌∷◌, ◌++◌, refl, sym, ap, ◌∙◌, subst, arith, None, Some, IfSome}
-use Rattle.std.proofs.lemmas.Bool.{and_parts, lt-ltb, ltb-true, not-true, eq-eqb}
-use Rattle.std.proofs.lemmas.List.Folds.{list_any-append}
+use Rattle.std.proofs.lemmas.{Bool.and_parts, Bool.lt-ltb, Bool.ltb-true, Bool.not-true, Bool.eq-eqb, List.Folds.list_any-append}
 use Rattle.key_alloc.proofs.Ranges.{in_facts, in_from, regroup, free_of}
 use Rattle.machine_desc.specs.Description.{Description}
 use Rattle.range_store.specs.Regions.{AreRuns, IsFirstFit, HasNoFit, is_hole_range, is_free, in_range}
 use Rattle.range_store.proofs.HolePlaces.{clash, free_in_range, range_of_free}
-use Rattle.app_loads.specs.declared.loaded.{Claim.Claim, Range.Range}
-use Rattle.app_loads.specs.Host.{Free}
-use Rattle.app_loads.specs.Regions.{IsFreeBeside, place_of, range_has, is_taken}
-use Rattle.app_loads.specs.Claims.{IsOpenRange, IsLeastOpenRange, IsRefusedClaim}
+use Rattle.app_loads.specs.{declared.loaded.Claim.Claim, declared.loaded.Range.Range, Host.Free, Regions.IsFreeBeside, Regions.place_of, Regions.range_has, Regions.is_taken, Claims.IsOpenRange}
+use Rattle.app_loads.specs.Claims.{IsLeastOpenRange, IsRefusedClaim}
 
 here_too : (region : ℕ) (b : Bool) → ((region == region) && b) ≡ b
 here_too region b = ap (λ z. z && b) (eq-eqb region region refl)

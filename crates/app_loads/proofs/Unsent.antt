@@ -1,19 +1,16 @@
 -- Packets put to the vertices of their nets' sources, and queues emptied.
 use Rattle.std.proofs.Common.{◌≡◌, ◌≢◌, ℕ, zero, suc, ◌+◌, ◌^◌, ◌<◌, ◌≤◌, ◌==◌, List, [], ◌∷◌, ◌++◌, take, get_or, length, refl, sym, ap, ◌∙◌, subst, inl, inr, arith, Option, Some}
-use Rattle.std.proofs.lemmas.Bool.{cases_Bool, cases_eq, eqb-true, eq-eqb, false≢true}
-use Rattle.std.proofs.lemmas.List.{length-set, take_all, same_lists, Elements.Contains-push_cases}
+use Rattle.std.proofs.lemmas.{Bool.cases_Bool, Bool.cases_eq, Bool.eqb-true, Bool.eq-eqb, Bool.false≢true, List.length-set, List.take_all, List.same_lists, List.Elements.Contains-push_cases}
 use Rattle.std.proofs.lemmas.Option.{slice_get_within, slice_get-get_or, same_Some, unwrap_or-slice_get}
-use Rattle.std.specs.Prelude.{unwrap_or}
-use Rattle.std.specs.List.{list_any, slice_get, slice_set, All, Contains}
+use Rattle.std.specs.{Prelude.unwrap_or, List.list_any, List.slice_get, List.slice_set, List.All, List.Contains}
 use Rattle.mesh_core.proofs.ServingLaws.{vertex_at-below}
 use Rattle.mesh_core.specs.State.{Setup}
-use Rattle.spin_base.proofs.Members.{Contains-at, any_among, among_any, among_contains, contains_among}
-use Rattle.spin_base.proofs.Places.{All-at, slice_get_there, slice_get-set_same, slice_get-set_other, slice_get-push_cases, take_more_at}
+use Rattle.spin_base.proofs.{Members.Contains-at, Members.any_among, Members.among_any, Members.among_contains, Members.contains_among, Places.All-at, Places.slice_get_there}
+use Rattle.spin_base.proofs.Places.{slice_get-set_same, slice_get-set_other, slice_get-push_cases, take_more_at}
 use Rattle.spin_base.specs.declared.{blocks.Block.Block, chips.Spot.Spot, copies.McCopy.McCopy, copies.Packet.Packet}
 use Rattle.machine_desc.specs.NetsOn.{vertex_at}
-use Rattle.app_loads.specs.declared.{loaded.LoadedApp.LoadedApp, plans.AppNet.AppNet}
-use Rattle.app_loads.specs.{Host.net_with, Host.nets_with, Joining.AreSent, Joining.NoneUnsent}
-use Rattle.app_loads.specs.Sending.{AreCleared, AreSources, CanAdd, IsPacketOn, IsSameBeside, IsSendingFrom}
+use Rattle.app_loads.specs.{declared.loaded.LoadedApp.LoadedApp, declared.plans.AppNet.AppNet, Host.net_with, Host.nets_with, Joining.AreSent, Joining.NoneUnsent, Sending.AreCleared}
+use Rattle.app_loads.specs.Sending.{AreSources, CanAdd, IsPacketOn, IsSameBeside, IsSendingFrom}
 
 -- a net of the application, by its place
 pub nets_with_at : (nets : List AppNet) (blocks : List Block) (i : ℕ) (net : AppNet) (block : Block) → slice_get nets i ≡ Some net → slice_get blocks i ≡ Some block →

@@ -1,18 +1,8 @@
 -- An end stays an end of its link, and one offer more is refused.
 use Rattle.std.proofs.Common.{◌≡◌, ℕ, ◌+◌, List, [], ◌∷◌, ◌++◌, length, get_or, replicate, sym, ap, subst, ◌∙◌, append_assoc, arith}
-use Rattle.std.proofs.lemmas.List.{replicate_more}
-use Rattle.std.proofs.lemmas.Option.{get_or_from_slice_get}
-use Rattle.link_queue.specs.declared.known.Known.{Known}
-use Rattle.link_queue.specs.declared.links.Link.{Link}
-use Rattle.link_queue.specs.declared.links.Rx.{Rx}
-use Rattle.link_queue.specs.declared.links.Tx.{Tx}
-use Rattle.link_queue.specs.Ends.{IsRx, IsTx}
-use Rattle.link_queue.specs.TheRule.{put_of}
-use Rattle.link_queue.specs.Moves.{RefusesOffer}
-use Rattle.chip_node.specs.declared.ends.InEnd.{InEnd}
-use Rattle.chip_node.specs.declared.ends.OutEnd.{OutEnd}
-use Rattle.chip_node.specs.Ends.{IsInEndOf, IsOutEndOf}
-use Rattle.chip_node.specs.Offers.{full_noted_often, RefusesOffers}
+use Rattle.std.proofs.lemmas.{List.replicate_more, Option.get_or_from_slice_get}
+use Rattle.link_queue.specs.{declared.known.Known.Known, declared.links.Link.Link, declared.links.Rx.Rx, declared.links.Tx.Tx, Ends.IsRx, Ends.IsTx, TheRule.put_of, Moves.RefusesOffer}
+use Rattle.chip_node.specs.{declared.ends.InEnd.InEnd, declared.ends.OutEnd.OutEnd, Ends.IsInEndOf, Ends.IsOutEndOf, Offers.full_noted_often, Offers.RefusesOffers}
 
 -- the link that is read is the one of which it is an end
 pub in_end_stays : (links : List Link) (e : InEnd) (l : Link) (rx : Rx) → IsInEndOf links e → l ≡ get_or links e.link l → IsRx l rx → IsInEndOf links (record { link = e.link; rx = rx })

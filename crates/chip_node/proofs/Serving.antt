@@ -1,29 +1,15 @@
 -- Outputs of a copy that are served one after the other.
-use Rattle.std.proofs.Common.{◌≡◌, ◌≢◌, ℕ, ◌+◌, ◌<◌, List, [], ◌∷◌, ◌++◌, length, map, take, get_or, Some, None, refl, sym, ap, subst, ◌∙◌, arith}
+use Rattle.std.proofs.Common.{◌≡◌, ◌≢◌, ℕ, ◌+◌, ◌<◌, List, [], ◌∷◌, ◌++◌, length, map, take, get_or, Some, None, sym, ap, subst, ◌∙◌, arith}
 use Rattle.std.specs.List.{AllWithin, slice_get}
-use Rattle.std.proofs.lemmas.List.{get_or_default, map-append, take_more}
-use Rattle.spin_base.specs.declared.copies.McCopy.{McCopy}
-use Rattle.spin_base.specs.declared.routes.Out.{Out}
-use Rattle.spin_base.specs.Outputs.{IsOutput}
+use Rattle.std.proofs.lemmas.List.{get_or_default, map-append, take_more, Elements.All-nil, Elements.All-cons, Elements.All-append}
+use Rattle.spin_base.specs.{declared.copies.McCopy.McCopy, declared.routes.Out.Out, Outputs.IsOutput}
 use Rattle.link_queue.specs.declared.links.Link.{Link}
-use Rattle.chip_node.specs.declared.holdings.Holdings.{Holdings}
-use Rattle.chip_node.specs.declared.nodes.RouterNode.{RouterNode}
-use Rattle.chip_node.specs.Acting.{IsReadyRouter, ServesOuts, place_at_router, service_items}
-use Rattle.chip_node.specs.Going.{Goes}
-use Rattle.chip_node.specs.Items.{Item, Service, served}
-use Rattle.std.proofs.lemmas.List.Elements.{All-nil, All-cons, All-append}
-use Rattle.chip_node.specs.declared.ends.Served.TheVariants.{Dumped}
-use Rattle.chip_node.specs.Taking.{AreOuts, HasRoomBehind}
-use Rattle.chip_node.proofs.Flows.{goes_none, goes_on}
-use Rattle.chip_node.proofs.Stays.{stays_same}
+use Rattle.chip_node.specs.{declared.holdings.Holdings.Holdings, declared.nodes.RouterNode.RouterNode, Acting.IsReadyRouter, Acting.ServesOuts, Acting.place_at_router, Acting.service_items}
+use Rattle.chip_node.specs.{Going.Goes, Items.Item, Items.Service, Items.served, declared.ends.Served.TheVariants.Dumped, Taking.AreOuts, Taking.HasRoomBehind}
+use Rattle.chip_node.proofs.{Flows.goes_none, Flows.goes_on, Stays.stays_same}
 
 pub serves_none : (cap patience : ℕ) (r : RouterNode) (k : McCopy) (a : Holdings) → ServesOuts cap patience r [] k a a
-serves_none cap patience r k a = record {
-  done = [];
-  each_once = refl;
-  nowhere = All-nil (λ (s : Service). place_at_router r.behind.now s.out ≡ None → s.fate ≡ Dumped);
-  goes = goes_none cap patience a a (stays_same a);
-}
+serves_none cap patience r k a = grind (arith, goes_none cap patience a a (stays_same a), stays_same a, All-nil)
 
 -- one output more
 pub serves_more : (cap patience : ℕ) (r : RouterNode) (k : McCopy) (a b c : Holdings) (outs : List Out) (i : ℕ) (s : Service) → i < length outs → s.out ≡ get_or outs i s.out → s.copy ≡ k

@@ -5,17 +5,13 @@ use Rattle.std.specs.Prelude.{slice_get, option_and_then, is_some, unwrap_or}
 use Rattle.app_graph.specs.declared.graphs.{Vertex.Vertex, Net.Net}
 use Rattle.job_text.specs.Fields.{is_within, is_name}
 use Rattle.job_text.proofs.Items.{list_of-items_of}
-use Rattle.job_readers.specs.Members.{number_member_faults, number_member, list_member, member_since}
-use Rattle.job_readers.specs.Places.{name_place_in, reference_faults, reference_value, new_name_faults}
-use Rattle.job_readers.specs.GraphPart.{name_value, name_faults, at_faults, at_value, device_faults, device_value, vertex_faults, vertex_value, next_vertex_faults}
-use Rattle.job_readers.specs.GraphPart.{vertex_names_of, sender_at, sender_in, net_source_faults, source_value, target_faults, target_value, has_item, some_faults}
-use Rattle.job_readers.specs.GraphPart.{targets_faults, targets_value, keys_value, fixed_faults, fixed_value, net_faults, net_value, next_net_faults, net_names}
-use Rattle.job_gen.specs.declared.draws.DrawnNet.{DrawnNet}
-use Rattle.job_gen.specs.DrawnFacts.{IsDrawnNet}
-use Rattle.job_gen.specs.Values.{numbered, generated_vertex_name, vertex_data, name_data, net_data}
+use Rattle.job_readers.specs.{Members.number_member_faults, Members.number_member, Members.list_member, Members.member_since, Places.name_place_in, Places.reference_faults, Places.reference_value}
+use Rattle.job_readers.specs.{Places.new_name_faults, GraphPart.name_value, GraphPart.name_faults, GraphPart.at_faults, GraphPart.at_value, GraphPart.device_faults, GraphPart.device_value}
+use Rattle.job_readers.specs.GraphPart.{vertex_faults, vertex_value, next_vertex_faults, vertex_names_of, sender_at, sender_in, net_source_faults, source_value, target_faults, target_value, has_item}
+use Rattle.job_readers.specs.GraphPart.{some_faults, targets_faults, targets_value, keys_value, fixed_faults, fixed_value, net_faults, net_value, next_net_faults, net_names}
+use Rattle.job_gen.specs.{declared.draws.DrawnNet.DrawnNet, DrawnFacts.IsDrawnNet, Values.numbered, Values.generated_vertex_name, Values.vertex_data, Values.name_data, Values.net_data}
 use Rattle.job_gen.specs.Generated.{generated_vertex, net_of}
-use Rattle.job_gen.proofs.NameLemmas.{AreBelow, absent, found, named}
-use Rattle.job_gen.proofs.ListReading.{items_clean, items_are}
+use Rattle.job_gen.proofs.{NameLemmas.AreBelow, NameLemmas.absent, NameLemmas.found, NameLemmas.named, ListReading.items_clean, ListReading.items_are}
 
 pub within : (low high n : ℕ) → low ≤ n → n ≤ high → is_within low high n ≡ true
 within low high n above below = and_from _ _ (le-leb low n above) (le-leb n high below)

@@ -1,18 +1,14 @@
 -- The text of a generated job is short.
 use Rattle.std.proofs.Common.{◌≡◌, ℕ, zero, suc, ◌+◌, ◌*◌, ◌/◌, ◌%◌, ◌^◌, ◌<◌, ◌≤◌, List, [], ◌∷◌, ◌++◌, length, map, All, codes, decimal, Bool, true, false, cond, refl, arith, length-append}
-use Rattle.std.proofs.lemmas.{Bool.cond_both, Bool.and_parts, Bool.ltb-true, Fmt.length-decimal-le, List.length-map}
-use Rattle.std.proofs.lemmas.List.Elements.{All-nil, All-cons, All-head, All-tail, All-get_or, All-map}
-use Rattle.std.specs.Prelude.{nat_lt, ◌&&◌}
-use Rattle.std.specs.{Char.digit_char, List.list_all}
+use Rattle.std.proofs.lemmas.{Bool.cond_both, Bool.and_parts, Bool.ltb-true, Fmt.length-decimal-le, List.length-map, List.Elements.All-nil, List.Elements.All-cons, List.Elements.All-head}
+use Rattle.std.proofs.lemmas.List.Elements.{All-tail, All-get_or, All-map}
+use Rattle.std.specs.{Prelude.nat_lt, Prelude.◌&&◌, Char.digit_char, List.list_all}
 use Rattle.json.specs.Print.{escape_byte, escape, escape_letter, quoted}
 use Rattle.serde_json.specs.Data.{Data, Items, no_items, item, Members, no_members, member, unsigned, number, string, array, object}
-use Rattle.serde_json.specs.View.{items_of}
-use Rattle.serde_json.specs.Written.{compact_text, items_text, members_text, comma_if}
-use Rattle.job_gen.specs.declared.draws.{DrawnNet.DrawnNet, DrawnPacket.DrawnPacket, Drawn.Drawn}
-use Rattle.job_gen.specs.Draws.{keys_at, drawn}
-use Rattle.job_gen.specs.DrawnFacts.{IsDrawnNet, IsDrawnPacket, IsDrawn}
-use Rattle.job_gen.specs.Values.{generated_vertex_name, generated_net_name, vertex_data, name_data, net_data, packet_data, pair_data}
-use Rattle.job_gen.specs.Values.{dead_pairs, machine_data, graph_data, run_data, job_data, gen_value, gen_text_of, numbered}
+use Rattle.serde_json.specs.{View.items_of, Written.compact_text, Written.items_text, Written.members_text, Written.comma_if}
+use Rattle.job_gen.specs.{declared.draws.DrawnNet.DrawnNet, declared.draws.DrawnPacket.DrawnPacket, declared.draws.Drawn.Drawn, Draws.keys_at, Draws.drawn, DrawnFacts.IsDrawnNet}
+use Rattle.job_gen.specs.{DrawnFacts.IsDrawnPacket, DrawnFacts.IsDrawn, Values.generated_vertex_name, Values.generated_net_name, Values.vertex_data, Values.name_data, Values.net_data}
+use Rattle.job_gen.specs.Values.{packet_data, pair_data, dead_pairs, machine_data, graph_data, run_data, job_data, gen_value, gen_text_of, numbered}
 use Rattle.job_gen.proofs.DrawnLaws.{is_drawn}
 
 -- ---- strings

@@ -2,8 +2,7 @@
 use Rattle.std.proofs.Common.{◌≡◌, ℕ, suc, ◌+◌, ◌<◌, ◌≤◌, List, [], ◌∷◌, ◌++◌, length, map, All, refl, sym, ap, ◌∙◌, subst, arith, decimal}
 use Rattle.std.proofs.lemmas.List.{map_push, Elements.All-head, Elements.All-tail}
 use Rattle.serde_json.specs.Data.{Data}
-use Rattle.job_text.specs.declared.faults.JobFault.{JobFault}
-use Rattle.job_text.specs.Paths.{item_at}
+use Rattle.job_text.specs.{declared.faults.JobFault.JobFault, Paths.item_at}
 use Rattle.job_readers.specs.Items.{items_faults, following_faults}
 use Rattle.job_gen.specs.Values.{numbered}
 use Rattle.job_gen.proofs.NameLemmas.{AreBelow, below_more}

@@ -1,7 +1,7 @@
 -- The names of vertices and nets: a letter and a number. They are names, and different numbers have different ones.
 use Rattle.std.proofs.Common.{◌≡◌, ℕ, zero, suc, ◌+◌, ◌%◌, ◌^◌, ◌<◌, ◌≤◌, List, [], ◌∷◌, ◌++◌, length, map, decimal, true, false, Some, None, refl, ap, ◌∙◌, arith}
-use Rattle.std.proofs.lemmas.Bool.{and_from, le-leb, lt-ltb, false_from_ne_true}
-use Rattle.std.proofs.lemmas.{List.Folds.list_all-append, Fmt.decimal_by_steps, Fmt.decimal_injective, Fmt.length-decimal-le, Slice.Eq.bytes_eq-Decides}
+use Rattle.std.proofs.lemmas.{Bool.and_from, Bool.le-leb, Bool.lt-ltb, Bool.false_from_ne_true, List.Folds.list_all-append, Fmt.decimal_by_steps, Fmt.decimal_injective, Fmt.length-decimal-le}
+use Rattle.std.proofs.lemmas.Slice.Eq.{bytes_eq-Decides}
 use Rattle.std.specs.{Prelude.bytes_eq, List.list_all}
 use Rattle.job_text.specs.Fields.{is_printable_byte, is_name}
 use Rattle.job_readers.specs.Places.{name_place_in}

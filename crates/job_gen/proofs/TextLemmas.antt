@@ -1,13 +1,11 @@
 -- How deep the value of a generated job nests, and that no number of it is a float.
 use Rattle.std.proofs.Common.{◌≡◌, ℕ, ◌+◌, ◌≤◌, List, [], ◌∷◌, map, false, Some, refl, sym, ap, ◌∙◌, subst, arith}
 use Rattle.std.specs.Str.{IsUtf8}
-use Rattle.serde_json.specs.{Data.Data, Data.depth, Data.items_depth, Read.read, View.items_of}
-use Rattle.serde_json.specs.Written.{has_float, items_have_float, compact_text}
+use Rattle.serde_json.specs.{Data.Data, Data.depth, Data.items_depth, Read.read, View.items_of, Written.has_float, Written.items_have_float, Written.compact_text}
 use Rattle.job_text.specs.Json.{json_of}
 use Rattle.job_text.proofs.Readings.{json_of-utf8}
-use Rattle.job_gen.specs.declared.draws.{DrawnNet.DrawnNet, DrawnPacket.DrawnPacket, Drawn.Drawn}
-use Rattle.job_gen.specs.Draws.{drawn}
-use Rattle.job_gen.specs.Values.{vertex_data, name_data, net_data, packet_data, pair_data, dead_pairs, machine_data, graph_data, run_data, job_data, gen_value, gen_text_of, numbered}
+use Rattle.job_gen.specs.{declared.draws.DrawnNet.DrawnNet, declared.draws.DrawnPacket.DrawnPacket, declared.draws.Drawn.Drawn, Draws.drawn, Values.vertex_data, Values.name_data, Values.net_data}
+use Rattle.job_gen.specs.Values.{packet_data, pair_data, dead_pairs, machine_data, graph_data, run_data, job_data, gen_value, gen_text_of, numbered}
 
 -- ---- lists
 

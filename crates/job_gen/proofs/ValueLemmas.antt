@@ -1,8 +1,7 @@
 -- Lists of values that are made one after the other.
 use Rattle.std.proofs.Common.{◌≡◌, ℕ, zero, suc, ◌+◌, ◌<◌, ◌≤◌, List, [], ◌∷◌, ◌++◌, length, map, take, get_or, sym, ap, ◌∙◌, add-one, arith}
 use Rattle.std.proofs.lemmas.List.{take_all, take_more, map_push}
-use Rattle.serde_json.specs.{Data.Data, View.view, View.items_of}
-use Rattle.serde_json.specs.declared.value.Value.{Value}
+use Rattle.serde_json.specs.{Data.Data, View.view, View.items_of, declared.value.Value.Value}
 use Rattle.job_gen.specs.Values.{numbered}
 
 pub numbered_none : {A : Type 0} (f : ℕ → A → Data) (xs : List A) (vs : List Value) → vs ≡ [] → map view vs ≡ numbered f 0 (take 0 xs)

@@ -1,18 +1,11 @@
 -- The word of a text of 1 to 7 bytes tells it from all others.
-use Rattle.std.proofs.Common.{◌≡◌, ◌≢◌, ℕ, zero, suc, ◌+◌, ◌-◌, ◌*◌, ◌/◌, ◌%◌, ◌^◌, ◌<◌, ◌≤◌, List, [], ◌∷◌, ◌++◌}
-use Rattle.std.proofs.Common.{length, map, Bool, true, false, if◌then◌else◌, Some, cond, refl, ap, sym, subst, ◌∙◌, arith, inl, inr, get_or, replicate, take}
-use Rattle.std.specs.Prelude.{bytes_eq, nat_eq, nat_le, option_map, slice_get}
-use Rattle.std.specs.Hash.FoldHasher.{initial, write}
-use Rattle.std.specs.Str.{IsUtf8}
-use Rattle.std.specs.Int.{from_le_bytes, to_le_bytes, w64}
-use Rattle.std.proofs.Math.Dec.{ltb}
-use Rattle.std.proofs.Math.Seq.{take-append_seam}
-use Rattle.std.proofs.Math.Utf8.{encode, encodes, next, scalar, scalar_cases, scalars}
-use Rattle.std.proofs.lemmas.Bool.{cases_Bool, cases_lt, eqb-true, leb-true, ltb-true}
-use Rattle.std.proofs.lemmas.List.{get_or-append_right, get_or_append_left, length-append, length-replicate, map_push}
-use Rattle.std.proofs.lemmas.Nat.{le_bytes_8}
-use Rattle.std.proofs.lemmas.Option.{get_or_from_slice_get, slice_get-map, slice_get_within}
-use Rattle.std.proofs.lemmas.Slice.Eq.{bytes_eq-Decides}
+use Rattle.std.proofs.Common.{◌≡◌, ◌≢◌, ℕ, zero, suc, ◌+◌, ◌-◌, ◌*◌, ◌/◌, ◌%◌, ◌^◌, ◌<◌, ◌≤◌, List, [], ◌∷◌, ◌++◌, length, map, Bool, true, false, if◌then◌else◌, Some, cond, refl, ap, sym, subst, ◌∙◌}
+use Rattle.std.proofs.Common.{arith, inl, inr, get_or, replicate, take}
+use Rattle.std.specs.{Prelude.bytes_eq, Prelude.nat_eq, Prelude.nat_le, Prelude.option_map, Prelude.slice_get, Hash.FoldHasher.initial, Hash.FoldHasher.write, Str.IsUtf8, Int.from_le_bytes}
+use Rattle.std.specs.Int.{to_le_bytes, w64}
+use Rattle.std.proofs.Math.{Dec.ltb, Seq.take-append_seam, Utf8.encode, Utf8.encodes, Utf8.next, Utf8.scalar, Utf8.scalar_cases, Utf8.scalars}
+use Rattle.std.proofs.lemmas.{Bool.cases_Bool, Bool.cases_lt, Bool.eqb-true, Bool.leb-true, Bool.ltb-true, List.get_or-append_right, List.get_or_append_left, List.length-append, List.length-replicate}
+use Rattle.std.proofs.lemmas.{List.map_push, Nat.le_bytes_8, Option.get_or_from_slice_get, Option.slice_get-map, Option.slice_get_within, Slice.Eq.bytes_eq-Decides}
 use Rattle.job_readers.specs.Indexed.{hash_for, word_for}
 use Rattle.job_readers.proofs.KnownNames.{and_first, and_second}
 

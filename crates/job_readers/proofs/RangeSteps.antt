@@ -1,20 +1,14 @@
 -- Blocks that are ranges: when two share a key, and what their first keys by their last keys tell of one more.
-use Rattle.std.proofs.Common.{◌≡◌, ◌≢◌, ℕ, ◌+◌, ◌-◌, ◌/◌, ◌*◌, ◌%◌, ◌^◌, ◌<◌, ◌≤◌, ◌↔◌, List, [], ◌∷◌, ◌++◌, true, false, true≢false, Option, Some, None, inl, inr, ap, sym, ◌∙◌, subst, arith, Less, Equal, Greater, nat_cmp}
-use Rattle.std.specs.Prelude.{bit_and, Contains, nat_le}
-use Rattle.std.specs.List.{list_any}
-use Rattle.std.specs.Cmp.{nat_cmp_is}
-use Rattle.std.specs.Ordering.{is_eq, is_gt}
-use Rattle.std.proofs.lemmas.Bool.{cases_lt, cases_eq, cases_Bool, cases_order, eqb-true, eq-eqb, le-leb, lt-leb}
-use Rattle.std.proofs.lemmas.Nat.{and_le_r, pow_pos, shr_split}
-use Rattle.std.proofs.lemmas.Nat.Bits.{and_high_mask}
-use Rattle.std.proofs.lemmas.List.Elements.{All-push, All-contains, Contains-append_left, Contains-append_right}
+use Rattle.std.proofs.Common.{◌≡◌, ◌≢◌, ℕ, ◌+◌, ◌-◌, ◌/◌, ◌*◌, ◌%◌, ◌^◌, ◌<◌, ◌≤◌, ◌↔◌, List, [], ◌∷◌, ◌++◌, true, false, true≢false, Option, Some, None, inl, inr, ap, sym, ◌∙◌, subst, arith, Less}
+use Rattle.std.proofs.Common.{Equal, Greater, nat_cmp}
+use Rattle.std.specs.{Prelude.bit_and, Prelude.Contains, Prelude.nat_le, List.list_any, Cmp.nat_cmp_is, Ordering.is_eq, Ordering.is_gt}
+use Rattle.std.proofs.lemmas.{Bool.cases_lt, Bool.cases_eq, Bool.cases_Bool, Bool.cases_order, Bool.eqb-true, Bool.eq-eqb, Bool.le-leb, Bool.lt-leb, Nat.and_le_r, Nat.pow_pos, Nat.shr_split}
+use Rattle.std.proofs.lemmas.{Nat.Bits.and_high_mask, List.Elements.All-push, List.Elements.All-contains, List.Elements.Contains-append_left, List.Elements.Contains-append_right}
 use Rattle.std.proofs.lemmas.List.Folds.{list_any_at, list_any_none}
-use Rattle.spin_base.proofs.Members.{Contains-first}
-use Rattle.spin_base.proofs.Places.{All-each}
+use Rattle.spin_base.proofs.{Members.Contains-first, Places.All-each}
 use Rattle.spin_base.specs.declared.blocks.Block.{Block}
 use Rattle.tern_word.proofs.BlockLaws.{range_keys, key_small, meet_where_agree, agree_where_meet}
-use Rattle.job_readers.specs.Blocks.{IsRange, last_key_of, shares_key}
-use Rattle.job_readers.specs.FixedRanges.{AreRanges}
+use Rattle.job_readers.specs.{Blocks.IsRange, Blocks.last_key_of, Blocks.shares_key, FixedRanges.AreRanges}
 
 -- the last key has 32 bits
 pub last_small : (b : Block) → last_key_of b < 2 ^ 32

@@ -1,19 +1,12 @@
 -- Words whose bits tell which links live.
 use Rattle.std.proofs.Common.{◌≡◌, ℕ, ◌+◌, ◌*◌, ◌%◌, ◌^◌, ◌<◌, ◌≤◌, ◌↔◌, Bool, true, false, List, [], ◌∷◌, ◌++◌, length, get_or, sym, ap, ◌∙◌, subst, arith, inl, inr}
-use Rattle.std.specs.Int.{bit_at, w64}
-use Rattle.std.specs.Int.RustNames.{bit_or}
+use Rattle.std.specs.Int.{bit_at, w64, RustNames.bit_or}
 use mir.Val.{bits}
-use Rattle.std.proofs.lemmas.Bool.{cases_eq, cases_Bool, false≢true, false_from_ne_true}
-use Rattle.std.proofs.lemmas.List.{get_or_append_left, get_or_at, length-append}
-use Rattle.std.proofs.lemmas.Nat.{same_from_place}
-use Rattle.std.proofs.lemmas.Nat.Bits.{bit_at_set_same, bit_at_set_other, bit_at-zero}
-use Rattle.spin_base.specs.declared.chips.Chip.{Chip}
-use Rattle.spin_base.specs.declared.chips.Dir.{Dir}
-use Rattle.spin_base.specs.Links.{dir_number}
-use Rattle.machine_desc.specs.Description.{Description}
-use Rattle.machine_desc.proofs.Same.{same_dir, below_six}
-use Rattle.machine_desc.specs.Live.{IsLiveLink, is_live_link, is_inside}
-use Rattle.machine_desc.proofs.Far.{live_ends, live_inside}
+use Rattle.std.proofs.lemmas.{Bool.cases_eq, Bool.cases_Bool, Bool.false≢true, Bool.false_from_ne_true, List.get_or_append_left, List.get_or_at, List.length-append, Nat.same_from_place}
+use Rattle.std.proofs.lemmas.Nat.Bits.{bit_at_set_same, bit_at_set_other}
+use Rattle.spin_base.specs.{declared.chips.Chip.Chip, declared.chips.Dir.Dir, Links.dir_number}
+use Rattle.machine_desc.specs.{Description.Description, Live.IsLiveLink, Live.is_live_link, Live.is_inside}
+use Rattle.machine_desc.proofs.{Same.same_dir, Same.below_six, Far.live_ends, Far.live_inside}
 
 abbrev pub chip_of_column : ℕ → ℕ → Chip
 chip_of_column x y = record { x = x; y = y }
@@ -86,13 +79,7 @@ RoadsTo-more m words i x word d at tells so_far = record {
 
 -- a test that a bit is set tells whether a link lives, where the bit does
 pub same_from_bit : (b live : Bool) (n : ℕ) → (b ≡ true) ↔ (n ≡ 1) → (n ≡ 1) ↔ (live ≡ true) → b ≡ live
-same_from_bit b live n set told = elim (cases_Bool live) [
-  | inl lives ↦ set.1 (told.1 lives) ∙ sym lives
-  | inr dead ↦ elim (cases_Bool b) [
-    | inl has ↦ absurd (false≢true (sym dead ∙ told.0 (set.0 has)))
-    | inr none ↦ none ∙ sym dead
-  ]
-]
+same_from_bit b live n set told = grind (arith, cases_Bool live, cases_Bool b, false≢true)
 
 -- a link of a chip outside the grid doesn't live
 pub dead_outside : (m : Description) (c : Chip) (d : Dir) → is_inside m c ≡ false → is_live_link m c d ≡ false

@@ -1,16 +1,15 @@
 -- Each step of a link keeps its rule.
-use Rattle.std.proofs.Common.{◌≡◌, ◌≢◌, ℕ, zero, suc, ◌+◌, ◌<◌, ◌≤◌, true, false, true≢false, List, [], ◌∷◌, ◌++◌, drop, length, set, sym, refl, ap, ◌∙◌, subst, ⊎_elim, append_assoc, arith, inl, inr, ◌⊎◌, All}
-use Rattle.std.proofs.lemmas.List.{append-nil, length-append, drop_at}
-use Rattle.std.proofs.lemmas.List.Elements.{All-push}
+use Rattle.std.proofs.Common.{◌≡◌, ◌≢◌, ℕ, zero, suc, ◌+◌, ◌<◌, ◌≤◌, true, false, true≢false, List, [], ◌∷◌, ◌++◌, drop, length, set, sym, refl, ap, ◌∙◌, subst, ⊎_elim, append_assoc, arith, inl, inr}
+use Rattle.std.proofs.Common.{◌⊎◌, All}
+use Rattle.std.proofs.lemmas.List.{append-nil, length-append, drop_at, Elements.All-push}
 use mathlib.Core.Option.{some, some-ne-none}
 use lib.ListN.{get_elem?}
 use Rattle.crossbeam_queue.specs.Fifo.{Pushes, Pops, Forks, Merges, Learns}
 use Rattle.crossbeam_queue.proofs.Lists.{at_set}
 use Rattle.spin_base.specs.declared.copies.McCopy.{McCopy}
-use Rattle.link_queue.specs.declared.known.Known.{Known}
-use Rattle.link_queue.specs.TheRule.{put_of, IsFullNote, IsNoneNote, StartsWith, SenderFits, ReceiverFits, FitsRule, Kept}
-use Rattle.link_queue.specs.Ups.{NoNotes, PoppedTo, Rests}
-use Rattle.link_queue.specs.Steps.{blank, newborn, placed, offered, popped, full_noted, none_noted, told, sender_of, receiver_of, joined, renewed, SeenFull, SeenEmpty, Balanced}
+use Rattle.link_queue.specs.{declared.known.Known.Known, TheRule.put_of, TheRule.IsFullNote, TheRule.IsNoneNote, TheRule.StartsWith, TheRule.SenderFits, TheRule.ReceiverFits, TheRule.FitsRule}
+use Rattle.link_queue.specs.{TheRule.Kept, Ups.NoNotes, Ups.PoppedTo, Ups.Rests, Steps.blank, Steps.newborn, Steps.placed, Steps.offered, Steps.popped, Steps.full_noted, Steps.none_noted, Steps.told}
+use Rattle.link_queue.specs.Steps.{sender_of, receiver_of, joined, renewed, SeenFull, SeenEmpty, Balanced}
 
 abbrev Each : (ℕ → Known → Type 0) → List Known → Type 0
 Each F views = (port : ℕ) (v : Known) → get_elem? views port ≡ some v → F port v

@@ -1,15 +1,12 @@
 -- The table of vertices, as it is made.
-use Rattle.std.proofs.Common.{◌≡◌, ◌≢◌, ℕ, ◌+◌, ◌*◌, ◌<◌, refl, sym, ap, ◌∙◌, subst, arith, Bool, true, false, List, [], ◌∷◌, ◌++◌, length, take, get_or, set}
-use Rattle.std.proofs.Common.{replicate, cond, Option, Some, None, inl, inr}
-use Rattle.std.proofs.lemmas.Iterator.Adapters.{position_from-zero}
-use Rattle.std.proofs.lemmas.List.{take_more, length-set, length-replicate, get_or-replicate, length-take-le, get_or-take, get_or_default}
-use Rattle.std.proofs.lemmas.{Option.slice_get-get_or, Option.get_or_from_slice_get, Bool.cases_eq, List.Elements.All-head, List.Elements.All-tail}
+use Rattle.std.proofs.Common.{◌≡◌, ◌≢◌, ℕ, ◌+◌, ◌*◌, ◌<◌, refl, sym, ap, ◌∙◌, subst, arith, Bool, true, false, List, [], ◌∷◌, ◌++◌, length, take, get_or, set, replicate, cond, Option, Some, None, inl}
+use Rattle.std.proofs.Common.{inr}
+use Rattle.std.proofs.lemmas.{Iterator.Adapters.position_from-zero, List.take_more, List.length-set, List.length-replicate, List.get_or-replicate, List.length-take-le, List.get_or-take}
+use Rattle.std.proofs.lemmas.{List.get_or_default, Option.slice_get-get_or, Option.get_or_from_slice_get, Bool.cases_eq, List.Elements.All-head, List.Elements.All-tail}
 use Rattle.std.specs.{Prelude.AllPairs, List.position_from, List.slice_get, List.All}
-use Rattle.spin_base.specs.declared.chips.Spot.{Spot}
-use Rattle.spin_base.specs.Equality.{spot_eq}
-use Rattle.spin_base.proofs.Equality.{spot_eq_true, spot_eq_same}
-use Rattle.spin_base.proofs.Places.{slice_get-set_same, slice_get-set_other}
-use Rattle.machine_desc.specs.{Description.Description, Live.index_of, Live.IsInside, Live.IsSite, NetsOn.vertex_at}
+use Rattle.spin_base.specs.{declared.chips.Spot.Spot, Equality.spot_eq}
+use Rattle.spin_base.proofs.{Equality.spot_eq_true, Equality.spot_eq_same, Places.slice_get-set_same, Places.slice_get-set_other}
+use Rattle.machine_desc.specs.{Description.Description, Live.IsInside, Live.IsSite, NetsOn.vertex_at}
 use Rattle.machine_desc.proofs.{Far.same_index, Far.index_below, Far.live_inside, Same.same_spot, Sites.site_parts}
 use Rattle.mesh_core.specs.VertexTable.{spot_place, IsInTable, TellsVertices}
 
@@ -19,9 +16,7 @@ site_inside m s h = let parts = site_parts m s h in (live_inside m s.chip parts.
 
 -- spots of one place are one spot
 pub same_spot_place : (m : Description) (a b : Spot) → IsInside m a.chip → IsInside m b.chip → a.core < 24 → b.core < 24 → spot_place m a ≡ spot_place m b → a ≡ b
-same_spot_place m a b in_a in_b small_a small_b e =
-    let same : index_of m a.chip ≡ index_of m b.chip = omega arith in
-    same_spot a b (same_index m a.chip b.chip in_a in_b same) (omega arith)
+same_spot_place m a b in_a in_b small_a small_b e = grind (arith, same_spot a b (same_index m a.chip b.chip in_a in_b (omega arith)) (omega arith), same_index m a.chip b.chip in_a in_b (omega arith))
 
 pub spot_place-below : (m : Description) (s : Spot) → IsInside m s.chip → s.core < 24 → spot_place m s < 24 * (m.width * m.height)
 spot_place-below m s inside small = omega (arith, index_below m s.chip inside)

@@ -1,22 +1,18 @@
 -- No copy is dropped at an output that leads to a vertex, where none waits for one.
-use Rattle.std.proofs.Common.{◌≡◌, ℕ, ◌+◌, ◌<◌, ◌≤◌, refl, sym, ap, ◌∙◌, subst, arith, Bool, true, false, ◌&&◌, not, if◌then◌else◌, List, [], ◌∷◌, ◌++◌, append_assoc}
-use Rattle.std.proofs.Common.{append-nil, length, set, get_or, Option, Some, None, unwrap_or}
-use Rattle.std.proofs.{Math.Seq.set-get_or, lemmas.Bool.lt-ltb, lemmas.List.get_or_default}
-use Rattle.std.proofs.lemmas.List.Elements.{All-nil, All-cons, All-append}
+use Rattle.std.proofs.Common.{◌≡◌, ℕ, ◌+◌, ◌<◌, ◌≤◌, refl, sym, ap, ◌∙◌, subst, arith, Bool, true, false, ◌&&◌, not, if◌then◌else◌, List, [], ◌∷◌, ◌++◌, append_assoc, append-nil, length, set, get_or}
+use Rattle.std.proofs.Common.{Option, Some, None, unwrap_or}
+use Rattle.std.proofs.{Math.Seq.set-get_or, lemmas.Bool.lt-ltb, lemmas.List.get_or_default, lemmas.List.Elements.All-nil, lemmas.List.Elements.All-cons, lemmas.List.Elements.All-append}
 use Rattle.std.proofs.lemmas.Option.{slice_get-get_or, slice_get_within}
-use Rattle.std.specs.List.{slice_get, All}
-use Rattle.std.specs.Prelude.{OnErr, OnOk, Result, Ok, Err}
-use Rattle.spin_base.specs.declared.{chips.Chip.Chip, chips.Dir.Dir, chips.Port.Port, routes.Out.Out, routes.Out.TheVariants.Link, routes.Out.TheVariants.Core}
-use Rattle.spin_base.specs.declared.{copies.McCopy.McCopy, wants.Memory.Memory, copies.DumpRec.DumpRec}
-use Rattle.spin_base.specs.declared.copies.Event.TheVariants.{Take, Send, Dump, Collect}
-use Rattle.spin_base.specs.Hops.{onward}
+use Rattle.std.specs.{List.slice_get, List.All, Prelude.OnErr, Prelude.OnOk, Prelude.Result, Prelude.Ok, Prelude.Err}
+use Rattle.spin_base.specs.declared.{chips.Chip.Chip, chips.Dir.Dir, chips.Port.Port, routes.Out.Out, routes.Out.TheVariants.Link, routes.Out.TheVariants.Core, copies.McCopy.McCopy}
+use Rattle.spin_base.specs.declared.{wants.Memory.Memory, copies.DumpRec.DumpRec, copies.Event.TheVariants.Take, copies.Event.TheVariants.Send, copies.Event.TheVariants.Dump}
+use Rattle.spin_base.specs.{declared.copies.Event.TheVariants.Collect, Hops.onward}
 use Rattle.spin_base.proofs.Places.{All-at, slice_get-set_same, set-slice_get, set_put_back}
 use Rattle.machine_desc.specs.Live.{index_of, is_live_link, far_of}
-use Rattle.mesh_core.specs.Expected.{NothingWaits}
-use Rattle.mesh_core.specs.State.{Setup, State, Hand, IsMesh, Queue, input, core, nowhere, core_queue_of, behind, behind_link, vertex_behind, queue_at}
-use Rattle.mesh_core.specs.Step.{has_room_behind, has_room, push_at, push_behind, after_serving, serves, send_of, dump_of, collect_of, after_event}
-use Rattle.mesh_core.proofs.Fixed.{by_take, by_dump, by_collect, after_event_setup, dumped_stays}
-use Rattle.mesh_core.proofs.Keeping.{input_is_no_core, same_core, core_is_somewhere}
+use Rattle.mesh_core.specs.{Expected.NothingWaits, State.Setup, State.State, State.Hand, State.IsMesh, State.Queue, State.input, State.core, State.nowhere, State.core_queue_of, State.behind}
+use Rattle.mesh_core.specs.{State.behind_link, State.vertex_behind, Step.has_room_behind, Step.has_room, Step.push_at, Step.push_behind, Step.after_serving, Step.serves, Step.send_of, Step.dump_of}
+use Rattle.mesh_core.specs.Step.{collect_of, after_event}
+use Rattle.mesh_core.proofs.{Fixed.by_take, Fixed.by_dump, Fixed.by_collect, Fixed.after_event_setup, Fixed.dumped_stays, Keeping.input_is_no_core, Keeping.same_core, Keeping.core_is_somewhere}
 use Rattle.mesh_core.proofs.Ways.{vertex_behind_stands}
 use Rattle.mesh_drain.specs.Draining.{AreCollected, DropsAtNoVertex, IsSameBesidesCores, LeadsToNoVertex, collected_from}
 use Rattle.mesh_drain.proofs.{Steps.set_twice, Turns.one_vertex_more}
@@ -48,8 +44,7 @@ collect_still s v none = by_queue (slice_get s.cores v) refl
     by_queue None at = refl
 
 pub take_collected : (s : State) (c : Chip) (port : Port) → AreCollected s → AreCollected (after_event s (Take c port))
-take_collected s c port none =
-    by_take AreCollected s none (λ l h. none) c port (slice_get s.hands (index_of s.setup.machine c)) (slice_get s.inputs (queue_at s.setup.machine c port))
+take_collected s c port none = grind (arith, by_take)
 
 -- a copy that comes into a queue, and is collected where that is a vertex's
 pushed_collected : (u : State) → AreCollected u → (b : Queue) (k : McCopy) → AreCollected (collected_from (push_behind u b k) b)
@@ -165,9 +160,7 @@ pub same_then : (s t u : State) → IsSameBesidesCores s t → IsSameBesidesCore
 same_then s t u first rest = record { inputs = rest.inputs ∙ first.inputs; hands = rest.hands ∙ first.hands }
 
 pub collect_besides : (s t : State) (v : ℕ) → t ≡ after_event s (Collect v) → IsSameBesidesCores s t
-collect_besides s t v is =
-    subst (IsSameBesidesCores s) (sym is)
-    (by_collect (IsSameBesidesCores s) s (same_besides s) (λ l d. record { inputs = refl; hands = refl }) v (slice_get s.cores v))
+collect_besides s t v is = grind (arith, same_besides s, by_collect)
 
 -- the vertex's queue alone changes
 pub collect_there : (s t : State) (v : ℕ) → t ≡ after_event s (Collect v) → (q : List McCopy) × (t.cores ≡ set s.cores v q)
@@ -186,16 +179,11 @@ collect_there s t v is = by_queue (slice_get s.cores v) refl
 
 -- where nothing waited, nothing waits
 pub quiet_still : (s t : State) → IsSameBesidesCores s t → AreCollected t → NothingWaits s → NothingWaits t
-quiet_still s t same none quiet = record {
-  inputs_empty = subst (All (λ q. q ≡ [])) (sym same.inputs) quiet.inputs_empty;
-  hands_empty = subst (All (λ h. h ≡ None)) (sym same.hands) quiet.hands_empty;
-  cores_empty = none;
-}
+quiet_still s t same none quiet = grind arith
 
 -- all vertices have taken what waited for them
 pub all_collected : (s : State) (n : ℕ) → IsMesh s → length s.setup.spots ≤ n → ((i : ℕ) → i < n → get_or s.cores i [] ≡ []) → AreCollected s
-all_collected s n mesh all before = λ i d below.
-    get_or_default s.cores i d [] below ∙ before i (omega (arith, below, mesh.core_lists, all))
+all_collected s n mesh all before = grind (arith, get_or_default)
 
 -- one vertex has taken all that waited for it
 pub collected_there : (before now : List (List McCopy)) (v : ℕ) (q : List McCopy) → now ≡ set before v q → slice_get now v ≡ Some [] → now ≡ set before v []
@@ -228,10 +216,7 @@ dumped_collected s t u c o (Ok x) none same is = subst AreCollected (sym (is ∙
 dumped_collected s t u c o (Err e) none same is = tt
 
 pub taken_drops : {T : Type 0} (s u : State) (c : Chip) (port : Port) (r : Result T Memory) → OnOk r (u ≡ after_event s (Take c port)) → OnErr r (u ≡ s) → DropsAtNoVertex s u
-taken_drops s u c port r ok err =
-    either_way r ok err
-    (λ is. drops_none s u (ap (λ (x : State). x.dumped) is ∙ dumped_stays s (Take c port) tt))
-    (λ is. drops_none s u (ap (λ (x : State). x.dumped) is))
+taken_drops s u c port r ok err = grind (arith, dumped_stays s (Take c port) tt, either_way, drops_none)
 
 pub taken_collected : {T : Type 0} (s u : State) (c : Chip) (port : Port) (r : Result T Memory) → AreCollected s → OnOk r (u ≡ after_event s (Take c port)) → OnOk r (AreCollected u)
 taken_collected s u c port (Ok x) none is = subst AreCollected (sym is) (take_collected s c port none)

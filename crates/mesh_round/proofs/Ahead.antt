@@ -3,15 +3,13 @@
 use Rattle.std.proofs.Common.{◌≡◌, ℕ, zero, suc, ◌+◌, ◌*◌, ◌-◌, ◌<◌, ◌≤◌, ◌==◌, cond, min, refl, ap, sym, ◌∙◌, subst, arith, inl, inr, List, [], ◌∷◌, length, Bool, true, false, count_by}
 use Rattle.std.proofs.lemmas.{Bool.and_parts, Bool.eqb-true, List.Sums.sum_by-cons, Option.slice_get_within}
 use Rattle.std.specs.List.{sum_by}
-use Rattle.spin_base.proofs.Counts.{count_by-cons}
-use Rattle.spin_base.proofs.Members.{Among, among_map, among_only}
-use Rattle.spin_base.specs.declared.{chips.Chip.Chip, chips.Port.TheVariants.Link as ByLink, chips.Port.TheVariants.Local, routes.Out.Out, copies.McCopy.McCopy}
-use Rattle.spin_base.specs.{Links.opposite_of, Hops.last_hop, Hops.onward}
+use Rattle.spin_base.proofs.{Counts.count_by-cons, Members.Among, Members.among_map, Members.among_only}
+use Rattle.spin_base.specs.{declared.chips.Chip.Chip, declared.chips.Port.TheVariants.Local, declared.routes.Out.Out, declared.copies.McCopy.McCopy, Links.opposite_of, Hops.last_hop, Hops.onward}
+use Rattle.spin_base.specs.declared.chips.Port.TheVariants.{Link as ByLink}
 use Rattle.machine_desc.specs.Branch.{Exit}
-use Rattle.mesh_core.specs.{State.State, Step.outputs}
-use Rattle.mesh_core.specs.Trail.{Station, unsent, in_queue, in_hand, at_core, delivered, dumped, Mark, is_on_trail, is_packet_on_trail, on_trail}
-use Rattle.mesh_core.proofs.Law.{comes_parts, leaves_parts}
-use Rattle.mesh_core.proofs.Moves.{mark, IsMove, IsMoveOf, Crosses}
+use Rattle.mesh_core.specs.{State.State, Step.outputs, Trail.Station, Trail.unsent, Trail.in_queue, Trail.in_hand, Trail.at_core, Trail.delivered, Trail.dumped, Trail.Mark, Trail.is_on_trail}
+use Rattle.mesh_core.specs.Trail.{is_packet_on_trail, on_trail}
+use Rattle.mesh_core.proofs.{Law.comes_parts, Law.leaves_parts, Moves.mark, Moves.IsMove, Moves.IsMoveOf, Moves.Crosses}
 
 -- ---- places that count
 

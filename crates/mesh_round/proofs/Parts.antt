@@ -5,8 +5,7 @@ use Rattle.std.specs.List.{sum_by, slice_get}
 use Rattle.spin_base.proofs.Members.{Among}
 use Rattle.spin_base.specs.{declared.copies.McCopy.McCopy, Hops.last_hop}
 use Rattle.mesh_core.specs.{State.State, Trail.Station, Trail.Mark, Ledger.marks_at}
-use Rattle.mesh_core.proofs.Moves.{mark, IsMoveOf}
-use Rattle.mesh_core.proofs.LedgerLaw.{Moved, count_left, count_come}
+use Rattle.mesh_core.proofs.{Moves.mark, Moves.IsMoveOf, LedgerLaw.Moved, LedgerLaw.count_left, LedgerLaw.count_come}
 use Rattle.mesh_round.proofs.Sums.{sum_at}
 
 -- how many marks of each kind

@@ -2,12 +2,10 @@
 use Rattle.std.proofs.Common.{◌≡◌, ◌≤◌, ℕ, List, Option, Some, None, refl, sym, subst, ◌∙◌, unwrap_or, arith}
 use Rattle.spin_base.specs.declared.copies.Packet.{Packet}
 use Rattle.machine_desc.specs.{declared.nets.NetPlan.NetPlan, RightTables.AreRight}
-use Rattle.mesh_core.specs.State.{Setup, State, IsMesh}
-use Rattle.mesh_core.specs.{PutBack.put_back_of, PutBack.after_put_back, Ledger.Label, Ledger.MeetsLedger, Opened.MeetsJobLedger}
+use Rattle.mesh_core.specs.{State.Setup, State.State, State.IsMesh, PutBack.put_back_of, PutBack.after_put_back, Ledger.Label, Ledger.MeetsLedger, Opened.MeetsJobLedger}
 use Rattle.mesh_core.proofs.EventsLaw.{put_back_is, IsMesh-after_put_back, put_back_keeps, put_back_keeps_job}
-use Rattle.mesh_round.specs.RoundFlow.{Flow, Passes, HasRounds, none as no_round, more}
-use Rattle.mesh_round.specs.Work.{work_in}
-use Rattle.mesh_round.specs.Reinjecting.{HasPasses, none, round, put_back}
+use Rattle.mesh_round.specs.{RoundFlow.Flow, RoundFlow.Passes, RoundFlow.HasRounds, RoundFlow.more, Work.work_in, Reinjecting.HasPasses, Reinjecting.none, Reinjecting.round, Reinjecting.put_back}
+use Rattle.mesh_round.specs.RoundFlow.{none as no_round}
 
 put_back_setup : (s : State) → (after_put_back s).setup ≡ s.setup
 put_back_setup s = by_answer (put_back_of s s.dumped) refl

@@ -5,11 +5,9 @@ use Rattle.std.specs.Prelude.{IfErr, IfOk, Result, Ok, Err}
 use Rattle.spin_base.specs.declared.wants.Memory.{Memory}
 use Rattle.chip_node.specs.Items.{Item}
 use Rattle.mesh_core.specs.{State.State, State.IsMesh, Expected.IsAtRest}
-use Rattle.mesh_run.specs.declared.{paces.Pace.Pace, raised.RaisedMesh.RaisedMesh}
-use Rattle.mesh_run.specs.{Played.IsPlayedBy, Raised.IsRaisedFrom, Raised.PlaysTo, Shares.IsNoted}
-use Rattle.mesh_round.specs.RoundFlow.{HasNoHand, IsRound, none, more}
-use Rattle.mesh_round.specs.Bound.{HasMovingRounds}
-use Rattle.mesh_round.specs.OnThreads.{LeadsByFlow, LeadsByRound, MayGoOn, has_none}
+use Rattle.mesh_run.specs.{declared.paces.Pace.Pace, declared.raised.RaisedMesh.RaisedMesh, Played.IsPlayedBy, Raised.IsRaisedFrom, Raised.PlaysTo, Shares.IsNoted}
+use Rattle.mesh_round.specs.{RoundFlow.HasNoHand, RoundFlow.IsRound, RoundFlow.none, RoundFlow.more, Bound.HasMovingRounds, OnThreads.LeadsByFlow, OnThreads.LeadsByRound, OnThreads.MayGoOn}
+use Rattle.mesh_round.specs.OnThreads.{has_none}
 use Rattle.mesh_round.proofs.Resting.{none_left, rests}
 
 -- what the law of rounds on threads tells of one of them

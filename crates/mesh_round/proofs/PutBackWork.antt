@@ -3,11 +3,10 @@ use Rattle.std.proofs.Common.{◌≡◌, ◌⊎◌, ℕ, zero, suc, ◌+◌, ◌
 use Rattle.std.proofs.lemmas.List.Sums.{sum_by-append, sum_by-cons}
 use Rattle.std.specs.List.{sum_by}
 use Rattle.spin_base.proofs.Exchange.{TakenOut, PutIn}
-use Rattle.spin_base.specs.declared.{chips.Chip.Chip, chips.Port.TheVariants.Link as ByLink, routes.Out.Out, copies.McCopy.McCopy, copies.DumpRec.DumpRec}
-use Rattle.spin_base.specs.{Links.opposite_of, Hops.onward}
-use Rattle.mesh_core.specs.declared.places.Did.TheVariants.{Moved, Idle}
-use Rattle.mesh_core.specs.{State.State, State.Queue, State.behind, Step.push_behind}
-use Rattle.mesh_core.specs.{PutBack.put_back_of, PutBack.after_put_back, Trail.in_queue, Trail.at_core, Trail.dumped, Trail.Mark, Ledger.marks_of, Heavy.heavy}
+use Rattle.spin_base.specs.{declared.chips.Chip.Chip, declared.routes.Out.Out, declared.copies.McCopy.McCopy, declared.copies.DumpRec.DumpRec, Links.opposite_of, Hops.onward}
+use Rattle.spin_base.specs.declared.chips.Port.TheVariants.{Link as ByLink}
+use Rattle.mesh_core.specs.{declared.places.Did.TheVariants.Moved, declared.places.Did.TheVariants.Idle, State.State, State.Queue, State.behind, Step.push_behind, PutBack.put_back_of}
+use Rattle.mesh_core.specs.{PutBack.after_put_back, Trail.in_queue, Trail.at_core, Trail.dumped, Trail.Mark, Ledger.marks_of, Heavy.heavy}
 use Rattle.mesh_core.proofs.{EventsLaw.same_room, Events.arrives, Heavy.one_heavy, Heavy.heavy_grows, Moves.mark, Moves.Crosses, Moves.dumped_out}
 use Rattle.mesh_round.specs.{Work.to_go, Work.work_weight_of, Work.work_in, Reinjecting.put_back_answer}
 use Rattle.mesh_round.proofs.PutBackParts.{IsBack, is_back}

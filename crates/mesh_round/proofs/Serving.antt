@@ -1,14 +1,13 @@
 -- What was served at an output of a chip: each copy went on or was dumped.
 use Rattle.std.proofs.Common.{◌≡◌, ℕ, ◌+◌, ◌<◌, ◌≤◌, Bool, true, false, cond, if◌then◌else◌, ◌||◌, ◌==◌, List, [], ◌∷◌, ◌++◌, map, refl, sym, ap, ◌∙◌, subst, arith, inl, inr, count_by}
-use Rattle.std.proofs.lemmas.Bool.{cases_Bool}
-use Rattle.std.proofs.lemmas.List.Sorted.{IsPermutation-refl, IsPermutation-sym, IsPermutation-cons, IsPermutation-trans, IsPermutation-middle}
+use Rattle.std.proofs.lemmas.{Bool.cases_Bool, List.Sorted.IsPermutation-refl, List.Sorted.IsPermutation-sym, List.Sorted.IsPermutation-cons, List.Sorted.IsPermutation-trans}
+use Rattle.std.proofs.lemmas.List.Sorted.{IsPermutation-middle}
 use Rattle.std.specs.List.{filter, flat_map, list_any, Sorted.IsPermutation}
 use Rattle.spin_base.proofs.{Counts.count_by-cons, Members.Among, Members.among_map, Members.map_among, Once.outs_once}
-use Rattle.spin_base.specs.declared.{chips.Chip.Chip, chips.Port.Port, routes.Out.Out, copies.McCopy.McCopy}
-use Rattle.spin_base.specs.{Equality.out_eq, Hops.last_hop, Hops.onward, Lookup.lookup, Outputs.IsOutput, Outputs.has, Outputs.outs_of}
+use Rattle.spin_base.specs.{declared.chips.Chip.Chip, declared.chips.Port.Port, declared.routes.Out.Out, declared.copies.McCopy.McCopy, Equality.out_eq, Hops.last_hop, Hops.onward, Lookup.lookup}
+use Rattle.spin_base.specs.Outputs.{IsOutput, has, outs_of}
 use Rattle.machine_desc.specs.RightTables.{table_at}
-use Rattle.chip_node.specs.declared.ends.Served.{Served, TheVariants.Sent, TheVariants.Dumped}
-use Rattle.chip_node.specs.Items.{Service, brought, lost}
+use Rattle.chip_node.specs.{declared.ends.Served.Served, declared.ends.Served.TheVariants.Sent, declared.ends.Served.TheVariants.Dumped, Items.Service, Items.brought, Items.lost}
 use Rattle.mesh_core.specs.{State.Setup, Step.outputs}
 use Rattle.mesh_core.proofs.MarkTests.{below_last}
 use Rattle.mesh_run.specs.Played.{owed_on}

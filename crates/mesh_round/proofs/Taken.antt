@@ -1,28 +1,21 @@
 -- What all routers took, output by output: it crossed an output or was dumped there.
 use Rattle.std.proofs.Common.{◌≡◌, ℕ, ◌+◌, ◌*◌, ◌/◌, ◌%◌, ◌<◌, Bool, true, false, cond, ◌==◌, ◌&&◌, List, [], ◌∷◌, ◌++◌, map, filter, refl, ap, ap₂, sym, ◌∙◌, subst, arith, inl, inr, ◌⊎◌, count_by}
-use Rattle.std.proofs.lemmas.Bool.{cases_Bool, and_from, and_parts, eqb-true}
-use Rattle.std.proofs.lemmas.{Option.get_or_from_slice_get, List.Elements.All-contains}
+use Rattle.std.proofs.lemmas.{Bool.cases_Bool, Bool.and_from, Bool.and_parts, Bool.eqb-true, Option.get_or_from_slice_get, List.Elements.All-contains}
 use Rattle.std.specs.{Cmp.both_ways, List.sum_by, List.range_with_len}
-use Rattle.spin_base.specs.Gathered.{gathered}
-use Rattle.spin_base.specs.declared.chips.{Chip.Chip, Dir.Dir}
-use Rattle.spin_base.specs.declared.chips.Dir.TheVariants.{East, NorthEast, North, West, SouthWest, South}
-use Rattle.spin_base.specs.declared.chips.Port.{Port, TheVariants.Link as ByLink, TheVariants.Local}
-use Rattle.spin_base.specs.declared.{routes.Out.Out, copies.McCopy.McCopy, copies.DumpRec.DumpRec}
-use Rattle.spin_base.specs.{Links.port_number, Equality.chip_eq, Equality.port_eq, Equality.out_eq, Outputs.all_outs, Outputs.IsOutput, Hops.last_hop}
-use Rattle.spin_base.proofs.Members.{Among, among_contains, among_map, among_at}
-use Rattle.spin_base.proofs.{Gathering.among_gathered, Tests.answers_none}
-use Rattle.spin_base.proofs.Equality.{nat_eq_same, chip_eq_same, chip_eq_true, port_eq_same, port_eq_true, out_eq_true}
-use Rattle.spin_base.proofs.Once.{all_once}
+use Rattle.spin_base.specs.{Gathered.gathered, declared.chips.Chip.Chip, declared.chips.Dir.Dir, declared.chips.Dir.TheVariants.East, declared.chips.Dir.TheVariants.NorthEast}
+use Rattle.spin_base.specs.declared.chips.{Dir.TheVariants.North, Dir.TheVariants.West, Dir.TheVariants.SouthWest, Dir.TheVariants.South, Port.Port, Port.TheVariants.Local}
+use Rattle.spin_base.specs.{declared.routes.Out.Out, declared.copies.McCopy.McCopy, declared.copies.DumpRec.DumpRec, Links.port_number, Equality.chip_eq, Equality.port_eq, Equality.out_eq}
+use Rattle.spin_base.specs.{Outputs.all_outs, Outputs.IsOutput, Hops.last_hop}
+use Rattle.spin_base.specs.declared.chips.Port.TheVariants.{Link as ByLink}
+use Rattle.spin_base.proofs.{Members.Among, Members.among_contains, Members.among_map, Members.among_at, Gathering.among_gathered, Tests.answers_none, Equality.nat_eq_same, Equality.chip_eq_same}
+use Rattle.spin_base.proofs.{Equality.chip_eq_true, Equality.port_eq_same, Equality.port_eq_true, Equality.out_eq_true, Once.all_once}
 use Rattle.machine_desc.specs.Live.{index_of, chip_of, is_live_chip, is_live_link, IsInside, IsLiveChip}
 use Rattle.machine_desc.proofs.{Far.live_inside, Far.live_ends, Live.chip_of-inside, Live.index_of-chip_of, Live.chip_of-index_of}
-use Rattle.mesh_core.specs.State.{Setup, State, IsMesh, Queue, input, behind, queue_at}
-use Rattle.mesh_core.specs.{Step.outputs, Trail.in_hand, Trail.Mark, Ledger.all_ports, Ledger.port_of}
+use Rattle.mesh_core.specs.{State.Setup, State.State, State.IsMesh, State.Queue, State.input, State.behind, State.queue_at, Step.outputs, Trail.in_hand, Trail.Mark, Ledger.all_ports, Ledger.port_of}
 use Rattle.mesh_core.proofs.{Changes.port_below, Changes.queue_at-below, Moves.mark, Moves.port_of-port_number}
 use Rattle.mesh_round.specs.RoundFlow.{Flow, Passes, at_port, leaves_by, taken_for, dumped_at, held_in}
 use Rattle.mesh_round.proofs.Sums.{sum_agree, sum_none, sum_map, sum_filter, sum_swap, sum_plus, sum_gathered, sum_at-plain, one_passes, carried}
-use Rattle.mesh_round.proofs.Ends.{one_port}
-use Rattle.mesh_round.proofs.Sources.{once_in_range, range_parts, live_chips, live_of_live_chips, live_chip_once}
-use Rattle.mesh_round.proofs.Entered.{numbered_port, has_bit}
+use Rattle.mesh_round.proofs.{Ends.one_port, Sources.once_in_range, Sources.range_parts, Sources.live_chips, Sources.live_of_live_chips, Sources.live_chip_once, Entered.numbered_port, Entered.has_bit}
 use Rattle.mesh_round.proofs.Weights.{one_where, back, sum_outputs, taken_is}
 
 port_once : (port : Port) → count_by (port_eq port) all_ports ≡ 1

@@ -4,9 +4,8 @@ use Rattle.std.proofs.lemmas.List.{Elements.All-contains, Sums.sum_by-append, So
 use Rattle.std.specs.{Cmp.both_ways, List.All, List.sum_by, List.list_any}
 use Rattle.spin_base.proofs.Members.{Among, among_contains, contains_among, among_map, among_filter, among_any, any_among, among_left, Contains-filter}
 use Rattle.spin_base.proofs.{Places.All-each, Gathering.among_gathered, Tests.answers_none, Equality.out_eq_same, Equality.out_eq_true}
-use Rattle.spin_base.specs.declared.{chips.Chip.Chip, chips.Port.Port, routes.Out.Out, copies.McCopy.McCopy, copies.DumpRec.DumpRec}
-use Rattle.spin_base.specs.Equality.{chip_eq, out_eq}
-use Rattle.spin_base.specs.{Lookup.lookup, Outputs.has, Outputs.outs_of, Outputs.all_outs, Outputs.IsOutput, Hops.last_hop, Hops.onward}
+use Rattle.spin_base.specs.{declared.chips.Chip.Chip, declared.chips.Port.Port, declared.routes.Out.Out, declared.copies.McCopy.McCopy, declared.copies.DumpRec.DumpRec, Equality.chip_eq}
+use Rattle.spin_base.specs.{Equality.out_eq, Lookup.lookup, Outputs.has, Outputs.outs_of, Outputs.all_outs, Outputs.IsOutput, Hops.last_hop, Hops.onward}
 use Rattle.machine_desc.specs.{Live.IsLiveChip, RightTables.table_at}
 use Rattle.mesh_core.specs.{State.Setup, State.State, State.behind, Step.outputs, Ledger.all_ports}
 use Rattle.mesh_round.specs.RoundFlow.{Flow, Passes, at_port, leaves_by, taken_for, dumped_at}

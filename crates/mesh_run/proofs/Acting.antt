@@ -1,29 +1,23 @@
 -- What one turn of the actor at a place does to a share, and turns one after the other.
-use Rattle.std.proofs.Common.{◌≡◌, ◌≢◌, ◌⊎◌, ℕ, zero, suc, ◌+◌, ◌*◌, ◌/◌, ◌%◌, ◌<◌, ◌≤◌, Bool, true, false, List, [], ◌∷◌}
-use Rattle.std.proofs.Common.{◌++◌, length, take, drop, Option, None, Some, refl, sym, ap, ◌∙◌, subst, arith, inl, inr}
-use Rattle.std.proofs.lemmas.List.{Elements.All-append, Elements.All-nil, Elements.All-weaker}
-use Rattle.std.proofs.lemmas.{Bool.cases_eq, Nat.div-add-mod', Nat.mod_below, Option.slice_get_within}
+use Rattle.std.proofs.Common.{◌≡◌, ◌≢◌, ◌⊎◌, ℕ, zero, suc, ◌+◌, ◌*◌, ◌/◌, ◌%◌, ◌<◌, ◌≤◌, Bool, true, false, List, [], ◌∷◌, ◌++◌, length, take, drop, Option, None, Some, refl, sym, ap, ◌∙◌, subst}
+use Rattle.std.proofs.Common.{arith, inl, inr}
+use Rattle.std.proofs.lemmas.{List.Elements.All-append, List.Elements.All-nil, List.Elements.All-weaker, Bool.cases_eq, Nat.div-add-mod', Nat.mod_below, Option.slice_get_within}
 use Rattle.std.specs.List.{All, slice_get, slice_index_or}
 use Rattle.spin_base.proofs.{Outputs.out_number_below, Places.All-each, Places.both_none}
-use Rattle.spin_base.specs.declared.routes.Out.{Out, TheVariants.Link, TheVariants.Core}
-use Rattle.spin_base.specs.{Links.port_number, Outputs.out_number, Outputs.IsOutput}
+use Rattle.spin_base.specs.{declared.routes.Out.Out, declared.routes.Out.TheVariants.Link, declared.routes.Out.TheVariants.Core, Links.port_number, Outputs.out_number, Outputs.IsOutput}
 use Rattle.machine_desc.specs.Live.{chip_of, index_of, is_live_chip}
 use Rattle.machine_desc.proofs.{Far.live_inside, Live.index_of-chip_of}
 use Rattle.link_queue.specs.declared.links.Link.{Link as QueueLink}
-use Rattle.chip_node.specs.declared.holdings.{Holdings.Holdings, Turn.Turn}
-use Rattle.chip_node.specs.declared.holdings.Turn.TheVariants.{Moved, Nothing, Waits}
-use Rattle.chip_node.specs.declared.nodes.{Behind.Behind, CoreBank.CoreBank, RouterNode.RouterNode}
-use Rattle.chip_node.specs.Acting.{place_in, BankActs, IsReadyBank, IsReadyRouter, RouterActs, place_at_router}
-use Rattle.chip_node.specs.Going.{AreEndsOf, Goes, HoldsSender, Stays}
-use Rattle.chip_node.specs.Items.{Item, injection_place, port_place}
+use Rattle.chip_node.specs.declared.holdings.{Holdings.Holdings, Turn.Turn, Turn.TheVariants.Moved, Turn.TheVariants.Nothing, Turn.TheVariants.Waits}
+use Rattle.chip_node.specs.{declared.nodes.Behind.Behind, declared.nodes.CoreBank.CoreBank, declared.nodes.RouterNode.RouterNode, Acting.place_in, Acting.BankActs, Acting.IsReadyBank}
+use Rattle.chip_node.specs.{Acting.IsReadyRouter, Acting.RouterActs, Acting.place_at_router, Going.AreEndsOf, Going.Goes, Going.HoldsSender, Going.Stays, Items.Item, Items.injection_place}
+use Rattle.chip_node.specs.Items.{port_place}
 use Rattle.chip_node.proofs.{Flows.goes_none, Flows.goes_on, Flows.holds_sender_on, Stays.stays_same}
 use Rattle.mesh_core.specs.State.{Setup}
-use Rattle.mesh_run.specs.declared.{floors.Floor.Floor, shares.Share.Share}
-use Rattle.mesh_run.specs.Floors.{grid_size, IsBankOf, IsFloorOf}
-use Rattle.mesh_run.specs.Played.{place_behind, port_count, IsLiveIndex}
+use Rattle.mesh_run.specs.{declared.floors.Floor.Floor, declared.shares.Share.Share, Floors.grid_size, Floors.IsBankOf, Floors.IsFloorOf, Played.place_behind, Played.port_count, Played.IsLiveIndex}
 use Rattle.mesh_run.specs.Shares.{actor_of, bank_place, router_place, ActsAt, AreOf, DoesAt, IsInRun, IsNoted, IsShareOf, MovesAt, PlaysOne, PlaysRound, PlaysTurns, SharePlays}
-use Rattle.mesh_run.proofs.Apart.{not_to_itself, one_output}
-use Rattle.mesh_run.proofs.Turns.{IsNotOf, IsRouterOf, bank_by, bank_turns, routed_by, routed_some, routed_turns, turns_beside, turns_none, turns_on}
+use Rattle.mesh_run.proofs.{Apart.not_to_itself, Apart.one_output, Turns.IsNotOf, Turns.IsRouterOf, Turns.bank_by, Turns.bank_turns, Turns.routed_by, Turns.routed_some, Turns.routed_turns}
+use Rattle.mesh_run.proofs.Turns.{turns_beside, turns_none, turns_on}
 
 -- ---- parts of lists
 

@@ -1,26 +1,20 @@
 -- The shares of a split mesh, with the ends of the links between them dealt: each share holds what its actors need.
 use Rattle.std.proofs.Common.{◌≡◌, ◌≢◌, ℕ, ◌*◌, ◌^◌, ◌<◌, ◌≤◌, List, [], ◌++◌, length, map, get_or, Option, Some, refl, sym, ap, ◌∙◌, subst, arith, inl, inr, zero, suc}
-use Rattle.std.proofs.lemmas.{Bool.cases_eq, List.length-map}
-use Rattle.std.proofs.lemmas.Option.{get_or_from_slice_get, slice_get_within, slice_get-get_or, same_Some}
+use Rattle.std.proofs.lemmas.{Bool.cases_eq, List.length-map, Option.get_or_from_slice_get, Option.slice_get_within, Option.slice_get-get_or, Option.same_Some}
 use Rattle.std.specs.List.{All, slice_get, slice_index_or}
-use Rattle.spin_base.proofs.Places.{one_item_at, slice_get-mapped, slice_get_there}
-use Rattle.spin_base.proofs.Spots.{out_of-has_bit}
-use Rattle.spin_base.specs.{Outputs.IsOutput, WithRoom.WithRoom}
-use Rattle.spin_base.specs.declared.{copies.McCopy.McCopy, routes.Out.Out, routes.Out.TheVariants.Link as ByLink}
+use Rattle.spin_base.proofs.{Places.one_item_at, Places.slice_get-mapped, Places.slice_get_there, Spots.out_of-has_bit}
+use Rattle.spin_base.specs.{Outputs.IsOutput, WithRoom.WithRoom, declared.copies.McCopy.McCopy, declared.routes.Out.Out}
+use Rattle.spin_base.specs.declared.routes.Out.TheVariants.{Link as ByLink}
 use Rattle.machine_desc.specs.Live.{chip_of}
 use Rattle.machine_desc.proofs.Far.{live_inside}
 use Rattle.link_queue.specs.declared.links.{Link.Link, LinkEnds.LinkEnds}
-use Rattle.chip_node.specs.declared.ends.End.{End}
-use Rattle.chip_node.specs.declared.ends.End.TheVariants.{Away, Own, Sends, Takes}
+use Rattle.chip_node.specs.declared.ends.End.{End, TheVariants.Away, TheVariants.Own, TheVariants.Sends, TheVariants.Takes}
 use Rattle.chip_node.specs.{Going.HoldsSender, Going.IsEndOf, Items.injection_place}
 use Rattle.mesh_core.specs.State.{IsMesh, Setup, State}
-use Rattle.mesh_run.specs.declared.{homes.Cut.Cut, homes.Home.Home, raised.RaisedMesh.RaisedMesh, shares.Share.Share}
-use Rattle.mesh_run.specs.Crossing.{AreCuts, Deals, IsUncut}
-use Rattle.mesh_run.specs.{Floors.grid_size, Homes.AreShareRuns, Homes.run_start, Queues.WasUp, Raised.IsRaisedFrom}
-use Rattle.mesh_run.specs.Shares.{bank_place, router_place, IsInRun, IsShareOf}
+use Rattle.mesh_run.specs.{declared.homes.Cut.Cut, declared.homes.Home.Home, declared.raised.RaisedMesh.RaisedMesh, declared.shares.Share.Share, Crossing.AreCuts, Crossing.Deals, Crossing.IsUncut}
+use Rattle.mesh_run.specs.{Floors.grid_size, Homes.AreShareRuns, Homes.run_start, Queues.WasUp, Raised.IsRaisedFrom, Shares.bank_place, Shares.router_place, Shares.IsInRun, Shares.IsShareOf}
 use Rattle.mesh_run.specs.Split.{end_at, end_in}
-use Rattle.mesh_run.proofs.Feeding.{LeadsTo, by_link, leads, place_below, to_vertex}
-use Rattle.mesh_run.proofs.{HomeLaws.live_below, PlanLaws.few_cuts, PlanLaws.few_homes}
+use Rattle.mesh_run.proofs.{Feeding.LeadsTo, Feeding.by_link, Feeding.leads, Feeding.place_below, Feeding.to_vertex, HomeLaws.live_below, PlanLaws.few_cuts, PlanLaws.few_homes}
 
 -- an output that leads somewhere has a bit
 has_bit : (u : Setup) (i : ℕ) (o : Out) (q : ℕ) → LeadsTo u (chip_of u.machine i) o q → IsOutput o

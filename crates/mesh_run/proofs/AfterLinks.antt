@@ -1,12 +1,9 @@
 -- After a whole round the links are up for the queues of the cuts, and nothing is logged in the shares.
 use Rattle.std.proofs.Common.{◌≡◌, ℕ, ◌<◌, List, [], ◌++◌, length, map, get_or, refl, sym, ◌∙◌, subst, arith}
-use Rattle.std.proofs.lemmas.List.{get_or_default, length-map}
-use Rattle.std.proofs.lemmas.Option.{get_or_from_slice_get, slice_get_within, slice_get-get_or}
+use Rattle.std.proofs.lemmas.{List.get_or_default, List.length-map, Option.get_or_from_slice_get, Option.slice_get_within, Option.slice_get-get_or}
 use Rattle.spin_base.proofs.Places.{slice_get-mapped, slice_get_there}
 use Rattle.spin_base.specs.declared.copies.McCopy.{McCopy}
-use Rattle.mesh_run.specs.declared.homes.Cut.{Cut}
-use Rattle.mesh_run.specs.Queues.{queue_of_link, AreUp, IsUp}
-use Rattle.mesh_run.specs.Split.{cut_queues, HaveNoLogs}
+use Rattle.mesh_run.specs.{declared.homes.Cut.Cut, Queues.queue_of_link, Queues.AreUp, Queues.IsUp, Split.cut_queues, Split.HaveNoLogs}
 use Rattle.mesh_run.proofs.{AfterMesh.mesh, AfterMesh.queue_there, Resting.fewer, WholeRound.Whole}
 
 module _ (w : Whole) where

@@ -1,15 +1,13 @@
 -- The mesh to which a whole round leads, and that it was played to it.
 use Rattle.std.proofs.Common.{◌≡◌, ℕ, ◌+◌, ◌-◌, ◌<◌, ◌≤◌, List, [], ◌∷◌, ◌++◌, length, get_or, refl, sym, ap, ◌∙◌, subst, arith, inl, inr}
-use Rattle.std.proofs.lemmas.{Bool.cases_lt, List.get_or_append_left, List.get_or-append_right, List.get_or_past}
-use Rattle.std.proofs.lemmas.{List.Elements.All-head, List.Elements.All-tail, Option.slice_get_within}
+use Rattle.std.proofs.lemmas.{Bool.cases_lt, List.get_or_append_left, List.get_or-append_right, List.get_or_past, List.Elements.All-head, List.Elements.All-tail, Option.slice_get_within}
 use Rattle.std.specs.List.{All, slice_index_or}
 use Rattle.spin_base.specs.declared.copies.McCopy.{McCopy}
 use Rattle.chip_node.specs.Items.{Item, took, served, sent, got, deliveries, records, sent_by, sent_in}
 use Rattle.mesh_core.specs.State.{Setup, State}
 use Rattle.mesh_run.specs.Played.{port_count, IsDoneOn, IsPlayedBy}
-use Rattle.mesh_run.proofs.{Apart.elsewhere, EachQueue.AfterRound, EachQueue.queue_after, EachVertex.VertexAfter, EachVertex.vertex_after}
-use Rattle.mesh_run.proofs.Together.{joined, listed}
-use Rattle.mesh_run.proofs.WholeRound.{Whole, parts, whole_turns}
+use Rattle.mesh_run.proofs.{Apart.elsewhere, EachQueue.AfterRound, EachQueue.queue_after, EachVertex.VertexAfter, EachVertex.vertex_after, Together.joined, Together.listed, WholeRound.Whole}
+use Rattle.mesh_run.proofs.WholeRound.{parts, whole_turns}
 
 -- no vertex that is not there sent a copy
 none_sent_of : (u : Setup) (v : ℕ) → length u.spots ≤ v → (x : Item) → IsDoneOn u x → sent_in v x ≡ []

@@ -2,14 +2,12 @@
 use Rattle.std.proofs.Common.{◌≡◌, ℕ, ◌<◌, Bool, false, ◌||◌, List, [], ◌∷◌, ◌++◌, length, get_or, refl, sym, ap, ap₂, ◌∙◌, subst, arith, suc}
 use Rattle.std.proofs.lemmas.{List.get_or_default, Option.slice_get-get_or}
 use Rattle.std.specs.{List.flat_map, List.list_any, Global.Vec}
-use Rattle.chip_node.specs.Going.{Goes}
-use Rattle.chip_node.specs.Items.{Item, deliveries, delivered_of, dumped_of, records}
-use Rattle.mesh_run.specs.declared.{gathering.MeshLogs.MeshLogs, raised.RaisedMesh.RaisedMesh, shares.Share.Share}
-use Rattle.mesh_run.specs.{Gathering.IsAnyMoved, Raised.IsRaisedFrom, Raised.PlaysTo, Shares.IsNoted}
-use Rattle.mesh_run.specs.Split.{AreShared, HaveNoLogs, HoldLanes, HoldUnsent}
-use Rattle.mesh_run.proofs.{AfterLinks.whole_no_logs, AfterLinks.whole_up, AfterLogs.flat_same, AfterMesh.mesh, AfterMesh.whole_played}
-use Rattle.mesh_run.proofs.{AfterRuns.whole_shared, AfterSplit.whole_lanes, AfterSplit.whole_unsent, Together.flat_map_joined, Together.joined}
-use Rattle.mesh_run.proofs.WholeRound.{Whole, dealt_long, parts, played_parts, whole_noted}
+use Rattle.chip_node.specs.{Going.Goes, Items.Item, Items.deliveries, Items.delivered_of, Items.dumped_of, Items.records}
+use Rattle.mesh_run.specs.{declared.gathering.MeshLogs.MeshLogs, declared.raised.RaisedMesh.RaisedMesh, declared.shares.Share.Share, Gathering.IsAnyMoved, Raised.IsRaisedFrom, Raised.PlaysTo}
+use Rattle.mesh_run.specs.{Shares.IsNoted, Split.AreShared, Split.HaveNoLogs, Split.HoldLanes, Split.HoldUnsent}
+use Rattle.mesh_run.proofs.{AfterLinks.whole_no_logs, AfterLinks.whole_up, AfterLogs.flat_same, AfterMesh.mesh, AfterMesh.whole_played, AfterRuns.whole_shared, AfterSplit.whole_lanes}
+use Rattle.mesh_run.proofs.{AfterSplit.whole_unsent, Together.flat_map_joined, Together.joined, WholeRound.Whole, WholeRound.dealt_long, WholeRound.parts, WholeRound.played_parts}
+use Rattle.mesh_run.proofs.WholeRound.{whole_noted}
 
 -- a test that is the same at each place has the same answer
 any_same : {X Y : Type 0} (f : X → Bool) (g : Y → Bool) (xs : List X) (ys : List Y) → length xs ≡ length ys →

@@ -3,11 +3,10 @@ use Rattle.std.proofs.Common.{◌≡◌, ◌≢◌, ◌⊎◌, ℕ, zero, suc, �
 use Rattle.std.proofs.lemmas.{Bool.cases_eq, Bool.cases_lt, Option.slice_get_within}
 use Rattle.std.specs.List.{slice_get}
 use Rattle.chip_node.specs.declared.ends.End.TheVariants.{Away}
-use Rattle.mesh_run.specs.declared.{homes.Cut.Cut, homes.Home.Home, shares.Share.Share}
-use Rattle.mesh_run.specs.{Crossing.IsUncut, Played.vertex_place}
-use Rattle.mesh_run.specs.Split.{end_at, unsent_in, HoldLanes, HoldUnsent}
-use Rattle.mesh_run.proofs.{AfterMesh.after_unsent, AfterMesh.mesh, AfterMesh.queue_there, EachQueue.cleared_end, EachQueue.elsewhere, Together.none_passes}
-use Rattle.mesh_run.proofs.WholeRound.{Whole, dealt_long, parts, played_parts, uncut}
+use Rattle.mesh_run.specs.{declared.homes.Cut.Cut, declared.homes.Home.Home, declared.shares.Share.Share, Crossing.IsUncut, Played.vertex_place, Split.end_at, Split.unsent_in, Split.HoldLanes}
+use Rattle.mesh_run.specs.Split.{HoldUnsent}
+use Rattle.mesh_run.proofs.{AfterMesh.after_unsent, AfterMesh.mesh, AfterMesh.queue_there, EachQueue.cleared_end, EachQueue.elsewhere, Together.none_passes, WholeRound.Whole, WholeRound.dealt_long}
+use Rattle.mesh_run.proofs.WholeRound.{parts, played_parts, uncut}
 
 past_none : (xs : List Share) (i : ℕ) → length xs ≤ i → slice_get xs i ≡ None
 past_none [] i past = refl

@@ -1,12 +1,9 @@
 -- Links brought up, from the first list on.
 use Rattle.std.proofs.Common.{◌≡◌, ℕ, ◌+◌, ◌-◌, ◌<◌, ◌≤◌, List, [], ◌∷◌, ◌++◌, length, get_or, refl, sym, ap, ◌∙◌, subst, arith, inl, inr}
-use Rattle.std.proofs.lemmas.Bool.{cases_eq}
-use Rattle.std.proofs.lemmas.List.{length-append, get_or_default, get_or_push, get_or_append_left}
+use Rattle.std.proofs.lemmas.{Bool.cases_eq, List.length-append, List.get_or_default, List.get_or_push, List.get_or_append_left}
 use Rattle.spin_base.specs.declared.copies.McCopy.{McCopy}
 use Rattle.link_queue.specs.declared.links.LinkEnds.{LinkEnds}
-use Rattle.mesh_run.specs.declared.standing.Rising.{Rising}
-use Rattle.mesh_run.specs.Standing.{RisenTo}
-use Rattle.mesh_run.specs.Queues.{AreUp, HasPlaces, IsUp, places_for}
+use Rattle.mesh_run.specs.{declared.standing.Rising.Rising, Standing.RisenTo, Queues.AreUp, Queues.HasPlaces, Queues.IsUp, Queues.places_for}
 
 -- a link has the places with which it is made
 pub made_with : (cap turns held places : ℕ) → held ≤ cap → places ≡ places_for cap turns held → HasPlaces cap (turns + 1) held places

@@ -1,15 +1,12 @@
 -- Ends of links, dealt to shares and collected from them.
 use Rattle.std.proofs.Common.{◌≡◌, ℕ, ◌+◌, ◌<◌, ◌≤◌, List, map, length, get_or, set, Option, None, Some, refl, sym, ap, ◌∙◌, subst, arith, inl, inr}
-use Rattle.std.proofs.lemmas.Bool.{cases_eq}
-use Rattle.std.proofs.lemmas.Option.{get_or_from_slice_get, none-some, same_Some, slice_get_within}
-use Rattle.std.proofs.lemmas.List.{length-map, length-set, map-set, same_lists}
+use Rattle.std.proofs.lemmas.{Bool.cases_eq, Option.get_or_from_slice_get, Option.none-some, Option.same_Some, Option.slice_get_within, List.length-map, List.length-set, List.map-set, List.same_lists}
 use Rattle.std.specs.List.{slice_get}
 use Rattle.spin_base.proofs.Places.{slice_get_there, slice_get-mapped, slice_get-set_same, slice_get-set_other, set-slice_get}
 use Rattle.link_queue.specs.declared.links.{LinkEnds.LinkEnds, Tx.Tx, Rx.Rx}
 use Rattle.chip_node.specs.declared.ends.End.{End, TheVariants.Away, TheVariants.Sends, TheVariants.Takes}
-use Rattle.mesh_run.specs.declared.{homes.Cut.Cut, shares.Share.Share, standing.Standing.Standing}
-use Rattle.mesh_run.specs.Crossing.{AreCuts, AreLaid, AreSameButEnds, Deals, HoldsCollected, HoldsNoEnds, IsLaid, IsOfCut, PutsEnd, SameButEnds}
-use Rattle.mesh_run.specs.{Split.end_at, Split.end_in, Standing.HoldsAll}
+use Rattle.mesh_run.specs.{declared.homes.Cut.Cut, declared.shares.Share.Share, declared.standing.Standing.Standing, Crossing.AreCuts, Crossing.AreLaid, Crossing.AreSameButEnds, Crossing.Deals}
+use Rattle.mesh_run.specs.{Crossing.HoldsCollected, Crossing.HoldsNoEnds, Crossing.IsLaid, Crossing.IsOfCut, Crossing.PutsEnd, Crossing.SameButEnds, Split.end_at, Split.end_in, Standing.HoldsAll}
 use Rattle.mesh_run.proofs.Holding.{only_ends}
 
 -- ---- lists of which each item is as the one at its place

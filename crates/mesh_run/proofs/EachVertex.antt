@@ -5,10 +5,8 @@ use Rattle.std.specs.List.{slice_get, slice_index_or}
 use Rattle.spin_base.proofs.Places.{both_none, slice_get_there}
 use Rattle.spin_base.specs.declared.copies.McCopy.{McCopy}
 use Rattle.chip_node.specs.Items.{sent_by, sent_in}
-use Rattle.mesh_run.specs.declared.{homes.Home.Home, shares.Share.Share}
-use Rattle.mesh_run.specs.{Played.vertex_place, Split.unsent_at, Split.unsent_in}
-use Rattle.mesh_run.proofs.{EachQueue.home_below, Together.joined, Together.told_by_one}
-use Rattle.mesh_run.proofs.WholeRound.{Whole, dealt_long, parts, played_parts}
+use Rattle.mesh_run.specs.{declared.homes.Home.Home, declared.shares.Share.Share, Played.vertex_place, Split.unsent_at, Split.unsent_in}
+use Rattle.mesh_run.proofs.{EachQueue.home_below, Together.joined, Together.told_by_one, WholeRound.Whole, WholeRound.dealt_long, WholeRound.parts, WholeRound.played_parts}
 
 same_lists_unsent : (s t : Share) (v : ℕ) → t.hold.unsent ≡ s.hold.unsent → slice_index_or t.hold.unsent.items v [] ≡ slice_index_or s.hold.unsent.items v []
 same_lists_unsent s t v same = cc

@@ -2,9 +2,9 @@
 use Rattle.std.proofs.Common.{◌≡◌, ℕ, ◌<◌, Bool, true, false, length, Option, Some, None, refl, ap, sym, ◌∙◌, arith}
 use Rattle.std.proofs.lemmas.Option.{slice_get_within, none-some, same_Some}
 use Rattle.std.specs.List.{slice_get}
-use Rattle.spin_base.specs.declared.chips.{Chip.Chip, Spot.Spot, Dir.Dir, Port.Port, Port.TheVariants.Link as ByLink, Port.TheVariants.Local}
-use Rattle.spin_base.specs.declared.routes.Out.{Out, TheVariants.Link, TheVariants.Core}
-use Rattle.spin_base.specs.{Links.opposite_of, Outputs.out_of}
+use Rattle.spin_base.specs.declared.{chips.Chip.Chip, chips.Spot.Spot, chips.Dir.Dir, chips.Port.Port, chips.Port.TheVariants.Local, routes.Out.Out, routes.Out.TheVariants.Link}
+use Rattle.spin_base.specs.{declared.routes.Out.TheVariants.Core, Links.opposite_of, Outputs.out_of}
+use Rattle.spin_base.specs.declared.chips.Port.TheVariants.{Link as ByLink}
 use Rattle.spin_base.proofs.Equality.{link_is_not_local}
 use Rattle.machine_desc.specs.Live.{far_of, is_live_link, IsInside}
 use Rattle.machine_desc.proofs.Far.{far_inside, far_back, live_ends, opposite_of-opposite}

@@ -3,13 +3,12 @@ use Rattle.std.proofs.Common.{◌≡◌, ℕ, ◌+◌, ◌*◌, ◌≤◌, ◌==
 use Rattle.std.proofs.lemmas.{Bool.cases_eq, Bool.cond_both, List.length-append, List.map-append, List.Elements.All-head, List.Elements.All-tail}
 use Rattle.std.specs.List.{All, flat_map}
 use Rattle.spin_base.proofs.{Counts.count_by-append, Counts.count_by-map, Equality.out_eq_same, Once.outs_once}
-use Rattle.spin_base.specs.declared.{chips.Chip.Chip, chips.Port.Port, routes.Out.Out, copies.McCopy.McCopy}
-use Rattle.spin_base.specs.{Equality.out_eq, Hops.last_hop, Lookup.lookup}
-use Rattle.spin_base.specs.Outputs.{has, outs_of, IsOutput}
+use Rattle.spin_base.specs.{declared.chips.Chip.Chip, declared.chips.Port.Port, declared.routes.Out.Out, declared.copies.McCopy.McCopy, Equality.out_eq, Hops.last_hop, Lookup.lookup, Outputs.has}
+use Rattle.spin_base.specs.Outputs.{outs_of, IsOutput}
 use Rattle.machine_desc.specs.{Live.chip_of, Live.index_of, RightTables.table_at}
 use Rattle.machine_desc.proofs.Far.{live_inside}
-use Rattle.chip_node.specs.declared.ends.Served.{Served, TheVariants.Sent, TheVariants.Dumped}
-use Rattle.chip_node.specs.Items.{Item, Service, took, served, sent, got, brought, entered, entered_by, injection_place, sending_of, service_of, services, takings}
+use Rattle.chip_node.specs.{declared.ends.Served.Served, declared.ends.Served.TheVariants.Sent, declared.ends.Served.TheVariants.Dumped, Items.Item, Items.Service, Items.took, Items.served}
+use Rattle.chip_node.specs.Items.{sent, got, brought, entered, entered_by, injection_place, sending_of, service_of, services, takings}
 use Rattle.mesh_core.specs.{State.Setup, Step.outputs}
 use Rattle.mesh_run.specs.Played.{owed_on, place_behind, AreTurns, IsDoneOn, IsLiveIndex}
 use Rattle.mesh_run.proofs.Apart.{elsewhere, here, no_injection, not_there, one_output}

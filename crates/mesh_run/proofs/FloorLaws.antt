@@ -1,26 +1,20 @@
 -- Floors chip by chip: the vertices on a chip, the queues behind its outputs, and that there are few vertices.
-use Rattle.std.proofs.Common.{◌≡◌, ◌≢◌, ℕ, ◌+◌, ◌*◌, ◌<◌, ◌≤◌, List, [], ◌∷◌, ◌++◌, map, length, get_or, Option, Some}
-use Rattle.std.proofs.Common.{None, refl, sym, ap, ◌∙◌, subst, arith, suc, append_assoc, length-append, inl, inr}
-use Rattle.std.proofs.lemmas.Bool.{cases_eq, cases_lt}
-use Rattle.std.proofs.lemmas.Option.{get_or_from_slice_get, none-some, slice_get_within}
-use Rattle.std.proofs.lemmas.List.{get_or-map, length-map, length_push}
+use Rattle.std.proofs.Common.{◌≡◌, ◌≢◌, ℕ, ◌+◌, ◌*◌, ◌<◌, ◌≤◌, List, [], ◌∷◌, ◌++◌, map, length, get_or, Option, Some, None, refl, sym, ap, ◌∙◌, subst, arith, suc, append_assoc, length-append, inl}
+use Rattle.std.proofs.Common.{inr}
+use Rattle.std.proofs.lemmas.{Bool.cases_eq, Bool.cases_lt, Option.get_or_from_slice_get, Option.none-some, Option.slice_get_within, List.get_or-map, List.length-map, List.length_push}
 use Rattle.std.proofs.Math.Nat.{mul-le-mul_left}
 use Rattle.std.specs.{List.All, List.AllPairs, List.slice_get, Option.option_to_list}
-use Rattle.spin_base.specs.declared.{chips.Chip.Chip, chips.Spot.Spot, routes.Out.Out}
-use Rattle.spin_base.specs.Outputs.{out_number, IsOutput}
+use Rattle.spin_base.specs.{declared.chips.Chip.Chip, declared.chips.Spot.Spot, declared.routes.Out.Out, Outputs.out_number, Outputs.IsOutput}
 use Rattle.spin_base.proofs.Members.{Among, Contains-at, among_contains, among_either, among_left, among_only, among_right, contains_among}
-use Rattle.spin_base.proofs.Places.{All-at, slice_get_there, slice_get-append_left, slice_get-push_cases, slice_get-pushed}
-use Rattle.spin_base.proofs.Outputs.{out_number_below, out_number_injective}
+use Rattle.spin_base.proofs.{Places.All-at, Places.slice_get_there, Places.slice_get-append_left, Places.slice_get-push_cases, Places.slice_get-pushed, Outputs.out_number_below}
+use Rattle.spin_base.proofs.Outputs.{out_number_injective}
 use Rattle.machine_desc.specs.{Description.Description, Description.HasSize, Live.chip_of, Live.IsSite, NetsOn.vertex_at}
 use Rattle.machine_desc.proofs.Branches.{length_le_from_apart}
 use Rattle.mesh_core.specs.{State.Setup, VertexTable.spot_place}
-use Rattle.mesh_core.proofs.VertexTableLaws.{same_spot_place, site_inside, spot_place-below}
-use Rattle.mesh_core.proofs.Ways.{vertex_at_stands, vertex_there}
-use Rattle.chip_node.specs.Acting.{place_in}
-use Rattle.chip_node.specs.declared.nodes.{Behind.Behind, CoreBank.CoreBank}
-use Rattle.mesh_run.specs.declared.floors.Floor.{Floor}
-use Rattle.mesh_run.specs.Floors.{AddsBehind, AreVerticesOn, AreVerticesOf, IsBankOf, IsFloorOf, IsFloorSoFar, grid_size, live_one, place_of_slot}
-use Rattle.mesh_run.specs.Played.{place_behind, port_count, IsVertexOn}
+use Rattle.mesh_core.proofs.{VertexTableLaws.same_spot_place, VertexTableLaws.site_inside, VertexTableLaws.spot_place-below, Ways.vertex_at_stands, Ways.vertex_there}
+use Rattle.chip_node.specs.{Acting.place_in, declared.nodes.Behind.Behind, declared.nodes.CoreBank.CoreBank}
+use Rattle.mesh_run.specs.{declared.floors.Floor.Floor, Floors.AddsBehind, Floors.AreVerticesOn, Floors.AreVerticesOf, Floors.IsBankOf, Floors.IsFloorOf, Floors.IsFloorSoFar, Floors.grid_size}
+use Rattle.mesh_run.specs.{Floors.live_one, Floors.place_of_slot, Played.place_behind, Played.port_count, Played.IsVertexOn}
 
 -- ---- few vertices
 

@@ -2,8 +2,7 @@
 use Rattle.std.proofs.Common.{◌≡◌, Bool, ℕ, ◌+◌, ◌≤◌, List, ◌++◌, length, take, drop, get_or, ap, ◌∙◌, subst, arith}
 use Rattle.std.proofs.lemmas.{Option.get_or_from_slice_get, Option.slice_get_within, List.take_all}
 use Rattle.std.specs.List.{flat_map, list_any, sum_by}
-use Rattle.mesh_run.specs.declared.{gathering.MeshLogs.MeshLogs, shares.Share.Share}
-use Rattle.mesh_run.specs.Gathering.{AreEmptied, IsAnyMoved, IsEmptied}
+use Rattle.mesh_run.specs.{declared.gathering.MeshLogs.MeshLogs, declared.shares.Share.Share, Gathering.AreEmptied, Gathering.IsAnyMoved, Gathering.IsEmptied}
 use Rattle.mesh_run.proofs.Going.{GoneTo, gone_all}
 
 -- what the shares before a place logged was gathered, and there is room for what the others did

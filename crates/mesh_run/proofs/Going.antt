@@ -1,7 +1,6 @@
 -- A loop that goes over the places of a list, and changes one after the other.
 use Rattle.std.proofs.Common.{◌≡◌, ℕ, ◌+◌, ◌<◌, ◌≤◌, List, length, get_or, set, refl, sym, ap, ◌∙◌, subst, arith, inl, inr}
-use Rattle.std.proofs.{Math.ListN.length-set, lemmas.Bool.cases_eq}
-use Rattle.std.proofs.lemmas.List.{get_or_default, get_or-set_same, get_or-set_other}
+use Rattle.std.proofs.{Math.ListN.length-set, lemmas.Bool.cases_eq, lemmas.List.get_or_default, lemmas.List.get_or-set_same, lemmas.List.get_or-set_other}
 use Rattle.std.specs.List.{All}
 
 module _ {X : Type 0} (R : X → X → Type 0) where

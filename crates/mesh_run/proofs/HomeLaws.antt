@@ -1,26 +1,20 @@
 -- Runs of actors, the numbers of their shares, homes of queues, and cuts.
-use Rattle.std.proofs.Common.{◌≡◌, ◌≢◌, ◌⊎◌, ℕ, ◌+◌, ◌*◌, ◌<◌, ◌≤◌, List, [], ◌∷◌, ◌++◌, replicate, length, get_or, set}
-use Rattle.std.proofs.Common.{Option, Some, None, refl, sym, ap, ◌∙◌, subst, arith, suc, zero, length-append, inl, inr}
-use Rattle.std.proofs.lemmas.Bool.{cases_eq, cases_lt}
-use Rattle.std.proofs.lemmas.Option.{none-some, same_Some, slice_get_within, slice_get-get_or}
-use Rattle.std.proofs.lemmas.List.{get_or_append_left, get_or_push, length_push, length-set}
-use Rattle.std.proofs.lemmas.List.Elements.{All-append, All-nil, All-push}
+use Rattle.std.proofs.Common.{◌≡◌, ◌≢◌, ◌⊎◌, ℕ, ◌+◌, ◌*◌, ◌<◌, ◌≤◌, List, [], ◌∷◌, ◌++◌, replicate, length, get_or, set, Option, Some, None, refl, sym, ap, ◌∙◌, subst, arith, suc, zero, length-append}
+use Rattle.std.proofs.Common.{inl, inr}
+use Rattle.std.proofs.lemmas.{Bool.cases_eq, Bool.cases_lt, Option.none-some, Option.same_Some, Option.slice_get_within, Option.slice_get-get_or, List.get_or_append_left, List.get_or_push}
+use Rattle.std.proofs.lemmas.List.{length_push, length-set, Elements.All-append, Elements.All-nil, Elements.All-push}
 use Rattle.std.specs.List.{All, slice_get}
-use Rattle.spin_base.specs.declared.routes.Out.{Out}
-use Rattle.spin_base.specs.Outputs.{out_number, IsOutput}
+use Rattle.spin_base.specs.{declared.routes.Out.Out, Outputs.out_number, Outputs.IsOutput}
 use Rattle.spin_base.proofs.Places.{All-at, slice_get-append_left, slice_get-push_cases, slice_get-pushed, slice_get-set_same, slice_get-set_other}
 use Rattle.spin_base.proofs.Outputs.{out_number_below, out_number_injective}
 use Rattle.machine_desc.specs.Live.{chip_of, index_of}
 use Rattle.machine_desc.proofs.{Far.live_inside, Far.index_below, Live.chip_of-inside, Live.index_of-chip_of}
 use Rattle.mesh_core.specs.State.{Setup}
 use Rattle.chip_node.specs.Items.{injection_place}
-use Rattle.mesh_run.specs.declared.homes.{Cut.Cut, Home.Home}
-use Rattle.mesh_run.specs.Floors.{grid_size}
-use Rattle.mesh_run.specs.Homes.{AreCutsOf, AreHomesOf, AreHomesTo, AreShareRuns, HaveSenders, IsBefore, IsInTable, IsShareTable, MayCut, MayGrow, SetsSender, homes_of_ports, run_start}
-use Rattle.mesh_run.specs.Played.{IsLiveIndex, place_behind}
-use Rattle.mesh_run.specs.Shares.{IsInRun, bank_place, router_place}
-use Rattle.mesh_run.proofs.FloorLaws.{slice_get-first, slice_get-second}
-use Rattle.mesh_run.proofs.Feeding.{leads, no_injection, one_output}
+use Rattle.mesh_run.specs.{declared.homes.Cut.Cut, declared.homes.Home.Home, Floors.grid_size, Homes.AreCutsOf, Homes.AreHomesOf, Homes.AreHomesTo, Homes.AreShareRuns, Homes.HaveSenders}
+use Rattle.mesh_run.specs.{Homes.IsBefore, Homes.IsInTable, Homes.IsShareTable, Homes.MayCut, Homes.MayGrow, Homes.SetsSender, Homes.homes_of_ports, Homes.run_start, Played.IsLiveIndex}
+use Rattle.mesh_run.specs.{Played.place_behind, Shares.IsInRun, Shares.bank_place, Shares.router_place}
+use Rattle.mesh_run.proofs.{FloorLaws.slice_get-first, FloorLaws.slice_get-second, Feeding.leads, Feeding.no_injection, Feeding.one_output}
 
 -- ---- runs
 

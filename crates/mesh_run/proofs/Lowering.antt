@@ -1,21 +1,15 @@
 -- A split mesh put together again.
 use Rattle.std.proofs.Common.{◌≡◌, ◌≢◌, ℕ, ◌+◌, ◌<◌, ◌≤◌, List, [], ◌∷◌, ◌++◌, length, get_or, set, Some, refl, sym, ap, ◌∙◌, subst, arith, inl, inr, length-append}
-use Rattle.std.proofs.lemmas.Bool.{cases_eq}
-use Rattle.std.proofs.lemmas.Option.{get_or_from_slice_get, same_Some, slice_get_within, slice_get-get_or}
-use Rattle.std.proofs.lemmas.List.{get_or-map, get_or-set_other, get_or-set_same, length-map, length-set, same_lists}
+use Rattle.std.proofs.lemmas.{Bool.cases_eq, Option.get_or_from_slice_get, Option.same_Some, Option.slice_get_within, Option.slice_get-get_or, List.get_or-map, List.get_or-set_other}
+use Rattle.std.proofs.lemmas.List.{get_or-set_same, length-map, length-set, same_lists}
 use Rattle.std.specs.List.{All, slice_get}
 use Rattle.spin_base.proofs.Places.{slice_get_there}
 use Rattle.spin_base.specs.declared.copies.McCopy.{McCopy}
-use Rattle.link_queue.specs.declared.links.LinkEnds.{LinkEnds}
-use Rattle.link_queue.specs.Ends.{sending}
+use Rattle.link_queue.specs.{declared.links.LinkEnds.LinkEnds, Ends.sending}
 use Rattle.mesh_core.specs.State.{IsMesh, State}
-use Rattle.mesh_run.specs.declared.{homes.Cut.Cut, homes.Home.Home, raised.RaisedMesh.RaisedMesh}
-use Rattle.mesh_run.specs.Played.{port_count}
-use Rattle.mesh_run.specs.Queues.{AreEnds, AreUp, DownTo, IsDown, IsUp}
-use Rattle.mesh_run.specs.{Raised.IsRaisedFrom, Split.cut_queues}
-use Rattle.mesh_run.specs.Splitting.{FitHomes, HoldVertices, MovesOut, SameButCopies, SetsQueue}
-use Rattle.mesh_run.proofs.Holding.{both_same, first_same, rest_same}
-use Rattle.mesh_run.proofs.SplitLaws.{default_at, same_state, state_on}
+use Rattle.mesh_run.specs.{declared.homes.Cut.Cut, declared.homes.Home.Home, declared.raised.RaisedMesh.RaisedMesh, Played.port_count, Queues.AreEnds, Queues.AreUp, Queues.DownTo, Queues.IsDown}
+use Rattle.mesh_run.specs.{Queues.IsUp, Raised.IsRaisedFrom, Split.cut_queues, Splitting.FitHomes, Splitting.HoldVertices, Splitting.MovesOut, Splitting.SameButCopies, Splitting.SetsQueue}
+use Rattle.mesh_run.proofs.{Holding.both_same, Holding.first_same, Holding.rest_same, SplitLaws.default_at, SplitLaws.same_state, SplitLaws.state_on}
 
 -- ---- what the calls ask for
 

@@ -1,9 +1,8 @@
 -- The numbers of a range, and that each of a chip's outputs has a bit.
 use Rattle.std.proofs.Common.{◌≡◌, ℕ, zero, suc, ◌+◌, ◌<◌, ◌≤◌, arith, inl, inr}
 use Rattle.std.specs.List.{range_with_len}
-use Rattle.spin_base.specs.declared.routes.Out.{Out, TheVariants.Link, TheVariants.Core}
-use Rattle.spin_base.specs.Links.{all_dirs}
-use Rattle.spin_base.specs.Outputs.{all_outs, core_outs, link_outs, IsOutput}
+use Rattle.spin_base.specs.{declared.routes.Out.Out, declared.routes.Out.TheVariants.Link, declared.routes.Out.TheVariants.Core, Links.all_dirs, Outputs.all_outs, Outputs.core_outs, Outputs.link_outs}
+use Rattle.spin_base.specs.Outputs.{IsOutput}
 use Rattle.spin_base.proofs.Members.{Among, among_either, among_map}
 
 -- what stands in a range is within it

@@ -2,15 +2,11 @@
 use Rattle.std.proofs.Common.{◌≡◌, ◌≢◌, ℕ, ◌+◌, ◌-◌, ◌*◌, ◌<◌, ◌≤◌, min, List, [], ◌++◌, length, map, get_or, Some, sym, ap, ap₂, ◌∙◌, subst, arith, inl, inr}
 use Rattle.std.proofs.lemmas.{Bool.cases_eq, List.length-append, List.length-map, List.Elements.All-map, List.Elements.All-weaker}
 use Rattle.std.specs.List.{All}
-use Rattle.spin_base.specs.declared.copies.McCopy.{McCopy}
-use Rattle.spin_base.specs.WithRoom.{WithRoom}
-use Rattle.link_queue.specs.declared.links.LinkEnds.{LinkEnds}
-use Rattle.link_queue.specs.{Ends.cap_of, Ends.sending, Ends.taking, TheRule.put_of, TheRule.IsFullNote, Ups.NoNotes}
-use Rattle.chip_node.specs.declared.ends.{End.TheVariants.Away, InEnd.InEnd, OutEnd.OutEnd}
-use Rattle.chip_node.specs.Going.{IsFullMoment}
-use Rattle.chip_node.specs.Items.{Item, entered, entered_by, left, left_by, lost_at, lost_by}
-use Rattle.mesh_run.specs.declared.shares.Share.{Share}
-use Rattle.mesh_run.specs.{Played.QueueGoes, Queues.IsDown, Split.end_at}
+use Rattle.spin_base.specs.{declared.copies.McCopy.McCopy, WithRoom.WithRoom}
+use Rattle.link_queue.specs.{declared.links.LinkEnds.LinkEnds, Ends.cap_of, Ends.sending, Ends.taking, TheRule.put_of, TheRule.IsFullNote, Ups.NoNotes}
+use Rattle.chip_node.specs.{declared.ends.End.TheVariants.Away, declared.ends.InEnd.InEnd, declared.ends.OutEnd.OutEnd, Going.IsFullMoment, Items.Item, Items.entered, Items.entered_by, Items.left}
+use Rattle.chip_node.specs.Items.{left_by, lost_at, lost_by}
+use Rattle.mesh_run.specs.{declared.shares.Share.Share, Played.QueueGoes, Queues.IsDown, Split.end_at}
 use Rattle.mesh_run.proofs.Together.{LanePasses, PlayedParts, SenderPasses, TakerPasses, joined, none_passes, told_by_one}
 
 module _ (cap patience : ℕ) (before after : List Share) (parts : List (List Item)) (h : PlayedParts cap patience before after parts) where

@@ -1,16 +1,14 @@
 -- How a mesh is split.
 use Rattle.std.proofs.Common.{◌≡◌, ◌≢◌, ℕ, ◌*◌, ◌<◌, ◌≤◌, List, [], ◌++◌, map, length, get_or, Some, sym, ap, ◌∙◌, subst, arith, inl, inr}
-use Rattle.std.proofs.lemmas.{Bool.cases_lt, Option.slice_get_within, Option.slice_get-get_or}
-use Rattle.std.proofs.lemmas.List.{get_or-map, get_or_past, length-map, length-replicate, Elements.All-append}
+use Rattle.std.proofs.lemmas.{Bool.cases_lt, Option.slice_get_within, Option.slice_get-get_or, List.get_or-map, List.get_or_past, List.length-map, List.length-replicate, List.Elements.All-append}
 use Rattle.std.specs.List.{All, slice_get}
 use Rattle.spin_base.specs.declared.copies.McCopy.{McCopy}
 use Rattle.spin_base.proofs.Places.{All-at}
 use Rattle.chip_node.specs.declared.ends.End.TheVariants.{Away}
 use Rattle.machine_desc.proofs.Branches.{length_le_from_apart}
 use Rattle.mesh_core.specs.State.{FitsQueue, IsMesh, Setup, State}
-use Rattle.mesh_run.specs.declared.{homes.Cut.Cut, homes.Home.Home, shares.Share.Share}
-use Rattle.mesh_run.specs.{Floors.grid_size, Homes.AreCutsOf, Homes.AreHomesOf, Homes.AreShareRuns, Homes.IsShareTable, Split.AreShared, Split.cut_queues}
-use Rattle.mesh_run.specs.Splitting.{AreInside, FitHomes, HoldNothing, IsEmptyHand}
+use Rattle.mesh_run.specs.{declared.homes.Cut.Cut, declared.homes.Home.Home, declared.shares.Share.Share, Floors.grid_size, Homes.AreCutsOf, Homes.AreHomesOf, Homes.AreShareRuns, Homes.IsShareTable}
+use Rattle.mesh_run.specs.{Split.AreShared, Split.cut_queues, Splitting.AreInside, Splitting.FitHomes, Splitting.HoldNothing, Splitting.IsEmptyHand}
 use Rattle.mesh_run.proofs.FloorLaws.{few_chips, few_vertices}
 
 -- each share has a place for each queue, and for each vertex

@@ -1,19 +1,17 @@
 -- A mesh that is split, and a split mesh with more room.
 use Rattle.std.proofs.Common.{◌≡◌, ℕ, ◌<◌, ◌≤◌, List, [], ◌++◌, map, length, get_or, Option, None, Some, refl, sym, ap, ◌∙◌, subst, arith, inl, inr}
-use Rattle.std.proofs.lemmas.{Bool.cases_lt, List.length-map, List.same_lists, List.get_or-map}
-use Rattle.std.proofs.lemmas.Option.{get_or_from_slice_get, none-some, same_Some, slice_get_within, slice_get-get_or}
+use Rattle.std.proofs.lemmas.{Bool.cases_lt, List.length-map, List.same_lists, List.get_or-map, Option.get_or_from_slice_get, Option.none-some, Option.same_Some, Option.slice_get_within}
+use Rattle.std.proofs.lemmas.Option.{slice_get-get_or}
 use Rattle.std.specs.List.{slice_get}
 use Rattle.spin_base.proofs.Places.{All-at, slice_get_there}
 use Rattle.spin_base.specs.declared.copies.McCopy.{McCopy}
 use Rattle.link_queue.specs.declared.links.LinkEnds.{LinkEnds}
 use Rattle.chip_node.specs.declared.ends.End.{End, TheVariants.Away, TheVariants.Own}
 use Rattle.mesh_core.specs.State.{IsMesh, Setup, State}
-use Rattle.mesh_run.specs.declared.{homes.Cut.Cut, homes.Home.Home, layout.Layout.Layout, raised.RaisedMesh.RaisedMesh, shares.Share.Share}
-use Rattle.mesh_run.specs.{Floors.IsFloorOf, Played.port_count, Queues.AreUp, Queues.StayUp, Queues.queue_of_link, Raised.IsRaisedFrom}
-use Rattle.mesh_run.specs.Rooms.{AreSameCopies, SameCopies, SameEnd}
-use Rattle.mesh_run.specs.Split.{AreShared, HaveNoLogs, HoldLanes, HoldUnsent, cut_queues, end_at, end_in, unsent_at, unsent_in}
-use Rattle.mesh_run.specs.Splitting.{AreSameRuns, HoldVertices, MovesIn}
-use Rattle.mesh_run.specs.Standing.{HoldsAll}
+use Rattle.mesh_run.specs.{declared.homes.Cut.Cut, declared.homes.Home.Home, declared.layout.Layout.Layout, declared.raised.RaisedMesh.RaisedMesh, declared.shares.Share.Share, Floors.IsFloorOf}
+use Rattle.mesh_run.specs.{Played.port_count, Queues.AreUp, Queues.StayUp, Queues.queue_of_link, Raised.IsRaisedFrom, Rooms.AreSameCopies, Rooms.SameCopies, Rooms.SameEnd, Split.AreShared}
+use Rattle.mesh_run.specs.{Split.HaveNoLogs, Split.HoldLanes, Split.HoldUnsent, Split.cut_queues, Split.end_at, Split.end_in, Split.unsent_at, Split.unsent_in, Splitting.AreSameRuns}
+use Rattle.mesh_run.specs.{Splitting.HoldVertices, Splitting.MovesIn, Standing.HoldsAll}
 use Rattle.mesh_run.proofs.{BringingUp.fewer_up, CrossingLaws.end_there, Going.GoneTo, RoomLaws.copies_same}
 
 -- ---- the same runs

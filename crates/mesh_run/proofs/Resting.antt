@@ -1,19 +1,16 @@
 -- Links that rest or are widened, one after the other.
-use Rattle.std.proofs.Common.{◌≡◌, ℕ, ◌+◌, ◌-◌, ◌<◌, ◌≤◌, ◌&&◌, Bool, true, nat_eq, min, List, [], ◌++◌, length, map, take}
-use Rattle.std.proofs.Common.{get_or, set, Some, Result, Ok, Err, OnErr, refl, sym, ap, ap₂, ◌∙◌, subst, arith, inl, inr}
-use Rattle.std.proofs.lemmas.Bool.{cases_Bool, cases_eq, cases_lt, eqb-true, cond-false}
-use Rattle.std.proofs.lemmas.List.{append-nil, length-set, length-map, map-set, take-set-le, take_all, get_or-map, get_or-set_same, get_or-set_other}
-use Rattle.std.proofs.lemmas.List.Folds.{list_all_more}
-use Rattle.std.proofs.lemmas.Option.{get_or_from_slice_get, slice_get_within, same_Some}
+use Rattle.std.proofs.Common.{◌≡◌, ℕ, ◌+◌, ◌-◌, ◌<◌, ◌≤◌, ◌&&◌, Bool, true, nat_eq, min, List, [], ◌++◌, length, map, take, get_or, set, Some, Result, Ok, Err, OnErr, refl, sym, ap, ap₂, ◌∙◌, subst}
+use Rattle.std.proofs.Common.{arith, inl, inr}
+use Rattle.std.proofs.lemmas.{Bool.cases_Bool, Bool.cases_eq, Bool.cases_lt, Bool.eqb-true, Bool.cond-false, List.append-nil, List.length-set, List.length-map, List.map-set, List.take-set-le}
+use Rattle.std.proofs.lemmas.{List.take_all, List.get_or-map, List.get_or-set_same, List.get_or-set_other, List.Folds.list_all_more, Option.get_or_from_slice_get, Option.slice_get_within}
+use Rattle.std.proofs.lemmas.Option.{same_Some}
 use Rattle.std.specs.List.{All, list_all, slice_get}
 use Rattle.spin_base.proofs.Places.{All-at, slice_get_there, slice_get-set_same}
 use Rattle.spin_base.specs.declared.copies.McCopy.{McCopy}
-use Rattle.link_queue.specs.declared.{links.LinkEnds.LinkEnds, known.Known.Known, links.Link.Link, links.Tx.Tx, links.Rx.Rx}
-use Rattle.link_queue.specs.Ends.{IsTx, IsRx, cap_of, sending, taking}
-use Rattle.link_queue.specs.Ups.{NoNotes, Rests}
-use Rattle.mesh_run.specs.declared.{queues.Rested.Rested, standing.Standing.Standing}
-use Rattle.mesh_run.specs.Standing.{HoldsAll, LacksEnds}
-use Rattle.mesh_run.specs.Queues.{AreEnds, AreUp, HasPlaces, IsDown, IsUp, RestAll, RestsAt, StayUp, UpAt, WasUp, free_places_of, is_empty, places_for, queue_of_link}
+use Rattle.link_queue.specs.{declared.links.LinkEnds.LinkEnds, declared.known.Known.Known, declared.links.Link.Link, declared.links.Tx.Tx, declared.links.Rx.Rx, Ends.IsTx, Ends.IsRx, Ends.cap_of}
+use Rattle.link_queue.specs.{Ends.sending, Ends.taking, Ups.NoNotes, Ups.Rests}
+use Rattle.mesh_run.specs.{declared.queues.Rested.Rested, declared.standing.Standing.Standing, Standing.HoldsAll, Standing.LacksEnds, Queues.AreEnds, Queues.AreUp, Queues.HasPlaces, Queues.IsDown}
+use Rattle.mesh_run.specs.Queues.{IsUp, RestAll, RestsAt, StayUp, UpAt, WasUp, free_places_of, is_empty, places_for, queue_of_link}
 use Rattle.mesh_run.proofs.{BringingUp.fewer_fit, BringingUp.made_with, Holding.as_many, Holding.only_ends, Slots.in_links, Slots.set_again, Slots.slot_is}
 
 -- ---- links, of which the first ones are done

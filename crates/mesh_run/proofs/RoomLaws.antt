@@ -3,10 +3,8 @@ use Rattle.std.proofs.Common.{◌≡◌, length, refl, sym, ap, ◌∙◌, subst
 use Rattle.std.proofs.lemmas.Option.{same_Some, slice_get_within}
 use Rattle.std.specs.List.{slice_get}
 use Rattle.spin_base.proofs.Places.{slice_get_there}
-use Rattle.chip_node.specs.declared.ends.End.{End}
-use Rattle.chip_node.specs.declared.ends.End.TheVariants.{Away, Own, Sends, Takes}
-use Rattle.mesh_run.specs.declared.shares.Share.{Share}
-use Rattle.mesh_run.specs.Rooms.{SameCopies, SameEnd}
+use Rattle.chip_node.specs.declared.ends.End.{End, TheVariants.Away, TheVariants.Own, TheVariants.Sends, TheVariants.Takes}
+use Rattle.mesh_run.specs.{declared.shares.Share.Share, Rooms.SameCopies, Rooms.SameEnd}
 
 pub end_same : (e : End) → SameEnd e e
 end_same Away = refl

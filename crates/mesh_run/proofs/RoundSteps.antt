@@ -4,12 +4,10 @@ use Rattle.std.specs.{Global.Vec, List.All, List.flat_map}
 use Rattle.link_queue.specs.declared.links.{Link.Link, LinkEnds.LinkEnds}
 use Rattle.mesh_core.specs.State.{IsMesh, Setup, State}
 use Rattle.mesh_run.specs.declared.{gathering.MeshLogs.MeshLogs, homes.Cut.Cut, queues.Rested.Rested, raised.RaisedMesh.RaisedMesh, shares.Share.Share, standing.Standing.Standing}
-use Rattle.mesh_run.specs.Crossing.{AreCuts, AreLaid, Deals, HoldsCollected, HoldsNoEnds}
-use Rattle.mesh_run.specs.Gathering.{AreEmptied, FitsLogs, IsAnyMoved}
+use Rattle.mesh_run.specs.{Crossing.AreCuts, Crossing.AreLaid, Crossing.Deals, Crossing.HoldsCollected, Crossing.HoldsNoEnds, Gathering.AreEmptied, Gathering.FitsLogs, Gathering.IsAnyMoved}
 use Rattle.mesh_run.specs.{Queues.RestAll, Queues.WasUp, Raised.IsRoomyFrom, Raised.PlaysTo, Shares.IsShareOf, Shares.PlaysAndStays, Standing.HoldsAll}
-use Rattle.mesh_run.proofs.AfterDeal.{cuts_apart, dealt_shares, links_many}
-use Rattle.mesh_run.proofs.AfterPlay.{ends_laid, links_were_up, logs_fit}
-use Rattle.mesh_run.proofs.{AfterRound.whole_plays, WholeRound.Whole}
+use Rattle.mesh_run.proofs.{AfterDeal.cuts_apart, AfterDeal.dealt_shares, AfterDeal.links_many, AfterPlay.ends_laid, AfterPlay.links_were_up, AfterPlay.logs_fit, AfterRound.whole_plays}
+use Rattle.mesh_run.proofs.WholeRound.{Whole}
 
 -- ends were dealt to the shares of a mesh with room for a round
 pub record IsDealt (m : State) (r : RaisedMesh) (lent : Standing) (dealt : List Share) : Type 0 where

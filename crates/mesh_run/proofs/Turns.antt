@@ -1,21 +1,18 @@
 -- Turns, as a list of what was done: one list after the other, of one actor or of several.
 use Rattle.std.proofs.Common.{◌≡◌, ◌≢◌, ◌⊎◌, ℕ, ◌+◌, ◌≤◌, ◌==◌, List, [], ◌∷◌, ◌++◌, length, map, Option, None, refl, sym, ap, ap₂, ◌∙◌, subst, arith, inl, inr, append-nil}
-use Rattle.std.proofs.lemmas.{Bool.cases_eq, Bool.cond_both, List.map-append, List.length-append}
-use Rattle.std.proofs.lemmas.List.Elements.{All-append, All-contains, All-cons, All-filter, All-head, All-map, All-nil, All-tail, All-weaker}
-use Rattle.std.proofs.lemmas.Grind.{flat_map-append}
+use Rattle.std.proofs.lemmas.{Bool.cases_eq, Bool.cond_both, List.map-append, List.length-append, List.Elements.All-append, List.Elements.All-contains, List.Elements.All-cons}
+use Rattle.std.proofs.lemmas.{List.Elements.All-filter, List.Elements.All-head, List.Elements.All-map, List.Elements.All-nil, List.Elements.All-tail, List.Elements.All-weaker, Grind.flat_map-append}
 use Rattle.std.specs.List.{All, flat_map, slice_index_or}
 use Rattle.spin_base.proofs.{Members.contains_among, Pairs.All-from_map, Places.All-each}
-use Rattle.spin_base.specs.declared.{chips.Chip.Chip, chips.Port.Port, routes.Out.Out, blocks.Entry.Entry, copies.McCopy.McCopy}
-use Rattle.spin_base.specs.{Hops.last_hop, Lookup.lookup}
+use Rattle.spin_base.specs.{declared.chips.Chip.Chip, declared.chips.Port.Port, declared.routes.Out.Out, declared.blocks.Entry.Entry, declared.copies.McCopy.McCopy, Hops.last_hop, Lookup.lookup}
 use Rattle.spin_base.specs.Outputs.{all_outs, has, outs_of, IsOutput}
 use Rattle.machine_desc.specs.Live.{chip_of, index_of}
-use Rattle.chip_node.specs.declared.{ends.Served.TheVariants.Dumped, nodes.CoreBank.CoreBank, nodes.RouterNode.RouterNode}
-use Rattle.chip_node.specs.Acting.{service_items, BankMoves, GetsOne, RoutesOne, SendsOne, place_at_router}
-use Rattle.chip_node.specs.Items.{Item, Service, took, served, sent, got, where_same, getting_of, gettings, sending_of, sendings, service_of, services, taking_of, takings}
-use Rattle.chip_node.specs.Routing.{outputs_at}
+use Rattle.chip_node.specs.{declared.ends.Served.TheVariants.Dumped, declared.nodes.CoreBank.CoreBank, declared.nodes.RouterNode.RouterNode, Acting.service_items, Acting.BankMoves, Acting.GetsOne}
+use Rattle.chip_node.specs.{Acting.RoutesOne, Acting.SendsOne, Acting.place_at_router, Items.Item, Items.Service, Items.took, Items.served, Items.sent, Items.got, Items.where_same, Items.getting_of}
+use Rattle.chip_node.specs.{Items.gettings, Items.sending_of, Items.sendings, Items.service_of, Items.services, Items.taking_of, Items.takings, Routing.outputs_at}
 use Rattle.mesh_core.specs.{State.Setup, Step.outputs}
-use Rattle.mesh_run.specs.Played.{owed_on, place_behind, AreTurns, IsDoneOn, IsLiveIndex, IsVertexOn}
-use Rattle.mesh_run.specs.{Floors.IsBankOf, Shares.actor_of, Shares.bank_place, Shares.router_place}
+use Rattle.mesh_run.specs.{Played.owed_on, Played.place_behind, Played.AreTurns, Played.IsDoneOn, Played.IsLiveIndex, Played.IsVertexOn, Floors.IsBankOf, Shares.actor_of, Shares.bank_place}
+use Rattle.mesh_run.specs.Shares.{router_place}
 use Rattle.mesh_run.proofs.{Apart.elsewhere, Apart.here, OutputBits.has_bit}
 
 -- ---- lists

@@ -6,12 +6,9 @@ use Rattle.spin_base.proofs.Places.{slice_get_there}
 use Rattle.chip_node.specs.Items.{Item}
 use Rattle.mesh_core.specs.State.{Setup, State, IsMesh}
 use Rattle.mesh_run.specs.declared.{homes.Home.Home, queues.Rested.Rested, raised.RaisedMesh.RaisedMesh, shares.Share.Share, standing.Standing.Standing}
-use Rattle.mesh_run.specs.Crossing.{Deals, HoldsCollected, IsUncut}
-use Rattle.mesh_run.specs.{Gathering.AreEmptied, Homes.run_start, Played.AreTurns, Queues.RestAll, Raised.IsRoomyFrom}
-use Rattle.mesh_run.specs.Shares.{AreOf, IsNoted, PlaysRound, SharePlays}
-use Rattle.mesh_run.specs.Split.{end_at}
-use Rattle.mesh_run.proofs.AfterDeal.{lane_uncut}
-use Rattle.mesh_run.proofs.Together.{PlayedParts, joined, listed, noted_joined, turns_joined}
+use Rattle.mesh_run.specs.{Crossing.Deals, Crossing.HoldsCollected, Crossing.IsUncut, Gathering.AreEmptied, Homes.run_start, Played.AreTurns, Queues.RestAll, Raised.IsRoomyFrom, Shares.AreOf}
+use Rattle.mesh_run.specs.{Shares.IsNoted, Shares.PlaysRound, Shares.SharePlays, Split.end_at}
+use Rattle.mesh_run.proofs.{AfterDeal.lane_uncut, Together.PlayedParts, Together.joined, Together.listed, Together.noted_joined, Together.turns_joined}
 
 -- a round, with all that its calls promise
 pub record Whole : Type 0 where

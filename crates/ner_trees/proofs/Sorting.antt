@@ -1,13 +1,9 @@
 -- A sort of edges by their numbers puts them in their order.
 use Rattle.std.proofs.Common.{◌≡◌, ℕ, ◌<◌, List, true, refl, sym, ◌∙◌, arith, inl, inr, Less, Equal, Greater, Ordering, nat_cmp, is_lt}
-use Rattle.std.specs.Ordering.{ordering_then, MatchOrdering}
-use Rattle.std.specs.{Cmp.IsTotalOrder, List.AllPairs, List.Sorted.IsSortedByKey}
-use Rattle.std.proofs.lemmas.Bool.{true≢false}
-use Rattle.std.proofs.lemmas.Cmp.{ranked, nat_cmp_total, on_total, then_total}
-use Rattle.std.proofs.lemmas.List.Sorted.{ranks_by, sorted_far}
+use Rattle.std.specs.{Ordering.ordering_then, Ordering.MatchOrdering, Cmp.IsTotalOrder, List.AllPairs, List.Sorted.IsSortedByKey}
+use Rattle.std.proofs.lemmas.{Bool.true≢false, Cmp.ranked, Cmp.nat_cmp_total, Cmp.on_total, Cmp.then_total, List.Sorted.ranks_by, List.Sorted.sorted_far}
 use Rattle.spin_base.specs.Links.{dir_number}
-use Rattle.machine_desc.specs.declared.trees.Edge.{Edge}
-use Rattle.machine_desc.specs.EdgeOrder.{IsEdgeBefore, edge_key}
+use Rattle.machine_desc.specs.{declared.trees.Edge.Edge, EdgeOrder.IsEdgeBefore, EdgeOrder.edge_key}
 
 -- how the code compares two triples
 abbrev compared : ℕ × ℕ × ℕ → ℕ × ℕ × ℕ → Ordering

@@ -1,23 +1,17 @@
 -- Nets that were routed side by side, and what is found of them in order.
 use Rattle.std.proofs.Common.{◌≡◌, ℕ, zero, suc, ◌+◌, ◌<◌, ◌≤◌, List, [], ◌∷◌, ◌++◌, drop, get_or, length, refl, sym, ap, ◌∙◌, subst, arith, Some, Result, Ok, Err, IfOk, IfErr, inl, inr}
 use Rattle.std.specs.List.{All, AllZip, slice_get, range_with_len}
-use Rattle.std.proofs.lemmas.List.FromFn.{get_or-range_with_len, length-range_with_len}
-use Rattle.std.proofs.lemmas.Option.{get_or_from_slice_get, slice_get_within, slice_get-get_or}
-use Rattle.spin_base.specs.{declared.chips.Chip.Chip, declared.chips.Spot.Spot, declared.blocks.Block.Block}
-use Rattle.machine_desc.specs.{Description.Description, RoutingTree.IsRoutingTree}
+use Rattle.std.proofs.lemmas.{List.FromFn.get_or-range_with_len, List.FromFn.length-range_with_len, Option.get_or_from_slice_get, Option.slice_get_within, Option.slice_get-get_or}
+use Rattle.spin_base.specs.declared.{chips.Chip.Chip, chips.Spot.Spot, blocks.Block.Block}
+use Rattle.machine_desc.specs.{Description.Description, RoutingTree.IsRoutingTree, declared.nets.NetPlan.NetPlan}
 use Rattle.app_graph.specs.declared.graphs.Net.{Net}
-use Rattle.machine_desc.specs.declared.nets.NetPlan.{NetPlan}
 use Rattle.link_detours.specs.declared.repairs.RepairErr.{RepairErr}
 use Rattle.link_detours.specs.declared.repairs.RepairErr.TheVariants as repairs
 use Rattle.spin_base.proofs.Places.{AllZip-at_second, slice_get_there, slice_get-push_cases}
-use Rattle.net_plans.specs.declared.nets.NetErr.{NetErr}
-use Rattle.net_plans.specs.declared.nets.NetErr.TheVariants.{CutOff, Memory}
-use Rattle.net_plans.specs.declared.nets.RoutedNet.{RoutedNet}
-use Rattle.net_plans.specs.Cause.{IsNetCause, IsCauseOne}
-use Rattle.net_plans.specs.CutOffTargets.{HasNoneCutOff, IsFirstNetCutOff}
-use Rattle.net_plans.specs.NetPlans.{ArePlanned, IsPlannedNet}
+use Rattle.net_plans.specs.{declared.nets.NetErr.NetErr, declared.nets.NetErr.TheVariants.CutOff, declared.nets.NetErr.TheVariants.Memory, declared.nets.RoutedNet.RoutedNet, Cause.IsNetCause}
+use Rattle.net_plans.specs.{Cause.IsCauseOne, CutOffTargets.HasNoneCutOff, CutOffTargets.IsFirstNetCutOff, NetPlans.ArePlanned, NetPlans.IsPlannedNet, Ways.AreRoutedNets, Ways.HaveWays}
+use Rattle.net_plans.specs.Ways.{IsFirstCut, IsFirstWithout, HasTreeAndPlan, IsRoutedNet, IsRoutingAnswer}
 use Rattle.net_plans.proofs.Planning.{long_more}
-use Rattle.net_plans.specs.Ways.{AreRoutedNets, HaveWays, IsFirstCut, IsFirstWithout, HasTreeAndPlan, IsRoutedNet, IsRoutingAnswer}
 
 -- ---- the items that are left
 

@@ -1,14 +1,9 @@
 -- A range put back among the holes.
 use Rattle.std.proofs.Common.{◌≡◌, ◌≢◌, ℕ, ◌+◌, ◌-◌, ◌<◌, ◌≤◌, Bool, true, false, ◌||◌, List, [], ◌∷◌, ◌++◌, ◌∙◌, zero, suc, Option, Some, None, Result, Ok, Err, if◌then◌else◌, length, get_or, set}
 use Rattle.std.proofs.Common.{take, drop, refl, sym, ap, subst, arith, MatchOption, slice_get, is_ok, IsOk, inl, inr, append_assoc}
-use Rattle.std.proofs.lemmas.Bool.{cases_lt}
-use Rattle.std.proofs.lemmas.Bool.Decides.{nat_tests}
-use Rattle.std.proofs.lemmas.List.{take-append-drop, set_split, set_at, length-take-le}
-use Rattle.std.proofs.lemmas.List.Folds.{list_any-append}
-use Rattle.std.proofs.lemmas.Option.{slice_get-get_or, slice_get_within}
-use Rattle.range_store.specs.declared.holes.Hole.{Hole}
-use Rattle.range_store.specs.Fits.{AreNeighbours}
-use Rattle.range_store.specs.Regions.{AreRuns, NoneIsFree, has_range, is_free, in_range, hole_end}
+use Rattle.std.proofs.lemmas.{Bool.cases_lt, Bool.Decides.nat_tests, List.take-append-drop, List.set_split, List.set_at, List.length-take-le, List.Folds.list_any-append, Option.slice_get-get_or}
+use Rattle.std.proofs.lemmas.Option.{slice_get_within}
+use Rattle.range_store.specs.{declared.holes.Hole.Hole, Fits.AreNeighbours, Regions.AreRuns, Regions.NoneIsFree, Regions.has_range, Regions.is_free, Regions.in_range, Regions.hole_end}
 use Rattle.range_store.proofs.RunLemmas.{next, runs_split, runs_join, earlier, fits_any, drop_got, split_got, some_len}
 use Rattle.range_store.proofs.HolePlaces.{clash, has_from}
 
@@ -108,9 +103,7 @@ module _ (n p s a : ℕ) (xs : List Hole) (some : 0 < s) (within : p + s ≤ n) 
 
   after_none : ((r : Hole) → slice_get xs a ≡ Some r → r.place ≢ p + s) → AreRuns (p + s + 1) n (drop a xs)
   after_none apart =
-      later (next 0 (take a xs)) (p + s + 1) n (drop a xs)
-      (runs_split 0 n (take a xs) (drop a xs) (subst (AreRuns 0 n) (sym (take-append-drop a xs)) runs)).1
-      (λ h e. let at = get_dropped xs a h e in let gap = right_gap h at in let ne = apart h at in omega (arith, gap, ne))
+      grind (arith, next 0 (take a xs), runs_split 0 n (take a xs) (drop a xs) (subst (AreRuns 0 n) (sym (take-append-drop a xs)) runs), take-append-drop a xs, later, get_dropped, right_gap)
 
   after_right : (r : Hole) → slice_get xs a ≡ Some r → AreRuns (hole_end r + 1) n (drop (suc a) xs)
   after_right r e = (runs_split 0 n (take a xs) (r ∷ drop (suc a) xs) (subst (AreRuns 0 n) (split_got xs a r e) runs)).1.3

@@ -1,16 +1,11 @@
 -- Memories that are filled table by table.
-use Rattle.std.proofs.Common.{◌≡◌, ◌≢◌, ℕ, zero, suc, ◌+◌, ◌*◌, ◌<◌, ◌≤◌, eqb, cond, List, [], ◌∷◌, ◌++◌, length, get_or, set, take, drop, replicate, refl, sym, ap, ◌∙◌, subst, arith, Some, slice_get, append_assoc, inl, inr}
-use Rattle.std.proofs.Math.Nat.{mul-le-mul_left}
-use Rattle.std.proofs.Math.Seq.{drop-cons, take-length}
-use Rattle.std.proofs.lemmas.Bool.{cases_eq, eq-eqb, ne_eqb}
-use Rattle.std.proofs.lemmas.List.{set_at, length-take-le, take_more, length-set, get_or-take, length-replicate, drop-replicate}
-use Rattle.spin_base.specs.declared.blocks.Entry.{Entry}
-use Rattle.spin_base.specs.declared.chips.Chip.{Chip}
+use Rattle.std.proofs.Common.{◌≡◌, ◌≢◌, ℕ, zero, suc, ◌+◌, ◌*◌, ◌<◌, ◌≤◌, eqb, cond, List, [], ◌∷◌, ◌++◌, length, get_or, set, take, drop, replicate, refl, sym, ap, ◌∙◌, subst, arith, Some, slice_get}
+use Rattle.std.proofs.Common.{append_assoc, inl, inr}
+use Rattle.std.proofs.{Math.Nat.mul-le-mul_left, Math.Seq.drop-cons, Math.Seq.take-length, lemmas.Bool.cases_eq, lemmas.Bool.eq-eqb, lemmas.Bool.ne_eqb, lemmas.List.set_at, lemmas.List.length-take-le}
+use Rattle.std.proofs.lemmas.List.{take_more, length-set, get_or-take, length-replicate, drop-replicate}
+use Rattle.spin_base.specs.declared.{blocks.Entry.Entry, chips.Chip.Chip, blocks.ChipTable.ChipTable}
 use Rattle.tcam_find.specs.Memory.{unused, empty_memory}
-use Rattle.spin_base.specs.declared.blocks.ChipTable.{ChipTable}
-use Rattle.table_load.specs.declared.tables.Image.{Image}
-use Rattle.table_load.specs.Images.{IsValid, IsChipBefore}
-use Rattle.table_load.specs.Memories.{table_index, rows_of_index, loaded}
+use Rattle.table_load.specs.{declared.tables.Image.Image, Images.IsValid, Images.IsChipBefore, Memories.table_index, Memories.rows_of_index, Memories.loaded}
 
 pub empty_is : empty_memory ≡ loaded []
 unfolding empty_memory

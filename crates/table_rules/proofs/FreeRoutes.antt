@@ -1,15 +1,9 @@
 -- From which number on all are among sorted ones, and what is free below it.
 use Rattle.std.proofs.Common.{◌≡◌, ℕ, ◌+◌, ◌-◌, ◌<◌, ◌≤◌, min, inl, inr, List, length, get_or, map, ap, ◌∙◌, subst, arith}
-use Rattle.std.specs.Prelude.{All, slice_index}
-use Rattle.std.specs.List.{Contains}
-use Rattle.std.specs.List.Sorted.{IsPermutation}
-use Rattle.std.proofs.lemmas.Bool.{cases_lt}
-use Rattle.std.proofs.lemmas.List.{get_or_default}
-use Rattle.std.proofs.lemmas.List.Sorted.{All-permutation, Contains-permutation, IsPermutation-sym}
-use Rattle.spin_base.proofs.Members.{Contains-unmap}
-use Rattle.spin_base.proofs.Pairs.{All-from_map}
-use Rattle.table_rules.specs.declared.rows.RoutedBlock.{RoutedBlock}
-use Rattle.table_rules.specs.Exact.{HasAllRoutes, IsFree}
+use Rattle.std.specs.{Prelude.All, Prelude.slice_index, List.Contains, List.Sorted.IsPermutation}
+use Rattle.std.proofs.lemmas.{Bool.cases_lt, List.get_or_default, List.Sorted.All-permutation, List.Sorted.Contains-permutation, List.Sorted.IsPermutation-sym}
+use Rattle.spin_base.proofs.{Members.Contains-unmap, Pairs.All-from_map}
+use Rattle.table_rules.specs.{declared.rows.RoutedBlock.RoutedBlock, Exact.HasAllRoutes, Exact.IsFree}
 
 module _ (bits : List ℕ) (routes full k next : ℕ) (k_in : k < length bits) (is : next ≡ min full (slice_index bits (length bits - 1 - k))) where
   pub next_below : full ≤ routes → next ≤ routes

@@ -1,20 +1,11 @@
 -- One block more, one route more.
 use Rattle.std.proofs.Common.{◌≡◌, ℕ, ◌+◌, ◌<◌, ◌≤◌, Bool, true, false, List, [], ◌∷◌, ◌++◌, length, get_or, map, set, take, drop, refl, sym, ap, ◌∙◌, append_assoc, arith}
 use Rattle.std.specs.Prelude.{filter, if◌then◌else◌, not}
-use Rattle.std.proofs.lemmas.List.{append-nil, drop_all, drop_more, map-append, map_push, take_more, take_all}
-use Rattle.std.proofs.lemmas.List.Concat.{flat_map-append}
-use Rattle.std.proofs.lemmas.List.Edits.{sets-eq}
-use Rattle.std.proofs.lemmas.List.Elements.{filter-append}
-use Rattle.std.proofs.lemmas.List.Sums.{fold-append}
-use Rattle.spin_base.specs.declared.blocks.Block.{Block}
-use Rattle.spin_base.specs.declared.routes.Route.{Route}
-use Rattle.tern_word.specs.declared.tables.Alias.{Alias}
-use Rattle.tern_word.specs.declared.tables.Row.{Row}
-use Rattle.tern_word.specs.SoundTable.{Original, served, served_by}
-use Rattle.tern_word.specs.Ternary.{merge_two}
-use Rattle.table_rules.specs.declared.rows.RoutedBlock.{RoutedBlock}
-use Rattle.table_rules.specs.Made.{row_blocks}
-use Rattle.table_rules.specs.Pairs.{goes_by, joined_blocks, meets_one, others, own_blocks, pieces_of, row_by, rows_by_routes, with_block}
+use Rattle.std.proofs.lemmas.List.{append-nil, drop_all, drop_more, map-append, map_push, take_more, take_all, Concat.flat_map-append, Edits.sets-eq, Elements.filter-append, Sums.fold-append}
+use Rattle.spin_base.specs.declared.{blocks.Block.Block, routes.Route.Route}
+use Rattle.tern_word.specs.{declared.tables.Alias.Alias, declared.tables.Row.Row, SoundTable.Original, SoundTable.served, SoundTable.served_by, Ternary.merge_two}
+use Rattle.table_rules.specs.{declared.rows.RoutedBlock.RoutedBlock, Made.row_blocks, Pairs.goes_by, Pairs.joined_blocks, Pairs.meets_one, Pairs.others, Pairs.own_blocks, Pairs.pieces_of}
+use Rattle.table_rules.specs.Pairs.{row_by, rows_by_routes, with_block}
 
 -- ---- a block is put
 

@@ -1,21 +1,16 @@
 -- Blocks that are joined have all keys of the blocks taken in, and none of the pieces behind.
 use Rattle.std.proofs.Common.{◌≡◌, ℕ, ◌<◌, ◌^◌, ◌⊎◌, Bool, true, false, inl, inr, List, [], ◌∷◌, ◌++◌, map, None, refl, sym, ap, ◌∙◌, subst}
 use Rattle.std.specs.Prelude.{All, filter, fold, if◌then◌else◌, not}
-use Rattle.std.proofs.lemmas.Bool.{cases_Bool, eq-eqb, eqb-true, false≢true}
-use Rattle.std.proofs.lemmas.Bool.Decides.{eqb_tells}
-use Rattle.std.proofs.lemmas.List.Elements.{All-head, All-tail}
+use Rattle.std.proofs.lemmas.{Bool.cases_Bool, Bool.eq-eqb, Bool.eqb-true, Bool.false≢true, Bool.Decides.eqb_tells, List.Elements.All-head, List.Elements.All-tail}
 use Rattle.spin_base.proofs.Members.{Among, Contains-filter, Contains-map, among_any, among_contains, among_filter, any_among, contains_among}
 use Rattle.spin_base.proofs.RouteBits.{same_route}
-use Rattle.spin_base.specs.declared.blocks.Block.{Block}
-use Rattle.spin_base.specs.declared.routes.Route.{Route}
+use Rattle.spin_base.specs.declared.{blocks.Block.Block, routes.Route.Route}
 use Rattle.tern_word.specs.Ternary.{Intersects, LiesIn, Matches, merge_two}
 use Rattle.tern_word.proofs.BlockLaws.{LiesIn-merge}
 use Rattle.block_cuts.specs.Cuts.{meets}
 use Rattle.block_cuts.proofs.HalfLaws.{meets_tells}
-use Rattle.table_rules.specs.declared.rows.RoutedBlock.{RoutedBlock}
-use Rattle.table_rules.specs.Made.{row_blocks}
-use Rattle.table_rules.specs.Pairs.{goes_by, joined_blocks, meets_one, others, own_blocks, row_by, rows_by_routes, with_block}
-use Rattle.table_rules.specs.Rows.{GoesBy, first_with}
+use Rattle.table_rules.specs.{declared.rows.RoutedBlock.RoutedBlock, Made.row_blocks, Pairs.goes_by, Pairs.joined_blocks, Pairs.meets_one, Pairs.others, Pairs.own_blocks, Pairs.row_by}
+use Rattle.table_rules.specs.{Pairs.rows_by_routes, Pairs.with_block, Rows.GoesBy, Rows.first_with}
 use Rattle.table_rules.proofs.FirstRows.{first_hit, first_miss, has_tells}
 
 -- one of the blocks has the key

@@ -1,8 +1,7 @@
 use Rattle.std.proofs.Common.{◌≤◌, length, subst, sym, ap, arith, List}
 use Rattle.std.proofs.lemmas.List.Elements.{All-weaker}
 use Rattle.std.specs.List.{All}
-use Rattle.app_loads.specs.declared.{loaded.Claim.Claim, plans.AppNet.AppNet}
-use Rattle.app_loads.specs.{Counting.IsKeyCount, Plans.IsAppNet}
+use Rattle.app_loads.specs.{declared.loaded.Claim.Claim, declared.plans.AppNet.AppNet, Counting.IsKeyCount, Plans.IsAppNet}
 use Rattle.app_loads.proofs.{Claiming.claims_joined, FewClaims.few_claims, FewSpots.few_spots}
 use Rattle.app_loads.proofs.claims.claims_of.Goals as goal
 

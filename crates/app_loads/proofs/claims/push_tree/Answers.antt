@@ -1,8 +1,7 @@
 use Rattle.std.proofs.Common.{◌∙◌, ◌++◌, ◌∷◌, ap, subst, sym, List}
 use Rattle.std.proofs.lemmas.{List.take_all, Option.slice_get-get_or}
 use Rattle.std.specs.List.{All, flat_map}
-use Rattle.machine_desc.specs.declared.trees.Edge.{Edge}
-use Rattle.machine_desc.specs.Live.{index_of, IsInside}
+use Rattle.machine_desc.specs.{declared.trees.Edge.Edge, Live.index_of, Live.IsInside}
 use Rattle.app_loads.specs.Counting.{end_places}
 use Rattle.app_loads.proofs.RowClaims.{edges_in, ends_more}
 use Rattle.app_loads.proofs.claims.push_tree.Goals as goal

@@ -2,8 +2,7 @@ use Rattle.std.proofs.Common.{◌∙◌, ap, subst, sym, arith, take, List, [], 
 use Rattle.std.proofs.lemmas.{List.flat_map_more, List.take_all, List.Sorted.IsNonDecreasingBy-from_sort, Option.slice_get-get_or}
 use Rattle.std.specs.List.{flat_map, Sorted.IsPermutation}
 use Rattle.spin_base.proofs.Places.{take_more_at}
-use Rattle.app_loads.specs.Counting.{HasTree, tree_places}
-use Rattle.app_loads.specs.declared.plans.AppNet.{AppNet}
+use Rattle.app_loads.specs.{Counting.HasTree, Counting.tree_places, declared.plans.AppNet.AppNet}
 use Rattle.app_loads.proofs.claims.tree_chips.Goals as goal
 
 pub push_tree-requires : goal.push_tree-requires

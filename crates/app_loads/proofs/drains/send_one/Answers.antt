@@ -1,8 +1,7 @@
 use Rattle.std.proofs.Common.{◌∙◌, ap}
 use Rattle.mesh_core.specs.State.{State}
 use Rattle.app_loads.specs.Grouping.{all_grouped}
-use Rattle.app_loads.proofs.Earlier.{reached_with}
-use Rattle.app_loads.proofs.Kept.{brought_more, may_send, ok_then, sent_clean, sent_reached}
+use Rattle.app_loads.proofs.{Earlier.reached_with, Kept.brought_more, Kept.may_send, Kept.ok_then, Kept.sent_clean, Kept.sent_reached}
 use Rattle.app_loads.proofs.drains.send_one.Goals as goal
 
 pub send_first-requires : goal.send_first-requires

@@ -3,9 +3,8 @@ use Rattle.std.proofs.lemmas.List.{append-nil}
 use Rattle.std.specs.List.{filter}
 use Rattle.spin_base.specs.declared.copies.Delivery.{Delivery}
 use Rattle.app_loads.specs.{Grouping.all_grouped, Leaving.is_delivery_of}
-use Rattle.app_loads.proofs.GroupLaws.{all_apart, grouped_push, none_apart, not_own}
+use Rattle.app_loads.proofs.{GroupLaws.all_apart, GroupLaws.grouped_push, GroupLaws.none_apart, GroupLaws.not_own, groups.put_by.Goals.After-is_others-is_others}
 use Rattle.app_loads.proofs.groups.put_by.Goals as goal
-use Rattle.app_loads.proofs.groups.put_by.Goals.{After-is_others-is_others}
 
 -- none of the others' deliveries is the application's
 apart : (c : After-is_others-is_others) →

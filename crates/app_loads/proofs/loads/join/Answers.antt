@@ -1,7 +1,6 @@
 use Rattle.std.proofs.Common.{subst, sym, List, refl}
 use Rattle.machine_desc.specs.Description.{Description}
-use Rattle.app_loads.specs.{declared.loaded.Range.Range, Claims.claims_of, Plans.IsPlan}
-use Rattle.app_loads.specs.Taking.{AreFreeAgain, AreRegionsOf, AreTaken, HaveRoom, IsDueAlways}
+use Rattle.app_loads.specs.{declared.loaded.Range.Range, Claims.claims_of, Plans.IsPlan, Taking.AreFreeAgain, Taking.AreRegionsOf, Taking.AreTaken, Taking.HaveRoom, Taking.IsDueAlways}
 use Rattle.app_loads.proofs.JoinLaws.{can_settle, served_on}
 use Rattle.app_loads.proofs.loads.join.Goals as goal
 

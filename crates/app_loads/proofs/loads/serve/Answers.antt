@@ -1,8 +1,6 @@
 use Rattle.std.proofs.Common.{◌∙◌, ◌≤◌, sym, subst, List, length}
-use Rattle.app_loads.specs.{declared.loaded.Claim.Claim, declared.loaded.Range.Range}
-use Rattle.app_loads.specs.Claims.{AreBlocks, AreServed, claims_of}
-use Rattle.app_loads.specs.Joining.{AreKeyed}
-use Rattle.app_loads.specs.Taking.{AreServedAlways, AreTaken, AreTakenAlways, HaveRoom}
+use Rattle.app_loads.specs.{declared.loaded.Claim.Claim, declared.loaded.Range.Range, Claims.AreBlocks, Claims.AreServed, Claims.claims_of, Joining.AreKeyed, Taking.AreServedAlways, Taking.AreTaken}
+use Rattle.app_loads.specs.Taking.{AreTakenAlways, HaveRoom}
 use Rattle.app_loads.proofs.Served.{can_serve, keyed_from}
 use Rattle.app_loads.proofs.loads.serve.Goals as goal
 

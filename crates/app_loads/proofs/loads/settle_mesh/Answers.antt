@@ -3,12 +3,9 @@ use Rattle.std.specs.List.{All}
 use Rattle.std.proofs.lemmas.List.{with_items_is}
 use Rattle.machine_desc.specs.Description.{Description}
 use Rattle.net_tables.specs.PlainTable.{AreRoutedApart}
-use Rattle.app_loads.specs.{Host.nets_of, declared.loaded.Range.Range}
-use Rattle.app_loads.specs.Regions.{IsRangeWithin, chip_count}
-use Rattle.app_loads.specs.Writing.{HaveRooms, tables_in}
+use Rattle.app_loads.specs.{Host.nets_of, declared.loaded.Range.Range, Regions.IsRangeWithin, Regions.chip_count, Writing.HaveRooms, Writing.tables_in}
 use Rattle.mesh_core.specs.State.{State}
-use Rattle.app_loads.proofs.AppNets.{routed}
-use Rattle.app_loads.proofs.Settling.{ArePlain, settled_bare, parted_send, parted_mesh, parted_copy, parted_whole, parted_settled}
+use Rattle.app_loads.proofs.{AppNets.routed, Settling.ArePlain, Settling.settled_bare, Settling.parted_send, Settling.parted_mesh, Settling.parted_copy, Settling.parted_whole, Settling.parted_settled}
 use Rattle.app_loads.proofs.loads.settle_mesh.Goals as goal
 
 pub originals_of-requires : goal.originals_of-requires

@@ -1,6 +1,5 @@
 use Rattle.std.proofs.Common.{◌≡◌, ◌+◌, ◌++◌, ◌∙◌, arith, refl, ap, drop, length, map, set, sym, take, take-append-drop}
-use Rattle.std.proofs.Math.Seq.{take-length}
-use Rattle.std.proofs.lemmas.Option.{slice_get_read}
+use Rattle.std.proofs.{Math.Seq.take-length, lemmas.Option.slice_get_read}
 use Rattle.tern_word.specs.Entries.{entry_of}
 use Rattle.net_tables.specs.Marks.{row_of_mark}
 use Rattle.app_loads.proofs.Copying.{marks_more}

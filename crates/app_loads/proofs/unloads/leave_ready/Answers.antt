@@ -1,6 +1,5 @@
 use Rattle.std.proofs.Common.{IfErr, IfOk, OnOk, Result, subst}
-use Rattle.app_loads.specs.declared.{answers.UnloadErr.UnloadErr, leaving.Left.Left}
-use Rattle.app_loads.specs.{Grouping.all_grouped, Leaving.NoneUnderWay, Leaving.is_delivery_of, Removing.HasLeft, Removing.IsWhyHere}
+use Rattle.app_loads.specs.{declared.answers.UnloadErr.UnloadErr, declared.leaving.Left.Left, Grouping.all_grouped, Leaving.NoneUnderWay, Leaving.is_delivery_of, Removing.HasLeft, Removing.IsWhyHere}
 use Rattle.app_loads.proofs.Kept.{few_own, none_with, why_with}
 use Rattle.app_loads.proofs.unloads.leave_ready.Goals as goal
 

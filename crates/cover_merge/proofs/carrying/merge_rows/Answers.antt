@@ -1,18 +1,12 @@
 -- The rivals of all rows that stay are those after the merge, and those of the merged row are found.
 use Rattle.std.proofs.Common.{◌≡◌, ◌∙◌, ◌+◌, ◌-◌, ◌<◌, [], ℕ, List, sym, ap, subst, length, get_or, arith}
 use Rattle.std.specs.Prelude.{All, AllPairs, insert}
-use Rattle.tern_word.specs.declared.tables.Row.{Row}
-use Rattle.tern_word.specs.SoundTable.{IsSound}
-use Rattle.tern_word.specs.Ternary.{generality}
-use Rattle.cover_merge.specs.Merge.{after, merged_block, insert_place}
-use Rattle.cover_merge.specs.Rivals.{AreRivalsAfter, AreRivalsAt, CanMerge, IsRivaled}
-use Rattle.cover_merge.specs.Spans.{AreSpansOf}
+use Rattle.tern_word.specs.{declared.tables.Row.Row, SoundTable.IsSound, Ternary.generality}
+use Rattle.cover_merge.specs.{Merge.after, Merge.merged_block, Merge.insert_place, Rivals.AreRivalsAfter, Rivals.AreRivalsAt, Rivals.CanMerge, Rivals.IsRivaled, Spans.AreSpansOf}
 use Rattle.cover_merge.specs.declared.rivals.Rivals.{Rivals}
-use Rattle.cover_merge.proofs.ApplyLemmas.{left, members_before}
-use Rattle.cover_merge.proofs.KeptLemmasMoved.{merged_at}
-use Rattle.cover_merge.proofs.RivalAfter.{place_is, stands_at, carried_is, carried_length, at_inside, rivaled_after}
+use Rattle.cover_merge.proofs.{ApplyLemmas.left, ApplyLemmas.members_before, KeptLemmasMoved.merged_at, RivalAfter.place_is, RivalAfter.stands_at, RivalAfter.carried_is, RivalAfter.carried_length}
+use Rattle.cover_merge.proofs.{RivalAfter.at_inside, RivalAfter.rivaled_after, carrying.merge_rows.Goals.After-place_in-place, carrying.merge_rows.Goals.After-replace_all}
 use Rattle.cover_merge.proofs.carrying.merge_rows.Goals as goal
-use Rattle.cover_merge.proofs.carrying.merge_rows.Goals.{After-place_in-place, After-replace_all}
 
 -- the place is the insertion place
 place_here : (c : After-place_in-place) → c.place_in-place.result ≡ insert_place c.args.table.now.rows c.args.places.now
@@ -22,9 +16,7 @@ place_here c =
 
 -- and the merged row stands before it by as many as are merged
 stands_here : (c : After-place_in-place) → merged_at c.args.table.now.rows c.args.places.now + length c.as_slice-members.result.now ≡ c.place_in-place.result
-stands_here c =
-    ap (λ (l : List ℕ). merged_at c.args.table.now.rows c.args.places.now + length l) c.as_slice-members.ensures
-    ∙ stands_at c.args.table.now.rows c.args.places.now c.requires.rivaled.sound c.requires.merge.set ∙ sym (place_here c)
+stands_here c = grind (arith, merged_at c.args.table.now.rows c.args.places.now, stands_at c.args.table.now.rows c.args.places.now c.requires.rivaled.sound c.requires.merge.set, place_here c)
 
 -- the numbers are carried over
 serials_here : (c : After-replace_all) → c.replace_all.new.items.items ≡ left c.args.places.now 0 (insert c.args.rivals.now.serials.items (insert_place c.args.table.now.rows c.args.places.now) (length c.args.rivals.now.of.items))

@@ -1,8 +1,7 @@
 -- A row that changed no later is passed.
 use Rattle.std.proofs.Common.{◌<◌, suc, [], refl, length, get_or, arith}
 use Rattle.cover_merge.specs.Merge.{merge_rows}
-use Rattle.cover_merge.proofs.ChooseLemmas.{link_next}
-use Rattle.cover_merge.proofs.TriedLemmas.{since_first, newer_next, since_turn}
+use Rattle.cover_merge.proofs.{ChooseLemmas.link_next, TriedLemmas.since_first, TriedLemmas.newer_next, TriedLemmas.since_turn}
 use Rattle.cover_merge.proofs.choosing.changed_after.Goals as goal
 
 pub index-place-requires : goal.index-place-requires

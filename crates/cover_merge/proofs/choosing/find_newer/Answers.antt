@@ -1,11 +1,9 @@
 -- One row more has its next in the list.
 use Rattle.std.proofs.Common.{◌≡◌, ◌-◌, ◌<◌, ◌∙◌, ℕ, suc, refl, sym, set, subst, length, get_or, arith}
 use Rattle.std.proofs.lemmas.List.{length-set}
-use Rattle.cover_merge.specs.Links.{IsFirstOfRoute}
-use Rattle.cover_merge.specs.Tried.{AreNewerOf, AreChangesFrom}
-use Rattle.cover_merge.proofs.ChooseLemmas.{ArePlaces, places_gathered}
-use Rattle.cover_merge.proofs.TriedLemmas.{AreNewerAt, newer_all, newer_behind, newer_more, newer_others}
-use Rattle.cover_merge.proofs.choosing.find_newer.Goals.{After-as_slice-places}
+use Rattle.cover_merge.specs.{Links.IsFirstOfRoute, Tried.AreNewerOf, Tried.AreChangesFrom}
+use Rattle.cover_merge.proofs.{ChooseLemmas.ArePlaces, ChooseLemmas.places_gathered, TriedLemmas.AreNewerAt, TriedLemmas.newer_all, TriedLemmas.newer_behind, TriedLemmas.newer_more}
+use Rattle.cover_merge.proofs.{TriedLemmas.newer_others, choosing.find_newer.Goals.After-as_slice-places}
 use Rattle.cover_merge.proofs.choosing.find_newer.Goals as goal
 
 -- the places are those of the route
@@ -39,10 +37,7 @@ changed_after-requires c =
     })
 
 pub index_mut-requires : goal.index_mut-requires
-index_mut-requires c =
-    let first = c.requires.first in
-    let places = are (goal.at.index_mut-requires c).After-as_slice-places first.0 first.1 in
-    omega (arith, places.inside (c.loop-k.k - 1) (omega (arith, c.loop-k.invariant.within, c.loop-k-test.true)), c.loop-k.invariant.all)
+index_mut-requires c = grind (arith, are (goal.at.index_mut-requires c).After-as_slice-places (c.requires.first).0 (c.requires.first).1)
 
 pub loop-k-preserved : goal.loop-k-preserved
 loop-k-preserved c =

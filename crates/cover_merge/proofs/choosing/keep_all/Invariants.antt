@@ -1,8 +1,7 @@
 -- Of each route passed something is kept.
 use Rattle.std.proofs.Common.{◌≡◌, ◌<◌, ℕ, get_or}
 use Rattle.std.specs.Prelude.{Some, None}
-use Rattle.cover_merge.specs.Known.{IsFreshlyRefined, IsLinked}
-use Rattle.cover_merge.specs.declared.keeping.Kept.{Kept}
+use Rattle.cover_merge.specs.{Known.IsFreshlyRefined, Known.IsLinked, declared.keeping.Kept.Kept}
 use Rattle.cover_merge.proofs.choosing.keep_all.Given as goal
 
 abbrev pub invariant-loop-c : goal.invariant-loop-c

@@ -1,10 +1,7 @@
 -- The route of which most places are kept has the largest set.
 use Rattle.std.proofs.Common.{length, get_or, subst, arith}
-use Rattle.cover_merge.specs.Covering.{places_of}
-use Rattle.cover_merge.specs.Kept.{RefinesWithin}
-use Rattle.cover_merge.specs.Known.{IsMostBefore}
-use Rattle.cover_merge.proofs.KeepLemmas.{none_largest, best_largest}
-use Rattle.cover_merge.proofs.choosing.largest.Goals.{After-most_of-most}
+use Rattle.cover_merge.specs.{Covering.places_of, Kept.RefinesWithin, Known.IsMostBefore}
+use Rattle.cover_merge.proofs.{KeepLemmas.none_largest, KeepLemmas.best_largest, choosing.largest.Goals.After-most_of-most}
 use Rattle.cover_merge.proofs.choosing.largest.Goals as goal
 
 -- the route of which most places are kept

@@ -2,11 +2,8 @@
 use Rattle.std.proofs.Common.{◌≡◌, ◌<◌, ◌∙◌, true, sym, ap, subst, length, length-set, get_or, arith}
 use Rattle.std.proofs.lemmas.List.{get_or_default}
 use Rattle.tern_word.specs.declared.tables.Row.{Row}
-use Rattle.cover_merge.specs.Links.{IsFirstOfRoute}
-use Rattle.cover_merge.specs.Tried.{AreNewerOf}
-use Rattle.cover_merge.proofs.LinkLemmas.{as_many, route_of}
-use Rattle.cover_merge.proofs.TriedLemmas.{newer_ready}
-use Rattle.cover_merge.proofs.choosing.make_ready.Goals.{After-index, After-index-then-not-index}
+use Rattle.cover_merge.specs.{Links.IsFirstOfRoute, Tried.AreNewerOf}
+use Rattle.cover_merge.proofs.{LinkLemmas.as_many, LinkLemmas.route_of, TriedLemmas.newer_ready, choosing.make_ready.Goals.After-index, choosing.make_ready.Goals.After-index-then-not-index}
 use Rattle.cover_merge.proofs.choosing.make_ready.Goals as goal
 
 -- the number of the row's route

@@ -1,8 +1,7 @@
 -- The next of the route, or the next that changed after the time before.
 use Rattle.std.proofs.Common.{◌≡◌, ◌-◌, suc, subst, arith}
 use Rattle.cover_merge.specs.Tried.{IsNextSince}
-use Rattle.cover_merge.proofs.ChooseLemmas.{link_next}
-use Rattle.cover_merge.proofs.TriedLemmas.{since_first}
+use Rattle.cover_merge.proofs.{ChooseLemmas.link_next, TriedLemmas.since_first}
 use Rattle.cover_merge.proofs.choosing.next_to_try.Goals as goal
 
 pub index-next-requires : goal.index-next-requires

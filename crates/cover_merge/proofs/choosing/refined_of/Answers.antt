@@ -1,11 +1,8 @@
 -- The places are those of the route's rows.
 use Rattle.std.proofs.Common.{get_or, sym, subst}
 use Rattle.std.specs.Prelude.{IfOk}
-use Rattle.cover_merge.specs.Merge.{IsOneRoute}
-use Rattle.cover_merge.specs.Kept.{RefinesWithin}
-use Rattle.cover_merge.specs.declared.refining.Refined.{Refined}
-use Rattle.cover_merge.proofs.ChooseLemmas.{places_of-one_route}
-use Rattle.cover_merge.proofs.KeepLemmas.{places_read}
+use Rattle.cover_merge.specs.{Merge.IsOneRoute, Kept.RefinesWithin, declared.refining.Refined.Refined}
+use Rattle.cover_merge.proofs.{ChooseLemmas.places_of-one_route, KeepLemmas.places_read}
 use Rattle.cover_merge.proofs.choosing.refined_of.Goals as goal
 
 pub invariant_of-table : goal.invariant_of-table

@@ -1,9 +1,7 @@
 -- All that is known is carried over, but for the rivals of rows.
 use Rattle.std.proofs.Common.{◌≡◌, ◌∙◌, ap, sym, subst, length, get_or}
-use Rattle.cover_merge.specs.Merge.{after}
-use Rattle.cover_merge.specs.Known.{AreRoutesKept, AreStillKept, IsApart}
-use Rattle.cover_merge.specs.Links.{AreNumbers, IsEachOnce, place_of_route}
-use Rattle.cover_merge.specs.Tried.{AreNoLater, AreTouched, AreTriedUpTo}
+use Rattle.cover_merge.specs.{Merge.after, Known.AreRoutesKept, Known.AreStillKept, Known.IsApart, Links.AreNumbers, Links.IsEachOnce, Links.place_of_route, Tried.AreNoLater, Tried.AreTouched}
+use Rattle.cover_merge.specs.Tried.{AreTriedUpTo}
 use Rattle.cover_merge.proofs.KeepLemmas.{kept_over}
 use Rattle.cover_merge.proofs.covering.carry_over.Goals as goal
 

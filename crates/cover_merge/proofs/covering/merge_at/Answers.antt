@@ -1,13 +1,9 @@
 -- What was carried over is known of the table after the merge, whose rivals are those that were renewed.
 use Rattle.std.proofs.Common.{◌≡◌, ◌∙◌, ◌<◌, ◌^◌, ℕ, List, refl, ap, sym, subst, length, arith}
 use Rattle.std.specs.Prelude.{All, AllPairs}
-use Rattle.tern_word.specs.declared.tables.Row.{Row}
-use Rattle.cover_merge.specs.declared.knowing.Known.{Known}
-use Rattle.tern_word.specs.Ternary.{generality}
-use Rattle.tern_word.specs.SoundTable.{IsSound}
-use Rattle.cover_merge.specs.Merge.{IsLegal, IsMergeSet, after, insert_place, merged_block, place_for}
-use Rattle.cover_merge.specs.Known.{IsCarried}
-use Rattle.cover_merge.specs.Rivals.{AreMet, IsRivaled}
+use Rattle.tern_word.specs.{declared.tables.Row.Row, Ternary.generality, SoundTable.IsSound}
+use Rattle.cover_merge.specs.{declared.knowing.Known.Known, Merge.IsLegal, Merge.IsMergeSet, Merge.after, Merge.insert_place, Merge.merged_block, Merge.place_for, Known.IsCarried, Rivals.AreMet}
+use Rattle.cover_merge.specs.Rivals.{IsRivaled}
 use Rattle.cover_merge.proofs.ApplyLemmas.{both_ok, members_before}
 use Rattle.cover_merge.proofs.covering.merge_at.Goals as goal
 

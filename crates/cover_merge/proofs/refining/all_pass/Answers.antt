@@ -1,11 +1,9 @@
 -- One place more does not fail.
 use Rattle.std.proofs.Common.{◌≡◌, ◌<◌, ◌+◌, ℕ, true, length, refl, sym, subst, arith}
 use Rattle.std.specs.Prelude.{All}
-use Rattle.std.proofs.lemmas.List.{take_rest}
-use Rattle.std.proofs.lemmas.List.Elements.{All-drop}
+use Rattle.std.proofs.lemmas.List.{take_rest, Elements.All-drop}
 use Rattle.cover_merge.specs.Merge.{has_row, place_for}
-use Rattle.cover_merge.proofs.RefineLemmas.{none_fails}
-use Rattle.cover_merge.proofs.SiftLemmas.{member_alike, member_inside, member_passes}
+use Rattle.cover_merge.proofs.{RefineLemmas.none_fails, SiftLemmas.member_alike, SiftLemmas.member_inside, SiftLemmas.member_passes}
 use Rattle.cover_merge.proofs.refining.all_pass.Goals as goal
 
 pub passes-requires : goal.passes-requires

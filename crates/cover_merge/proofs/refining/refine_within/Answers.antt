@@ -2,11 +2,9 @@
 use Rattle.std.proofs.Common.{◌≡◌, ◌<◌, ◌≤◌, ◌∙◌, length, inr, sym, subst, arith}
 use Rattle.std.specs.Prelude.{MatchOption}
 use Rattle.spin_base.specs.declared.blocks.Block.{Block}
-use Rattle.cover_merge.specs.Merge.{IsOneRoute, PassesUpCheck, merged_block}
-use Rattle.cover_merge.specs.Kept.{IsGone, RefinesWithin}
-use Rattle.cover_merge.proofs.KeptLemmasSteps.{gone_empty, gone_start, gone_up}
-use Rattle.cover_merge.proofs.KeepLemmas.{turn_down, turn_legal}
-use Rattle.cover_merge.proofs.RefineLemmas.{one_route_after, legal_here}
+use Rattle.cover_merge.specs.{Merge.IsOneRoute, Merge.PassesUpCheck, Merge.merged_block, Kept.IsGone, Kept.RefinesWithin}
+use Rattle.cover_merge.proofs.{KeptLemmasSteps.gone_empty, KeptLemmasSteps.gone_start, KeptLemmasSteps.gone_up, KeepLemmas.turn_down, KeepLemmas.turn_legal, RefineLemmas.one_route_after}
+use Rattle.cover_merge.proofs.RefineLemmas.{legal_here}
 use Rattle.cover_merge.proofs.refining.refine_within.Goals as goal
 
 pub refining-init : goal.refining-init
@@ -67,10 +65,4 @@ refining-preserved c = record {
 
 pub returns-clause-refined : goal.returns-clause-refined
 returns-clause-refined c =
-    let rows = c.args.table.rows.now in
-    let made = c.with_bounds-2.result in
-    let less : length c.refining.set.items < 2 = omega (arith, c.len.ensures, c.refining-test.false) in
-    subst (λ n. RefinesWithin rows made.kept.outer n c.args.places made.set) (sym c.with_bounds-2.ensures.low)
-    (subst (λ b. RefinesWithin rows b c.refining.low c.args.places made.set) (sym c.with_bounds-2.ensures.outer)
-    (subst (RefinesWithin rows c.refining.outer c.refining.low c.args.places) (sym (c.with_bounds-2.ensures.set ∙ c.clear.ensures.items))
-    (gone_empty rows c.args.places c.refining.set.items c.refining.outer c.refining.low c.refining.invariant.gone less)))
+    grind (arith, gone_empty (c.args.table.rows.now) c.args.places c.refining.set.items c.refining.outer c.refining.low c.refining.invariant.gone (omega (arith, c.len.ensures, c.refining-test.false)))

@@ -1,7 +1,6 @@
 -- A pair is legal where both rows pass the up-check, and the merge the down-check.
 use Rattle.std.proofs.Common.{◌∷◌, [], arith}
-use Rattle.cover_merge.proofs.Positions.{has-at}
-use Rattle.cover_merge.proofs.RivalLemmas.{one_route, pair_refused, pair_told}
+use Rattle.cover_merge.proofs.{Positions.has-at, RivalLemmas.one_route, RivalLemmas.pair_refused, RivalLemmas.pair_told}
 use Rattle.cover_merge.proofs.rivals.is_legal_pair.Goals as goal
 
 pub merged_block-merged-requires-clause-in_range : goal.merged_block-merged-requires-clause-in_range

@@ -1,8 +1,6 @@
 use Rattle.std.proofs.Common.{◌≡◌, List, ℕ, length, All, sym, ap, ◌∙◌, subst}
-use Rattle.job_gen.specs.declared.draws.DrawnNet.{DrawnNet}
-use Rattle.job_gen.specs.Draws.{draws, drawn_net, drawn_packet, drawn, drawn_from, seeded, NeedsKey}
-use Rattle.job_gen.proofs.DrawLemmas.{number_drawn, job_from}
-use Rattle.job_gen.proofs.DrawnLaws.{all_keys, nets_drawn}
+use Rattle.job_gen.specs.{declared.draws.DrawnNet.DrawnNet, Draws.draws, Draws.drawn_net, Draws.drawn_packet, Draws.drawn, Draws.drawn_from, Draws.seeded, Draws.NeedsKey}
+use Rattle.job_gen.proofs.{DrawLemmas.number_drawn, DrawLemmas.job_from, DrawnLaws.all_keys, DrawnLaws.nets_drawn}
 use Rattle.job_gen.proofs.draws.draw_job.Goals as goal
 
 keyed : (nets : List DrawnNet) (g h : List ℕ) → (nets, h) ≡ draws drawn_net 300 g → All NeedsKey nets

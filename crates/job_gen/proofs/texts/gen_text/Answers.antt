@@ -1,7 +1,6 @@
 use Rattle.std.proofs.Common.{◌≤◌, length, ap, ◌∙◌, sym, subst}
 use Rattle.job_text.specs.Json.{json_of}
-use Rattle.job_gen.proofs.LengthLemmas.{text_short}
-use Rattle.job_gen.proofs.TextLemmas.{value_drawn, text_written, text_read}
+use Rattle.job_gen.proofs.{LengthLemmas.text_short, TextLemmas.value_drawn, TextLemmas.text_written, TextLemmas.text_read}
 use Rattle.job_gen.proofs.texts.gen_text.Goals as goal
 
 pub returns-clause-text : goal.returns-clause-text

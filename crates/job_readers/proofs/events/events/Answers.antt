@@ -1,9 +1,7 @@
 use Rattle.std.proofs.Common.{◌≡◌, ◌∙◌, map, refl, ap, sym, arith}
 use Rattle.std.proofs.lemmas.List.{nil_from_length}
 use Rattle.serde_json.specs.View.{view}
-use Rattle.job_readers.specs.GraphPart.{vertex_names_of}
-use Rattle.job_readers.specs.Items.{items_faults}
-use Rattle.job_readers.specs.RunPart.{events_faults, events_value}
+use Rattle.job_readers.specs.{GraphPart.vertex_names_of, Items.items_faults, RunPart.events_faults, RunPart.events_value}
 use Rattle.job_readers.proofs.events.events.Goals as goal
 
 pub returns-then-is_empty-clause-read : goal.returns-then-is_empty-clause-read

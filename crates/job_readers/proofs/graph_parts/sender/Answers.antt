@@ -1,8 +1,7 @@
 use Rattle.std.proofs.Common.{◌≡◌, ℕ, ◌<◌, List, length, Some, ap, sym, subst, ◌∙◌}
 use Rattle.std.proofs.lemmas.List.{length-map}
 use Rattle.app_graph.specs.declared.graphs.Vertex.{Vertex}
-use Rattle.job_readers.specs.Places.{name_place_in}
-use Rattle.job_readers.specs.GraphPart.{vertex_names_of}
+use Rattle.job_readers.specs.{Places.name_place_in, GraphPart.vertex_names_of}
 use Rattle.job_readers.proofs.PlaceSteps.{place_in-below}
 use Rattle.job_readers.proofs.graph_parts.sender.Goals as goal
 

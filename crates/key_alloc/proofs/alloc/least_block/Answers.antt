@@ -1,7 +1,6 @@
 use Rattle.std.proofs.Common.{subst, arith}
 use Rattle.key_alloc.specs.KeyBlocks.{IsOpenPlace}
-use Rattle.key_alloc.proofs.Sizes.{size_from_half, size_within, one_size}
-use Rattle.key_alloc.proofs.Taking.{block_from_least}
+use Rattle.key_alloc.proofs.{Sizes.size_from_half, Sizes.size_within, Sizes.one_size, Taking.block_from_least}
 use Rattle.key_alloc.proofs.alloc.least_block.Goals as goal
 
 pub invariant_of-wanted : goal.invariant_of-wanted

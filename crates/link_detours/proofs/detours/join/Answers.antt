@@ -1,13 +1,8 @@
 use Rattle.std.proofs.Common.{[], refl, sym, subst, inl, append-nil}
 use Rattle.spin_base.specs.declared.chips.Chip.{Chip}
-use Rattle.machine_desc.specs.Live.{LeadsTo}
-use Rattle.machine_desc.specs.RoutingTree.{IsTreeChip}
-use Rattle.link_detours.specs.Steps.{Steps}
-use Rattle.link_detours.specs.Waves.{IsIn}
-use Rattle.link_detours.proofs.Putting.{bit_of}
-use Rattle.link_detours.proofs.Stepping.{IsLevel-same}
-use Rattle.link_detours.proofs.Walks.{walk_steps}
-use Rattle.link_detours.proofs.Waving.{AreWaves-same}
+use Rattle.machine_desc.specs.{Live.LeadsTo, RoutingTree.IsTreeChip}
+use Rattle.link_detours.specs.{Steps.Steps, Waves.IsIn}
+use Rattle.link_detours.proofs.{Putting.bit_of, Stepping.IsLevel-same, Walks.walk_steps, Waving.AreWaves-same}
 use Rattle.link_detours.proofs.detours.join.Goals as goal
 
 pub has-requires : goal.has-requires

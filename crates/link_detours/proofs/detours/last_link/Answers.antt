@@ -1,8 +1,6 @@
-use Rattle.std.proofs.Common.{◌<◌, arith}
-use Rattle.spin_base.specs.Links.{dir_number}
+use Rattle.std.proofs.Common.{arith}
 use Rattle.machine_desc.proofs.Same.{below_six}
-use Rattle.link_detours.proofs.Waving.{best_step, next_link}
-use Rattle.link_detours.proofs.Searching.{dir_number_at}
+use Rattle.link_detours.proofs.{Waving.best_step, Waving.next_link, Searching.dir_number_at}
 use Rattle.link_detours.proofs.detours.last_link.Goals as goal
 
 pub returns-in-Some-clause-found : goal.returns-in-Some-clause-found
@@ -16,5 +14,4 @@ loop-dir-preserved c =
     c.in_default.ensures.none c.loop-dir.invariant
 
 pub returns-clause-none : goal.returns-clause-none
-returns-clause-none c = λ e step.
-    let from = c.loop-dir.invariant e step in let six : dir_number e.dir < 6 = below_six e.dir in omega (arith, from, six)
+returns-clause-none c = grind (arith, below_six)

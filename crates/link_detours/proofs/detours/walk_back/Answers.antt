@@ -1,12 +1,9 @@
 use Rattle.std.proofs.Common.{◌≡◌, ℕ, ◌-◌, ◌<◌, suc, [], ◌∷◌, ◌++◌, length, sym, ◌∙◌, subst, arith, rules, append-nil}
 use Rattle.machine_desc.specs.RoutingTree.{IsTreeChip}
 use Rattle.machine_desc.proofs.Far.{inside_parts}
-use Rattle.link_detours.specs.Repair.{IsTreeLevel}
-use Rattle.link_detours.specs.Waves.{AreWaves, IsBestStep, IsWave}
-use Rattle.link_detours.proofs.Reaching.{link_inside}
-use Rattle.link_detours.proofs.Putting.{bit_of, TellsTree, TellsTree-push}
-use Rattle.link_detours.proofs.Waving.{last_wave, no_waves, step_level, last_link_is, some_step, on_tree, way_more, way_ends}
-use Rattle.link_detours.proofs.detours.walk_back.Goals.{After-split_at}
+use Rattle.link_detours.specs.{Repair.IsTreeLevel, Waves.AreWaves, Waves.IsBestStep, Waves.IsWave}
+use Rattle.link_detours.proofs.{Reaching.link_inside, Putting.bit_of, Putting.TellsTree, Putting.TellsTree-push, Waving.last_wave, Waving.no_waves, Waving.step_level, Waving.last_link_is}
+use Rattle.link_detours.proofs.{Waving.some_step, Waving.on_tree, Waving.way_more, Waving.way_ends, detours.walk_back.Goals.After-split_at}
 use Rattle.link_detours.proofs.detours.walk_back.Goals as goal
 
 pub back-init : goal.back-init

@@ -1,9 +1,6 @@
 use Rattle.std.proofs.Common.{◌≡◌, ℕ, List, ◌++◌, length}
-use Rattle.machine_desc.specs.declared.trees.Edge.{Edge}
-use Rattle.machine_desc.specs.Live.{IsInside}
-use Rattle.machine_desc.specs.RoutingTree.{IsTreeChip}
-use Rattle.link_detours.specs.Repair.{IsTreeLevel, IsDetour}
-use Rattle.link_detours.specs.Waves.{AreWaves}
+use Rattle.machine_desc.specs.{declared.trees.Edge.Edge, Live.IsInside, RoutingTree.IsTreeChip}
+use Rattle.link_detours.specs.{Repair.IsTreeLevel, Repair.IsDetour, Waves.AreWaves}
 use Rattle.link_detours.proofs.Putting.{TellsTree}
 use Rattle.link_detours.proofs.detours.walk_back.Given as goal
 

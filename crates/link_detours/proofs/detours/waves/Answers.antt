@@ -1,9 +1,8 @@
 use Rattle.std.proofs.Common.{◌≡◌, suc, length, refl, sym, ap, ◌∙◌, subst, arith, rules}
-use Rattle.std.proofs.lemmas.Bool.{false≢true}
-use Rattle.std.proofs.lemmas.Nat.{mul-le}
+use Rattle.std.proofs.lemmas.{Bool.false≢true, Nat.mul-le}
 use Rattle.link_detours.specs.Waves.{IsIn, IsWave}
-use Rattle.link_detours.proofs.Naming.{all_named, none_grew, spread_but}
-use Rattle.link_detours.proofs.Waving.{first_wave, next_wave, dry, level_is, off_wave, sum_rises, added_words}
+use Rattle.link_detours.proofs.{Naming.all_named, Naming.none_grew, Naming.spread_but, Waving.first_wave, Waving.next_wave, Waving.dry, Waving.level_is, Waving.off_wave, Waving.sum_rises}
+use Rattle.link_detours.proofs.Waving.{added_words}
 use Rattle.link_detours.proofs.detours.waves.Goals as goal
 
 pub overflow_mul-tree : goal.overflow_mul-tree

@@ -1,8 +1,7 @@
 use Rattle.std.proofs.Common.{ℕ, ◌*◌, ◌-◌, ◌<◌}
 use Rattle.std.specs.List.{sum_by}
 use Rattle.machine_desc.specs.Live.{LeadsTo}
-use Rattle.link_detours.specs.Steps.{IsReachedBy}
-use Rattle.link_detours.specs.Waves.{IsIn, IsSpreadBut, IsWave, AreWaves}
+use Rattle.link_detours.specs.{Steps.IsReachedBy, Waves.IsIn, Waves.IsSpreadBut, Waves.IsWave, Waves.AreWaves}
 use Rattle.link_detours.proofs.detours.waves.Given as goal
 
 -- the waves so far and the next of them, the columns in which it can spread, and the target is in none of those so far

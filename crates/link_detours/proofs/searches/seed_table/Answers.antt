@@ -1,11 +1,9 @@
 use Rattle.std.proofs.Common.{◌≡◌, ◌∙◌, ap, length, replicate, take_all, arith, false, rules}
-use Rattle.std.proofs.Math.ListN.{length-set}
-use Rattle.std.proofs.lemmas.List.{length-replicate}
+use Rattle.std.proofs.{Math.ListN.length-set, lemmas.List.length-replicate}
 use Rattle.spin_base.specs.Equality.{chip_eq}
 use Rattle.spin_base.proofs.Equality.{chip_eq_same, chip_eq_true}
 use Rattle.machine_desc.specs.Live.{index_of, IsInside}
-use Rattle.machine_desc.proofs.Far.{same_index}
-use Rattle.machine_desc.proofs.Listing.{Tells-more, Tells-none}
+use Rattle.machine_desc.proofs.{Far.same_index, Listing.Tells-more, Listing.Tells-none}
 use Rattle.link_detours.proofs.Tabling.{Told-contains}
 use Rattle.link_detours.proofs.searches.seed_table.Goals as goal
 

@@ -1,5 +1,4 @@
-use Rattle.link_detours.proofs.Reaching.{edges_inside}
-use Rattle.link_detours.proofs.Trimming.{sorted_stay}
+use Rattle.link_detours.proofs.{Reaching.edges_inside, Trimming.sorted_stay}
 use Rattle.link_detours.proofs.trims.trimmed.Goals as goal
 
 pub invariant_of-edges : goal.invariant_of-edges

@@ -1,7 +1,6 @@
 use Rattle.std.proofs.Common.{arith, sym, subst}
 use Rattle.crossbeam_queue.specs.Fifo.{Forks}
-use Rattle.link_queue.specs.TheRule.{Kept}
-use Rattle.link_queue.specs.Steps.{full_noted, blank}
+use Rattle.link_queue.specs.{TheRule.Kept, Steps.full_noted, Steps.blank}
 use Rattle.link_queue.proofs.StepLemmas.{offers, sees_full, notes_full}
 use Rattle.link_queue.proofs.moves.offer.Goals as goal
 

@@ -1,8 +1,6 @@
 use Rattle.std.proofs.Common.{◌≡◌, true, ap, ◌∙◌, subst}
 use Rattle.crossbeam_queue.specs.Passes.{view}
-use Rattle.link_queue.specs.declared.known.Known.{Known}
-use Rattle.link_queue.specs.Ends.{cap_of, sending, taking}
-use Rattle.link_queue.specs.Steps.{joined, renewed, sender_of, receiver_of, Balanced}
+use Rattle.link_queue.specs.{declared.known.Known.Known, Ends.cap_of, Ends.sending, Ends.taking, Steps.joined, Steps.renewed, Steps.sender_of, Steps.receiver_of, Steps.Balanced}
 use Rattle.link_queue.proofs.StepLemmas.{joins, balanced, renews, rested}
 use Rattle.link_queue.proofs.rests.rest.Goals as goal
 

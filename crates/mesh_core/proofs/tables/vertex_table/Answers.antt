@@ -1,17 +1,14 @@
 -- The table tells one vertex more after each spot.
-use Rattle.std.proofs.Common.{rules, ◌≡◌, ℕ, ◌+◌, ◌*◌, take, get_or, set, replicate, sym, ap, ◌∙◌, subst, Option, Some, None}
+use Rattle.std.proofs.Common.{arith, ◌≡◌, ℕ, ◌+◌, take, get_or, set, sym, subst, Some}
 use Rattle.std.proofs.lemmas.List.{get_or_default}
 use Rattle.spin_base.specs.declared.chips.Spot.{Spot}
 use Rattle.mesh_core.specs.VertexTable.{TellsVertices, spot_place}
-use Rattle.mesh_core.proofs.VertexTableLaws.{TellsVertices-none, TellsVertices-more, TellsVertices-beyond}
-use Rattle.mesh_core.proofs.tables.vertex_table.Goals.{in-Some, in_default-spot_place}
+use Rattle.mesh_core.proofs.{VertexTableLaws.TellsVertices-none, VertexTableLaws.TellsVertices-more, VertexTableLaws.TellsVertices-beyond, tables.vertex_table.Goals.in-Some}
+use Rattle.mesh_core.proofs.tables.vertex_table.Goals.{in_default-spot_place}
 use Rattle.mesh_core.proofs.tables.vertex_table.Goals as goal
 
 pub loop-vertex-init : goal.loop-vertex-init
-loop-vertex-init c =
-    let m = c.args.machine.now in
-    let made = c.in_ok-table.ensures.items_if_clones_equal (λ y h. search rules) in
-    subst (TellsVertices m (take 0 c.args.spots.now)) (sym (made ∙ ap (λ (n : ℕ). replicate {A = Option ℕ} (24 * n) None) c.chips.ensures.total)) (TellsVertices-none m c.args.spots.now)
+loop-vertex-init c = grind (arith, TellsVertices-none (c.args.machine.now) c.args.spots.now)
 
 pub loop-vertex-preserved : goal.loop-vertex-preserved
 loop-vertex-preserved c =

@@ -1,8 +1,8 @@
-use Rattle.std.proofs.Common.{◌∙◌, rules}
+use Rattle.std.proofs.Common.{arith, rules}
 use Rattle.spin_base.specs.declared.copies.Event.TheVariants.{Inject}
 use Rattle.mesh_core.specs.Step.{after_event}
-use Rattle.mesh_drain.proofs.Frame.{dropless, onward_none, onward_then, reached_by, reached_then, sent_dropless}
-use Rattle.mesh_drain.proofs.Turns.{begins, begins_unsent, ends_quiet, popped_smaller}
+use Rattle.mesh_drain.proofs.{Frame.dropless, Frame.onward_none, Frame.onward_then, Frame.reached_by, Frame.reached_then, Frame.sent_dropless, Turns.begins, Turns.begins_unsent, Turns.ends_quiet}
+use Rattle.mesh_drain.proofs.Turns.{popped_smaller}
 use Rattle.mesh_drain.proofs.draining.send_packet.Goals as goal
 
 pub loop-next-init : goal.loop-next-init
@@ -14,11 +14,7 @@ loop-next-init c = record {
 }
 
 pub loop-next-preserved : goal.loop-next-preserved
-loop-next-preserved c = record {
-  onward = onward_then (after_event c.args.mesh.now (Inject c.args.vertex)) c.loop-next.mesh c.go_on.new.mesh c.loop-next.invariant.onward c.go_on.ensures.reached;
-  under_way = c.in_ok-go_on.ensures.under_way;
-  unsent = λ copy rest first. c.in_ok-go_on.ensures.unsent ∙ c.loop-next.invariant.unsent copy rest first;
-}
+loop-next-preserved c = grind (arith, onward_then (after_event c.args.mesh.now (Inject c.args.vertex)) c.loop-next.mesh c.go_on.new.mesh c.loop-next.invariant.onward c.go_on.ensures.reached)
 
 pub loop-next-smaller : goal.loop-next-smaller
 loop-next-smaller c = popped_smaller c.loop-next.mesh c.go_on.new.mesh c.loop-next.waiting.items c.pop.new.self.items

@@ -1,6 +1,5 @@
 use Rattle.std.proofs.Common.{subst, sym}
-use Rattle.machine_desc.specs.Live.{IsSite}
-use Rattle.machine_desc.specs.declared.nets.NetPlan.{NetPlan}
+use Rattle.machine_desc.specs.{Live.IsSite, declared.nets.NetPlan.NetPlan}
 use Rattle.mesh_core.proofs.VertexTableLaws.{site_inside}
 use Rattle.mesh_drain.proofs.Opened.{source_site}
 use Rattle.mesh_drain.proofs.opening.source_vertices.Goals as goal

@@ -1,6 +1,5 @@
 use Rattle.std.proofs.Common.{refl}
-use Rattle.mesh_drain.proofs.Moving.{after_none, after_then, after_setup}
-use Rattle.mesh_drain.proofs.Vertices.{drops_none, drops_then}
+use Rattle.mesh_drain.proofs.{Moving.after_none, Moving.after_then, Moving.after_setup, Vertices.drops_none, Vertices.drops_then}
 use Rattle.mesh_drain.proofs.settling.empty_chip.Goals as goal
 
 pub events-init : goal.events-init

@@ -1,7 +1,7 @@
 use Rattle.std.proofs.Common.{refl, ap, ◌∙◌, set}
 use Rattle.spin_base.specs.declared.copies.Event.TheVariants.{Collect}
-use Rattle.mesh_drain.proofs.{Frame.reached_none, Frame.reached_by, Frame.reached_then, Steps.set_twice, Turns.there_still}
-use Rattle.mesh_drain.proofs.Vertices.{same_besides, same_then, collect_besides, collect_there, collected_there, as_it_was}
+use Rattle.mesh_drain.proofs.{Frame.reached_none, Frame.reached_by, Frame.reached_then, Steps.set_twice, Turns.there_still, Vertices.same_besides, Vertices.same_then, Vertices.collect_besides}
+use Rattle.mesh_drain.proofs.Vertices.{collect_there, collected_there, as_it_was}
 use Rattle.mesh_drain.proofs.settling.empty_core.Goals as goal
 
 pub copies-init : goal.copies-init

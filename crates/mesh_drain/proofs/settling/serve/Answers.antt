@@ -1,12 +1,11 @@
-use Rattle.std.proofs.Common.{◌≡◌, sym, subst, ◌∙◌, ap, true, arith}
+use Rattle.std.proofs.Common.{◌≡◌, sym, subst, ◌∙◌, true, arith}
 use Rattle.std.specs.Prelude.{is_some}
 use Rattle.spin_base.specs.declared.copies.Event.TheVariants.{Send, Dump}
 use Rattle.mesh_core.specs.{State.State, Step.step_of}
 use Rattle.mesh_core.proofs.Fixed.{dumped_stays}
-use Rattle.mesh_drain.proofs.Frame.{dumped_reached}
-use Rattle.mesh_drain.proofs.Moving.{after_one, after_then, after_lighter, after_reached, always, lighter, moved_enabled, dump_enabled, idle_stays, mesh_after}
-use Rattle.mesh_drain.proofs.Turns.{on_ok}
-use Rattle.mesh_drain.proofs.Vertices.{drops_none, served_collected, dumped_leads_on, dumped_collected}
+use Rattle.mesh_drain.proofs.{Frame.dumped_reached, Moving.after_one, Moving.after_then, Moving.after_lighter, Moving.after_reached, Moving.always, Moving.lighter, Moving.moved_enabled}
+use Rattle.mesh_drain.proofs.{Moving.dump_enabled, Moving.idle_stays, Moving.mesh_after, Turns.on_ok, Vertices.drops_none, Vertices.served_collected, Vertices.dumped_leads_on}
+use Rattle.mesh_drain.proofs.Vertices.{dumped_collected}
 use Rattle.mesh_drain.proofs.settling.serve.Goals as goal
 
 pub returns-in-Moved-clause-after : goal.returns-in-Moved-clause-after
@@ -25,9 +24,7 @@ returns-in-Moved-clause-lighter c =
 
 pub returns-in-Moved-clause-links : goal.returns-in-Moved-clause-links
 returns-in-Moved-clause-links c =
-    drops_none c.args.mesh.now c.collect_behind.new.mesh
-    (dumped_reached c.step.new.self c.collect_behind.new.mesh c.collect_behind.ensures.reached
-    ∙ (ap (λ (s : State). s.dumped) c.in_ok-step.ensures.moves ∙ dumped_stays c.args.mesh.now (Send c.args.chip c.args.out) tt))
+    grind (arith, dumped_reached c.step.new.self c.collect_behind.new.mesh c.collect_behind.ensures.reached, dumped_stays c.args.mesh.now (Send c.args.chip c.args.out) tt, drops_none)
 
 pub returns-in-Moved-clause-collected : goal.returns-in-Moved-clause-collected
 returns-in-Moved-clause-collected c =

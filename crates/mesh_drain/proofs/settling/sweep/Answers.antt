@@ -1,8 +1,5 @@
-use Rattle.std.proofs.Common.{◌*◌, ap, ◌∙◌, sym, arith, refl}
-use Rattle.machine_desc.specs.Description.{Description}
-use Rattle.mesh_core.specs.State.{Setup}
-use Rattle.mesh_drain.proofs.Moving.{after_none, after_then, after_setup}
-use Rattle.mesh_drain.proofs.Vertices.{drops_none, drops_then}
+use Rattle.std.proofs.Common.{arith, refl}
+use Rattle.mesh_drain.proofs.{Moving.after_none, Moving.after_then, Moving.after_setup, Vertices.drops_none, Vertices.drops_then}
 use Rattle.mesh_drain.proofs.settling.sweep.Goals as goal
 
 pub loop-index-init : goal.loop-index-init
@@ -25,7 +22,4 @@ returns-in_err-empty_chip-clause-links c =
     c.loop-index.invariant.links c.empty_chip.ensures.links
 
 pub chip_at-chip-requires : goal.chip_at-chip-requires
-chip_at-chip-requires c =
-    let now = ap (λ (m : Description). m.width * m.height)
-    (c.machine-in-loop-index.ensures ∙ (ap (λ (u : Setup). u.machine) (after_setup c.args.mesh.now c.loop-index.mesh c.loop-index.invariant.after) ∙ sym c.machine.ensures)) in
-    omega (arith, c.chips-chips.ensures.total, now, c.loop-index-test.true)
+chip_at-chip-requires c = grind (arith, after_setup c.args.mesh.now c.loop-index.mesh c.loop-index.invariant.after)

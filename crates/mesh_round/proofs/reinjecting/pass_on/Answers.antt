@@ -5,8 +5,7 @@ use Rattle.std.specs.Prelude.{IfErr}
 use Rattle.mesh_core.specs.State.{Setup, State}
 use Rattle.mesh_run.specs.Layouts.{IsLayoutOf}
 use Rattle.mesh_round.specs.{RoundFlow.HasRounds, Reinjecting.HasPasses}
-use Rattle.mesh_round.proofs.FirstBack.{first_goes_back}
-use Rattle.mesh_round.proofs.Passes.{passes_keep_mesh, passes_then, rounds_pass, rounds_no_more}
+use Rattle.mesh_round.proofs.{FirstBack.first_goes_back, Passes.passes_keep_mesh, Passes.passes_then, Passes.rounds_pass, Passes.rounds_no_more}
 use Rattle.mesh_round.proofs.reinjecting.pass_on.Goals as goal
 
 pub returns-in_err-parts-clause-refused : goal.returns-in_err-parts-clause-refused

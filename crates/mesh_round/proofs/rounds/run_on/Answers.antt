@@ -4,9 +4,8 @@ use Rattle.std.proofs.lemmas.Result.{IfErr-weaker}
 use Rattle.std.specs.Prelude.{IfErr}
 use Rattle.mesh_round.specs.{RoundFlow.none, OnThreads.MayGoOn, Bound.HasMovingRounds}
 use Rattle.mesh_round.proofs.Played.{IsLaw, IsReached, answers, at_pace, begins, moved_on, refuses, rests_where_none, stood_on}
-use Rattle.mesh_round.proofs.rounds.run_on.Given.{Over}
+use Rattle.mesh_round.proofs.rounds.run_on.{Given.Over, Goals.In-Ok-false}
 use Rattle.mesh_round.proofs.rounds.run_on.Goals as goal
-use Rattle.mesh_round.proofs.rounds.run_on.Goals.{In-Ok-false}
 
 pub returns-in_err-raised-clause-refused : goal.returns-in_err-raised-clause-refused
 returns-in_err-raised-clause-refused g c =

@@ -3,8 +3,7 @@ use Rattle.std.proofs.lemmas.Option.{slice_get-get_or}
 use Rattle.machine_desc.specs.Live.{chip_of}
 use Rattle.machine_desc.proofs.Far.{index_below, live_inside}
 use Rattle.mesh_core.specs.State.{Setup}
-use Rattle.mesh_run.specs.Played.{IsLiveIndex}
-use Rattle.mesh_run.specs.Homes.{HaveSenders}
+use Rattle.mesh_run.specs.{Played.IsLiveIndex, Homes.HaveSenders}
 use Rattle.mesh_run.proofs.{Feeding.leads, Feeding.place_below, HomeLaws.senders_more}
 use Rattle.mesh_run.proofs.homes.set_live_senders.Goals as goal
 

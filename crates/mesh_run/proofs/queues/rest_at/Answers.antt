@@ -1,6 +1,5 @@
 use Rattle.std.proofs.Common.{subst}
-use Rattle.link_queue.specs.declared.links.Link.{Link}
-use Rattle.link_queue.specs.Ends.{IsTx, IsRx}
+use Rattle.link_queue.specs.{declared.links.Link.Link, Ends.IsTx, Ends.IsRx}
 use Rattle.mesh_run.proofs.Resting.{rests_there}
 use Rattle.mesh_run.proofs.queues.rest_at.Goals as goal
 

@@ -1,8 +1,7 @@
 use Rattle.std.proofs.Common.{sym, ap, ◌∙◌, subst, arith}
-use Rattle.link_queue.specs.declared.links.{Link.Link, Rx.Rx, Tx.Tx}
-use Rattle.link_queue.specs.Ends.{IsTx, IsRx, sending}
-use Rattle.mesh_run.proofs.Resting.{held_short, lent_inside, lent_link, put_again, rest_count, rest_fits, rest_inside, rest_places}
-use Rattle.mesh_run.proofs.Resting.{rest_sent, rest_stands, rest_took, rest_wide, rest_within, widened_up}
+use Rattle.link_queue.specs.{declared.links.Link.Link, declared.links.Rx.Rx, declared.links.Tx.Tx, Ends.IsTx, Ends.IsRx, Ends.sending}
+use Rattle.mesh_run.proofs.Resting.{held_short, lent_inside, lent_link, put_again, rest_count, rest_fits, rest_inside, rest_places, rest_sent, rest_stands, rest_took, rest_wide, rest_within}
+use Rattle.mesh_run.proofs.Resting.{widened_up}
 use Rattle.mesh_run.proofs.queues.widen_at.Goals as goal
 
 pub index-requires : goal.index-requires

@@ -2,8 +2,8 @@ use Rattle.std.proofs.Common.{◌≡◌, ◌<◌, ◌≤◌, ℕ, length, get_or
 use Rattle.std.proofs.lemmas.Option.{slice_get-get_or}
 use Rattle.mesh_core.specs.State.{State}
 use Rattle.mesh_run.specs.declared.homes.Home.{Home}
-use Rattle.mesh_run.proofs.CrossingLaws.{end_still}
-use Rattle.mesh_run.proofs.SplitLaws.{holds_on, holds_self, lanes_more, lanes_none, moved_in, place_there, receiver_there, unsent_wide, vertex_home, vertices_to_more, vertices_to_none}
+use Rattle.mesh_run.proofs.{CrossingLaws.end_still, SplitLaws.holds_on, SplitLaws.holds_self, SplitLaws.lanes_more, SplitLaws.lanes_none, SplitLaws.moved_in, SplitLaws.place_there}
+use Rattle.mesh_run.proofs.SplitLaws.{receiver_there, unsent_wide, vertex_home, vertices_to_more, vertices_to_none}
 use Rattle.mesh_run.proofs.splitting.move_in.Goals as goal
 
 pub loop-place-init : goal.loop-place-init

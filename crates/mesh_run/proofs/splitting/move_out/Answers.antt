@@ -2,8 +2,8 @@ use Rattle.std.proofs.Common.{◌≡◌, ◌<◌, ◌≤◌, ℕ, length, get_or
 use Rattle.std.proofs.lemmas.Option.{slice_get-get_or}
 use Rattle.mesh_core.specs.State.{State}
 use Rattle.mesh_run.specs.declared.homes.Home.{Home}
-use Rattle.mesh_run.proofs.CrossingLaws.{end_still}
-use Rattle.mesh_run.proofs.SplitLaws.{moved_out, out_more, out_none, place_there, receiver_there, unsent_out_more, unsent_out_none, unsent_wide, vertex_home}
+use Rattle.mesh_run.proofs.{CrossingLaws.end_still, SplitLaws.moved_out, SplitLaws.out_more, SplitLaws.out_none, SplitLaws.place_there, SplitLaws.receiver_there, SplitLaws.unsent_out_more}
+use Rattle.mesh_run.proofs.SplitLaws.{unsent_out_none, unsent_wide, vertex_home}
 use Rattle.mesh_run.proofs.splitting.move_out.Goals as goal
 
 pub loop-place-init : goal.loop-place-init

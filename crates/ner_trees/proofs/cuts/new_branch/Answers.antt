@@ -1,8 +1,7 @@
 use Rattle.std.proofs.Common.{false, take_all, sym, subst, ◌∙◌}
 use Rattle.ner_trees.specs.Search.{IsCutAt}
-use Rattle.ner_trees.proofs.Cutting.{at_more, cut_again_at, cut_more_at}
+use Rattle.ner_trees.proofs.{Cutting.at_more, Cutting.cut_again_at, Cutting.cut_more_at, cuts.new_branch.Goals.then-at, cuts.new_branch.Goals.else-at}
 use Rattle.ner_trees.proofs.cuts.new_branch.Goals as goal
-use Rattle.ner_trees.proofs.cuts.new_branch.Goals.{then-at, else-at}
 
 pub loop-dir-preserved : goal.loop-dir-preserved
 loop-dir-preserved c = elim c.if-at.branch [

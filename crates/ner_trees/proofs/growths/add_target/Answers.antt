@@ -2,10 +2,8 @@ use Rattle.std.proofs.Common.{◌≡◌, ◌++◌, List, true, sym, ap, refl, su
 use Rattle.std.specs.{Prelude.is_ok, List.All}
 use Rattle.spin_base.specs.declared.chips.Dir.{Dir}
 use Rattle.machine_desc.specs.{Description.Description, declared.trees.Edge.Edge, Live.IsInside}
-use Rattle.ner_trees.specs.{Geometry.displacement_of, LongestFirst.ldf_of}
-use Rattle.ner_trees.specs.Search.{IsCutAt, IsMarkedBy, is_on}
-use Rattle.ner_trees.proofs.Growing.{extended_inside, near_on_table, added_is, tells_more}
-use Rattle.ner_trees.proofs.growths.add_target.Goals.{After-near_chip-near}
+use Rattle.ner_trees.specs.{Geometry.displacement_of, LongestFirst.ldf_of, Search.IsCutAt, Search.IsMarkedBy, Search.is_on}
+use Rattle.ner_trees.proofs.{Growing.extended_inside, Growing.near_on_table, Growing.added_is, Growing.tells_more, growths.add_target.Goals.After-near_chip-near}
 use Rattle.ner_trees.proofs.growths.add_target.Goals as goal
 
 pub near_chip-near-requires : goal.near_chip-near-requires

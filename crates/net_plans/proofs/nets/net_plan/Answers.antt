@@ -2,13 +2,12 @@ use Rattle.std.proofs.Common.{◌≢◌, ◌<◌, length, get_or, Some, sym, sub
 use Rattle.std.specs.List.{All}
 use Rattle.spin_base.specs.declared.chips.Chip.{Chip}
 use Rattle.std.proofs.lemmas.Result.{IfErr-weaker}
-use Rattle.machine_desc.specs.Live.{IsInside, IsLiveChip}
-use Rattle.machine_desc.specs.RoutingTree.{end_of, IsTreeTo}
+use Rattle.machine_desc.specs.{Live.IsInside, Live.IsLiveChip, RoutingTree.end_of, RoutingTree.IsTreeTo}
 use Rattle.machine_desc.proofs.EdgePlaces.{before_place}
 use Rattle.link_detours.specs.Cause.{IsRepairCause}
 use Rattle.net_plans.specs.{Cause.IsCauseOne, CutOffTargets.HasNoneCutOff}
-use Rattle.net_plans.proofs.CutOffLaws.{none_cut_off, cause_one, refused_one}
-use Rattle.net_plans.proofs.Planning.{all_inside, source_lives, of_targets, of_chips, routes_targets, some_chip, plan_is}
+use Rattle.net_plans.proofs.{CutOffLaws.none_cut_off, CutOffLaws.cause_one, CutOffLaws.refused_one, Planning.all_inside, Planning.source_lives, Planning.of_targets, Planning.of_chips}
+use Rattle.net_plans.proofs.Planning.{routes_targets, some_chip, plan_is}
 use Rattle.spin_base.proofs.Places.{All-at}
 use Rattle.net_plans.proofs.nets.net_plan.Goals as goal
 

@@ -1,10 +1,8 @@
 use Rattle.std.specs.List.{All}
 use Rattle.std.proofs.lemmas.Result.{IfOk-weaker, IfErr-weaker}
 use Rattle.machine_desc.specs.{RoutingTree.IsRoutingTree, declared.nets.NetPlan.NetPlan}
-use Rattle.net_plans.specs.{Cause.IsNetCause, CutOffTargets.HasNoneCutOff, NetPlans.ArePlanned}
-use Rattle.net_plans.specs.Ways.{HaveWays, IsFirstWithout}
-use Rattle.net_plans.proofs.CutOffLaws.{refused_first}
-use Rattle.net_plans.proofs.Routing.{planned_of, routing_of, reached_of, cause_of}
+use Rattle.net_plans.specs.{Cause.IsNetCause, CutOffTargets.HasNoneCutOff, NetPlans.ArePlanned, Ways.HaveWays, Ways.IsFirstWithout}
+use Rattle.net_plans.proofs.{CutOffLaws.refused_first, Routing.planned_of, Routing.routing_of, Routing.reached_of, Routing.cause_of}
 use Rattle.net_plans.proofs.nets.net_plans.Goals as goal
 
 pub returns-clause-planned : goal.returns-clause-planned

@@ -3,8 +3,7 @@ use Rattle.spin_base.specs.declared.chips.Spot.{Spot}
 use Rattle.spin_base.proofs.Places.{All-at}
 use Rattle.machine_desc.specs.Live.{IsInside}
 use Rattle.net_plans.specs.Keys.{AreChipKeys, IsChipOfOne}
-use Rattle.net_plans.proofs.TargetLaws.{key_pushed, key_there, no_keys}
-use Rattle.net_plans.proofs.targets.chip_keys.Goals.{then-not-ends_at+in_ok-push, else-not-ends_at}
+use Rattle.net_plans.proofs.{TargetLaws.key_pushed, TargetLaws.key_there, TargetLaws.no_keys, targets.chip_keys.Goals.then-not-ends_at+in_ok-push, targets.chip_keys.Goals.else-not-ends_at}
 use Rattle.net_plans.proofs.targets.chip_keys.Goals as goal
 
 pub loop-i-init : goal.loop-i-init

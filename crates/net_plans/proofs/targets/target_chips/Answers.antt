@@ -1,7 +1,6 @@
 use Rattle.std.proofs.Common.{map, sym, subst}
 use Rattle.net_plans.specs.{Keys.chip_of_key, Targets.AreTargetChips}
-use Rattle.net_plans.proofs.TargetLaws.{AreOnce, are_target_chips, ok_is}
-use Rattle.net_plans.proofs.Ordering.{compared}
+use Rattle.net_plans.proofs.{TargetLaws.AreOnce, TargetLaws.are_target_chips, TargetLaws.ok_is, Ordering.compared}
 use Rattle.net_plans.proofs.targets.target_chips.Goals as goal
 
 pub returns : goal.returns

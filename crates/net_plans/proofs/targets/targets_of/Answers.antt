@@ -1,6 +1,5 @@
 use Rattle.std.proofs.Common.{ℕ, ◌*◌, List, length, sym, subst}
-use Rattle.net_plans.specs.Boards.{AreOnBefore, HasCoresOf}
-use Rattle.net_plans.specs.Targets.{AreTargets}
+use Rattle.net_plans.specs.{Boards.AreOnBefore, Boards.HasCoresOf, Targets.AreTargets}
 use Rattle.net_plans.proofs.Boarding.{are_targets_on, ok_weaker}
 use Rattle.net_plans.proofs.targets.targets_of.Goals as goal
 

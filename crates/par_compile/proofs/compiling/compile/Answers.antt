@@ -1,8 +1,7 @@
 use Rattle.std.proofs.Common.{◌≡◌, ◌∙◌, length, ap, sym, subst, Some, arith, rules}
 use Rattle.std.specs.List.{position, slice_get}
 use Rattle.par_compile.specs.{Compiled.HasLongTable, Finals.is_long}
-use Rattle.par_compile.proofs.{Refusing.refused_where, Standing.routing_is}
-use Rattle.par_compile.proofs.Unique.{long_has_many, long_has_no_pair, none_long, one_plan, routed_of}
+use Rattle.par_compile.proofs.{Refusing.refused_where, Standing.routing_is, Unique.long_has_many, Unique.long_has_no_pair, Unique.none_long, Unique.one_plan, Unique.routed_of}
 use Rattle.par_compile.proofs.compiling.compile.Goals as goal
 
 pub final_tables-requires-after_bounds : goal.final_tables-requires-after_bounds

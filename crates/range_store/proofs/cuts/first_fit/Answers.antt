@@ -1,10 +1,7 @@
-use Rattle.std.proofs.lemmas.Option.{slice_get-get_or}
+use Rattle.std.proofs.lemmas.{Option.slice_get-get_or, Bool.cases_eq}
 use Rattle.std.proofs.Common.{◌≡◌, ◌<◌, ◌-◌, take, length, get_or, ap, ◌∙◌, inl, inr, arith}
-use Rattle.std.proofs.lemmas.Bool.{cases_eq}
-use Rattle.range_store.specs.declared.holes.Hole.{Hole}
-use Rattle.range_store.specs.Regions.{is_hole_range}
-use Rattle.range_store.proofs.Beginnings.{none_before}
-use Rattle.range_store.proofs.RunLemmas.{end_below, first_is_least}
+use Rattle.range_store.specs.{declared.holes.Hole.Hole, Regions.is_hole_range}
+use Rattle.range_store.proofs.{Beginnings.none_before, RunLemmas.end_below, RunLemmas.first_is_least}
 use Rattle.range_store.proofs.cuts.first_fit.Goals as goal
 
 pub loop-at-init : goal.loop-at-init

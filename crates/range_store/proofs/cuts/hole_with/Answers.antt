@@ -1,9 +1,7 @@
 use Rattle.std.proofs.Common.{◌-◌, ◌<◌, length, arith, get_or}
 use Rattle.std.proofs.lemmas.Option.{slice_get-get_or}
 use Rattle.range_store.specs.declared.holes.Hole.{Hole}
-use Rattle.range_store.proofs.HolePlaces.{has_from}
-use Rattle.range_store.proofs.RunLemmas.{end_below, some_len}
-use Rattle.range_store.proofs.Beginnings.{before_all, beyond}
+use Rattle.range_store.proofs.{HolePlaces.has_from, RunLemmas.end_below, RunLemmas.some_len, Beginnings.before_all, Beginnings.beyond}
 use Rattle.range_store.proofs.cuts.hole_with.Goals as goal
 
 abbrev none : Hole

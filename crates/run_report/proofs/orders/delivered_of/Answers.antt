@@ -1,9 +1,7 @@
 use Rattle.std.proofs.Common.{List, rules, refl, subst, ◌∙◌}
 use Rattle.std.proofs.lemmas.List.Sorted.{answers_always}
 use Rattle.spin_base.specs.declared.copies.Delivery.{Delivery}
-use Rattle.run_report.specs.Keys.{delivery_numbers}
-use Rattle.run_report.specs.Orders.{IsSortedStably}
-use Rattle.run_report.specs.RunReport.{delivery_key}
+use Rattle.run_report.specs.{Keys.delivery_numbers, Orders.IsSortedStably, RunReport.delivery_key}
 use Rattle.run_report.proofs.Sorting.{in_order_of_two}
 use Rattle.run_report.proofs.orders.delivered_of.Goals as goal
 

@@ -1,6 +1,5 @@
 use Rattle.std.proofs.Common.{arith}
-use Rattle.run_report.specs.Named.{named_delivery}
-use Rattle.run_report.specs.ReportText.{got_line}
+use Rattle.run_report.specs.{Named.named_delivery, ReportText.got_line}
 use Rattle.run_report.proofs.Gathering.{put_at, put_all}
 use Rattle.run_report.proofs.texts.put_all_gots.Goals as goal
 

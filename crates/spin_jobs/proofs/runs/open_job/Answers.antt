@@ -2,8 +2,7 @@ use Rattle.std.proofs.Common.{◌≡◌, ◌*◌, ◌∙◌, All, length, ap, sy
 use Rattle.std.specs.List.{Contains}
 use Rattle.std.proofs.lemmas.List.{length-map}
 use Rattle.machine_desc.specs.declared.nets.NetPlan.{NetPlan}
-use Rattle.mesh_core.specs.State.{Setup}
-use Rattle.mesh_core.specs.Opened.{AreOfNets}
+use Rattle.mesh_core.specs.{State.Setup, Opened.AreOfNets}
 use Rattle.par_compile.specs.Finals.{loaded_of}
 use Rattle.spin_jobs.specs.Planned.{JobWithPlan, setup_of}
 use Rattle.spin_jobs.proofs.Opening.{job_of_nets, opened_ready}

@@ -2,8 +2,7 @@ use Rattle.std.proofs.Common.{Some, refl, sym, ap, ◌∙◌}
 use Rattle.spin_input.specs.Inputs.{Reading}
 use Rattle.spin_input.proofs.JobBytes.{err_carried}
 use Rattle.spin_words.specs.Commands.{texts_of}
-use Rattle.spin_top.specs.Causes.{HasCause}
-use Rattle.spin_top.specs.Made.{from_job}
+use Rattle.spin_top.specs.{Causes.HasCause, Made.from_job}
 use Rattle.spin_top.proofs.EndLaws.{cause_with_job, cause_without_job, job_of_number}
 use Rattle.spin_top.proofs.tops.made_of.Goals as goal
 

@@ -6,11 +6,9 @@ use Rattle.run_report.specs.Refusals.{line_of}
 use Rattle.run_report.specs.declared.causes.Refusal.TheVariants as refusals
 use Rattle.spin_input.specs.Inputs.{Reading}
 use Rattle.spin_jobs.specs.declared.outcomes.Parts.{Parts}
-use Rattle.spin_top.specs.Causes.{no_memory}
-use Rattle.spin_top.specs.Ends.{Ends, made, refused}
-use Rattle.spin_top.specs.Made.{IsMade}
-use Rattle.spin_top.specs.Writing.{IsWritten, Writing}
-use Rattle.spin_top.proofs.EndLaws.{apps_clause, check_clause, complete_clause, exact_clause, generated_clause, ledger_clause, made_or_unmade, names_clause, plan_clause, read_as_asked, reinject_clause, run_clause, told_command, trace_clause}
+use Rattle.spin_top.specs.{Causes.no_memory, Ends.Ends, Ends.made, Ends.refused, Made.IsMade, Writing.IsWritten, Writing.Writing}
+use Rattle.spin_top.proofs.EndLaws.{apps_clause, check_clause, complete_clause, exact_clause, generated_clause, ledger_clause, made_or_unmade, names_clause, plan_clause, read_as_asked}
+use Rattle.spin_top.proofs.EndLaws.{reinject_clause, run_clause, told_command, trace_clause}
 use Rattle.spin_top.proofs.tops.spin.Goals as goal
 
 pub returns-in-Ok : goal.returns-in-Ok

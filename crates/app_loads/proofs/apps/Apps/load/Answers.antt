@@ -1,13 +1,11 @@
 use Rattle.std.proofs.Common.{◌≡◌, ◌∙◌, ◌+◌, ◌<◌, ◌≤◌, ◌++◌, ◌∷◌, [], refl, sym, ap, subst, arith, length, List, Option, Some, ℕ}
 use Rattle.std.proofs.lemmas.{List.with_items_is, Result.IfOk-at_ok, Result.IfErr-at_err}
-use Rattle.std.specs.Prelude.{IfSome, vec_capacity, vec_len}
-use Rattle.std.specs.Vec.{with_items}
-use Rattle.app_loads.specs.declared.{loaded.LoadedApp.LoadedApp, plans.AppNet.AppNet, plans.AppPlan.AppPlan}
-use Rattle.app_loads.specs.{Applications.AreApps, Claims.claims_of, Joining.IsServedApp, Joining.IsSettled, Sending.AreWithSources}
-use Rattle.app_loads.specs.Taking.{AreFreeAgain, IsDueAlways, frees}
+use Rattle.std.specs.{Prelude.IfSome, Prelude.vec_capacity, Prelude.vec_len, Vec.with_items}
+use Rattle.app_loads.specs.{declared.loaded.LoadedApp.LoadedApp, declared.plans.AppNet.AppNet, declared.plans.AppPlan.AppPlan, Applications.AreApps, Claims.claims_of, Joining.IsServedApp}
+use Rattle.app_loads.specs.{Joining.IsSettled, Sending.AreWithSources, Taking.AreFreeAgain, Taking.IsDueAlways, Taking.frees}
 use Rattle.app_loads.proofs.LoadedParts.{IsOut, Joins, Stands, can_join, err_why, free_again, never_none, on_err, on_ok, ok_host, ok_loaded, packets_fit, still}
-use Rattle.app_loads.proofs.apps.Apps.load.Goals as goal
 use Rattle.app_loads.proofs.apps.Apps.load.Goals.{After-add, After-deref_mut, After-len, After-put-in-Err, After-reserve_one}
+use Rattle.app_loads.proofs.apps.Apps.load.Goals as goal
 
 -- room was made, or not
 reserved : (c : After-reserve_one) → Stands (record c.self.inside { apps = c.reserve_one.new.apps; numbers = c.reserve_one.new.numbers }) c.args.self.now

@@ -1,8 +1,7 @@
 use Rattle.std.proofs.Common.{◌≡◌, ◌∙◌, ◌&&◌, ◌||◌, All, Bool, ap, false, leb, not, sym, subst}
 use Rattle.std.proofs.lemmas.Bool.{and_from, le-leb, le-ltb}
 use Rattle.spin_base.specs.declared.copies.Delivery.{Delivery}
-use Rattle.app_loads.specs.declared.{group.Group.TheInside.Inside, loaded.LoadedApp.LoadedApp}
-use Rattle.app_loads.specs.{Grouping.Grouped, Leaving.is_delivery_of, Leaving.is_packet_of}
+use Rattle.app_loads.specs.{declared.group.Group.TheInside.Inside, declared.loaded.LoadedApp.LoadedApp, Grouping.Grouped, Leaving.is_delivery_of, Leaving.is_packet_of}
 use Rattle.app_loads.proofs.GroupLaws.{others_all}
 use Rattle.app_loads.proofs.group.Group.is_others.Goals as goal
 

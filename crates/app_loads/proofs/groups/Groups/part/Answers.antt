@@ -1,11 +1,8 @@
 use Rattle.std.proofs.Common.{◌≡◌, ◌∙◌, List, [], ap, arith, length, not, sym}
-use Rattle.std.proofs.lemmas.Bool.{or_parts}
-use Rattle.std.specs.List.{list_any}
-use Rattle.std.proofs.lemmas.Grind.{common_steps}
-use Rattle.std.specs.{Prelude.vec_capacity, Prelude.vec_len, Vec.Iter.into_iter_items}
+use Rattle.std.proofs.lemmas.{Bool.or_parts, Grind.common_steps}
+use Rattle.std.specs.{List.list_any, Prelude.vec_capacity, Prelude.vec_len, Vec.Iter.into_iter_items}
 use Rattle.spin_base.proofs.Places.{none_within}
-use Rattle.app_loads.specs.Grouping.{Grouped, all_grouped, is_mixed_group}
-use Rattle.app_loads.specs.Leaving.{is_delivery_of}
+use Rattle.app_loads.specs.{Grouping.Grouped, Grouping.all_grouped, Grouping.is_mixed_group, Leaving.is_delivery_of}
 use Rattle.app_loads.proofs.GroupLaws.{few_more, left_others, none_of_rest, put_group, rest_is, room_still, still_counted}
 use Rattle.app_loads.proofs.groups.Groups.part.Goals as goal
 

@@ -1,6 +1,5 @@
 use Rattle.std.proofs.Common.{◌≡◌, ◌+◌, ◌++◌, ◌∙◌, ap, arith, rules, List}
-use Rattle.app_loads.specs.Grouping.{Grouped, all_grouped}
-use Rattle.app_loads.specs.Groups.{deliveries_at, sent_of}
+use Rattle.app_loads.specs.{Grouping.Grouped, Grouping.all_grouped, Groups.deliveries_at, Groups.sent_of}
 use Rattle.app_loads.proofs.GroupLaws.{put_back, put_counted, put_last_arrivals}
 use Rattle.app_loads.proofs.groups.Groups.put.Goals as goal
 

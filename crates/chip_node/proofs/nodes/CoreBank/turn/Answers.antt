@@ -1,9 +1,6 @@
 use Rattle.std.proofs.Common.{◌≢◌, sym, subst}
-use Rattle.chip_node.specs.declared.holdings.Turn.{Turn}
-use Rattle.chip_node.specs.declared.holdings.Turn.TheVariants.{Moved}
-use Rattle.chip_node.specs.Acting.{BankActs, SendsOne}
-use Rattle.chip_node.proofs.Banking.{cannot_get_before, first_none, half_stays, halves_act, second_none}
-use Rattle.chip_node.proofs.Stays.{roomy_on}
+use Rattle.chip_node.specs.{declared.holdings.Turn.Turn, declared.holdings.Turn.TheVariants.Moved, Acting.BankActs, Acting.SendsOne}
+use Rattle.chip_node.proofs.{Banking.cannot_get_before, Banking.first_none, Banking.half_stays, Banking.halves_act, Banking.second_none, Stays.roomy_on}
 use Rattle.chip_node.proofs.nodes.CoreBank.turn.Goals as goal
 
 pub returns-clause-acts : goal.returns-clause-acts

@@ -1,23 +1,10 @@
 use Rattle.std.proofs.Common.{◌≡◌, ℕ, ◌+◌, ◌*◌, ◌<◌, ◌≤◌, List, length, get_or, set, refl, sym, ap, subst, ◌∙◌, arith}
-use Rattle.std.proofs.lemmas.Bool.{false≢true}
-use Rattle.std.proofs.lemmas.List.Elements.{All-set}
+use Rattle.std.proofs.lemmas.{Bool.false≢true, List.Elements.All-set}
 use Rattle.spin_base.proofs.Places.{one_item_at}
-use Rattle.spin_base.specs.declared.chips.Port.{Port}
-use Rattle.spin_base.specs.declared.routes.Out.{Out}
-use Rattle.spin_base.specs.Links.{port_number}
-use Rattle.chip_node.specs.declared.ends.End.{End}
-use Rattle.chip_node.specs.declared.ends.Seen.TheVariants.{Front}
-use Rattle.chip_node.specs.Going.{IsEndOf}
-use Rattle.chip_node.specs.Items.{port_place}
-use Rattle.chip_node.specs.Passing.{IsSeen}
-use Rattle.chip_node.specs.Routing.{outputs_at}
-use Rattle.chip_node.specs.Taking.{HasRoomForOuts}
-use Rattle.chip_node.proofs.EndSteps.{end_lacks_idle}
-use Rattle.chip_node.proofs.Flows.{goes_none, ready_router_on}
-use Rattle.chip_node.proofs.Looking.{end_written, idle_at, idle_past, lacks_at, read_stands, room_kept, seen_first}
-use Rattle.chip_node.proofs.Placing.{stays_at, took_goes, Writes}
-use Rattle.chip_node.proofs.Stays.{stays_same}
-use Rattle.chip_node.proofs.Turning.{looks_on}
+use Rattle.spin_base.specs.{declared.chips.Port.Port, declared.routes.Out.Out, Links.port_number}
+use Rattle.chip_node.specs.{declared.ends.End.End, declared.ends.Seen.TheVariants.Front, Going.IsEndOf, Items.port_place, Passing.IsSeen, Routing.outputs_at, Taking.HasRoomForOuts}
+use Rattle.chip_node.proofs.{EndSteps.end_lacks_idle, Flows.goes_none, Flows.ready_router_on, Looking.end_written, Looking.idle_at, Looking.idle_past, Looking.lacks_at, Looking.read_stands}
+use Rattle.chip_node.proofs.{Looking.room_kept, Looking.seen_first, Placing.stays_at, Placing.took_goes, Placing.Writes, Stays.stays_same, Turning.looks_on}
 use Rattle.chip_node.proofs.nodes.RouterNode.look.Goals as goal
 
 -- the end at a port's place is written

@@ -1,14 +1,8 @@
 use Rattle.std.proofs.Common.{◌+◌, ◌*◌, List, refl, sym, ap, subst, ◌∙◌}
-use Rattle.std.proofs.lemmas.Bool.{false≢true}
-use Rattle.std.proofs.lemmas.List.Elements.{All-set}
+use Rattle.std.proofs.lemmas.{Bool.false≢true, List.Elements.All-set}
 use Rattle.spin_base.specs.declared.routes.Out.{Out}
-use Rattle.chip_node.specs.Going.{IsEndOf}
-use Rattle.chip_node.specs.Items.{port_place}
-use Rattle.chip_node.specs.Taking.{HasRoomForOuts}
-use Rattle.chip_node.proofs.Flows.{goes_none, ready_router_on}
-use Rattle.chip_node.proofs.Looking.{end_written, lacks_at, room_for_all, room_kept}
-use Rattle.chip_node.proofs.Placing.{took_goes}
-use Rattle.chip_node.proofs.Stays.{stays_same}
+use Rattle.chip_node.specs.{Going.IsEndOf, Items.port_place, Taking.HasRoomForOuts}
+use Rattle.chip_node.proofs.{Flows.goes_none, Flows.ready_router_on, Looking.end_written, Looking.lacks_at, Looking.room_for_all, Looking.room_kept, Placing.took_goes, Stays.stays_same}
 use Rattle.chip_node.proofs.nodes.RouterNode.take_over.Goals as goal
 
 pub returns-then-not-has_room_everywhere-clause-looks : goal.returns-then-not-has_room_everywhere-clause-looks

@@ -1,7 +1,5 @@
 use Rattle.std.proofs.Common.{ap, sym, subst}
-use Rattle.std.specs.Ordering.{nat_cmp}
-use Rattle.std.specs.Map.{lookup}
-use Rattle.std.specs.BTreeMap.{is_at, get}
+use Rattle.std.specs.{Ordering.nat_cmp, Map.lookup, BTreeMap.is_at, BTreeMap.get}
 use Rattle.job_readers.specs.FixedRanges.{AreRanges}
 use Rattle.job_readers.proofs.RangeSteps.{no_ranges}
 use Rattle.job_readers.proofs.fixed_blocks.FixedBlocks.new.Goals as goal

@@ -1,8 +1,6 @@
 use Rattle.std.proofs.Common.{refl, ap, ◌∙◌, ◌≡◌, ℕ, ◌≤◌, true, false, not, ◌&&◌, subst, arith}
-use Rattle.std.proofs.lemmas.Bool.Decides.{nat_tests}
-use Rattle.std.proofs.lemmas.List.Elements.{All-replicate}
-use Rattle.key_alloc.specs.declared.free.Start.{Start}
-use Rattle.key_alloc.specs.KeyBlocks.{IsOpenPlace}
+use Rattle.std.proofs.lemmas.{Bool.Decides.nat_tests, List.Elements.All-replicate}
+use Rattle.key_alloc.specs.{declared.free.Start.Start, KeyBlocks.IsOpenPlace}
 use Rattle.range_store.specs.Regions.{AreRuns, is_free, is_hole_range, in_range, hole_of}
 use Rattle.key_alloc.proofs.Frontier.{at_start}
 use Rattle.key_alloc.proofs.free.FreeKeys.beside.Goals as goal

@@ -1,9 +1,7 @@
 use Rattle.std.proofs.Common.{◌≡◌, ◌≢◌, ◌<◌, ◌++◌, ◌∷◌, [], ℕ, refl, sym, ◌∙◌, subst, true, not, ◌&&◌, List, arith}
 use Rattle.spin_base.specs.declared.blocks.Block.{Block}
 use Rattle.range_store.specs.Regions.{AreRuns, is_hole_range, is_free, in_range}
-use Rattle.key_alloc.specs.KeyBlocks.{size_of}
-use Rattle.key_alloc.specs.FreeKeys.{AreKeysFreeBeside}
-use Rattle.key_alloc.specs.declared.free.FreeKeys.{FreeKeys}
+use Rattle.key_alloc.specs.{KeyBlocks.size_of, FreeKeys.AreKeysFreeBeside, declared.free.FreeKeys.FreeKeys}
 use Rattle.key_alloc.proofs.Taking.{below_frontier, least_from_fit, beyond_from_fit, none_from_fit, open_before, taken_more}
 use Rattle.key_alloc.proofs.free.FreeKeys.take.Goals as goal
 

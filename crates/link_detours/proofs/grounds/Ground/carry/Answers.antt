@@ -1,7 +1,5 @@
 use Rattle.std.proofs.Common.{sym, refl, ◌∙◌}
-use Rattle.std.proofs.lemmas.Bool.{false≢true}
-use Rattle.std.proofs.lemmas.List.{take_all}
-use Rattle.std.proofs.lemmas.List.Elements.{All-more}
+use Rattle.std.proofs.lemmas.{Bool.false≢true, List.take_all, List.Elements.All-more}
 use Rattle.machine_desc.specs.Live.{IsLiveLink}
 use Rattle.link_detours.proofs.grounds.Ground.carry.Goals as goal
 

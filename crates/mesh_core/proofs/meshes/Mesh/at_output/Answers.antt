@@ -1,7 +1,6 @@
 -- The hand has a copy of the packet for the output, or it was dumped there, or neither.
 use Rattle.std.proofs.Common.{sym, ◌∙◌, subst, Option}
-use Rattle.mesh_core.specs.declared.places.Where.{Where}
-use Rattle.mesh_core.specs.Searches.{IsFound, IsOfOutput}
+use Rattle.mesh_core.specs.{declared.places.Where.Where, Searches.IsFound, Searches.IsOfOutput}
 use Rattle.mesh_core.proofs.Searching.{hand_has, dump_has, output_lacks}
 use Rattle.mesh_core.proofs.meshes.Mesh.at_output.Goals as goal
 

@@ -1,12 +1,9 @@
 -- Each search on the way finds the target's copy or shows where it is not, and the walk goes on.
-use Rattle.std.proofs.Common.{◌≡◌, ℕ, ◌*◌, ◌≤◌, ap, sym, ◌∙◌, subst, Some, None, List}
-use Rattle.std.specs.List.{All}
+use Rattle.std.proofs.Common.{arith, ◌≡◌, ℕ, ◌*◌, ◌≤◌, ap, sym, ◌∙◌, subst, Some, None, List}
 use Rattle.spin_base.specs.declared.{chips.Port.Port, routes.Out.Out}
-use Rattle.machine_desc.specs.declared.trees.Edge.{Edge}
-use Rattle.machine_desc.specs.{Description.Description, Live.IsInside}
+use Rattle.machine_desc.specs.{declared.trees.Edge.Edge, Description.Description}
 use Rattle.machine_desc.proofs.Sites.{site_parts}
-use Rattle.mesh_core.specs.State.{State, IsMesh}
-use Rattle.mesh_core.specs.Searches.{IsFound, IsOfPort, IsEdgeInto, port_behind}
+use Rattle.mesh_core.specs.{State.State, State.IsMesh, Searches.IsFound, Searches.IsOfPort, Searches.IsEdgeInto, Searches.port_behind}
 use Rattle.mesh_core.proofs.WalkingUp.{Walked, target_is_site, found_at_core, found_at_output, found_at_port, walk_begins, walk_inside, walk_short, walk_goes_on, walk_ends}
 use Rattle.mesh_core.proofs.Searching.{edges_inside}
 use Rattle.mesh_core.proofs.meshes.Mesh.where_is.Goals as goal
@@ -82,9 +79,4 @@ unreachable-requires c =
     (subst IsMesh c.self.view_is c.self.invariant) c.loop.counter c.loop.chip c.loop.out c.loop.invariant many
 
 pub edge_into-before-requires : goal.edge_into-before-requires
-edge_into-before-requires c =
-    let s : State = c.args.self.now in
-    let machine : c.machine-machine.result.now ≡ s.setup.machine = c.machine-machine.ensures ∙ ap (λ (t : State). t.setup.machine) c.self.view_is in
-    subst (λ (m : Description). All (λ e. IsInside m e.chip) c.as_slice.result.now) (sym machine)
-    (subst (λ (edges : List Edge). All (λ e. IsInside s.setup.machine e.chip) edges) (sym c.as_slice.ensures)
-    (edges_inside s c.args.net.now c.args.packet c.requires.tracked))
+edge_into-before-requires c = grind (arith, edges_inside (c.args.self.now) c.args.net.now c.args.packet c.requires.tracked)

@@ -1,10 +1,8 @@
 use Rattle.std.proofs.Common.{◌≡◌, ◌+◌, ◌≤◌, List, refl, ap, subst, arith}
 use Rattle.std.proofs.lemmas.Result.{on_ok_weaker}
 use Rattle.mesh_core.specs.State.{IsMesh, Setup, State}
-use Rattle.mesh_run.specs.declared.shares.Share.{Share}
-use Rattle.mesh_run.specs.{Gathering.HasRoomForLogs, Raised.IsRaisedFrom}
-use Rattle.mesh_run.proofs.Raising.{copies_self, known_up, with_links}
-use Rattle.mesh_run.proofs.Resting.{after_refusal}
+use Rattle.mesh_run.specs.{declared.shares.Share.Share, Gathering.HasRoomForLogs, Raised.IsRaisedFrom}
+use Rattle.mesh_run.proofs.{Raising.copies_self, Raising.known_up, Raising.with_links, Resting.after_refusal}
 use Rattle.mesh_run.proofs.raised.RaisedMesh.make_room.Goals as goal
 
 pub places_of-places-requires : goal.places_of-places-requires

@@ -3,15 +3,11 @@ use Rattle.std.proofs.lemmas.List.{with_items_is}
 use Rattle.std.specs.{List.All, List.flat_map, Vec.with_items}
 use Rattle.link_queue.specs.declared.links.{Link.Link, LinkEnds.LinkEnds}
 use Rattle.mesh_core.specs.State.{IsMesh, State}
-use Rattle.mesh_run.specs.declared.{homes.Cut.Cut, raised.RaisedMesh.RaisedMesh, shares.Share.Share}
-use Rattle.mesh_run.specs.Crossing.{AreCuts, AreLaid, Deals, HoldsNoEnds}
-use Rattle.mesh_run.specs.Gathering.{AreEmptied, FitsLogs, IsAnyMoved}
-use Rattle.mesh_run.specs.{Queues.RestAll, Queues.WasUp, Raised.IsRoomyFrom, Raised.PlaysTo, Shares.IsShareOf, Standing.HoldsAll}
-use Rattle.mesh_run.proofs.AfterDeal.{cuts_apart, few_links}
-use Rattle.mesh_run.proofs.RoundSteps.{IsCollected, IsDealt, IsTurned, PlayAndStay, can_rest, cuts_laid, is_collected, is_dealt}
-use Rattle.mesh_run.proofs.RoundSteps.{is_turned, no_ends, room_for_logs, round_plays, shares_of_mesh, still_cuts}
-use Rattle.mesh_run.proofs.raised.RaisedMesh.play_roomy.Given.{Over}
-use Rattle.mesh_run.proofs.raised.RaisedMesh.play_roomy.Goals.{After-collect, After-deal, After-play_all}
+use Rattle.mesh_run.specs.{declared.homes.Cut.Cut, declared.raised.RaisedMesh.RaisedMesh, declared.shares.Share.Share, Crossing.AreCuts, Crossing.AreLaid, Crossing.Deals, Crossing.HoldsNoEnds}
+use Rattle.mesh_run.specs.{Gathering.AreEmptied, Gathering.FitsLogs, Gathering.IsAnyMoved, Queues.RestAll, Queues.WasUp, Raised.IsRoomyFrom, Raised.PlaysTo, Shares.IsShareOf, Standing.HoldsAll}
+use Rattle.mesh_run.proofs.{AfterDeal.cuts_apart, AfterDeal.few_links, RoundSteps.IsCollected, RoundSteps.IsDealt, RoundSteps.IsTurned, RoundSteps.PlayAndStay, RoundSteps.can_rest}
+use Rattle.mesh_run.proofs.RoundSteps.{cuts_laid, is_collected, is_dealt, is_turned, no_ends, room_for_logs, round_plays, shares_of_mesh, still_cuts}
+use Rattle.mesh_run.proofs.raised.RaisedMesh.play_roomy.{Given.Over, Goals.After-collect, Goals.After-deal, Goals.After-play_all}
 use Rattle.mesh_run.proofs.raised.RaisedMesh.play_roomy.Goals as goal
 
 pub deal-requires-clause-cuts : goal.deal-requires-clause-cuts

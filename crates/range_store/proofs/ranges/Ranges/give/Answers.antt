@@ -1,6 +1,5 @@
 use Rattle.std.proofs.Common.{arith, ap, subst, sym, ◌∙◌, ◌||◌}
-use Rattle.range_store.specs.Regions.{is_free, in_range}
-use Rattle.range_store.specs.Views.{CanGive}
+use Rattle.range_store.specs.{Regions.is_free, Regions.in_range, Views.CanGive}
 use Rattle.range_store.proofs.RunLemmas.{widen}
 use Rattle.range_store.proofs.ranges.Ranges.give.Goals as goal
 

@@ -1,7 +1,6 @@
 use Rattle.std.proofs.Common.{◌/◌, ◌%◌, ◌∙◌, length, arith, sym, subst, ap, slice_set}
 use Rattle.std.specs.Prelude.{IfSome}
-use Rattle.std.proofs.lemmas.List.{length-set}
-use Rattle.std.proofs.lemmas.Option.{IfSome_then}
+use Rattle.std.proofs.lemmas.{List.length-set, Option.IfSome_then}
 use Rattle.spin_base.proofs.Places.{slice_get_there}
 use Rattle.tcam_find.specs.Memory.{HaveInCommon, entries_held}
 use Rattle.tcam_find.proofs.MemoryLemmas.{set_in_held}
