@@ -5,7 +5,6 @@ use Rattle.std.proofs.lemmas.Option.{slice_get_within, get_or_from_slice_get, sl
 use Rattle.std.specs.List.{slice_get, slice_index_or, All, Contains}
 use Rattle.std.specs.Prelude.{unwrap_or}
 use Rattle.spin_base.specs.declared.{chips.Spot.Spot, copies.McCopy.McCopy, copies.Packet.Packet}
-use Rattle.machine_desc.specs.{Description.Description, Live.IsSite}
 use Rattle.machine_desc.specs.declared.nets.NetPlan.{NetPlan}
 use Rattle.machine_desc.specs.NetsOn.{vertex_at}
 use Rattle.mesh_core.specs.{State.Setup, State.State, Step.push_at, Opened.empty_mesh, Opened.opened_mesh, Opened.first_copy, Opened.AreOfNets}
@@ -52,11 +51,6 @@ listed_source spots nets list p d is k = (
       ∙ (get_or-map (source_vertex_of spots) nets p.net k.net d k.net_within
       ∙ (ap (source_vertex_of spots) (get_or_from_slice_get nets p.net k.net k.net k.is_net) ∙ k.is_source)),
 )
-
--- a source is on a site
-pub source_site : (m : Description) (spots : List Spot) (nets : List NetPlan) → All (IsSite m) spots → All (λ (net : NetPlan). Contains spots net.source) nets →
-    (i : ℕ) (d : NetPlan) → i < length nets → IsSite m (get_or nets i d).source
-source_site m spots nets sites sources i d within = All-contains (IsSite m) spots (get_or nets i d).source sites (sources i d within)
 
 -- the mesh of no packet is the one without a copy
 pub opens : (u : Setup) (nets : List NetPlan) → empty_mesh u ≡ opened_mesh u nets []

@@ -13,11 +13,6 @@ pub overflow_cast-vertex : goal.overflow_cast-vertex
 overflow_cast-vertex c =
     omega (arith, few_in_mesh c.args.mesh.now c.every_mesh_is_one.ensures, ap length c.spots-vertices.ensures, c.loop-vertex-test.true)
 
-pub empty_core-requires : goal.empty_core-requires
-empty_core-requires c =
-    there_still c.args.mesh.now c.loop-vertex.mesh c.loop-vertex.vertex c.loop-vertex.invariant.reached
-    (subst (λ l. c.loop-vertex.vertex < length l) c.spots-vertices.ensures c.loop-vertex-test.true)
-
 pub loop-vertex-preserved : goal.loop-vertex-preserved
 loop-vertex-preserved c =
     let mesh = mesh_after c.args.mesh.now c.loop-vertex.mesh c.every_mesh_is_one.ensures (after_reached c.args.mesh.now c.loop-vertex.mesh c.loop-vertex.invariant.reached) in
