@@ -119,7 +119,7 @@ pub empty_from : (u : Setup) (unsent inputs cores : List (List McCopy)) (hands :
     unsent ≡ replicate (length u.spots) [] → inputs ≡ replicate (7 * (u.machine.width * u.machine.height)) [] →
     hands ≡ replicate (u.machine.width * u.machine.height) None → cores ≡ replicate (length u.spots) [] →
     empty_mesh u ≡ record { setup = u; unsent = unsent; inputs = inputs; hands = hands; cores = cores; delivered = []; dumped = [] }
-empty_from u unsent inputs cores hands is_unsent is_inputs is_hands is_cores = grind arith
+empty_from u unsent inputs cores hands is_unsent is_inputs is_hands is_cores = rw (is_unsent, is_inputs, is_hands, is_cores) refl
 
 -- the first unsent copy of a vertex is gone
 pub IsMesh-dropped : (s : State) (v : ℕ) → IsMesh s → IsMesh (record s { unsent = drop_front s.unsent v (slice_get s.unsent v) })

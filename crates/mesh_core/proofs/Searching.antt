@@ -169,10 +169,6 @@ module _ (s : State) (packet : ℕ) where
           position_nowhere (is_delivery v) s.delivered d nowhere stands
           (and_from (w == v) (k.copy.packet == packet) (eq-eqb w v same) (eq-eqb k.copy.packet packet is_packet))
 
-  -- on a core without a vertex there is nothing
-  pub no_vertex_lacks : (spot : Spot) → vertex_at s.setup.spots spot ≡ None → IsFound s packet (IsOfCore s spot) None
-  no_vertex_lacks spot none k has is_packet there = let both : Some there.0 ≡ None = sym there.1 ∙ none in cc
-
 -- ---- what the code of a search knows
 
 pub none_from : (r : Option ℕ) → ((i : ℕ) → r ≡ Some i → ⊥) → r ≡ None

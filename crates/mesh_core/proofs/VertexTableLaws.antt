@@ -8,7 +8,7 @@ use Rattle.spin_base.specs.{declared.chips.Spot.Spot, Equality.spot_eq}
 use Rattle.spin_base.proofs.{Equality.spot_eq_true, Equality.spot_eq_same, Places.slice_get-set_same, Places.slice_get-set_other}
 use Rattle.machine_desc.specs.{Description.Description, Live.IsInside, Live.IsSite, NetsOn.vertex_at}
 use Rattle.machine_desc.proofs.{Far.same_index, Far.index_below, Far.live_inside, Same.same_spot, Sites.site_parts}
-use Rattle.mesh_core.specs.VertexTable.{spot_place, IsInTable, TellsVertices}
+use Rattle.mesh_core.specs.VertexTable.{spot_place, IsSpotPlace, TellsVertices}
 
 -- a site is one of the 24 spots of a chip of the grid
 pub site_inside : (m : Description) (s : Spot) → IsSite m s → IsInside m s.chip × (s.core < 24)
@@ -50,7 +50,7 @@ same_eq : (a b : Spot) → a ≡ b → spot_eq a b ≡ true
 same_eq a b e = subst (λ (s : Spot). spot_eq a s ≡ true) e (spot_eq_same a)
 
 -- a spot that no chip of the machine has is no vertex's
-pub vertex_at-nowhere : (m : Description) (spots : List Spot) (s : Spot) → All (IsSite m) spots → IsInTable m s None → vertex_at spots s ≡ None
+pub vertex_at-nowhere : (m : Description) (spots : List Spot) (s : Spot) → All (IsSite m) spots → IsSpotPlace m s None → vertex_at spots s ≡ None
 vertex_at-nowhere m spots s sites nowhere =
     vertex_at-from spots s
     ∙ no_place (spot_eq s) spots 0 (λ k d below. differs s (get_or spots k d) (λ e.
@@ -69,7 +69,7 @@ vertex_at-push_new spots y s same different =
 
 -- what the table has at a spot's place is the vertex there
 pub vertex_told : (m : Description) (spots : List Spot) (table : List (Option ℕ)) (s : Spot) (place : ℕ) (x d : Option ℕ) → TellsVertices m spots table →
-    IsInTable m s (Some place) → x ≡ get_or table place d → x ≡ vertex_at spots s
+    IsSpotPlace m s (Some place) → x ≡ get_or table place d → x ≡ vertex_at spots s
 vertex_told m spots table s place x d tells at is =
     is ∙ get_or_from_slice_get table place (vertex_at spots s) d (ap (slice_get table) at.2 ∙ tells.told s at.0 at.1)
 
@@ -121,7 +121,7 @@ TellsVertices-more m spots i y table below is_y different y_inside y_small tells
 
 -- the table stays where no chip has the spot of one vertex more
 pub TellsVertices-beyond : (m : Description) (spots : List Spot) (i : ℕ) (y : Spot) (table : List (Option ℕ)) → i < length spots → y ≡ get_or spots i y →
-    IsInTable m y None → TellsVertices m (take i spots) table → TellsVertices m (take (i + 1) spots) table
+    IsSpotPlace m y None → TellsVertices m (take i spots) table → TellsVertices m (take (i + 1) spots) table
 TellsVertices-beyond m spots i y table below is_y nowhere tells = record {
   long = tells.long;
   told = λ s inside small.

@@ -10,9 +10,9 @@ abbrev pub spot_place : Description → Spot → ℕ
 spot_place m s = 24 * index_of m s.chip + s.core
 
 -- A spot that a chip of the machine has stands at its place in the table, and any other at none.
-abbrev pub IsInTable : Description → Spot → Option ℕ → Type 0
-IsInTable m s (Some place) = IsInside m s.chip × (s.core < 24) × (place ≡ spot_place m s)
-IsInTable m s None = IsInside m s.chip → s.core < 24 → ⊥
+abbrev pub IsSpotPlace : Description → Spot → Option ℕ → Type 0
+IsSpotPlace m s (Some place) = IsInside m s.chip × (s.core < 24) × (place ≡ spot_place m s)
+IsSpotPlace m s None = IsInside m s.chip → s.core < 24 → ⊥
 
 -- The table has, for each of the cores 0 to 17 of each chip and each of its six links, the vertex there.
 pub record TellsVertices (m : Description) (spots : List Spot) (table : List (Option ℕ)) : Type 0 where

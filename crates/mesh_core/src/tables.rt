@@ -1,6 +1,6 @@
 // The table from spots to vertices.
 ghost use Rattle.std.specs.Prelude.{◌≡◌, ◌≢◌, AllPairs, IfOk};
-ghost use Rattle.mesh_core.specs.VertexTable.{TellsVertices, IsInTable};
+ghost use Rattle.mesh_core.specs.VertexTable.{TellsVertices, IsSpotPlace};
 
 use machine_desc::Machine;
 use spin_base::{Memory, Spot};
@@ -31,9 +31,9 @@ pub(crate) fn vertex_table(
     Ok(table)
 }
 
-// The place of a spot in the table, if its chip is one of the machine.
+// The place of a spot in the table, if a chip of the machine has it.
 pub(crate) fn spot_place(machine: &Machine, spot: Spot) -> Option<usize>
-    ensures { IsInTable machine.now spot result }
+    ensures { IsSpotPlace machine.now spot result }
 {
     let core = usize::from(spot.core);
     if machine.is_inside(spot.chip) && core < SPOTS {

@@ -4,13 +4,18 @@ use Rattle.std.proofs.lemmas.{List.Elements.All-append, List.Elements.All-nil, O
 use Rattle.std.specs.{Prelude.unwrap_or, Prelude.is_some, Prelude.OnOk, Prelude.Result, Prelude.Ok, Prelude.Err, List.slice_get}
 use Rattle.spin_base.specs.declared.{wants.Memory.Memory, chips.Chip.Chip, routes.Out.Out, copies.McCopy.McCopy, copies.Event.Event, copies.Event.TheVariants.Send, copies.Event.TheVariants.Dump}
 use Rattle.spin_base.proofs.{Equality.out_eq_same, Members.Among, Members.among_any, Places.All-at}
-use Rattle.mesh_core.proofs.{Fixed.after_events-append, Fixed.setup_after, EventsLaw.events_keep, EventsLaw.IsMesh-after_events}
-use Rattle.mesh_core.specs.{State.Setup, State.State, State.Hand, State.IsMesh, State.queue_at, Step.send_of, Step.dump_of, Step.step_of, Step.after_event, Step.after_events, Step.answer}
-use Rattle.mesh_core.specs.{declared.places.Did.TheVariants.Moved, declared.places.Did.TheVariants.Idle, HasRun.DropsNone, Expected.NothingWaits}
+use Rattle.mesh_core.proofs.Fixed.{after_events-append}
+use Rattle.mesh_core.proofs.EventsLaw.{IsMesh-after_events}
+use Rattle.mesh_core.specs.State.{Setup, State, Hand, IsMesh, behind, queue_at}
+use Rattle.mesh_core.specs.Step.{has_room_behind, send_of, dump_of, step_of, after_event, after_events, answer}
+use Rattle.mesh_core.specs.declared.places.Did.{Did, TheVariants.Moved, TheVariants.Idle}
+use Rattle.mesh_core.specs.{HasRun.DropsNone, Expected.NothingWaits}
 use Rattle.machine_desc.specs.Live.{index_of, is_live_chip, IsInside}
-use Rattle.mesh_drain.specs.{Draining.MeetsSomeLedger, Draining.IsReachedDropless, Draining.IsAfter, Draining.IsMoved, UnderWay.weight_in, declared.waiting.Waits.Waits}
-use Rattle.mesh_drain.specs.{declared.waiting.Waits.TheVariants.InCore, declared.waiting.Waits.TheVariants.InHand, declared.waiting.Waits.TheVariants.AtPort, Waiting.HasCopies, Waiting.IsNextOut}
-use Rattle.mesh_drain.specs.Waiting.{IsWaiting}
+use Rattle.mesh_drain.specs.Draining.{MeetsSomeLedger, IsReachedDropless, IsAfter, IsMoved}
+use Rattle.mesh_drain.specs.UnderWay.{weight_in}
+use Rattle.mesh_drain.specs.declared.waiting.Waits.{Waits, TheVariants.InCore, TheVariants.InHand, TheVariants.AtPort}
+use Rattle.mesh_drain.specs.Waiting.{HasCopies, IsNextOut, IsWaiting}
+pub use Rattle.mesh_drain.proofs.Frame.{after_reached, after_setup, kept_after}
 use Rattle.mesh_drain.proofs.{Frame.dumped_reached, Progress.moved_lighter, Progress.event_lighter}
 
 -- ---- events, one after the other
@@ -21,21 +26,12 @@ after_none s = record { events = []; is = refl }
 pub after_one : (s t : State) (e : Event) → t ≡ after_event s e → IsAfter s t
 after_one s t e is = record { events = e ∷ []; is = is }
 
-pub kept_after : (s t : State) → MeetsSomeLedger s → IsAfter s t → MeetsSomeLedger t
-kept_after s t kept after = grind (arith, events_keep s kept.nets kept.labels kept.mesh kept.right kept.ledger after.events)
-
 -- a mesh is one after events
 pub mesh_after : (s t : State) → IsMesh s → IsAfter s t → IsMesh t
 mesh_after s t mesh after = subst IsMesh (sym after.is) (IsMesh-after_events s after.events mesh)
 
 pub after_then : (s t u : State) → IsAfter s t → IsAfter t u → IsAfter s u
 after_then s t u first rest = grind (arith, after_events-append s first.events rest.events)
-
-pub after_reached : (s t : State) → IsReachedDropless s t → IsAfter s t
-after_reached s t reached = record { events = reached.events; is = reached.is }
-
-pub after_setup : (s t : State) → IsAfter s t → t.setup ≡ s.setup
-after_setup s t after = ap (λ (x : State). x.setup) after.is ∙ setup_after s after.events
 
 pub there_after : (s t : State) (v : ℕ) → IsAfter s t → v < length s.setup.spots → v < length t.setup.spots
 there_after s t v after below = subst (λ (u : Setup). v < length u.spots) (sym (after_setup s t after)) below
@@ -91,6 +87,10 @@ idle_stays s e idle = by_step (step_of s e) refl (idle)
     by_step : (u : Option State) → step_of s e ≡ u → (if is_some u then Moved else Idle) ≡ Idle → after_event s e ≡ s
     by_step (Some u) at on = cc
     by_step None at on = ap (λ o. unwrap_or o s) at
+
+pub idle_from : (did : Did) → (did ≡ Moved → ⊥) → did ≡ Idle
+idle_from Moved other = absurd (other refl)
+idle_from Idle other = refl
 
 pub moved_enabled : (s : State) (e : Event) → answer s e ≡ Moved → is_some (step_of s e) ≡ true
 moved_enabled s e moved = by_test (is_some (step_of s e)) refl moved

@@ -76,9 +76,6 @@ module _ (s : State) (w : List Waiting) (a : Waiting) (u : WaitsAlone s (w ++ a 
   i : ℕ
   i = queue_at s.setup.machine a.chip a.port
 
-  index : ℕ
-  index = index_of s.setup.machine a.chip
-
   queue : List McCopy
   queue = slice_index_or s.inputs (queue_at s.setup.machine a.chip a.port) []
 

@@ -9,5 +9,5 @@ add_packets-requires-clause-none_yet c = grind (arith, opens c.args.setup c.args
 
 pub add_packets-requires-clause-listed : goal.add_packets-requires-clause-listed
 add_packets-requires-clause-listed c =
-    subst (λ (u : Setup). AreListed u.spots c.args.nets.now c.args.packets.now c.as_slice.result.now) (sym (ap (λ (s : State). s.setup) c.in_ok-mesh.ensures))
-    (record { of_nets = c.requires.of_nets; sources = c.requires.sources; vertices = c.as_slice.ensures.value ∙ c.in_ok-sources.ensures })
+    subst (λ (u : Setup). AreListed u c.args.nets.now c.args.packets.now c.as_slice.result.now) (sym (ap (λ (s : State). s.setup) c.in_ok-mesh.ensures))
+    (record { can = c.requires; vertices = c.as_slice.ensures.value ∙ c.in_ok-sources.ensures })

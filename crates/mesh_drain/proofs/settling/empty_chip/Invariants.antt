@@ -4,8 +4,8 @@ use Rattle.mesh_drain.proofs.settling.empty_chip.Given as goal
 abbrev pub invariant-events : goal.invariant-events
 invariant-events l = record {
   after : IsAfter l.fn.mesh l.mesh;
-  links : DropsAtNoVertex l.fn.mesh l.mesh;
-  collected : AreCollected l.mesh;
+  links : AreCollected l.fn.mesh → DropsAtNoVertex l.fn.mesh l.mesh;
+  collected : AreCollected l.fn.mesh → AreCollected l.mesh;
 }
 
 -- what the marks weigh

@@ -11,11 +11,6 @@ loop-vertex-init c = record { reached = reached_none c.args.mesh.now; others = s
 pub overflow_cast-vertex : goal.overflow_cast-vertex
 overflow_cast-vertex c = grind (arith, few_in_mesh c.args.mesh.now c.every_mesh_is_one.ensures)
 
-pub empty_core-requires : goal.empty_core-requires
-empty_core-requires c =
-    there_still c.args.mesh.now c.loop-vertex.mesh c.loop-vertex.vertex c.loop-vertex.invariant.reached
-    (subst (λ l. c.loop-vertex.vertex < length l) c.spots-vertices.ensures c.loop-vertex-test.true)
-
 pub loop-vertex-preserved : goal.loop-vertex-preserved
 loop-vertex-preserved c =
     let mesh = mesh_after c.args.mesh.now c.loop-vertex.mesh c.every_mesh_is_one.ensures (after_reached c.args.mesh.now c.loop-vertex.mesh c.loop-vertex.invariant.reached) in

@@ -24,18 +24,19 @@ pub sweeps-smaller : goal.sweeps-smaller
 sweeps-smaller c =
     let mesh = mesh_after c.sweeps.mesh c.move_on.new.mesh c.every_mesh_is_one.ensures c.move_on.ensures.after in
     let all = after_lighter c.move_on.new.mesh c.sweep.new.mesh mesh c.sweep.ensures.after in
-    omega (arith, c.in_ok-move_on.ensures.lighter, all)
+    omega (arith, c.in_ok-move_on.ensures.lighter c.in-Some.ensures.some, all)
 
 pub sweeps-preserved : goal.sweeps-preserved
 sweeps-preserved c =
     let none : NothingWaits c.args.mesh.now → ⊥ = λ quiet. waits_somewhere c.sweeps.mesh c.in-Some.at c.in-Some.ensures.some (c.sweeps.invariant.still quiet) in
     let after = after_then c.sweeps.mesh c.move_on.new.mesh c.sweep.new.mesh c.move_on.ensures.after c.sweep.ensures.after in
-    let links = drops_then c.sweeps.mesh c.move_on.new.mesh c.sweep.new.mesh (after_setup c.sweeps.mesh c.move_on.new.mesh c.move_on.ensures.after) c.move_on.ensures.links c.sweep.ensures.links in
+    let links = drops_then c.sweeps.mesh c.move_on.new.mesh c.sweep.new.mesh (after_setup c.sweeps.mesh c.move_on.new.mesh c.move_on.ensures.after)
+    (c.move_on.ensures.links c.sweeps.invariant.collected) (c.sweep.ensures.links (c.in_ok-move_on.ensures.collected c.sweeps.invariant.collected)) in
     record {
       moved = moved_on c.args.mesh.now c.sweeps.mesh c.sweep.new.mesh c.sweeps.invariant.moved none after;
       links = drops_then c.args.mesh.now c.sweeps.mesh c.sweep.new.mesh (after_setup c.args.mesh.now c.sweeps.mesh (after_moved c.args.mesh.now c.sweeps.mesh c.sweeps.invariant.moved))
           c.sweeps.invariant.links links;
-      collected = c.in_ok-sweep.ensures.collected;
+      collected = c.in_ok-sweep.ensures.collected (c.in_ok-move_on.ensures.collected c.sweeps.invariant.collected);
       still = λ quiet. absurd (none quiet);
     }
 
@@ -45,13 +46,14 @@ returns-in_err-move_on-clause-moved c = grind (arith, moved_on, waits_somewhere)
 pub returns-in_err-move_on-clause-links : goal.returns-in_err-move_on-clause-links
 returns-in_err-move_on-clause-links c =
     drops_then c.args.mesh.now c.sweeps.mesh c.move_on.new.mesh (after_setup c.args.mesh.now c.sweeps.mesh (after_moved c.args.mesh.now c.sweeps.mesh c.sweeps.invariant.moved))
-    c.sweeps.invariant.links c.move_on.ensures.links
+    c.sweeps.invariant.links (c.move_on.ensures.links c.sweeps.invariant.collected)
 
 pub returns-in_err-sweep-clause-moved : goal.returns-in_err-sweep-clause-moved
 returns-in_err-sweep-clause-moved c = grind (arith, after_then c.sweeps.mesh c.move_on.new.mesh c.sweep.new.mesh c.move_on.ensures.after c.sweep.ensures.after, moved_on, waits_somewhere)
 
 pub returns-in_err-sweep-clause-links : goal.returns-in_err-sweep-clause-links
 returns-in_err-sweep-clause-links c =
-    let links = drops_then c.sweeps.mesh c.move_on.new.mesh c.sweep.new.mesh (after_setup c.sweeps.mesh c.move_on.new.mesh c.move_on.ensures.after) c.move_on.ensures.links c.sweep.ensures.links in
+    let links = drops_then c.sweeps.mesh c.move_on.new.mesh c.sweep.new.mesh (after_setup c.sweeps.mesh c.move_on.new.mesh c.move_on.ensures.after)
+    (c.move_on.ensures.links c.sweeps.invariant.collected) (c.sweep.ensures.links (c.in_ok-move_on.ensures.collected c.sweeps.invariant.collected)) in
     drops_then c.args.mesh.now c.sweeps.mesh c.sweep.new.mesh (after_setup c.args.mesh.now c.sweeps.mesh (after_moved c.args.mesh.now c.sweeps.mesh c.sweeps.invariant.moved))
     c.sweeps.invariant.links links
