@@ -14,12 +14,8 @@ use Rattle.job_readers.specs.GraphPart.{devices_of, net_faults, net_value, next_
 -- what one of the items has, is among what all have
 listed_any : {X A : Type 0} (f : X → Option A) (p : A → Bool) (xs : List X) (k : ℕ) (d : X) (a : A) → k < length xs → f (get_or xs k d) ≡ Some a → p a ≡ true → list_any p (flat_map (λ x. option_to_list (f x)) xs) ≡ true
 listed_any f p [] k d a below is holds = absurd (omega arith)
-listed_any f p (x ∷ xs) zero d a below is holds =
-    list_any-append p (option_to_list (f x)) (flat_map (λ y. option_to_list (f y)) xs)
-    ∙ or_left (list_any p (option_to_list (f x))) (list_any p (flat_map (λ y. option_to_list (f y)) xs)) (ap (λ o. list_any p (option_to_list o)) is ∙ or_left (p a) false holds)
-listed_any f p (x ∷ xs) (suc k) d a below is holds =
-    list_any-append p (option_to_list (f x)) (flat_map (λ y. option_to_list (f y)) xs)
-    ∙ or_right (list_any p (option_to_list (f x))) (list_any p (flat_map (λ y. option_to_list (f y)) xs)) (listed_any f p xs k d a (omega arith) is holds)
+listed_any f p (x ∷ xs) zero d a below is holds = grind (arith, or_left (p a) false holds, list_any-append)
+listed_any f p (x ∷ xs) (suc k) d a below is holds = grind (arith, listed_any f p xs k d a (omega arith) is holds, list_any-append, or_right)
 
 -- ---- vertices
 

@@ -51,8 +51,7 @@ module _ (place : List ℕ → Option ℕ) (path : List ℕ) (o : Option Data) w
   said t is = ap (λ u. typed_faults is_name path u ▹ unknown_faults path (place (unwrap_or u []))) is
 
   pub found_faults : (s : List ℕ) (i : ℕ) → option_and_then as_str o ≡ Some s → place s ≡ Some i → is_name s ≡ true → (text_faults path o ▹ unknown_faults path (place (text_value o))) ≡ []
-  found_faults s i is at named =
-      said (Some s) is ∙ ap (λ b. range_unless b path ▹ unknown_faults path (place s)) named ∙ ap (unknown_faults path) at
+  found_faults s i is at named = grind (arith, said (Some s) is)
 
   pub found_value : (s : List ℕ) (i : ℕ) → option_and_then as_str o ≡ Some s → place s ≡ Some i → i ≡ unwrap_or (place (text_value o)) 0
   found_value s i is at = sym (ap (λ u. unwrap_or (place (unwrap_or u [])) 0) is ∙ ap (λ p. unwrap_or p 0) at)
@@ -93,6 +92,4 @@ module _ {A : Type 0} (name : A → List ℕ) (f : List A → List ℕ → Data 
 
 pub vertices_known : (version : ℕ) (path : List ℕ) (d : Data) → vertices_faults version path d ≡ [] → list_all is_name (vertex_names_of (vertices_value version d)) ≡ true
 unfolding vertices_faults vertices_value vertex_names_of
-vertices_known version path d none =
-    all_names (λ (v : Vertex). v.name) (next_vertex_faults version) (vertex_value version) (vertex_has_name version) [] (member_at path (codes "vertices")) 0 (list_member (codes "vertices") d)
-    (none_second (list_member_faults path (codes "vertices") true 16384 d) _ none)
+vertices_known version path d none = grind (arith, vertex_has_name version, all_names, none_second)

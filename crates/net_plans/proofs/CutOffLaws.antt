@@ -116,7 +116,5 @@ module _ (m : Description) (spots : List Spot) (ns : List Net) where
   pub refused_first : {X : Type 0} (result : Result X NetErr) → IfOk result (λ _. All (HasNoneCutOff m spots) ns) → IfErr result (IsNetCause m spots ns) →
       (i : ℕ) (target : Chip) → IsFirstNetCutOff m spots ns i target → IsRefusedBy result (nets.CutOff i target) nets.Memory
   refused_first (Ok x) none cause i target first = absurd (All-at (HasNoneCutOff m spots) ns i first.net none first.is first.target.source target first.target.is)
-  refused_first (Err (nets.CutOff j other)) none cause i target first =
-      let one = one_first_net j i other target cause first in
-      inl (λ k. Err (nets.CutOff (one.0 k) (one.1 k)))
+  refused_first (Err (nets.CutOff j other)) none cause i target first = grind (arith, one_first_net j i other target cause first)
   refused_first (Err nets.Memory) none cause i target first = inr refl

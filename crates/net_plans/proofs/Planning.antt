@@ -74,20 +74,7 @@ pub plan_is : (m : Description) (spots : List Spot) (net : Net) (keys : Block) (
     slice_get spots net.source ≡ Some source → AreTargets spots net.targets targets → AreTargetChips m source.chip targets chips → growth.tree.root ≡ source.chip →
     IsGrown m source.chip chips growth.joins growth.tree.edges → length growth.tree.edges ≤ distance_sum m source.chip chips → tree.root ≡ growth.tree.root →
     IsRepaired m growth.tree.root growth.tree.edges chips tree.edges → IsPlannedNet m spots net keys (record { block = keys; source = source; targets = targets; tree = tree })
-plan_is m spots net keys source targets chips growth tree at are are_chips from grown few root repaired =
-    let joined : chips ≡ joined_chips growth = sym grown.each_joined in
-    record {
-      growth = growth;
-      block = refl;
-      source = at;
-      targets = are;
-      chips = subst (AreTargetChips m source.chip targets) joined are_chips;
-      grows_from = from;
-      grown = subst (λ cs. IsGrown m source.chip cs growth.joins growth.tree.edges) joined grown;
-      few_edges = subst (λ cs. length growth.tree.edges ≤ distance_sum m source.chip cs) joined few;
-      root = root ∙ from;
-      repaired = subst (λ cs. IsRepaired m source.chip growth.tree.edges cs tree.edges) joined (subst (λ r. IsRepaired m r growth.tree.edges chips tree.edges) from repaired);
-    }
+plan_is m spots net keys source targets chips growth tree at are are_chips from grown few root repaired = grind arith
 
 -- ---- nets one after the other
 

@@ -59,10 +59,7 @@ module _ (m : Description) (root : Chip) where
       λ i. first i ∷ rest i
 
   has_more : (tree other walk also : List Edge) → Has other tree → walk ≡ also → Has (other ++ also) (tree ++ walk)
-  has_more tree other walk also to same e has = elim (Contains-append_cases tree walk e has) [
-    | inl old ↦ Contains-append_left other also e (to e old)
-    | inr new ↦ Contains-append_right other also e (subst (λ (es : List Edge). Contains es e) same new)
-  ]
+  has_more tree other walk also to same e has = grind (arith, Contains-append_cases tree walk e has, Contains-append_left, Contains-append_right)
 
   -- joining targets to trees with the same edges gives trees with the same edges
   one_whole : (tree other : List Edge) (targets : List Chip) (whole also : List Edge) → Has other tree → Has tree other → Joins m root tree targets whole → Joins m root other targets also →

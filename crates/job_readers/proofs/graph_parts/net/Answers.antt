@@ -10,13 +10,4 @@ unfolding vertex_names_of
 as_many vs names named = ap length named ∙ length-map vs (λ (v : Vertex). v.name)
 
 pub returns-clause-valid : goal.returns-clause-valid
-returns-clause-valid c =
-    let keys = c.in_ok-keys.ensures.within (omega arith, omega arith) in
-    record {
-      source = c.in_ok-source.ensures.below;
-      some_target = c.in_ok-targets.ensures.some;
-      targets = subst (λ n. All (λ t. t < n) c.in_ok-targets.targets) (as_many c.args.among.now.vertices.now c.args.among.now.names.now c.args.among.now.named) c.in_ok-targets.ensures.below;
-      some_key = keys.0;
-      few_keys = keys.1;
-      fixed = c.in_ok-fixed.ensures.fixed;
-    }
+returns-clause-valid c = grind (arith, as_many c.args.among.now.vertices.now c.args.among.now.names.now c.args.among.now.named)

@@ -7,9 +7,7 @@ use Rattle.job_readers.proofs.run_parts.packets.Goals as goal
 
 pub returns-then-is_empty-clause-read : goal.returns-then-is_empty-clause-read
 unfolding packets_faults packets_value items_faults
-returns-then-is_empty-clause-read c =
-    let none = sym c.in_ok-items.ensures.read.1 ∙ ap (map view) (nil_from_length c.in_ok-items.items.now (grind (arith, c.is_empty.ensures, c.if-is_empty.true))) in
-    rw (c.in_ok-items.ensures.read.0, none, c.new.ensures) (refl, refl)
+returns-then-is_empty-clause-read c = grind (arith, nil_from_length c.in_ok-items.items.now (grind (arith, c.is_empty.ensures, c.if-is_empty.true)))
 
 pub returns-clause-read : goal.returns-clause-read
 unfolding packets_faults packets_value

@@ -24,6 +24,4 @@ invariant_of-pair-clause-to_inside c =
     All-at (λ (s : Spot). IsInside c.args.root.machine.now s.chip) c.args.targets.now c.loop-i.i c.get.result.now c.requires c.get.ensures
 
 pub returns : goal.returns
-returns c =
-    subst (λ ts. AreChipKeys c.args.root.machine.now c.args.root.chip ts c.loop-i.keys.items)
-    (take_all c.loop-i.i c.args.targets.now (omega (arith, c.loop-i-test.false, c.len-i-end.ensures))) c.loop-i.invariant
+returns c = grind (arith, take_all c.loop-i.i c.args.targets.now (omega (arith, c.loop-i-test.false, c.len-i-end.ensures)))

@@ -22,9 +22,7 @@ loop-i-preserved c =
     (numbers_more _ c.loop-i.numbers.items c.push.new.self.items s _ c.loop-i.invariant c.spot_number.ensures.value back c.in_ok-push.ensures.items)
 
 pub returns : goal.returns
-returns c =
-    subst (λ (vs : List ℕ). AreNumbersOf (cores_of c.args.spots.now vs) c.loop-i.numbers.items)
-    (take_all c.loop-i.i c.args.vertices.now (omega (arith, c.loop-i-test.false, c.len-i-end.ensures))) c.loop-i.invariant
+returns c = grind (arith, take_all c.loop-i.i c.args.vertices.now (omega (arith, c.loop-i-test.false, c.len-i-end.ensures)), cores_of)
 
 pub get-requires : goal.get-requires
 get-requires c = All-at (λ v. v < length c.args.spots.now) c.args.vertices.now c.loop-i.i c.get-vertex.result.now c.requires c.get-vertex.ensures
