@@ -1,6 +1,6 @@
 -- What is left of a way for a copy on its trail, where some places of the way count: each move leaves at most as much, and less by
 -- what it takes.
-use Rattle.std.proofs.Common.{◌≡◌, ℕ, zero, suc, ◌+◌, ◌*◌, ◌-◌, ◌<◌, ◌≤◌, ◌==◌, cond, min, refl, ap, sym, ◌∙◌, subst, arith, inl, inr, List, [], ◌∷◌, length, Bool, true, false, count_by}
+use Rattle.std.proofs.Common.{◌≡◌, ℕ, zero, suc, ◌+◌, ◌*◌, ◌-◌, ◌<◌, ◌≤◌, ◌==◌, cond, min, refl, ap, sym, subst, arith, inl, inr, List, [], ◌∷◌, length, Bool, true, false, count_by}
 use Rattle.std.proofs.lemmas.{Bool.and_parts, Bool.eqb-true, List.Sums.sum_by-cons, Option.slice_get_within}
 use Rattle.std.specs.List.{sum_by}
 use Rattle.spin_base.proofs.{Counts.count_by-cons, Members.Among, Members.among_map, Members.among_only}
@@ -23,9 +23,7 @@ abbrev pub counted_from : (ℕ → ℕ) → List Exit → ℕ → ℕ
 counted_from counted branch j = counted_in counted (length branch - j) j
 
 pub one_place : (counted : ℕ → ℕ) (branch : List Exit) (j : ℕ) → j < length branch → counted_from counted branch j ≡ counted j + counted_from counted branch (suc j)
-one_place counted branch j low =
-    let step : length branch - j ≡ suc (length branch - suc j) = omega (arith, low) in
-    ap (λ n. counted_in counted n j) step
+one_place counted branch j low = grind arith
 
 fewer_from : (counted : ℕ → ℕ) (branch : List Exit) (j : ℕ) → counted_from counted branch (suc j) ≤ counted_from counted branch j
 fewer_from counted branch j = by_rest (length branch - j) refl
@@ -108,10 +106,7 @@ module _ (w : Counted) where
       crossing k c o on' (inr (v, dead, vertex, is)) = one (mark (onward k) (at_core v)) 0 _ is (omega arith)
 
       by_station : (k : McCopy) (at : Station) → on_trail w.from w.to w.branch k.hop at ≡ true → IsMoveOf s k at come → left_of y + taken_at k.hop at ≤ left_at k.hop at
-      by_station k (unsent v) on' m =
-          let first : k.hop ≡ 0 = eqb-true k.hop 0 ((and_parts (v == w.from) (k.hop == 0) on').1) in
-          let same : counted_from w.counted w.branch k.hop ≡ counted_from w.counted w.branch 0 = ap (counted_from w.counted w.branch) first in
-          one (mark k (in_queue m.0.chip Local)) _ _ m.2 (omega (arith, same))
+      by_station k (unsent v) on' m = grind (arith, eqb-true k.hop 0 ((and_parts (v == w.from) (k.hop == 0) on').1), and_parts (v == w.from) (k.hop == 0) on', mark k (in_queue m.0.chip Local))
       by_station k (in_queue c port) on' m =
           let there = comes_parts w.branch k.hop c port on' in
           let all = one_place w.counted w.branch k.hop (slice_get_within w.branch k.hop there.exit there.at) in
@@ -154,18 +149,5 @@ sum_of_passing p left t l (x ∷ xs) each = by_test (p x) refl (sum_of_passing p
     Holds n = sum_by (λ z. cond (p z) (left z) 0) (x ∷ xs) + n * t ≤ n * l
 
     by_test : (b : Bool) → p x ≡ b → sum_by (λ z. cond (p z) (left z) 0) xs + count_by p xs * t ≤ count_by p xs * l → Holds (count_by p (x ∷ xs))
-    by_test true is rest =
-        let sum = sum_by-cons (λ z. cond (p z) (left z) 0) x xs in
-        let first : cond (p x) (left x) 0 ≡ left x = ap (λ b. cond b (left x) 0) is in
-        let one_more : 1 + count_by p xs ≡ suc (count_by p xs) = omega arith in
-        let count : count_by p (x ∷ xs) ≡ suc (count_by p xs) = count_by-cons p x xs ∙ (ap (λ b. cond b 1 0 + count_by p xs) is ∙ one_more) in
-        let less = each x (inl refl) is in
-        let more_t : suc (count_by p xs) * t ≡ t + count_by p xs * t = omega arith in
-        let more_l : suc (count_by p xs) * l ≡ l + count_by p xs * l = omega arith in
-        subst Holds (sym count) (omega (arith, sum, first, less, rest, more_t, more_l))
-    by_test false is rest =
-        let sum = sum_by-cons (λ z. cond (p z) (left z) 0) x xs in
-        let first : cond (p x) (left x) 0 ≡ 0 = ap (λ b. cond b (left x) 0) is in
-        let zero_more : 0 + count_by p xs ≡ count_by p xs = omega arith in
-        let count : count_by p (x ∷ xs) ≡ count_by p xs = count_by-cons p x xs ∙ (ap (λ b. cond b 1 0 + count_by p xs) is ∙ zero_more) in
-        subst Holds (sym count) (omega (arith, sum, first, rest))
+    by_test true is rest = grind (arith, count_by-cons p x xs, count_by p xs, sum_by-cons)
+    by_test false is rest = grind (arith, count_by-cons p x xs, count_by p xs, sum_by-cons)

@@ -1,22 +1,22 @@
 -- Each copy that came into a queue in a round stands right there: on a trail of its net, with the key and payload of its packet.
 -- By induction on its hop number.
-use Rattle.std.proofs.Common.{◌≡◌, ◌≢◌, ℕ, ◌+◌, ◌<◌, ◌≤◌, zero, suc, true, List, [], ◌∷◌, ◌++◌, map, filter, Some, None, length, refl, ap, sym, ◌∙◌, subst, arith, inl, inr}
+use Rattle.std.proofs.Common.{◌≡◌, ◌≢◌, ℕ, ◌+◌, ◌<◌, zero, suc, true, List, [], ◌∷◌, ◌++◌, map, Some, None, length, refl, ap, sym, ◌∙◌, subst, arith, inl, inr}
 use Rattle.std.proofs.lemmas.{Bool.cases_Bool, Bool.cases_lt, List.get_or_past, List.Elements.All-contains, List.Sorted.All-permutation, Option.slice_get_within, Option.get_or_from_slice_get}
 use Rattle.std.proofs.lemmas.Option.{none-some}
 use Rattle.std.specs.List.{slice_index_or, Contains}
 use Rattle.spin_base.proofs.{Gathering.among_gathered, Gathering.gathered_among, Members.Among, Members.among_contains, Members.contains_among, Members.among_map, Members.map_among}
 use Rattle.spin_base.proofs.{Members.among_filter, Members.any_among, Members.among_left, Members.among_either, Places.All-each, Places.slice_get_there, Equality.chip_eq_true, Equality.out_eq_true}
-use Rattle.spin_base.specs.declared.{chips.Chip.Chip, chips.Dir.Dir, chips.Spot.Spot, chips.Port.Port, chips.Port.TheVariants.Local, routes.Out.Out, routes.Out.TheVariants.Link, copies.McCopy.McCopy}
-use Rattle.spin_base.specs.{Links.opposite_of, Equality.chip_eq, Equality.out_eq, Outputs.IsOutput, Hops.last_hop, Hops.onward}
+use Rattle.spin_base.specs.declared.{chips.Chip.Chip, chips.Dir.Dir, chips.Port.Port, chips.Port.TheVariants.Local, routes.Out.Out, routes.Out.TheVariants.Link, copies.McCopy.McCopy}
+use Rattle.spin_base.specs.{Links.opposite_of, Outputs.IsOutput, Hops.onward}
 use Rattle.spin_base.specs.declared.chips.Port.TheVariants.{Link as ByLink}
 use Rattle.machine_desc.specs.{Live.far_of, Live.is_live_chip, Live.is_live_link, Live.IsInside, Live.IsLiveChip, Live.IsLiveLink, declared.nets.NetPlan.NetPlan, RightTables.AreRight}
 use Rattle.machine_desc.proofs.{Branches.exit_leads, Branches.ExitLeads, Far.live_inside, Far.live_ends, Far.live_back, Far.far_back}
-use Rattle.mesh_core.specs.State.{Setup, State, IsMesh, Queue, input, core, nowhere, behind, behind_link, queue_at, vertex_behind}
-use Rattle.mesh_core.specs.{Step.outputs, Trail.unsent, Trail.in_queue, Trail.in_hand, Trail.Mark, Ledger.marks_of, Ledger.marks_at, Ledger.all_ports, Ledger.unsent_marks, Ledger.input_marks}
-use Rattle.mesh_core.specs.Ledger.{all_hand_marks, core_marks, delivered_marks, dumped_marks, Label, MeetsLedger}
+use Rattle.mesh_core.specs.{State.Setup, State.State, State.IsMesh, State.Queue, State.input, State.core, State.nowhere, State.behind, State.vertex_behind, Trail.unsent, Trail.in_queue, Trail.in_hand}
+use Rattle.mesh_core.specs.{Trail.Mark, Ledger.marks_of, Ledger.marks_at, Ledger.unsent_marks, Ledger.input_marks, Ledger.all_hand_marks, Ledger.core_marks, Ledger.delivered_marks}
+use Rattle.mesh_core.specs.Ledger.{dumped_marks, Label, MeetsLedger}
 use Rattle.mesh_core.proofs.{Keeping.input_is_somewhere, Keeping.core_is_somewhere, Law.leaves_parts, LedgerLaw.IsRight, LedgerLaw.right_before, LedgerLaw.right_come, LedgerLaw.stands, Moves.mark}
 use Rattle.mesh_core.proofs.{Moves.IsMove, Moves.Crosses, Queued.waiting_mark, Ways.Stands, Ways.vertex_behind_there, Ways.leads_to}
-use Rattle.mesh_round.specs.RoundFlow.{Flow, Passes, at_port, held_in, leaves_by, taken_for, dumped_at, sent_on, of_chip}
+use Rattle.mesh_round.specs.RoundFlow.{Flow, Passes, at_port, held_in, taken_for, dumped_at, sent_on}
 use Rattle.mesh_round.proofs.{Ends.by_link, Ends.to_vertex, Ends.to_none, Ends.leads, Ends.Leads, Entered.station_of, Entered.station_is, Entered.crosses_behind, Entered.behind_far, Weights.back}
 use Rattle.mesh_round.proofs.Weights.{back_onward, not_last}
 
@@ -77,14 +77,10 @@ module _ (m : State) (f : Flow) (n : State) (nets : List NetPlan) (labels : ℕ 
         st = stand r.net r.in_nets
 
         link_there : (d : Dir) (e : Chip) → o ≡ Link d → IsLiveLink u.machine c d → far_of u.machine c d ≡ Some e → ⊥
-        link_there d e out live far =
-            let is : behind u c o ≡ input (queue_at u.machine e (ByLink (opposite_of d))) =
-            ap (behind u c) out ∙ (ap (λ b. behind_link u c d b (far_of u.machine c d)) live ∙ ap (behind_link u c d true) far) in
-            input_is_somewhere (sym is ∙ none)
+        link_there d e out live far = grind (arith, input_is_somewhere)
 
         by_exit : ExitLeads u.machine r.net.tree.edges r.trail.target r.trail.branch k.hop (record { chip = c; out = o }) → ⊥
-        by_exit (inl (d, out, in_tree, (y, far, next))) =
-            link_there d y.chip out (All-contains (λ e. IsLiveLink u.machine e.chip e.dir) r.net.tree.edges (record { chip = c; dir = d }) st.tree.edges_live in_tree) far
+        by_exit (inl (d, out, in_tree, (y, far, next))) = grind (arith, link_there, All-contains)
         by_exit (inr (chip, out, last)) =
             let spot = All-contains (Contains u.spots) r.net.targets r.trail.target st.targets r.trail.way.is_target in
             let there = vertex_behind_there u.spots c o r.trail.target spot (leads_to c o r.trail.target chip out) in
@@ -117,19 +113,7 @@ module _ (m : State) (f : Flow) (n : State) (nets : List NetPlan) (labels : ℕ 
         P k = k.hop < b + 1 → Right (mark (back k) (in_hand c o)) × (onward (back k) ≡ k)
 
         took : (k : McCopy) → Among k (taken_for u f c o) → P (onward k)
-        took k a' small =
-            let at = among_gathered (λ i port. filter (leaves_by u c o port) (f.left (at_port u c port))) k all_ports a' in
-            let port : Port = at.1 in
-            let left = among_filter (leaves_by u c o port) k (f.left (at_port u c port)) at.3 in
-            let hop = All-contains (λ (d : McCopy). d.hop ≤ last_hop) (f.left (at_port u c port)) k (passes.hops (at_port u c port)) (among_contains k (f.left (at_port u c port)) left.0) in
-            let less : k.hop < last_hop = not_last u c o port k left.1 hop in
-            let found = any_among (out_eq o) (outputs u c port k) left.1 in
-            let given : Among o (outputs u c port k) = subst (λ p. Among p (outputs u c port k)) (sym (out_eq_true o found.0 found.2)) found.1 in
-            let was = before port k left.0 (omega (arith, small, less)) in
-            let held = come_right (mark k (in_queue c port)) was (map (λ p. mark k (in_hand c p)) (outputs u c port k)) refl (mark k (in_hand c o))
-            (map_among (λ p. mark k (in_hand c p)) o (outputs u c port k) given) in
-            let same : back (onward k) ≡ k = back_onward k less in
-            (subst (λ d. Right (mark d (in_hand c o))) (sym same) held, ap onward same)
+        took k a' small = grind (arith, mark k (in_hand c o), among_gathered, among_filter, All-contains, among_contains, not_last, any_among, Among, out_eq_true, come_right, map_among, back_onward)
 
         taken : (k : McCopy) → Contains (map onward (taken_for u f c o)) k → P k
         taken k has =
@@ -160,13 +144,7 @@ module _ (m : State) (f : Flow) (n : State) (nets : List NetPlan) (labels : ℕ 
       P j = Right (mark j (in_queue c Local))
 
       sent : (j : McCopy) → Contains (sent_on u f c) j → P j
-      sent j has =
-          let at = among_gathered (λ v spot. of_chip c spot (f.sent v)) j u.spots (contains_among j (sent_on u f c) has) in
-          let spot : Spot = at.1 in
-          let mine = among_filter (λ k'. chip_eq spot.chip c) j (f.sent at.0) at.3 in
-          let first = unsent_right at.0 j (slice_get_within u.spots at.0 spot at.2) mine.0 in
-          let come = come_right (mark j (unsent at.0)) first (mark j (in_queue spot.chip Local) ∷ []) (spot, at.2, refl) (mark j (in_queue spot.chip Local)) (inl refl) in
-          subst (λ e. Right (mark j (in_queue e Local))) (chip_eq_true spot.chip c mine.1) come
+      sent j has = grind (arith, contains_among j (sent_on u f c) has, among_gathered, among_filter, unsent_right, slice_get_within, come_right, mark, chip_eq_true)
 
   -- what entered the queue of a port, where all copies that came with a smaller hop number stood right
   came_right : (b : ℕ) → ((e : Chip) (p : Port) → IsInside u.machine e → (j : McCopy) → Among j (held_in m (at_port u e p) ++ f.entered (at_port u e p)) → j.hop < b → Right (mark j (in_queue e p))) →
@@ -192,17 +170,13 @@ module _ (m : State) (f : Flow) (n : State) (nets : List NetPlan) (labels : ℕ 
   port_right : (b : ℕ) (c : Chip) (port : Port) → IsInside u.machine c → (k : McCopy) → Among k (held_in m (at_port u c port) ++ f.entered (at_port u c port)) → k.hop < b →
       Right (mark k (in_queue c port))
   port_right zero c port inside k a low = absurd (omega (arith, low))
-  port_right (suc b) c port inside k a low = elim (among_either k (held_in m (at_port u c port)) (f.entered (at_port u c port)) a) [
-    | inl held ↦ subst (λ st. Right (mark k st)) (station_is u c port inside) (held_right (at_port u c port) k held)
-    | inr came ↦ came_right b (λ e p in_e j b' small. port_right b e p in_e j b' small) c port inside k came (omega (arith, low))
-  ]
+  port_right (suc b) c port inside k a low = grind (arith, among_either k (held_in m (at_port u c port)) (f.entered (at_port u c port)) a, station_is u c port inside, mark, held_right, came_right)
 
   -- What a live chip's router sent by an output, or dumped there, stood right in its hand and stands, or would stand, right in
   -- the queue behind the output.
   pub crossing_right : (c : Chip) (o : Out) → IsLiveChip u.machine c → IsOutput o → (j : McCopy) → Among j (f.entered (behind u c o) ++ map onward (dumped_at f c o)) →
       Right (mark (back j) (in_hand c o)) × (onward (back j) ≡ j)
-  crossing_right c o live is j a =
-      hand_right c o j.hop (λ port k left small. port_right j.hop c port (live_inside u.machine c live) k (left_came (at_port u c port) k left) small) live is j a (omega arith)
+  crossing_right c o live is j a = grind (arith, live_inside u.machine c live, port_right, left_came)
 
   pub arrived_right : (c : Chip) (o : Out) → IsLiveChip u.machine c → IsOutput o → (j : McCopy) → Among j (f.entered (behind u c o) ++ map onward (dumped_at f c o)) →
       Right (mark j (station_of u (behind u c o)))

@@ -80,10 +80,7 @@ module _ (u : Setup) where
       other : (j ≡ index → ⊥) → (chip_of u.machine j ≡ c → ⊥) → Doer j
 
     doer : (j : ℕ) → Doer j
-    doer j = elim (cases_eq j index) [
-      | inl same ↦ this same (ap (chip_of u.machine) same ∙ chip_of-index_of u.machine c inside)
-      | inr apart ↦ other apart (λ e. apart (sym (index_of-chip_of u.machine j) ∙ ap (index_of u.machine) e))
-    ]
+    doer j = grind (arith, cases_eq j index, chip_of-index_of u.machine c inside, index_of-chip_of u.machine j)
 
     -- ---- ports
 
@@ -119,12 +116,8 @@ module _ (u : Setup) where
     -- what its bank sent entered its injection queue
     pub injected_by : (x : Item) → IsDoneOn u x → entered_by (queue_at u.machine c Local) x ≡ sending_of index x
     injected_by (took j p k) done = refl
-    injected_by (served j e place s) (live, chip, behind, is, dark) =
-        not_there place (queue_at u.machine c Local) (brought s s.fate) (λ at. no_injection u e c s.out (inside_of j e live chip) inside (sym behind ∙ at))
-    injected_by (sent j v k) (live, on) = elim (cases_eq j index) [
-      | inl same ↦ here (injection_place j) (queue_at u.machine c Local) (k ∷ []) (ap injection_place same) ∙ sym (here j index (k ∷ []) same)
-      | inr apart ↦ elsewhere (injection_place j) (queue_at u.machine c Local) (k ∷ []) (λ e. apart (omega (arith, e))) ∙ sym (elsewhere j index (k ∷ []) apart)
-    ]
+    injected_by (served j e place s) (live, chip, behind, is, dark) = grind (arith, inside_of j e live chip, not_there, no_injection)
+    injected_by (sent j v k) (live, on) = grind (arith, cases_eq j index, here, elsewhere)
     injected_by (got j v place k) done = refl
 
     -- nothing entered the queue of a port to which no live link leads, and that is not its live chip's own

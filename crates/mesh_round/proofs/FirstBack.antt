@@ -8,8 +8,8 @@ use Rattle.spin_base.specs.Links.{opposite_of}
 use Rattle.spin_base.specs.declared.chips.Port.TheVariants.{Link as ByLink}
 use Rattle.machine_desc.specs.{Description.Description, Live.far_of, Live.IsLiveLink, Branch.Exit, RoutingTree.IsRoutingTree, declared.nets.NetPlan.NetPlan}
 use Rattle.machine_desc.proofs.{Branches.exit_leads, Branches.ExitLeads, Far.live_inside, Far.live_ends, Far.far_inside}
-use Rattle.mesh_core.specs.{declared.places.Did.TheVariants.Moved, declared.places.Did.TheVariants.Idle, State.State, State.IsMesh, State.input, State.nowhere, State.behind, State.behind_link}
-use Rattle.mesh_core.specs.{State.queue_at, State.vertex_behind, Step.has_room, Step.has_room_behind, Trail.Mark, Trail.dumped, Ledger.marks_of, Ledger.Label, Ledger.MeetsLedger, Expected.IsAtRest}
+use Rattle.mesh_core.specs.{declared.places.Did.TheVariants.Moved, declared.places.Did.TheVariants.Idle, State.State, State.IsMesh, State.nowhere, State.behind, State.queue_at, State.vertex_behind}
+use Rattle.mesh_core.specs.{Step.has_room, Step.has_room_behind, Trail.Mark, Trail.dumped, Ledger.marks_of, Ledger.Label, Ledger.MeetsLedger, Expected.IsAtRest}
 use Rattle.mesh_core.proofs.{Changes.queue_at-below, Law.leaves_parts, Moves.mark, Standing.dumped_mark, Ways.leads_to, Ways.vertex_behind_stands, Ways.vertex_behind_there}
 use Rattle.mesh_round.proofs.{Ends.Leads, Ends.leads, Ends.by_link, Ends.to_vertex, Ends.to_none, PutBackParts.back_some}
 use Rattle.mesh_round.specs.Reinjecting.{put_back_answer}
@@ -20,10 +20,7 @@ module _ (s : State) (mesh : IsMesh s) (nets : List NetPlan) (labels : ℕ → L
 
   -- an edge's output leads to a queue
   some_queue : (c : Chip) (o : Out) (e : Chip) (d : _) → o ≡ Link d → IsLiveLink m c d → far_of m c d ≡ Some e → behind s.setup c o ≡ nowhere → ⊥
-  some_queue c o e d out live far gone =
-      let is : behind s.setup c o ≡ input (queue_at m e (ByLink (opposite_of d))) =
-      ap (behind s.setup c) out ∙ (ap (λ b. behind_link s.setup c d b (far_of m c d)) live ∙ ap (behind_link s.setup c d true) far) in
-      cc
+  some_queue c o e d out live far gone = grind arith
 
   -- where a copy was dumped there is a queue behind the output, or a vertex
   led_on : (k : McCopy) (c : Chip) (o : Out) → Contains (marks_of s) (mark k (dumped c o)) → behind s.setup c o ≡ nowhere → vertex_behind s.setup.spots c o ≡ None → ⊥

@@ -20,15 +20,11 @@ pub record Part (m : State) (leave come : Counts) : Type 0 where
 
 pub count_left-append : {m : State} (p : Mark → Bool) (vs ws : List (Moved m)) → count_left p (vs ++ ws) ≡ count_left p vs + count_left p ws
 count_left-append p [] ws = omega arith
-count_left-append p (v ∷ vs) ws =
-    let rest = count_left-append p vs ws in
-    omega arith
+count_left-append p (v ∷ vs) ws = grind (arith, count_left-append p vs ws)
 
 pub count_come-append : {m : State} (p : Mark → Bool) (vs ws : List (Moved m)) → count_come p (vs ++ ws) ≡ count_come p vs + count_come p ws
 count_come-append p [] ws = omega arith
-count_come-append p (v ∷ vs) ws =
-    let rest = count_come-append p vs ws in
-    omega arith
+count_come-append p (v ∷ vs) ws = grind (arith, count_come-append p vs ws)
 
 module _ {m : State} where
   pub no_part : Part m (λ p. 0) (λ p. 0)

@@ -1,5 +1,5 @@
 -- Rounds on threads that were played one after the other lead on.
-use Rattle.std.proofs.Common.{◌≡◌, ◌∙◌, ℕ, Bool, true, false, List, [], sym, subst, inl, inr}
+use Rattle.std.proofs.Common.{arith, ◌≡◌, ◌∙◌, ℕ, Bool, true, false, List, [], sym, subst, inl, inr}
 use Rattle.std.proofs.lemmas.Result.{IfErr-weaker, IfOk-weaker}
 use Rattle.std.specs.Prelude.{IfErr, IfOk, Result, Ok, Err}
 use Rattle.spin_base.specs.declared.wants.Memory.{Memory}
@@ -31,8 +31,7 @@ begins patience turns m r ready raised = record { mesh = m; rounds = record { ro
 -- what a round leads to, at the pace at which the mesh was split
 pub at_pace : (pace own : Pace) (m : State) (r s : RaisedMesh) (told moved : Bool) → IsMesh m → IsRaisedFrom m 0 r → own ≡ pace → told ≡ moved →
     ((k : State) → IsMesh k → IsRaisedFrom k 0 r → PlaysTo own.patience own.turns k told s) → PlaysTo pace.patience pace.turns m moved s
-at_pace pace own m r s told moved mesh raised same says plays =
-    subst (λ (p : Pace). PlaysTo p.patience p.turns m moved s) same (subst (λ b. PlaysTo own.patience own.turns m b s) says (plays m mesh raised))
+at_pace pace own m r s told moved mesh raised same says plays = grind arith
 
 -- ---- the answer where a mesh may be at rest
 

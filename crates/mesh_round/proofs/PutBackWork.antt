@@ -16,9 +16,7 @@ use Rattle.mesh_round.proofs.PutBackParts.{IsBack, is_back}
 heavier : (m n : ℕ) → m < n → heavy m < heavy n
 unfolding heavy
 heavier m zero below = absurd (omega (arith, below))
-heavier m (suc n) below =
-    let grows = heavy_grows m n (omega (arith, below)) in
-    omega (arith, grows, one_heavy n)
+heavier m (suc n) below = grind (arith, heavy_grows m n (omega (arith, below)), one_heavy n)
 
 -- a dumped copy that crosses its output is lighter than it was
 lighter_mark : (s : State) (k : McCopy) (c : Chip) (o : Out) (come : List Mark) → Crosses s k c o come →
@@ -28,8 +26,7 @@ lighter_mark s k c o come (inl (d, e, out, live, far, is)) =
     let y : Mark = mark (onward k) (in_queue e (ByLink (opposite_of d))) in
     (y, is, heavier (to_go y) (to_go (mark k (dumped c o))) (omega arith))
 lighter_mark s k c o come (inr (v, dead, vertex, is)) =
-    let y : Mark = mark (onward k) (at_core v) in
-    (y, is, heavier (to_go y) (to_go (mark k (dumped c o))) (omega arith))
+    grind (arith, mark (onward k) (at_core v), heavier (to_go (mark (onward k) (at_core v))) (to_go (mark k (dumped c o))) (omega arith), mark k (dumped c o))
 
 -- one item goes out, and one comes in
 sum_exchanged : {X : Type 0} (f : X → ℕ) (x y : X) (before between after : List X) → TakenOut x before between → PutIn (y ∷ []) between after →

@@ -27,10 +27,7 @@ rests s is no_hand =
 
 -- Where each list is empty, no item stands at a place.
 all_none : (qs : List (List McCopy)) (i : ℕ) → All (λ q. q ≡ []) qs → slice_index_or qs i [] ≡ []
-all_none qs i all = elim (cases_lt i (length qs)) [
-  | inl below ↦ all i [] below
-  | inr past ↦ get_or_past qs i [] past
-]
+all_none qs i all = grind (arith, cases_lt i (length qs), get_or_past qs i)
 
 -- In a mesh that has none there is none.
 pub none_left : (s : State) → has_none s ≡ true → HasNoHand s → HasSome s → ⊥

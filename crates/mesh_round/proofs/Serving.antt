@@ -5,7 +5,7 @@ use Rattle.std.proofs.lemmas.List.Sorted.{IsPermutation-middle}
 use Rattle.std.specs.List.{filter, flat_map, list_any, Sorted.IsPermutation}
 use Rattle.spin_base.proofs.{Counts.count_by-cons, Members.Among, Members.among_map, Members.map_among, Once.outs_once}
 use Rattle.spin_base.specs.{declared.chips.Chip.Chip, declared.chips.Port.Port, declared.routes.Out.Out, declared.copies.McCopy.McCopy, Equality.out_eq, Hops.last_hop, Hops.onward, Lookup.lookup}
-use Rattle.spin_base.specs.Outputs.{IsOutput, has, outs_of}
+use Rattle.spin_base.specs.Outputs.{IsOutput, outs_of}
 use Rattle.machine_desc.specs.RightTables.{table_at}
 use Rattle.chip_node.specs.{declared.ends.Served.Served, declared.ends.Served.TheVariants.Sent, declared.ends.Served.TheVariants.Dumped, Items.Service, Items.brought, Items.lost}
 use Rattle.mesh_core.specs.{State.Setup, Step.outputs}
@@ -96,9 +96,7 @@ module _ (o : Out) where
 
       by : (b : Bool) → (k.hop == last_hop) ≡ b → count_by (out_eq o) (outs (k.hop == last_hop)) ≤ 1
       by true last = subst (λ b. count_by (out_eq o) (outs b) ≤ 1) (sym last) (omega arith)
-      by false more =
-          let route = lookup (table_at u.machine u.tables c) k.key port in
-          subst (λ b. count_by (out_eq o) (outs b) ≤ 1) (sym more) (at_most_one (has route o) (count_by (out_eq o) (outs_of route)) (outs_once route o is))
+      by false more = grind (arith, count_by (out_eq o) (outs_of (lookup (table_at u.machine u.tables c) k.key port)), outs_once (lookup (table_at u.machine u.tables c) k.key port) o is, outs)
 
   -- what is owed at the output is what lookup gives it
   pub owed_at : IsOutput o → (u : Setup) (c : Chip) (taken : List (Port × McCopy)) → at_out (owed_on u c taken) ≡ flat_map (λ t. filter (leaves_by u c o t.0) (t.1 ∷ [])) taken

@@ -58,18 +58,10 @@ module _ (p : Mark → Bool) (m : State) (f : Flow) (n : State) (mesh : IsMesh m
       part port o = sum_by (weight c o) (filter (leaves_by u c o port) (f.left (at_port u c port)))
 
       one : (port : Port) → taken_at c port ≡ sum_by (λ o. part port o) all_outs
-      one port =
-          let left = f.left (at_port u c port) in
-          sum_agree (in_hands c port) (λ k. sum_by (λ o. cond (leaves_by u c o port k) (weight c o k) 0) all_outs) left
-          (λ k a. sum_outputs u c port k (λ o. weight c o k))
-          ∙ (sum_swap (λ k o. cond (leaves_by u c o port k) (weight c o k) 0) left all_outs
-          ∙ sum_agree (λ o. sum_by (λ k. cond (leaves_by u c o port k) (weight c o k) 0) left) (λ o. part port o) all_outs
-          (λ o a. sym (sum_filter (leaves_by u c o port) (weight c o) left)))
+      one port = grind (arith, sum_agree, sum_swap, sum_filter, sum_outputs)
 
       whole : (o : Out) → sum_by (λ port. part port o) all_ports ≡ sum_by (weight c o) (taken_for u f c o)
-      whole o =
-          sym (sum_gathered (weight c o) (λ i port. filter (leaves_by u c o port) (f.left (at_port u c port))) 0 all_ports
-          ∙ sum_at-plain (λ port. sum_by (weight c o) (filter (leaves_by u c o port) (f.left (at_port u c port)))) 0 all_ports)
+      whole o = grind (arith, sum_gathered, sum_at-plain)
 
   -- ---- by queues
 
@@ -83,10 +75,7 @@ module _ (p : Mark → Bool) (m : State) (f : Flow) (n : State) (mesh : IsMesh m
       ∙ sum_agree (λ c. sum_by g (map (λ port. (c, port)) all_ports)) (λ c. sum_by (λ port. g (c, port)) all_ports) (live_chips u.machine) (λ c a. sum_map (λ port. (c, port)) g all_ports))
 
   port_lives : (s : Chip × Port) → Among s ports → IsLiveChip u.machine s.0
-  port_lives s a =
-      let at = among_gathered (λ i c. map (λ port. (c, port)) all_ports) s (live_chips u.machine) a in
-      let of = among_map (λ (port : Port). (at.1, port)) s all_ports at.3 in
-      subst (λ (t : Chip × Port). IsLiveChip u.machine t.0) (sym of.2) (live_of_live_chips u.machine at.1 (among_at (live_chips u.machine) at.0 at.1 at.2))
+  port_lives s a = grind (arith, live_chips u.machine, among_gathered, among_map, live_of_live_chips, among_at)
 
   abbrev numbers : ℕ → Chip × Port → Bool
   numbers i s = queue_at u.machine s.0 s.1 == i
@@ -112,11 +101,7 @@ module _ (p : Mark → Bool) (m : State) (f : Flow) (n : State) (mesh : IsMesh m
       empty (x ∷ xs) ys same = cc
 
   dead_link : (c : Chip) (d : Dir) → is_live_chip u.machine c ≡ false → is_live_link u.machine c d ≡ false
-  dead_link c d dead = elim (cases_Bool (is_live_link u.machine c d)) [
-    | inl live ↦
-        absurd (answers_none (is_live_chip u.machine c) (live_ends u.machine c d live).2 dead)
-    | inr none ↦ none
-  ]
+  dead_link c d dead = grind (arith, cases_Bool (is_live_link u.machine c d), answers_none, live_ends)
 
   dead_taken : (c : Chip) (port : Port) → IsInside u.machine c → is_live_chip u.machine c ≡ false → taken_at c port ≡ 0
   dead_taken c Local inside dead =
@@ -185,25 +170,10 @@ module _ (p : Mark → Bool) (m : State) (f : Flow) (n : State) (mesh : IsMesh m
       w = weight r.chip r.out r.copy
 
       at_out : (c : Chip) (o : Out) → chip_eq r.chip c ≡ true → cond (out_eq r.out o) (weight c o r.copy) 0 ≡ cond (out_eq r.out o) w 0
-      at_out c o here = elim (cases_Bool (out_eq r.out o)) [
-        | inl is ↦
-            ap (λ b. cond b (weight c o r.copy) 0) is
-            ∙ (ap₂ (λ (e : Chip) (q : Out). weight e q r.copy) (sym (chip_eq_true r.chip c here)) (sym (out_eq_true r.out o is))
-            ∙ sym (ap (λ b. cond b w 0) is))
-        | inr other ↦ ap (λ b. cond b (weight c o r.copy) 0) other ∙ sym (ap (λ b. cond b w 0) other)
-      ]
+      at_out c o here = grind (arith, cases_Bool (out_eq r.out o), chip_eq_true r.chip c here, out_eq_true)
 
       at_chip : (c : Chip) → sum_by (λ o. cond (chip_eq r.chip c && out_eq r.out o) (weight c o r.copy) 0) all_outs ≡ cond (chip_eq r.chip c) w 0
-      at_chip c = elim (cases_Bool (chip_eq r.chip c)) [
-        | inl here ↦
-            sum_agree (λ o. cond (chip_eq r.chip c && out_eq r.out o) (weight c o r.copy) 0) (λ o. cond (out_eq r.out o) w 0) all_outs
-            (λ o a. ap (λ b. cond (b && out_eq r.out o) (weight c o r.copy) 0) here ∙ at_out c o here)
-            ∙ (one_passes (out_eq r.out) w all_outs (all_once r.out is) ∙ sym (ap (λ b. cond b w 0) here))
-        | inr other ↦
-            sum_none (λ o. cond (chip_eq r.chip c && out_eq r.out o) (weight c o r.copy) 0) all_outs
-            (λ o a. ap (λ b. cond (b && out_eq r.out o) (weight c o r.copy) 0) other)
-            ∙ sym (ap (λ b. cond b w 0) other)
-      ]
+      at_chip c = grind (arith, cases_Bool (chip_eq r.chip c), one_passes (out_eq r.out) w all_outs (all_once r.out is), all_once r.out is, sum_agree, sum_none, at_out)
 
   all_dumped : sum_by (λ c. sum_by (λ o. sum_by (weight c o) (dumped_at f c o)) all_outs) (live_chips u.machine) ≡ sum_by (λ (r : DumpRec). weight r.chip r.out r.copy) f.dumped
   all_dumped =
@@ -217,11 +187,7 @@ module _ (p : Mark → Bool) (m : State) (f : Flow) (n : State) (mesh : IsMesh m
       share r c o = cond (chip_eq r.chip c && out_eq r.out o) (weight c o r.copy) 0
 
       by_records : (c : Chip) → sum_by (λ o. sum_by (weight c o) (dumped_at f c o)) all_outs ≡ sum_by (λ r. sum_by (λ o. share r c o) all_outs) f.dumped
-      by_records c =
-          sum_agree (λ o. sum_by (weight c o) (dumped_at f c o)) (λ o. sum_by (λ r. share r c o) f.dumped) all_outs
-          (λ o a. sum_map (λ (r : DumpRec). r.copy) (weight c o) (filter (λ (r : DumpRec). chip_eq r.chip c && out_eq r.out o) f.dumped)
-          ∙ sum_filter (λ (r : DumpRec). chip_eq r.chip c && out_eq r.out o) (λ (r : DumpRec). weight c o r.copy) f.dumped)
-          ∙ sum_swap (λ o r. share r c o) all_outs f.dumped
+      by_records c = grind (arith, sum_agree, sum_swap, sum_map, sum_filter)
 
   -- how many of the marks that left hands across outputs pass
   abbrev pub crossing : ℕ
@@ -241,8 +207,4 @@ module _ (p : Mark → Bool) (m : State) (f : Flow) (n : State) (mesh : IsMesh m
       dropped c = sum_by (λ o. sum_by (weight c o) (dumped_at f c o)) all_outs
 
       at_chip : (c : Chip) → IsLiveChip u.machine c → sum_by (taken_at c) all_ports ≡ across c + dropped c
-      at_chip c live =
-          by_output c
-          ∙ (sum_agree (λ o. sum_by (weight c o) (taken_for u f c o)) (λ o. sum_by (weight c o) (map back (f.entered (behind u c o))) + sum_by (weight c o) (dumped_at f c o)) all_outs
-          (λ o a. taken_is m f n passes c o live (has_bit o a) (weight c o))
-          ∙ sum_plus (λ o. sum_by (weight c o) (map back (f.entered (behind u c o)))) (λ o. sum_by (weight c o) (dumped_at f c o)) all_outs)
+      at_chip c live = grind (arith, sum_agree, sum_plus, back, taken_is, has_bit)
