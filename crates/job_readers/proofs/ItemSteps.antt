@@ -1,5 +1,5 @@
 -- A loop over the items of a list goes on with the faults of those that are left.
-use Rattle.std.proofs.Common.{◌≡◌, ℕ, ◌+◌, ◌<◌, ◌≤◌, List, [], ◌∷◌, ◌++◌, length, map, take, drop, get_or, refl, ap, subst, sym, ◌∙◌, add-one, drop-cons, take_all}
+use Rattle.std.proofs.Common.{arith, ◌≡◌, ℕ, ◌+◌, ◌<◌, ◌≤◌, List, [], ◌∷◌, ◌++◌, length, map, take, drop, get_or, refl, sym, ◌∙◌, add-one, drop-cons, take_all}
 use Rattle.std.proofs.lemmas.List.{take_more, map-append, drop_all}
 use Rattle.serde_json.specs.Data.{Data}
 use Rattle.job_text.specs.{declared.faults.JobFault.JobFault, declared.faults.TextErr.TextErr, Reading.IsFirstFault, Paths.item_at}

@@ -1,8 +1,7 @@
 -- The word of a text of 1 to 7 bytes tells it from all others.
 use Rattle.std.proofs.Common.{◌≡◌, ◌≢◌, ℕ, zero, suc, ◌+◌, ◌-◌, ◌*◌, ◌/◌, ◌%◌, ◌^◌, ◌<◌, ◌≤◌, List, [], ◌∷◌, ◌++◌, length, map, Bool, true, false, if◌then◌else◌, Some, cond, refl, ap, sym, subst, ◌∙◌}
 use Rattle.std.proofs.Common.{arith, inl, inr, get_or, replicate, take}
-use Rattle.std.specs.{Prelude.bytes_eq, Prelude.nat_eq, Prelude.nat_le, Prelude.option_map, Prelude.slice_get, Hash.FoldHasher.initial, Hash.FoldHasher.write, Str.IsUtf8, Int.from_le_bytes}
-use Rattle.std.specs.Int.{to_le_bytes, w64}
+use Rattle.std.specs.{Prelude.bytes_eq, Prelude.nat_eq, Prelude.nat_le, Prelude.slice_get, Hash.FoldHasher.initial, Hash.FoldHasher.write, Str.IsUtf8, Int.from_le_bytes, Int.to_le_bytes, Int.w64}
 use Rattle.std.proofs.Math.{Dec.ltb, Seq.take-append_seam, Utf8.encode, Utf8.encodes, Utf8.next, Utf8.scalar, Utf8.scalar_cases, Utf8.scalars}
 use Rattle.std.proofs.lemmas.{Bool.cases_Bool, Bool.cases_lt, Bool.eqb-true, Bool.leb-true, Bool.ltb-true, List.get_or-append_right, List.get_or_append_left, List.length-append, List.length-replicate}
 use Rattle.std.proofs.lemmas.{List.map_push, Nat.le_bytes_8, Option.get_or_from_slice_get, Option.slice_get-map, Option.slice_get_within, Slice.Eq.bytes_eq-Decides}

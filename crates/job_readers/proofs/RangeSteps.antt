@@ -1,7 +1,6 @@
 -- Blocks that are ranges: when two share a key, and what their first keys by their last keys tell of one more.
-use Rattle.std.proofs.Common.{◌≡◌, ◌≢◌, ℕ, ◌+◌, ◌-◌, ◌/◌, ◌*◌, ◌%◌, ◌^◌, ◌<◌, ◌≤◌, ◌↔◌, List, [], ◌∷◌, ◌++◌, true, false, true≢false, Option, Some, None, inl, inr, ap, sym, ◌∙◌, subst, arith, Less}
-use Rattle.std.proofs.Common.{Equal, Greater, nat_cmp}
-use Rattle.std.specs.{Prelude.bit_and, Prelude.Contains, Prelude.nat_le, List.list_any, Cmp.nat_cmp_is, Ordering.is_eq, Ordering.is_gt}
+use Rattle.std.proofs.Common.{◌≡◌, ◌≢◌, ℕ, ◌+◌, ◌-◌, ◌%◌, ◌^◌, ◌<◌, ◌≤◌, ◌↔◌, List, [], ◌∷◌, ◌++◌, true, false, true≢false, Option, Some, None, inl, inr, ap, sym, ◌∙◌, subst, arith, nat_cmp}
+use Rattle.std.specs.{Prelude.bit_and, Prelude.Contains, Prelude.nat_le, List.list_any, Ordering.is_eq, Ordering.is_gt}
 use Rattle.std.proofs.lemmas.{Bool.cases_lt, Bool.cases_eq, Bool.cases_Bool, Bool.cases_order, Bool.eqb-true, Bool.eq-eqb, Bool.le-leb, Bool.lt-leb, Nat.and_le_r, Nat.pow_pos, Nat.shr_split}
 use Rattle.std.proofs.lemmas.{Nat.Bits.and_high_mask, List.Elements.All-push, List.Elements.All-contains, List.Elements.Contains-append_left, List.Elements.Contains-append_right}
 use Rattle.std.proofs.lemmas.List.Folds.{list_any_at, list_any_none}

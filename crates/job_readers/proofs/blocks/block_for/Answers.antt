@@ -1,6 +1,5 @@
-use Rattle.std.proofs.Common.{◌≡◌, ◌-◌, true, arith}
+use Rattle.std.proofs.Common.{◌-◌, arith}
 use Rattle.std.proofs.lemmas.Grind.{common_steps}
-use Rattle.std.specs.Int.{is_power_of_two}
 use Rattle.job_readers.proofs.BlockSteps.{fixed_for}
 use Rattle.job_readers.proofs.blocks.block_for.Goals as goal
 

@@ -1,5 +1,4 @@
-use Rattle.std.proofs.Common.{arith}
-use Rattle.std.proofs.Common.{refl, ap, sym, ◌∙◌, map, Some, None}
+use Rattle.std.proofs.Common.{arith, refl, ap, sym, ◌∙◌, map, Some, None}
 use Rattle.std.proofs.lemmas.Result.{err_from_is_err_and}
 use Rattle.serde_json.specs.View.{view}
 use Rattle.spin_base.specs.declared.copies.Event.TheVariants as events

@@ -1,8 +1,6 @@
-use Rattle.std.proofs.Common.{◌≡◌, true, sym, subst}
-use Rattle.std.specs.List.{list_all}
-use Rattle.job_text.specs.{Fields.is_name, Paths.path_text}
+use Rattle.std.proofs.Common.{arith}
+use Rattle.job_text.specs.Paths.{path_text}
 use Rattle.serde_json.specs.View.{view}
-use Rattle.job_readers.specs.GraphPart.{vertex_names_of}
 use Rattle.job_readers.proofs.KnownNames.{vertices_known}
 use Rattle.job_readers.proofs.graph_parts.graph_members.Goals as goal
 

@@ -1,5 +1,4 @@
-use Rattle.std.proofs.Common.{arith}
-use Rattle.std.proofs.Common.{◌≡◌, ℕ, ◌<◌, List, length, Some, ap, sym, subst, ◌∙◌}
+use Rattle.std.proofs.Common.{arith, ◌≡◌, ℕ, ◌<◌, List, length, Some, sym}
 use Rattle.std.proofs.lemmas.List.{length-map}
 use Rattle.app_graph.specs.declared.graphs.Vertex.{Vertex}
 use Rattle.job_readers.specs.{Places.name_place_in, GraphPart.vertex_names_of}

@@ -1,4 +1,4 @@
-use Rattle.std.proofs.Common.{refl, ◌∙◌}
+use Rattle.std.proofs.Common.{arith}
 use Rattle.std.proofs.lemmas.{List.length-map, Result.err_from_is_err_and}
 use Rattle.job_readers.specs.Members.{list_member_faults, list_member}
 use Rattle.job_readers.proofs.Firsts.{fails_before, fails_later}

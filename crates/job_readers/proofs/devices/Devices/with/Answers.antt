@@ -1,8 +1,5 @@
-use Rattle.std.proofs.Common.{arith}
-use Rattle.std.proofs.Common.{◌≡◌, [], ◌∷◌, Bool, true, false, cond, ◌||◌, refl, sym, ap, ◌∙◌}
-use Rattle.std.specs.List.{list_any}
+use Rattle.std.proofs.Common.{arith, ◌≡◌, Bool, true, false, cond, ◌||◌, refl}
 use Rattle.std.proofs.lemmas.List.Folds.{list_any-append}
-use Rattle.job_readers.specs.Listed.{anchor_of, anchor_eq}
 use Rattle.job_readers.proofs.devices.Devices.with.Goals as goal
 
 either : (a b : Bool) → cond a true b ≡ (b || (a || false))

@@ -1,6 +1,4 @@
-use Rattle.std.proofs.Common.{ap, sym, subst}
-use Rattle.std.specs.{Ordering.nat_cmp, Map.lookup, BTreeMap.is_at, BTreeMap.get}
-use Rattle.job_readers.specs.FixedRanges.{AreRanges}
+use Rattle.std.proofs.Common.{arith}
 use Rattle.job_readers.proofs.RangeSteps.{no_ranges}
 use Rattle.job_readers.proofs.fixed_blocks.FixedBlocks.new.Goals as goal
 
