@@ -1,5 +1,5 @@
 -- Where a net has a plan, none of its targets is cut off; and at most one net and target are the first that are.
-use Rattle.std.proofs.Common.{◌≡◌, ℕ, ◌<◌, List, [], ◌∷◌, map, length, refl, sym, ap, ◌∙◌, subst, inl, inr, Some, Result, Ok, Err, IfOk, IfErr}
+use Rattle.std.proofs.Common.{arith, ◌≡◌, ℕ, ◌<◌, List, [], ◌∷◌, map, length, refl, sym, ap, ◌∙◌, subst, inl, inr, Some, Result, Ok, Err, IfOk, IfErr}
 use Rattle.std.specs.List.{All, Contains, slice_get, slice_index_or}
 use Rattle.std.proofs.lemmas.{Bool.cases_order, List.Elements.All-contains, Option.slice_get_within, Option.get_or_from_slice_get, Option.slice_get-get_or}
 use Rattle.spin_base.specs.declared.chips.{Chip.Chip, Spot.Spot}

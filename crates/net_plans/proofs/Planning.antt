@@ -1,5 +1,5 @@
 -- What one net's plan gives, and what all plans give.
-use Rattle.std.proofs.Common.{◌≡◌, ℕ, ◌+◌, ◌<◌, ◌≤◌, List, [], ◌∷◌, ◌++◌, map, length, refl, sym, ap, ◌∙◌, subst, arith, inl, inr, Some}
+use Rattle.std.proofs.Common.{◌≡◌, ℕ, ◌+◌, ◌<◌, ◌≤◌, List, [], ◌∷◌, ◌++◌, map, length, ap, ◌∙◌, subst, arith, inl, inr, Some}
 use Rattle.std.specs.List.{All, Contains, slice_get, slice_index_or}
 use Rattle.std.proofs.lemmas.{List.length-append, List.Elements.All-contains, List.Elements.All-contains_itself, Option.slice_get-get_or}
 use Rattle.spin_base.specs.declared.{chips.Chip.Chip, chips.Spot.Spot, blocks.Block.Block}
@@ -9,7 +9,7 @@ use Rattle.app_graph.specs.declared.graphs.Net.{Net}
 use Rattle.ner_trees.specs.{declared.growths.Grown.Grown, Growth.IsGrown, Growth.distance_sum}
 use Rattle.link_detours.specs.Repair.{IsRepaired}
 use Rattle.spin_base.proofs.{Members.Contains-map, Members.Contains-unmap, Places.All-at, Places.All-each}
-use Rattle.net_plans.specs.{Keys.nowhere, NetPlans.joined_chips, NetPlans.IsPlannedNet, Targets.AreTargets, Targets.AreTargetChips}
+use Rattle.net_plans.specs.{Keys.nowhere, NetPlans.IsPlannedNet, Targets.AreTargets, Targets.AreTargetChips}
 
 -- sites are on chips of the grid
 pub all_inside : (m : Description) (spots : List Spot) → All (IsSite m) spots → All (λ s. IsInside m s.chip) spots

@@ -1,5 +1,5 @@
 -- Nets that were routed side by side, and what is found of them in order.
-use Rattle.std.proofs.Common.{◌≡◌, ℕ, zero, suc, ◌+◌, ◌<◌, ◌≤◌, List, [], ◌∷◌, ◌++◌, drop, get_or, length, refl, sym, ap, ◌∙◌, subst, arith, Some, Result, Ok, Err, IfOk, IfErr, inl, inr}
+use Rattle.std.proofs.Common.{◌≡◌, ℕ, zero, suc, ◌+◌, ◌<◌, ◌≤◌, List, [], ◌∷◌, ◌++◌, drop, get_or, length, refl, sym, ap, ◌∙◌, subst, arith, Some, Result, Ok, Err, IfOk, IfErr}
 use Rattle.std.specs.List.{All, AllZip, slice_get, range_with_len}
 use Rattle.std.proofs.lemmas.{List.FromFn.get_or-range_with_len, List.FromFn.length-range_with_len, Option.get_or_from_slice_get, Option.slice_get_within, Option.slice_get-get_or}
 use Rattle.spin_base.specs.declared.{chips.Chip.Chip, chips.Spot.Spot, blocks.Block.Block}
