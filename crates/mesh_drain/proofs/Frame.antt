@@ -2,12 +2,9 @@
 use Rattle.std.proofs.Common.{arith, ◌≡◌, ℕ, refl, sym, ap, ◌∙◌, List, [], ◌∷◌, ◌++◌}
 use Rattle.std.proofs.lemmas.List.Elements.{All-head, All-tail, All-nil, All-cons, All-append, All-weaker}
 use Rattle.std.specs.List.{slice_get, All}
-use Rattle.spin_base.specs.declared.copies.Event.{Event}
-use Rattle.spin_base.specs.declared.copies.Event.TheVariants.{Inject, Take, Send, Dump, Collect}
-use Rattle.machine_desc.specs.Live.{index_of}
-use Rattle.mesh_core.specs.{State.State, State.queue_at, Step.after_event, Step.after_events, HasRun.DropsNone}
-use Rattle.mesh_core.proofs.EventsLaw.{events_keep}
-use Rattle.mesh_core.proofs.Fixed.{setup_after, after_events-append, push_behind_leaves, by_take, by_send, by_collect, dumped_stays}
+use Rattle.spin_base.specs.declared.copies.Event.{Event, TheVariants.Inject, TheVariants.Take, TheVariants.Send, TheVariants.Dump, TheVariants.Collect}
+use Rattle.mesh_core.specs.{State.State, Step.after_event, Step.after_events, HasRun.DropsNone}
+use Rattle.mesh_core.proofs.{EventsLaw.events_keep, Fixed.setup_after, Fixed.after_events-append, Fixed.push_behind_leaves, Fixed.by_take, Fixed.by_send, Fixed.by_collect, Fixed.dumped_stays}
 use Rattle.mesh_drain.specs.Draining.{MeetsSomeLedger, IsAfter, IsOnward, IsReachedDropless, IsReachedOnward}
 
 -- ---- what stays

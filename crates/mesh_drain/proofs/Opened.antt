@@ -4,8 +4,7 @@ use Rattle.std.proofs.lemmas.{List.take_more, List.length-take-le, List.length-m
 use Rattle.std.proofs.lemmas.Option.{slice_get-get_or}
 use Rattle.std.specs.{List.slice_get, List.slice_index_or, List.All, List.Contains, Prelude.unwrap_or}
 use Rattle.spin_base.specs.declared.{chips.Spot.Spot, copies.McCopy.McCopy, copies.Packet.Packet}
-use Rattle.machine_desc.specs.declared.nets.NetPlan.{NetPlan}
-use Rattle.machine_desc.specs.NetsOn.{vertex_at}
+use Rattle.machine_desc.specs.{declared.nets.NetPlan.NetPlan, NetsOn.vertex_at}
 use Rattle.mesh_core.specs.{State.Setup, State.State, Step.push_at, Opened.empty_mesh, Opened.opened_mesh, Opened.first_copy, Opened.AreOfNets}
 use Rattle.mesh_core.proofs.{ServingLaws.vertex_at-below, Ways.vertex_there}
 use Rattle.mesh_drain.specs.Opening.{source_vertex_of}

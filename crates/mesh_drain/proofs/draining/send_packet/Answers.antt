@@ -1,8 +1,8 @@
 use Rattle.std.proofs.Common.{◌∙◌, refl, rules}
 use Rattle.spin_base.specs.declared.copies.Event.TheVariants.{Inject}
 use Rattle.mesh_core.specs.Step.{after_event}
-use Rattle.mesh_drain.proofs.Frame.{dropless, onward_none, onward_then, onward_unsent, reached_by, reached_then, sent_dropless}
-use Rattle.mesh_drain.proofs.Turns.{begins, begins_unsent, ends_quiet, popped_smaller}
+use Rattle.mesh_drain.proofs.{Frame.dropless, Frame.onward_none, Frame.onward_then, Frame.onward_unsent, Frame.reached_by, Frame.reached_then, Frame.sent_dropless, Turns.begins, Turns.begins_unsent}
+use Rattle.mesh_drain.proofs.Turns.{ends_quiet, popped_smaller}
 use Rattle.mesh_drain.proofs.draining.send_packet.Goals as goal
 
 pub loop-next-init : goal.loop-next-init

@@ -1,9 +1,9 @@
 use Rattle.std.proofs.Common.{◌≡◌, sym, ap, ◌∙◌, set}
 use Rattle.spin_base.specs.declared.copies.Event.TheVariants.{Collect}
 use Rattle.mesh_core.specs.State.{State}
-use Rattle.mesh_drain.proofs.{Frame.reached_none, Frame.reached_by, Frame.reached_then, Steps.set_twice}
-use Rattle.mesh_drain.proofs.Moving.{after_reached, idle_from, idle_stays, lighter, mesh_after, moved_enabled}
-use Rattle.mesh_drain.proofs.Vertices.{same_besides, same_then, collect_besides, collect_there, collected_there, idle_empty, as_it_was}
+use Rattle.mesh_drain.proofs.{Frame.reached_none, Frame.reached_by, Frame.reached_then, Steps.set_twice, Moving.after_reached, Moving.idle_from, Moving.idle_stays, Moving.lighter, Moving.mesh_after}
+use Rattle.mesh_drain.proofs.{Moving.moved_enabled, Vertices.same_besides, Vertices.same_then, Vertices.collect_besides, Vertices.collect_there, Vertices.collected_there, Vertices.idle_empty}
+use Rattle.mesh_drain.proofs.Vertices.{as_it_was}
 use Rattle.mesh_drain.proofs.settling.empty_core.Goals as goal
 
 pub copies-init : goal.copies-init

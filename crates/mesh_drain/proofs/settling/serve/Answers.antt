@@ -4,10 +4,8 @@ use Rattle.spin_base.specs.declared.copies.Event.TheVariants.{Send, Dump}
 use Rattle.mesh_core.specs.{State.State, Step.step_of}
 use Rattle.mesh_core.proofs.Fixed.{dumped_stays}
 use Rattle.mesh_drain.specs.{Draining.AreCollected, Draining.DropsAtNoVertex, UnderWay.weight_in}
-use Rattle.mesh_drain.proofs.Frame.{dumped_reached}
-use Rattle.mesh_drain.proofs.Moving.{after_one, after_then, after_lighter, after_reached, always, lighter, moved_enabled, dump_enabled, idle_stays, mesh_after}
-use Rattle.mesh_drain.proofs.Turns.{on_ok}
-use Rattle.mesh_drain.proofs.Vertices.{drops_none, served_collected}
+use Rattle.mesh_drain.proofs.{Frame.dumped_reached, Moving.after_one, Moving.after_then, Moving.after_lighter, Moving.after_reached, Moving.always, Moving.lighter, Moving.moved_enabled}
+use Rattle.mesh_drain.proofs.{Moving.dump_enabled, Moving.idle_stays, Moving.mesh_after, Turns.on_ok, Vertices.drops_none, Vertices.served_collected}
 use Rattle.mesh_drain.proofs.settling.serve.Goals as goal
 
 pub returns-in-Moved-clause-after : goal.returns-in-Moved-clause-after
