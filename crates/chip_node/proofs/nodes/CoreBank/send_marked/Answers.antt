@@ -8,7 +8,7 @@ use Rattle.chip_node.proofs.EndSteps.{end_refuses_full, end_stays_refuses}
 use Rattle.chip_node.proofs.Flows.{goes_none, ready_bank_on}
 use Rattle.chip_node.proofs.Placing.{sent_goes, stays_at, Writes}
 use Rattle.chip_node.proofs.Sending.{sender_stands}
-use Rattle.chip_node.proofs.nodes.CoreBank.send.Goals as goal
+use Rattle.chip_node.proofs.nodes.CoreBank.send_marked.Goals as goal
 
 pub returns-in-Sent-clause-acts : goal.returns-in-Sent-clause-acts
 returns-in-Sent-clause-acts g c =
@@ -46,7 +46,7 @@ returns-in-Dumped-clause-acts g c =
     stays_at a _ (injection_place b.index) old new w (end_stays_refuses c.args.around.capacity 1 old new c.in-Dumped.ensures.served) refl refl refl
 
 pub returns-in-Dumped-clause-idle : goal.returns-in-Dumped-clause-idle
-returns-in-Dumped-clause-idle g c = λ moved roomy.
+returns-in-Dumped-clause-idle g c = λ all moved roomy.
     inr (
       c.index_mut.result.now,
       sender_stands c.requires.sender c.index_mut.result.now c.index_mut.ensures.value,
