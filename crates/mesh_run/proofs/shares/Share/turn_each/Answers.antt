@@ -34,14 +34,14 @@ actors-preserved g c =
     let so_far = each_past u patience start before c.actors.at at past h.3 in
     let above : before.from ≤ at = let same = h.3.plays.from in omega (arith, h.2, past, same) in
     let on : (s : Share) → c.if-at-self.self ≡ s → IsShareOf u links s → PlaysOne u patience at before s →
-        IsShareOf u links c.if-at-self.self × OneEach u patience start (at + 1) c.if-at-self.self =
-        λ s is share plays. subst (λ (x : Share). IsShareOf u links x × OneEach u patience start (at + 1) x) (sym is) (share, each_more u patience start before s at so_far plays) in
+    IsShareOf u links c.if-at-self.self × OneEach u patience start (at + 1) c.if-at-self.self =
+    λ s is share plays. subst (λ (x : Share). IsShareOf u links x × OneEach u patience start (at + 1) x) (sym is) (share, each_more u patience start before s at so_far plays) in
     let after : IsShareOf u links c.if-at-self.self × OneEach u patience start (at + 1) c.if-at-self.self = elim c.if-at-self.branch [
       | then-at-self+in-Moved w ↦
           let a = w.in-Moved.ensures.acts in
           let m = a.does in
           let moves : MovesAt u patience at before (record w.act.new.self { moved = true }) =
-              record { items = m.items; goes = m.goes; of_it = m.of_it; turns_are = m.turns_are; some = m.some } in
+          record { items = m.items; goes = m.goes; of_it = m.of_it; turns_are = m.turns_are; some = m.some } in
           on _ w.self-is (flagged u links w.act.new.self _ _ _ w.act.ensures.share) (one_moves u patience at before _ a.from a.to refl above w.if-at-self.true moves)
       | then-at-self+in-Waits w ↦
           let a = w.in-Waits.ensures.acts in
