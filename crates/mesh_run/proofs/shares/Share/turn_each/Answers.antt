@@ -1,4 +1,4 @@
-use Rattle.std.proofs.Common.{◌≤◌, ◌+◌, Bool, true, List, refl, arith, subst, sym}
+use Rattle.std.proofs.Common.{◌≡◌, ◌≤◌, ◌+◌, Bool, true, List, refl, arith, subst, sym}
 use Rattle.link_queue.specs.declared.links.Link.{Link}
 use Rattle.chip_node.specs.declared.flags.Flags.{Flags}
 use Rattle.mesh_core.specs.State.{Setup}
@@ -32,28 +32,25 @@ actors-preserved g c =
     ] in
     let so_far = each_past u patience start before c.actors.at at past h.3 in
     let above : before.from ≤ at = let same = h.3.plays.from in omega (arith, h.2, past, same) in
-    let on : (s : Share) → IsShareOf u links s → PlaysOne u patience at before s → IsShareOf u links s × OneEach u patience start (at + 1) s =
-    λ s share plays. (share, each_more u patience start before s at so_far plays) in
+    let on : (s : Share) → c.if-at-self.self ≡ s → IsShareOf u links s → PlaysOne u patience at before s →
+    IsShareOf u links c.if-at-self.self × OneEach u patience start (at + 1) c.if-at-self.self =
+    λ s is share plays. subst (λ (x : Share). IsShareOf u links x × OneEach u patience start (at + 1) x) (sym is) (share, each_more u patience start before s at so_far plays) in
     let after : IsShareOf u links c.if-at-self.self × OneEach u patience start (at + 1) c.if-at-self.self = elim c.if-at-self.branch [
       | then-at-self+in-Moved w ↦
           let a = w.in-Moved.ensures.acts in
           let m = a.does in
           let moves : MovesAt u patience at before (record w.act.new.self { moved = true }) =
           record { items = m.items; goes = m.goes; of_it = m.of_it; turns_are = m.turns_are; some = m.some } in
-          subst (λ (s : Share). IsShareOf u links s × OneEach u patience start (at + 1) s) (sym w.self-is)
-          (on _ (flagged u links w.act.new.self _ _ _ w.act.ensures.share) (one_moves u patience at before _ a.from a.to refl above w.if-at-self.true moves))
+          on _ w.self-is (flagged u links w.act.new.self _ _ _ w.act.ensures.share) (one_moves u patience at before _ a.from a.to refl above w.if-at-self.true moves)
       | then-at-self+in-Waits w ↦
           let a = w.in-Waits.ensures.acts in
-          subst (λ (s : Share). IsShareOf u links s × OneEach u patience start (at + 1) s) (sym w.self-is)
-          (on _ (flagged u links w.act.new.self _ _ _ w.act.ensures.share) (one_stays u patience at before _ a.from a.to a.moved a.does))
+          on _ w.self-is (flagged u links w.act.new.self _ _ _ w.act.ensures.share) (one_stays u patience at before _ a.from a.to a.moved a.does)
       | then-at-self+in-Nothing+then-not-has w ↦
           let a = w.in-Nothing.ensures.acts in
-          subst (λ (s : Share). IsShareOf u links s × OneEach u patience start (at + 1) s) (sym w.self-is)
-          (on _ (flagged u links w.act.new.self _ _ _ w.act.ensures.share) (one_stays u patience at before _ a.from a.to a.moved a.does))
+          on _ w.self-is (flagged u links w.act.new.self _ _ _ w.act.ensures.share) (one_stays u patience at before _ a.from a.to a.moved a.does)
       | then-at-self+in-Nothing+else-not-has w ↦
           let a = w.in-Nothing.ensures.acts in
-          subst (λ (s : Share). IsShareOf u links s × OneEach u patience start (at + 1) s) (sym w.self-is)
-          (on _ w.act.ensures.share (one_stays u patience at before _ a.from a.to a.moved a.does))
+          on _ w.self-is w.act.ensures.share (one_stays u patience at before _ a.from a.to a.moved a.does)
       | else-at-self w ↦
           subst (λ (s : Share). IsShareOf u links s × OneEach u patience start (at + 1) s) (sym w.self-is)
           (h.1, each_past u patience start before at (at + 1) (omega arith) so_far)
