@@ -39,10 +39,6 @@ pub record Reaches (wrap : Bool) (w p q : ℕ) (z : ℤ) : Type 0 where
   pub far : gap (way z) w p q ≡ forth z + back z
   pub straight : wrap ≡ false → IsStraight (way z) p q
 
-pub gap_below : (b : Bool) (w p q : ℕ) → p < w → q < w → gap b w p q < w
-gap_below true w p q pw qw = ahead_below w p q pw qw
-gap_below false w p q pw qw = ahead_below w q p qw pw
-
 pub gap_start : (b : Bool) (w p : ℕ) → p < w → gap b w p p ≡ 0
 gap_start true w p pw = omega (arith, ahead_cases w p p pw pw)
 gap_start false w p pw = omega (arith, ahead_cases w p p pw pw)

@@ -14,10 +14,6 @@ pub links_push : (m : Description) (c : Chip) (ds : List Dir) (d : Dir) → link
 links_push m c [] d = refl
 links_push m c (e ∷ ds) d = ap (λ es. link c e ∷ es) (links_push m (next_of m c e) ds d)
 
--- at the start nothing is passed
-pub cut_start : (m : Description) (on : List Bool) (near : Chip) → IsInside m near → is_on m on near ≡ true → IsCutAt m on near [] near []
-cut_start m on near inside is = grind (arith, All-nil)
-
 -- where a walk is after one step more
 pub at_more : (m : Description) (near : Chip) (walk : List Dir) (i : ℕ) (d : Dir) (at next : Chip) → i < length walk → at ≡ end_of_walk m near (take i walk) →
     next ≡ next_of m at (get_or walk i d) → next ≡ end_of_walk m near (take (i + 1) walk)
@@ -58,9 +54,6 @@ any_push m links e c any = grind (arith, Contains-push_cases links e any.1 (any.
 
 push_any : (m : Description) (links : List Edge) (e : Edge) (c : Chip) → Any (λ f. end_of m f ≡ Some c) links → Any (λ f. end_of m f ≡ Some c) (links ++ e ∷ [])
 push_any m links e c any = leads_in m (links ++ e ∷ []) any.1 c (Contains-append_left links (e ∷ []) any.1 (any.0, any.2, any.3)) any.4
-
-pub marked_start : (m : Description) (on : List Bool) → IsMarkedBy m on on []
-marked_start m on c inside = grind arith
 
 pub marked_more : (m : Description) (old new : List Bool) (links : List Edge) (i : ℕ) (d : Edge) (far : Chip) → i < length links → length new ≡ m.width * m.height →
     IsInside m (get_or links i d).chip → end_of m (get_or links i d) ≡ Some far → IsMarkedBy m old new (take i links) → IsMarkedBy m old (set new (index_of m far) true) (take (i + 1) links)

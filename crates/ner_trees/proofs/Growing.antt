@@ -85,10 +85,6 @@ tells_more m root old new tree links whole is tells marked = subst (λ es. Tells
     lists_right : (e : Edge) → Contains links e → Contains (tree ++ links) e
     lists_right e has = Contains-append_right tree links e has
 
--- where no chip is marked, all are in any list
-pub none_listed : (m : Description) (on : List Bool) (chips : List Chip) → on ≡ replicate (m.width * m.height) false → AreAllOn m on chips
-none_listed m on chips blank c c_in is = grind (arith, index_below m c c_in, get_or-replicate (m.width * m.height) (index_of m c) false false (index_below m c c_in), get_or, true≢false)
-
 -- one chip more is marked, and listed
 module _ (m : Description) (on : List Bool) (chips : List Chip) (d : Chip) (d_in : IsInside m d) where
   pub one_listed : length on ≡ m.width * m.height → AreOn m on chips → AreOn m (set on (index_of m d) true) (chips ++ d ∷ [])

@@ -1,19 +1,17 @@
 -- The search of a ring: what it has seen, and that it sees enough.
 use Rattle.std.proofs.Common.{◌≡◌, ℕ, suc, ◌+◌, ◌-◌, ◌*◌, ◌%◌, ◌<◌, ◌≤◌, max, Bool, true, false, ◌||◌, cond, ltb, List, Option, Some, None, refl, sym, ap, ◌∙◌, subst, arith, inl, inr, ◌⊎◌}
-use Rattle.std.proofs.lemmas.{Bool.cases_lt, Bool.cases_eq, Bool.cond-true, Bool.cond-false, Bool.lt-ltb, Bool.le-ltb, Bool.or_left, Bool.or_right, Nat.mod-mul-add, Option.same_Some}
-use Rattle.std.specs.{Option.IfSome, Option.IfNone, Prelude.ℤ, Prelude.pos, Prelude.negsuc}
+use Rattle.std.proofs.lemmas.Bool.{cases_lt, cases_eq, cond-true, cond-false, lt-ltb, le-ltb, or_left, or_right}
+use Rattle.std.proofs.lemmas.Nat.{mod-mul-add}
+use Rattle.std.specs.Option.{IfSome, IfNone}
+use Rattle.std.specs.Prelude.{ℤ, pos, negsuc}
 use Rattle.spin_base.specs.declared.chips.Chip.{Chip}
-use Rattle.machine_desc.specs.{Description.Description, Description.HasSize, Live.chip_at, Live.IsInside}
-use Rattle.machine_desc.proofs.Far.{inside_from}
-use Rattle.ner_trees.specs.{declared.displacements.Disp.Disp, Geometry.forth, Geometry.back, Geometry.ahead_by, Geometry.displacement_of, Geometry.distance_of, Growth.IsNotFarther, Search.is_on}
-use Rattle.ner_trees.specs.Search.{is_there, place_at, offset_chip, AtOffsets, AtStep, IsOnWithin, IsNearestOn, IsNoneNearer, IsBetter}
-use Rattle.ner_trees.proofs.{Axis.ahead_cases, Axis.Reaches, LongestFirst.one_sided, Signed.length_is, Walking.reaches}
-
--- a chip of two coordinates is inside where they are
-pub chip_inside : (m : Description) (x y : Option ℕ) → IfSome x (λ n. n < m.width) → IfSome y (λ n. n < m.height) → IfSome (chip_at x y) (IsInside m)
-chip_inside m None y px py = px
-chip_inside m (Some x) None px py = py
-chip_inside m (Some x) (Some y) px py = inside_from m (record { x = x; y = y }) px py
+use Rattle.machine_desc.specs.Description.{Description, HasSize}
+use Rattle.machine_desc.specs.Live.{chip_at, IsInside}
+use Rattle.ner_trees.specs.declared.displacements.Disp.{Disp}
+use Rattle.ner_trees.specs.Geometry.{forth, back, ahead_by, displacement_of, distance_of}
+use Rattle.ner_trees.specs.Search.{is_on, is_there, place_at, offset_chip, AtOffsets, AtStep, IsOnWithin, IsNearestOn, IsNoneNearer, IsBetter}
+use Rattle.ner_trees.proofs.Axis.{ahead_cases, Reaches}
+use Rattle.ner_trees.proofs.{LongestFirst.one_sided, Signed.length_is, Walking.reaches}
 
 offset_is : (m : Description) (t : Chip) (r column row : ℕ) (x y : Option ℕ) → x ≡ place_at m.wrap m.width t.x r column → y ≡ place_at m.wrap m.height t.y r row →
     chip_at x y ≡ offset_chip m t r column row
@@ -139,42 +137,10 @@ ring_covers m t e r size t_in e_in is = sides (one_sided d.a) (one_sided d.b)
           | inr far ↦ (back d.a, omega (arith, length_at, a, b), inr (inr (inr (inr (inl (at (r + back d.a) (2 * r) (omega (arith, ix, a)) (omega (arith, iy, b, far))))))))
         ]
 
--- the order of nearness
-pub not_farther_same : (m : Description) (t c e : Chip) → c ≡ e → IsNotFarther m t c e
-not_farther_same m t c e same = grind arith
-
-pub not_farther_trans : (m : Description) (t b c e : Chip) → IsNotFarther m t b c → IsNotFarther m t c e → IsNotFarther m t b e
-not_farther_trans m t b c e (inl p) (inl q) = inl (omega arith)
-not_farther_trans m t b c e (inl p) (inr q) = let x : distance_of m c t ≡ distance_of m e t = q.0 in inl (omega arith)
-not_farther_trans m t b c e (inr p) (inl q) = let x : distance_of m b t ≡ distance_of m c t = p.0 in inl (omega arith)
-not_farther_trans m t b c e (inr p) (inr q) = grind arith
-
-pub inside_of : (m : Description) (on : List Bool) (t : Chip) (r : ℕ) (best : Option Chip) → IfSome best (IsOnWithin m on t r) → IfSome best (IsInside m)
-inside_of m on t r None is = tt
-inside_of m on t r (Some c) is = is.inside
-
 -- what the search has found, one chip on
 module _ (m : Description) (on : List Bool) (t : Chip) (r : ℕ) where
   pub better_past : (At : Chip → Type 0) (best : Option Chip) → ((e : Chip) → At e → IsOnWithin m on t r e → ⊥) → IsBetter m on t r At best best
   better_past At best none = record { keeps = λ e before. before; has = λ e at is. absurd (none e at is) }
-
-  -- two chips on the ring are as far from its centre
-  pub as_far : (best : Option Chip) (c : Chip) → IsNoneNearer m on t r → IfSome best (IsOnWithin m on t r) → IsInside m c → is_on m on c ≡ true → distance_of m c t ≤ r →
-      IfSome best (λ b. distance_of m b t ≡ distance_of m c t)
-  as_far None c none is c_in c_on near = tt
-  as_far (Some b) c none is c_in c_on near = grind arith
-
-  pub found_more : (best : Option Chip) (c n : Chip) → IsOnWithin m on t r c → IfNone best (n ≡ c) →
-      IfSome best (λ b. ((n ≡ b) × IsNotFarther m t b c) ⊎ ((n ≡ c) × IsNotFarther m t c b)) → IfSome best (IsOnWithin m on t r) → IsOnWithin m on t r n
-  found_more None c n is first later known = subst (λ (x : Chip). IsOnWithin m on t r x) (sym first) is
-  found_more (Some b) c n is first (inl old) known = subst (λ (x : Chip). IsOnWithin m on t r x) (sym old.0) known
-  found_more (Some b) c n is first (inr new) known = subst (λ (x : Chip). IsOnWithin m on t r x) (sym new.0) is
-
-  pub better_more : (o : Option Chip) (best : Option Chip) (c n : Chip) → o ≡ Some c → IfNone best (n ≡ c) →
-      IfSome best (λ b. ((n ≡ b) × IsNotFarther m t b c) ⊎ ((n ≡ c) × IsNotFarther m t c b)) → IsBetter m on t r (λ e. o ≡ Some e) best (Some n)
-  better_more o None c n at first later = grind (arith, not_farther_same, same_Some)
-  better_more o (Some b) c n at first (inl old) = grind (arith, same_Some)
-  better_more o (Some b) c n at first (inr new) = grind (arith, not_farther_trans, not_farther_same, same_Some)
 
   pub both : (A B : Chip → Type 0) (best mid result : Option Chip) → IsBetter m on t r A best mid → IsBetter m on t r B mid result → IsBetter m on t r (λ e. A e ⊎ B e) best result
   both A B best mid result one two = grind arith
@@ -210,9 +176,6 @@ module _ (m : Description) (on : List Bool) (t : Chip) (r : ℕ) where
   -- what the search of a ring has found after so many steps
   abbrev pub Stepped : ℕ → Chip → Type 0
   Stepped i e = (s : ℕ) × (s < i) × AtStep m t r s e
-
-  pub steps_start : IsBetter m on t r (Stepped 0) None None
-  steps_start = record { keeps = λ e before. before; has = λ e at is. let less : at.0 < 0 = at.1 in absurd (omega arith) }
 
   pub steps_more : (i : ℕ) (best result : Option Chip) → IsBetter m on t r (Stepped i) None best → IsBetter m on t r (AtStep m t r i) best result → IsBetter m on t r (Stepped (i + 1)) None result
   steps_more i best result so_far next = record {
