@@ -27,7 +27,7 @@ pub(crate) fn met_places(alloc: Global, merge: LegalMerge) -> Result<Vec<u32>, M
 {
     let rows = merge.rows;
     let mut met = Vec::new(alloc);
-    for s in 0..merge.gaps.place as usize {
+    for s in 0..merge.gaps.place {
         if !is_missed(merge.block, &rows[s]) {
             met.push(s as u32)?;
         }
@@ -134,7 +134,7 @@ pub(crate) fn merge_rows(
         place,
     };
     replace_all(&mut rivals.serials, gaps, merged.serial);
-    let at = place as usize - members.len();
+    let at = place - members.len();
     let list = rivals_behind(alloc, table.rows.as_slice(), &rivals.serials, at)?;
     rivals.of.push(list)?;
     push_spans(alloc, table.rows.as_slice(), &mut rivals.spans, at)?;

@@ -1,6 +1,5 @@
 // Which rows are merged next.
 ghost use Rattle.std.specs.Prelude.{◌≡◌, ◌<◌, ℕ, suc, [], ◌∷◌, IfOk, OnOk, IsTrue, MatchBool, MatchOption, None, Some, ⊤, ◌⊎◌, length, slice_index, slice_index_or};
-ghost use Rattle.cover_merge.specs.Rivals.{IsRivaled};
 ghost use Rattle.cover_merge.specs.Tried.{AreNewerOf, AreChangesFrom, AreTried, IsNextSince};
 ghost use Rattle.cover_merge.specs.declared.keeping.Kept.{Kept as AKept};
 ghost use Rattle.cover_merge.specs.declared.times.Times.{Times as ATimes};
@@ -188,7 +187,18 @@ fn first_pair(
             continue;
         }
         make_ready(alloc, rows, known, links, &mut changes, i)?;
-        if let Some(j) = partner(rows, known, links, &changes.newer, i as u32, &mut last) {
+        let table = RivaledRows {
+            rows,
+            rivals: &known.rivals,
+        };
+        if let Some(j) = partner(
+            table,
+            &known.times,
+            links,
+            &changes.newer,
+            i as u32,
+            &mut last,
+        ) {
             return Ok(Some(two_places(alloc, i as u32, j)?));
         }
         known.times[i] = marked(known.times[i], now);
@@ -335,24 +345,19 @@ fn two_places(alloc: Global, i: u32, j: u32) -> Result<Seq<u32>, Memory>
 
 // The first row behind row `i` that can be merged with it: only those of its route can that changed since it was tried.
 fn partner(
-    rows: &[Row],
-    known: &Known,
+    table: RivaledRows,
+    times: &[Times],
     links: &Links,
     newer: &[u32],
     i: u32,
     last: &mut LastMet,
 ) -> Option<u32>
-    requires rivaled { IsRivaled rows.now known.now.rivals }
-    requires tried { AreTried rows.now known.now.times.items }
-    requires changes { AreChangesFrom i 0 rows.now known.now.times.items links.now.next.items newer.now }
-    ensures { MatchOption result ((b : ℕ) → IsLegalPair rows.now i b
-        → ⊥) (λ j. IsFirstPartner rows.now i j) }
+    requires tried { AreTried table.rows.now times.now }
+    requires changes { AreChangesFrom i 0 table.rows.now times.now links.now.next.items newer.now }
+    ensures { MatchOption result ((b : ℕ) → IsLegalPair table.entry.rows.now i b
+        → ⊥) (λ j. IsFirstPartner table.entry.rows.now i j) }
 {
-    let table = RivaledRows {
-        rows,
-        rivals: &known.rivals,
-    };
-    let times = known.times.as_slice();
+    let rows = table.rows;
     let tried = tried_at(times, i as usize);
     let mut j = next_to_try(rows, times, links, newer, i, tried);
     while (j as usize) < rows.len() {

@@ -176,9 +176,8 @@ pub(crate) fn is_at_one(serials: &[usize], places: &[u32], serial: usize) -> boo
 }
 
 /// The number of rows whose generality is at most `general`: the place behind them.
-pub(crate) fn place_in(rows: &[Row], general: u32) -> u32
-    requires few { length rows.now < 2 ^ 32 }
-    requires ordered { IsOrdered rows.now }
+pub(crate) fn place_in(rows: &[Row], general: u32) -> usize
+    requires { IsOrdered rows.now }
     ensures value { result ≡ place_for rows.now general }
     ensures bound { result ≤ length rows.now }
 {
@@ -192,7 +191,7 @@ pub(crate) fn place_in(rows: &[Row], general: u32) -> u32
             high = middle;
         }
     }
-    low as u32
+    low
 }
 
 /// Whether the merge of two rows of one route is legal.

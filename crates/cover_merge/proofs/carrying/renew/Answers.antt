@@ -19,6 +19,7 @@ returns-clause-own c =
     on_ok c.put_rival-done.result (AllPairs (λ (v w : Rival). v.general ≤ w.general) left → IsPutIn c.args.merged left c.put_rival-done.new.list.items)
     (AllPairs (λ (v w : Rival). v.general ≤ w.general) (get_or of place [])
     → IsPutIn c.args.merged (rivals_left serials c.args.places.now (get_or of place [])) (get_or (set (set of c.index-serial.result.now c.replace.new.dest) c.index-serial.result.now c.from_vec.result) place []))
-    (λ put ordered. put_written serials c.args.places.now of c.index-serial.result.now place same c.requires.below left c.args.merged c.put_rival-done.new.list.items c.replace.new.dest c.from_vec.result is c.from_vec.ensures
+    (λ put ordered. put_written serials c.args.places.now of c.index-serial.result.now place same c.requires.below left c.args.merged c.put_rival-done.new.list.items
+    c.replace.new.dest c.from_vec.result is c.from_vec.ensures
     (put (left_ordered serials c.args.places.now of c.index-serial.result.now place same c.requires.below left ordered is)))
     c.put_rival-done.ensures

@@ -3,9 +3,12 @@ use Rattle.std.proofs.Common.{◌≡◌, ◌∙◌, ℕ, ◌<◌, refl, sym, ap,
 use Rattle.std.specs.Prelude.{MatchOption}
 use borrow.Author.Count.{below_more}
 use Rattle.std.proofs.lemmas.List.{get_or_default}
-use Rattle.cover_merge.specs.{declared.times.Times.Times, Tried.AreChangesFrom, Tried.AreNoLater, Covering.IsLegalPair, Covering.IsFirstPartner}
-use Rattle.cover_merge.proofs.{ChooseLemmas.first_found, ChooseLemmas.no_pair, LinkLemmas.as_many, LinkLemmas.number_at, TriedLemmas.marked_put, TriedLemmas.times_no_later, TriedLemmas.newer_kept}
-use Rattle.cover_merge.proofs.TriedLemmas.{settled_none}
+use Rattle.cover_merge.specs.declared.times.Times.{Times}
+use Rattle.cover_merge.specs.Tried.{AreChangesFrom, AreNoLater, AreTried}
+use Rattle.cover_merge.specs.Covering.{IsLegalPair, IsFirstPartner}
+use Rattle.cover_merge.proofs.ChooseLemmas.{first_found, no_pair}
+use Rattle.cover_merge.proofs.LinkLemmas.{as_many, number_at}
+use Rattle.cover_merge.proofs.TriedLemmas.{marked_put, times_no_later, newer_kept, settled_none}
 use Rattle.cover_merge.proofs.choosing.first_pair.Goals as goal
 
 pub loop-i-preserved-then-index : goal.loop-i-preserved-then-index
@@ -23,7 +26,8 @@ loop-i-preserved-then-index c =
     let low : n < length known.latest.items = omega (arith, same, told.one_time, told.numbers.below i 0 counted) in
     let late : c.index-in-loop-i.result.now ≡ get_or known.latest.items n 0 = c.index-in-loop-i.ensures ∙ get_or_default known.latest.items n c.index-in-loop-i.result.now 0 low in
     let timed : i < length known.times.items = omega (arith, told.one_each, inside) in
-    let tried : (e : Times) → was.tried ≡ (get_or known.times.items i e).tried = λ e. ap (λ (x : Times). x.tried) (c.index-in-loop-i-2.ensures ∙ get_or_default known.times.items i was e timed) in record {
+    let tried : (e : Times) → was.tried ≡ (get_or known.times.items i e).tried =
+    λ e. ap (λ (x : Times). x.tried) (c.index-in-loop-i-2.ensures ∙ get_or_default known.times.items i was e timed) in record {
       none = below_more (λ a. (b : ℕ) → IsLegalPair rows a b → ⊥) i old.none
           (settled_none known.routes.items known.latest.items rows known.times.items i told.one_each old.known.marks.tried told.latest
           (λ d e. omega (arith, c.if-index.true, late, tried e, ap (λ m. get_or known.latest.items m 0) (same ∙ number_at known.routes.items rows known.numbers.items told.numbers i d inside))));
@@ -31,12 +35,19 @@ loop-i-preserved-then-index c =
       changes = old.changes;
     }
 
+pub invariant_of-table : goal.invariant_of-table
+invariant_of-table c = let it = c.loop-i.invariant.known.told.rivaled in record { few = it.few; sound = it.sound; one_each = it.one_each; below = it.below; rivaled = ∣ it ∣₁ }
+
+pub partner-requires-clause-tried : goal.partner-requires-clause-tried
+partner-requires-clause-tried c = subst (AreTried c.args.rows.now) (sym c.deref.ensures.value) c.loop-i.invariant.known.marks.tried
+
 pub partner-requires-clause-changes : goal.partner-requires-clause-changes
 partner-requires-clause-changes c =
     let rows = c.args.rows.now in
     let ready = c.in_ok-make_ready.ensures in
-    subst (AreChangesFrom c.loop-i.i 0 rows c.loop-i.known.times.items c.args.links.now.next.items) (sym c.deref.ensures.value)
-    (record { inside = c.loop-i-test.true; one_each = c.loop-i.invariant.known.told.one_each; nexts = ready.changes.linked.links.next; newer = ready.own; places = ready.changes.places })
+    subst (AreChangesFrom c.loop-i.i 0 rows c.deref.result.now c.args.links.now.next.items) (sym c.deref-in-loop-i.ensures.value)
+    (subst (λ l. AreChangesFrom c.loop-i.i 0 rows l c.args.links.now.next.items c.make_ready.new.changes.newer.items) (sym c.deref.ensures.value)
+    (record { inside = c.loop-i-test.true; one_each = c.loop-i.invariant.known.told.one_each; nexts = ready.changes.linked.links.next; newer = ready.own; places = ready.changes.places }))
 
 pub returns-in-Some-clause-found : goal.returns-in-Some-clause-found
 returns-in-Some-clause-found c =

@@ -32,7 +32,8 @@ returns c =
         kept = subst (λ r. AreRoutesKept r (after rows places) f.kept.items) (sym (same.routes ∙ c.touch.ensures.same.routes))
             (kept_over first.routes.items rows first.numbers.items first.kept.items t.kept.items f.kept.items places c.args.merge.block start.once start.numbers start.rivaled.sound c.args.merge.legal start.kept c.touch.ensures.left
             (subst (λ n. AreStillKept (λ k it. (k ≡ get_or n (get_or places 0 0) 0 → ⊥) × (IsApart c.args.merge.block it)) t.kept.items f.kept.items) c.touch.ensures.same.numbers same.left));
-        marks = c.carry_times.ensures.marks (subst (AreTriedUpTo c.args.now rows) (sym same.times) c.touch.ensures.known.marks) (subst (AreTouched places c.args.now rows) (sym same.times) c.touch.ensures.touched);
+        marks = c.carry_times.ensures.marks (subst (AreTriedUpTo c.args.now rows) (sym same.times) c.touch.ensures.known.marks)
+            (subst (AreTouched places c.args.now rows) (sym same.times) c.touch.ensures.touched);
       };
       rivals = same.rivals ∙ c.touch.ensures.rivals;
     }
