@@ -9,7 +9,7 @@ use Rattle.net_plans.proofs.nets.routed_nets.Goals as goal
 pub collect-requires-clause-ready : goal.collect-requires-clause-ready
 collect-requires-clause-ready g c κs within =
     let ends = c.into_par_iter.ensures in
-    let inside = nat_range-All (CanRouteAt c.args.ground.now.machine.now c.args.ground.now.roads.now c.args.graph.now c.args.spots.now c.args.blocks.now)
+    let inside = nat_range-All (CanRouteAt c.args.ground.now.machine.now c.args.graph.now c.args.spots.now c.args.blocks.now)
     0 (length c.args.graph.now.nets) (λ i low high. record { can = c.requires; is_net = high }) in
     rw (c.map.ensures.base, c.map.ensures.f, ends.0, ends.1, c.len.ensures) (λ k d lt. (inside k d lt, λ y p. tt))
 
