@@ -8,4 +8,4 @@ use Rattle.job_readers.proofs.run_parts.net_of_packet.Goals as goal
 pub returns-clause-below : goal.returns-clause-below
 unfolding net_names
 returns-clause-below c =
-    subst (λ n. IfOk c.reference.result (λ i. i < n)) (ap length c.requires ∙ length-map c.args.graph.now.nets (λ (n : Net). n.name)) c.reference.ensures.below
+    subst (λ n. IfOk c.reference.result (λ i. i < n)) (ap length c.args.among.now.named ∙ length-map c.args.among.now.valid.graph.now.nets (λ (n : Net). n.name)) c.reference.ensures.below
