@@ -1,11 +1,9 @@
 -- The rows of joined pieces say what the given rows say, and behind a wall no more.
 use Rattle.std.proofs.Common.{◌≡◌, ℕ, ◌<◌, ◌≤◌, ◌^◌, List, [], ◌∷◌, length, map, Some, refl, sym, ap, ◌∙◌, subst, arith}
-use Rattle.std.specs.Prelude.{not}
 use Rattle.std.specs.List.{Contains}
 use Rattle.std.specs.Option.{option_or}
 use Rattle.std.specs.List.Sorted.{IsPermutation}
 use Rattle.std.proofs.lemmas.List.Folds.{find-append}
-use Rattle.std.proofs.lemmas.List.Sums.{count_by-le-length, length-filter}
 use Rattle.std.proofs.lemmas.List.Sorted.{IsPermutation-refl}
 use Rattle.std.proofs.lemmas.Option.{same_Some}
 use Rattle.spin_base.proofs.Members.{Among, among_contains, among_map, contains_among, map_among}
@@ -16,7 +14,7 @@ use Rattle.tern_word.specs.SoundTable.{IsSound, Original, served}
 use Rattle.table_rules.specs.declared.rows.RoutedBlock.{RoutedBlock}
 use Rattle.table_rules.specs.Exact.{IsFree, wall_of, walled}
 use Rattle.table_rules.specs.Made.{IsTableMadeOf}
-use Rattle.table_rules.specs.Pairs.{AreJoinedRows, AreRoutesOf, goes_by, others, pieces_of, row_by}
+use Rattle.table_rules.specs.Pairs.{AreJoinedRows, AreRoutesOf, others, pieces_of, row_by}
 use Rattle.table_rules.specs.Rows.{GoesBy, HasNoNewKeys, KeepsRoutes, by_row, first_with, takes_key}
 use Rattle.table_rules.specs.Shortened.{AreLeft, IsShorterOf, few, fewer, many, no_fewer}
 use Rattle.table_rules.proofs.Faithful.{is_served, keeps, made_is_sound}
@@ -125,9 +123,3 @@ module _ (room : ℕ) (given : List RoutedBlock) (route : Route) (table : List R
 
   pub no_more_joined : HasNoNewKeys given joined
   no_more_joined = joined_has_no_more room given route table made joined are_joined
-
--- no more pieces are of other routes than there are
-pub others_fewer : (route : Route) (pieces : List RoutedBlock) → length (others route pieces) ≤ length pieces
-others_fewer route pieces =
-    let test = λ (p : RoutedBlock). not (goes_by route p) in
-    omega (arith, length-filter test pieces, count_by-le-length test pieces)
