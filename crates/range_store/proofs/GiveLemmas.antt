@@ -7,7 +7,7 @@ use Rattle.std.proofs.lemmas.List.{take-append-drop, set_split, set_at, length-t
 use Rattle.std.proofs.lemmas.List.Folds.{list_any-append}
 use Rattle.std.proofs.lemmas.Option.{slice_get-get_or, slice_get_within}
 use Rattle.range_store.specs.declared.holes.Hole.{Hole}
-use Rattle.range_store.specs.Fits.{AreNeighbours}
+use Rattle.range_store.specs.Fits.{AreNeighbours, IsPutBack}
 use Rattle.range_store.specs.Regions.{AreRuns, NoneIsFree, has_range, is_free, in_range, hole_end}
 use Rattle.range_store.proofs.RunLemmas.{next, runs_split, runs_join, earlier, fits_any, drop_got, split_got, some_len}
 use Rattle.range_store.proofs.HolePlaces.{clash, has_from}
@@ -115,36 +115,33 @@ module _ (n p s a : ℕ) (xs : List Hole) (some : 0 < s) (within : p + s ≤ n) 
   after_right : (r : Hole) → slice_get xs a ≡ Some r → AreRuns (hole_end r + 1) n (drop (suc a) xs)
   after_right r e = (runs_split 0 n (take a xs) (r ∷ drop (suc a) xs) (subst (AreRuns 0 n) (split_got xs a r e) runs)).1.3
 
-  abbrev Gives : List Hole → Type 0
-  Gives ys = ((k : ℕ) → is_free ys k ≡ (is_free xs k || in_range p s k)) × AreRuns 0 n ys
-
   -- one hole in place of those between two places of the list
   gives : (i j : ℕ) (mid : List Hole) (m : Hole) (ys : List Hole) → xs ≡ take i xs ++ (mid ++ drop j xs) → ys ≡ take i xs ++ m ∷ drop j xs
       → ((k : ℕ) → has_range k 1 m ≡ (is_free mid k || in_range p s k)) → next 0 (take i xs) ≤ m.place → 0 < m.len → hole_end m ≤ n
-      → AreRuns (hole_end m + 1) n (drop j xs) → Gives ys
+      → AreRuns (hole_end m + 1) n (drop j xs) → IsPutBack p s n xs ys
   gives i j mid m ys old new same start long below after =
       let here = subst (AreRuns 0 n) old runs in
       let free = put_free n p s (take i xs) mid (drop j xs) m here same in
-      subst Gives (sym new) (
+      subst (IsPutBack p s n xs) (sym new) (
         λ k. free k ∙ ap (λ l. is_free l k || in_range p s k) (sym old),
         put_runs n p s (take i xs) mid (drop j xs) m here same start long below after,
       )
 
   give_none : a ≤ length xs → ((l : Hole) → 0 < a → slice_get xs (a - 1) ≡ Some l → hole_end l ≢ p) → ((r : Hole) → slice_get xs a ≡ Some r → r.place ≢ p + s)
-      → Gives (take a xs ++ record { place = p; len = s } ∷ drop a xs)
+      → IsPutBack p s n xs (take a xs ++ record { place = p; len = s } ∷ drop a xs)
   give_none le no_left no_right =
       gives a a [] (record { place = p; len = s }) _ (sym (take-append-drop a xs)) refl (λ k. has_none k p s)
       (start_none no_left a refl le) some within (after_none no_right)
 
   give_right : (r : Hole) → a ≤ length xs → ((l : Hole) → 0 < a → slice_get xs (a - 1) ≡ Some l → hole_end l ≢ p) → slice_get xs a ≡ Some r → r.place ≡ p + s
-      → Gives (set xs a (record { place = p; len = s + r.len }))
+      → IsPutBack p s n xs (set xs a (record { place = p; len = s + r.len }))
   give_right r le no_left e meets =
       let long = some_len 0 n xs a r runs e in
       gives a (suc a) (r ∷ []) (record { place = p; len = s + r.len }) _ (split_got xs a r e) (set_split xs a _ (slice_get_within xs a r e)) (λ k. has_right k p s r meets)
       (start_none no_left a refl le) (omega arith) (omega (arith, long.1)) (earlier (hole_end r + 1) _ n _ (after_right r e) (omega arith))
 
   give_left : (l : Hole) → 0 < a → slice_get xs (a - 1) ≡ Some l → hole_end l ≡ p → ((r : Hole) → slice_get xs a ≡ Some r → r.place ≢ p + s)
-      → Gives (set xs (a - 1) (record { place = l.place; len = l.len + s }))
+      → IsPutBack p s n xs (set xs (a - 1) (record { place = l.place; len = l.len + s }))
   give_left l some_before e meets no_right =
       let up : suc (a - 1) ≡ a = omega arith in
       let m : Hole = record { place = l.place; len = l.len + s } in
@@ -155,7 +152,7 @@ module _ (n p s a : ℕ) (xs : List Hole) (some : 0 < s) (within : p + s ≤ n) 
       (earlier (p + s + 1) (hole_end m + 1) n _ (after_none no_right) (omega arith))
 
   give_both : (l r : Hole) → 0 < a → slice_get xs (a - 1) ≡ Some l → hole_end l ≡ p → slice_get xs a ≡ Some r → r.place ≡ p + s
-      → Gives (set (take a xs ++ drop (suc a) xs) (a - 1) (record { place = l.place; len = l.len + s + r.len }))
+      → IsPutBack p s n xs (set (take a xs ++ drop (suc a) xs) (a - 1) (record { place = l.place; len = l.len + s + r.len }))
   give_both l r some_before e meets f meets_right =
       let up : suc (a - 1) ≡ a = omega arith in
       let m : Hole = record { place = l.place; len = l.len + s + r.len } in
@@ -183,24 +180,21 @@ module _ {n p s a : ℕ} {xs lent : List Hole} {left right : Option Hole} (some 
   abbrev RightIs : Option Hole → Type 0
   RightIs o = MatchOption o ((h : Hole) → slice_get xs a ≡ Some h → h.place ≢ p + s) (λ h. (slice_get xs a ≡ Some h) × (h.place ≡ p + s))
 
-  abbrev Put : List Hole → Type 0
-  Put ys = ((k : ℕ) → is_free ys k ≡ (is_free xs k || in_range p s k)) × AreRuns 0 n ys
-
-  pub arm_none : NoneIsFree xs p s → left ≡ None → right ≡ None → Put (take a xs ++ record { place = p; len = s } ∷ drop a xs)
+  pub arm_none : NoneIsFree xs p s → left ≡ None → right ≡ None → IsPutBack p s n xs (take a xs ++ record { place = p; len = s } ∷ drop a xs)
   arm_none taken l r = give_none n p s a xs some within runs taken near.before near.first near.within (subst LeftIs l near.left_is) (subst RightIs r near.right_is)
 
-  pub arm_right : {y : Hole} → NoneIsFree xs p s → left ≡ None → right ≡ Some y → Put (set xs a (record { place = p; len = s + y.len }))
+  pub arm_right : {y : Hole} → NoneIsFree xs p s → left ≡ None → right ≡ Some y → IsPutBack p s n xs (set xs a (record { place = p; len = s + y.len }))
   arm_right {y} taken l r =
       let is = subst RightIs r near.right_is in
       give_right n p s a xs some within runs taken near.before near.first y near.within (subst LeftIs l near.left_is) is.0 is.1
 
-  pub arm_left : {x : Hole} → NoneIsFree xs p s → left ≡ Some x → right ≡ None → Put (set xs (a - 1) (record { place = x.place; len = x.len + s }))
+  pub arm_left : {x : Hole} → NoneIsFree xs p s → left ≡ Some x → right ≡ None → IsPutBack p s n xs (set xs (a - 1) (record { place = x.place; len = x.len + s }))
   arm_left {x} taken l r =
       let is = subst LeftIs l near.left_is in
       give_left n p s a xs some within runs taken near.before near.first x is.0 is.1 is.2 (subst RightIs r near.right_is)
 
   pub arm_both : {x y : Hole} → NoneIsFree xs p s → left ≡ Some x → right ≡ Some y
-      → Put (set (take a xs ++ drop (suc a) xs) (a - 1) (record { place = x.place; len = x.len + s + y.len }))
+      → IsPutBack p s n xs (set (take a xs ++ drop (suc a) xs) (a - 1) (record { place = x.place; len = x.len + s + y.len }))
   arm_both {x} {y} taken l r =
       let is = subst LeftIs l near.left_is in
       let at = subst RightIs r near.right_is in

@@ -1,8 +1,8 @@
 // A range put back among the holes.
-ghost use Rattle.std.specs.Prelude.{◌≡◌, ◌≢◌, ℕ, ◌+◌, ◌-◌, ◌<◌, ◌≤◌, ◌||◌, true, false, Some, IfSome, IfNone, length, slice_get};
+ghost use Rattle.std.specs.Prelude.{◌≡◌, ◌≢◌, ℕ, ◌+◌, ◌-◌, ◌<◌, ◌≤◌, Some, IfSome, IfNone, slice_get};
 ghost use Rattle.std.specs.Prelude.{vec_len, vec_capacity};
-ghost use Rattle.range_store.specs.Regions.{AreRuns, NoneIsFree, is_free, in_range, hole_end};
-ghost use Rattle.range_store.specs.Fits.{AreNeighbours};
+ghost use Rattle.range_store.specs.Regions.{AreRuns, NoneIsFree, hole_end};
+ghost use Rattle.range_store.specs.Fits.{AreNeighbours, IsPutBack};
 ghost use Rattle.range_store.specs.declared.holes.Hole.{Hole};
 
 use crate::begins::{Holes, begin_before};
@@ -20,12 +20,10 @@ pub(crate) struct Span {
 /// Puts a range back, and merges it with the holes that end where it begins and begin where it ends.
 pub(crate) fn put_back(holes: &mut Vec<Hole>, span: Span)
     requires { AreRuns 0 4294967296 holes.old.items }
-    ensures free { vec_len holes.old < vec_capacity holes.old
-        → NoneIsFree holes.old.items span.place span.size → (k : ℕ) → is_free holes.new.items k
-        ≡ (is_free holes.old.items k || in_range span.place span.size k) }
-    ensures runs { vec_len holes.old < vec_capacity holes.old
+    ensures put { vec_len holes.old < vec_capacity holes.old
         → NoneIsFree holes.old.items span.place span.size → (n : ℕ) → AreRuns 0 n holes.old.items
-        → span.place + span.size ≤ n → AreRuns 0 n holes.new.items }
+        → span.place + span.size ≤ n
+        → IsPutBack span.place span.size n holes.old.items holes.new.items }
     ensures len { vec_len holes.new ≤ vec_len holes.old + 1 }
     ensures capacity { vec_capacity holes.old ≤ vec_capacity holes.new }
 {
