@@ -1,5 +1,6 @@
 use Rattle.std.proofs.Common.{◌≡◌, ◌∙◌, length, map, refl, ap, sym, arith}
-use Rattle.std.proofs.{lemmas.List.nil_from_length, Math.Logic.∥∥₁_elim, Props.props}
+use Rattle.std.proofs.lemmas.List.{nil_from_length}
+use Rattle.std.proofs.{Math.Logic.∥∥₁_elim, Props.props}
 use Rattle.serde_json.specs.View.{view}
 use Rattle.job_readers.specs.{GraphPart.vertex_names_of, Items.items_faults, RunPart.events_faults, RunPart.events_value}
 use Rattle.job_readers.proofs.events.events.Goals as goal

@@ -1,6 +1,10 @@
 use Rattle.std.proofs.Common.{◌≡◌, false, ap, sym, subst, ◌∙◌}
-use Rattle.std.specs.{Prelude.IfSome, List.list_any, Ordering.nat_cmp, BTreeMap.get}
-use Rattle.job_readers.specs.{Blocks.IsRange, Blocks.shares_key, FixedRanges.AreRanges}
+use Rattle.std.specs.Prelude.{IfSome}
+use Rattle.std.specs.List.{list_any}
+use Rattle.std.specs.Ordering.{nat_cmp}
+use Rattle.std.specs.BTreeMap.{get}
+use Rattle.job_readers.specs.Blocks.{IsRange, shares_key}
+use Rattle.job_readers.specs.FixedRanges.{AreRanges}
 use Rattle.job_readers.proofs.RangeSteps.{is_other, one_more}
 use Rattle.job_readers.proofs.fixed_blocks.FixedBlocks.and.Goals as goal
 

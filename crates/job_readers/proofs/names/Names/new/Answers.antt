@@ -1,5 +1,8 @@
 use Rattle.std.proofs.Common.{◌≡◌, map, ap, sym, subst, ◌∙◌, arith, rules, replicate}
-use Rattle.std.specs.{Ordering.nat_cmp, Cmp.Lexicographic.slice_cmp, Map.lookup, BTreeMap.is_at}
+use Rattle.std.specs.Ordering.{nat_cmp}
+use Rattle.std.specs.Cmp.Lexicographic.{slice_cmp}
+use Rattle.std.specs.Map.{lookup}
+use Rattle.std.specs.BTreeMap.{is_at}
 use Rattle.job_readers.specs.Indexed.{AreSlots, told_later, word_for}
 use Rattle.job_readers.proofs.SlotSteps.{none_in}
 use Rattle.job_readers.proofs.names.Names.new.Goals as goal
