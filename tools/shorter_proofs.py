@@ -93,7 +93,7 @@ def cited_names(lines):
 
 def bound_in(body):
     """The names that a body binds: by λ, and in the patterns of its cases."""
-    heads = re.findall(r"λ ((?:\([^()]*\)|[^\s.()]+)(?:\s+(?:\([^()]*\)|[^\s.()]+))*)\. ", body) + re.findall(r"(?:^|\s)\| (.*?) ↦", body)
+    heads = re.findall(r"λ (.*?)\. ", body) + re.findall(r"(?:^|\s)\| (.*?) ↦", body)
     return {name for head in heads for name in re.findall(r"[^\s(){}:,]+", head)}
 
 
@@ -161,7 +161,9 @@ def facts_of(body, lemmas, own):
     lets, rest = without_lets(flat)
     values = {}
     for name, value in lets:
-        values[name] = put_in(value, values)
+        whole = put_in(value, values)
+        if len(whole) < 2 * WIDTH:
+            values[name] = whole
     bound = bound_in(flat) | (set(re.findall(r"(?<![^\s(])let (\S+)", flat)) - set(values))
     closed, bare, texts = [], [], [put_in(rest, values), *reversed(values.values())]
     while texts:
