@@ -1,5 +1,5 @@
 // Reads the run part of a job.
-ghost use Rattle.std.specs.Prelude.{◌≡◌, ◌+◌, ◌*◌, ◌<◌, ◌≤◌, ◌-◌, [], length, map, codes, option_map, IfOk, All, Some, None};
+ghost use Rattle.std.specs.Prelude.{◌≡◌, ◌+◌, ◌*◌, ◌<◌, ◌≤◌, ◌-◌, [], length, map, codes, IfOk, All, Some, None};
 ghost use Rattle.std.proofs.Props.{props};
 ghost use Rattle.serde_json.specs.View.{view};
 ghost use Rattle.serde_json.specs.Data.{null};
@@ -30,23 +30,6 @@ const MOST_PACKETS: u64 = 65536;
 
 /// The most places of all queues together.
 const MOST_PLACES: u64 = 16777216;
-
-// The net of a packet.
-#[tactic(auto, unfolding(crate::specs::RunPart::packet_net_faults, crate::specs::RunPart::packet_net))]
-fn net_of_packet(
-    alloc: Global,
-    item: &Value,
-    path: &Path<'_>,
-    among: &Senders<'_, '_>,
-) -> Result<u32, TextErr>
-    ensures read { GivesOrFaults (λ i. i) result
-        (packet_net_faults among.now.valid.graph.now.nets (path_text path.now) (view item.now))
-        (packet_net among.now.valid.graph.now.nets (view item.now)) }
-    ensures below { IfOk result (λ i. i < length among.now.valid.graph.now.nets) }
-{
-    let path = Path::Member(path, "net");
-    reference(alloc, member(item, "net"), &path, among.names)
-}
 
 // The last key of a net, counted from 0.
 fn last_key(valid: &ValidGraph<'_>, net: u32) -> u64
@@ -93,10 +76,11 @@ impl<'a, 'b> ItemReader for Senders<'a, 'b> {
 
     ghost Holds = { λ among. IsPacketOf among.valid.graph.now.nets };
 
-    #[tactic(auto, using(crate::proofs::Firsts::firsts), unfolding(crate::specs::RunPart::packet_faults, crate::specs::RunPart::packet_value))]
+    #[tactic(auto, using(crate::proofs::Firsts::firsts), unfolding(crate::specs::RunPart::packet_faults, crate::specs::RunPart::packet_net_faults, crate::specs::RunPart::packet_net, crate::specs::RunPart::packet_value))]
     fn read(&self, alloc: Global, item: &Value, path: &Path<'_>) -> Result<Packet, TextErr> {
         let item = object(alloc, Some(item), path)?;
-        let net = net_of_packet(alloc, item, path, self)?;
+        let sender = Path::Member(path, "net");
+        let net = reference(alloc, member(item, "net"), &sender, self.names)?;
         let last = last_key(&self.valid, net);
         let index = number_of(alloc, item, path, "index", (0, last), None)? as u32;
         let payload = payload_of(alloc, item, path)?;
@@ -219,29 +203,6 @@ fn absent_run(
     run_members(alloc, &absent, path, machine, valid)
 }
 
-// The run part at a path.
-#[tactic(auto, using(crate::proofs::Firsts::firsts), unfolding(crate::specs::RunPart::optional_object_faults))]
-fn run_in(
-    alloc: Global,
-    v: Option<&Value>,
-    path: &Path<'_>,
-    machine: &Machine,
-    valid: &ValidGraph<'_>,
-) -> Result<RunPart, TextErr>
-    ensures read { GivesOrFaults (λ r. r) result
-        (optional_object_faults (path_text path.now) (option_map (λ d. view d.now) v.entry)
-        ▹ run_members_faults (live_count_of machine.now) valid.now.graph.now (path_text path.now)
-        (object_value (option_map (λ d. view d.now) v.entry)))
-        (run_members valid.now.graph.now (object_value (option_map (λ d. view d.now) v.entry))) }
-    ensures found { IfOk result (IsRunOf valid.now.graph.now) }
-{
-    let Some(found) = v else {
-        return absent_run(alloc, path, machine, valid);
-    };
-    let run = object(alloc, Some(found), path)?;
-    run_members(alloc, run, path, machine, valid)
-}
-
 /// The run part of the job at a path, for its machine and its graph.
 ///
 /// # Errors
@@ -265,5 +226,9 @@ pub fn run_of(
     let found = field(alloc, job, path, "run")?;
     let path = Path::Member(path, "run");
     let valid = ValidGraph { graph };
-    run_in(alloc, found, &path, machine, &valid)
+    let Some(found) = found else {
+        return absent_run(alloc, &path, machine, &valid);
+    };
+    let run = object(alloc, Some(found), &path)?;
+    run_members(alloc, run, &path, machine, &valid)
 }

@@ -2,13 +2,14 @@ use Rattle.std.proofs.Common.{length, map, refl, ap, sym, ◌∙◌, arith}
 use Rattle.std.proofs.lemmas.List.{nil_from_length}
 use Rattle.std.proofs.{Math.Logic.∥∥₁_elim, Props.props}
 use Rattle.serde_json.specs.View.{view}
-use Rattle.job_readers.specs.Items.{items_faults}
-use Rattle.job_readers.specs.RunPart.{packets_faults, packets_value}
+use Rattle.job_readers.specs.{Items.items_faults, RunPart.packets_faults, RunPart.packets_value}
 use Rattle.job_readers.proofs.run_parts.packets.Goals as goal
 
 pub returns-then-is_empty-clause-read : goal.returns-then-is_empty-clause-read
 unfolding packets_faults packets_value items_faults
-returns-then-is_empty-clause-read c = grind (arith, nil_from_length c.in_ok-items.items.now (grind (arith, c.is_empty.ensures, c.if-is_empty.true)))
+returns-then-is_empty-clause-read c =
+    let none = sym c.in_ok-items.ensures.read.1 ∙ ap (map view) (nil_from_length c.in_ok-items.items.now (grind (arith, c.is_empty.ensures, c.if-is_empty.true))) in
+    rw (c.in_ok-items.ensures.read.0, none, c.new.ensures) (refl, refl)
 
 pub returns-clause-read : goal.returns-clause-read
 unfolding packets_faults packets_value
