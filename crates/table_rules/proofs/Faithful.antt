@@ -1,12 +1,12 @@
 -- The table that is made of rows says what they say.
-use Rattle.std.proofs.Common.{◌≡◌, ℕ, ◌-◌, ◌^◌, ◌<◌, ◌≤◌, inl, inr, List, [], ◌∷◌, ◌++◌, length, get_or, map, Some, None, refl, sym, ap, ◌∙◌, subst, append_assoc, arith}
+use Rattle.std.proofs.Common.{◌≡◌, ℕ, ◌-◌, ◌^◌, ◌<◌, inl, inr, List, [], ◌∷◌, ◌++◌, length, get_or, map, Some, None, refl, sym, ap, ◌∙◌, subst, append_assoc, arith}
 use Rattle.std.specs.{Prelude.All, List.Contains, List.Sorted.IsPermutation}
 use Rattle.std.proofs.lemmas.List.{append-nil, get_or-map, length-map, Elements.All-nil, Elements.All-map, Elements.Contains-get_or, Sorted.All-permutation, Sorted.IsPermutation-sym}
 use Rattle.std.proofs.lemmas.Option.{none-some}
 use Rattle.spin_base.proofs.{Members.Contains-map, Pairs.AllPairs-nil}
 use Rattle.spin_base.specs.declared.{blocks.Block.Block, routes.Route.Route, chips.Port.Port}
 use Rattle.tern_word.specs.{declared.tables.Alias.Alias, declared.tables.Row.Row, Ternary.Matches, Ternary.Intersects, Ternary.LiesIn, Ternary.generality, SoundTable.HoldsItsAliases}
-use Rattle.tern_word.specs.SoundTable.{IsSound, Misses, Original, served, served_by}
+use Rattle.tern_word.specs.SoundTable.{IsSound, Original, served, served_by}
 use Rattle.cover_merge.specs.Merge.{place_for, rows_at}
 use Rattle.block_cuts.specs.Pieces.{ArePieces, HasPiece}
 use Rattle.block_cuts.proofs.PieceLaws.{are_pieces}
@@ -100,11 +100,7 @@ module _ (before : List RoutedBlock) (rows : List Row) (given : RoutedBlock) (pi
   }
 
   with_none : pieces ≡ [] → IsFaithful (before ++ given ∷ []) rows
-  with_none none = record {
-    sound = so_far.sound;
-    within = still_within;
-    complete = complete rows (λ o among. among) (λ k piece. absurd (omega (arith, piece.among.1, ap length none)));
-  }
+  with_none none = grind (arith, still_within, complete)
 
 faithful_put : (before : List RoutedBlock) (rows : List Row) (given : RoutedBlock) (pieces : List Block) (next : List Row) → IsFaithful before rows → ArePieces given.block (row_blocks before) pieces
     → IsRowAdded rows given pieces next → IsFaithful (before ++ given ∷ []) next
@@ -119,11 +115,7 @@ faithful_from room before rows given table (more r b rs g rest pieces next t cut
     (faithful_from (r - length pieces) (b ++ g ∷ []) next rest t from (faithful_put b rs g pieces next so_far (are_pieces r g.block (row_blocks b) (Some pieces) (sym cuts)) put))
 
 none_yet : IsFaithful [] []
-none_yet = record {
-  sound = record { ordered = AllPairs-nil (λ (r s : Row). generality r.block ≤ generality s.block); inside = All-nil HoldsItsAliases; unmet = AllPairs-nil (λ (r s : Row). Misses r.block s) };
-  within = All-nil (IsOf []);
-  complete = λ k row small first. absurd (none-some row first);
-}
+none_yet = grind (arith, All-nil HoldsItsAliases, All-nil (IsOf []), complete, AllPairs-nil, none-some)
 
 pub made_is_sound : (room : ℕ) (given : List RoutedBlock) (table : List Row) → IsTableMadeOf room given table → IsSound table
 made_is_sound room given table made = (faithful_from room [] [] given table made none_yet).sound

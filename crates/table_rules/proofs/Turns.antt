@@ -1,5 +1,5 @@
 -- One piece more, one row more.
-use Rattle.std.proofs.Common.{◌≡◌, ℕ, ◌+◌, ◌-◌, ◌<◌, ◌≤◌, ◌==◌, inl, inr, true, false, List, [], ◌∷◌, ◌++◌, length, get_or, map, take, drop, Some, None, refl, sym, ap, ◌∙◌, subst, arith}
+use Rattle.std.proofs.Common.{◌≡◌, ℕ, ◌+◌, ◌-◌, ◌<◌, ◌≤◌, ◌==◌, true, false, List, [], ◌∷◌, ◌++◌, length, get_or, map, take, drop, Some, None, refl, sym, ap, ◌∙◌, subst, arith}
 use Rattle.std.proofs.lemmas.{Bool.eq-eqb, Bool.Decides.eqb_tells, List.drop_all, List.drop_more, List.map_push, List.take_more, List.Edits.length-insert, Option.slice_get-get_or}
 use Rattle.std.specs.Prelude.{All}
 use Rattle.spin_base.specs.declared.blocks.Block.{Block}
@@ -64,10 +64,7 @@ module _ (left : ℕ) (given : List RoutedBlock) (i : ℕ) (rows : List Row) whe
 -- ---- what the code tests
 
 eqb_is : (n : ℕ) → true ≡ (n == 0) → n ≡ 0
-eqb_is n is = elim (eqb_tells n 0) [
-  | inl same ↦ same.1
-  | inr other ↦ let no : true ≡ false = is ∙ other.0 in absurd cc
-]
+eqb_is n is = grind (arith, eqb_tells n 0)
 
 pub no_pieces : (pieces : List Block) → true ≡ (length pieces == 0) → pieces ≡ []
 no_pieces [] is = refl

@@ -235,11 +235,7 @@ module _ (bits : ℕ) (rows : List Row) (o : Option ℕ) (is : o ≡ position (�
 
 module _ (target room : ℕ) (given : List RoutedBlock) (route : Route) (table rows : List Row) (sets : List (List ℕ)) (long : target < length given) (free : IsFree given route.bits) (made : IsTableMadeOf room (walled given route) table) (covers : Covers target table sets rows) where
   within : IsCoveredWithin target room given route rows
-  within = record {
-    long = long;
-    free = free;
-    covered = record { long = omega (arith, long, length-append given (wall_of route ∷ [])); table = table; made = made; sets = sets; covered = covers };
-  }
+  within = grind (arith, length-append given (wall_of route ∷ []))
 
   module _ (list before : List Row) (left : List RoutedBlock) (same : list ≡ rows) (is : before ≡ rows_before route.bits list) (are : AreLeft before left) where
     before_wall : AreLeft (rows_before route.bits rows) left

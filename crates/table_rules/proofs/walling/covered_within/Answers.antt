@@ -1,12 +1,9 @@
 -- The rows before the wall, and the joined pieces, say what the rows say, and no more.
 use Rattle.std.proofs.Common.{◌≡◌, sym, ap, ◌∙◌, subst, arith}
 use Rattle.std.proofs.lemmas.Result.{IfOk-weaker}
-use Rattle.table_rules.specs.Exact.{IsShortenedWithin, no_shorter, shorter, walled}
-use Rattle.table_rules.specs.Pairs.{others, pieces_of}
-use Rattle.table_rules.specs.Rows.{HasNoNewKeys, KeepsRoutes}
-use Rattle.table_rules.proofs.Faithful.{keeps_itself, made_is_sound}
-use Rattle.table_rules.proofs.Keeping.{keeps_joined, no_more_joined, shorter_has}
-use Rattle.table_rules.proofs.Walls.{few_wall, is_short_within, keeps_within, keys_within, sound_wall}
+use Rattle.table_rules.specs.{Exact.IsShortenedWithin, Exact.no_shorter, Exact.shorter, Exact.walled, Pairs.others, Pairs.pieces_of, Rows.HasNoNewKeys, Rows.KeepsRoutes}
+use Rattle.table_rules.proofs.{Faithful.keeps_itself, Faithful.made_is_sound, Keeping.keeps_joined, Keeping.no_more_joined, Keeping.shorter_has, Walls.few_wall, Walls.is_short_within}
+use Rattle.table_rules.proofs.Walls.{keeps_within, keys_within, sound_wall}
 use Rattle.table_rules.proofs.walling.covered_within.Goals as goal
 
 pub cover-requires-clause-sound : goal.cover-requires-clause-sound
