@@ -3,12 +3,9 @@ use Rattle.std.proofs.Common.{◌≡◌, ◌∙◌, ℕ, ◌<◌, refl, sym, ap,
 use Rattle.std.specs.Prelude.{MatchOption}
 use borrow.Author.Count.{below_more}
 use Rattle.std.proofs.lemmas.List.{get_or_default}
-use Rattle.cover_merge.specs.declared.times.Times.{Times}
-use Rattle.cover_merge.specs.Tried.{AreChangesFrom, AreNoLater, AreTried}
-use Rattle.cover_merge.specs.Covering.{IsLegalPair, IsFirstPartner}
-use Rattle.cover_merge.proofs.ChooseLemmas.{first_found, no_pair}
-use Rattle.cover_merge.proofs.LinkLemmas.{as_many, number_at}
-use Rattle.cover_merge.proofs.TriedLemmas.{marked_put, times_no_later, newer_kept, settled_none}
+use Rattle.cover_merge.specs.{declared.times.Times.Times, Tried.AreChangesFrom, Tried.AreNoLater, Tried.AreTried, Covering.IsLegalPair, Covering.IsFirstPartner}
+use Rattle.cover_merge.proofs.{ChooseLemmas.first_found, ChooseLemmas.no_pair, LinkLemmas.as_many, LinkLemmas.number_at, TriedLemmas.marked_put, TriedLemmas.times_no_later, TriedLemmas.newer_kept}
+use Rattle.cover_merge.proofs.TriedLemmas.{settled_none}
 use Rattle.cover_merge.proofs.choosing.first_pair.Goals as goal
 
 pub loop-i-preserved-then-index : goal.loop-i-preserved-then-index

@@ -1,11 +1,7 @@
 -- The first row of the route that may pair is the first partner.
 use Rattle.std.proofs.Common.{◌<◌, ◌∙◌, ◌∷◌, [], length, refl, sym, subst, arith}
-use Rattle.cover_merge.specs.Merge.{IsLegal}
-use Rattle.cover_merge.specs.Covering.{IsLegalPair}
-use Rattle.cover_merge.specs.Tried.{AreNewerOf}
-use Rattle.cover_merge.proofs.Answering.{fails}
-use Rattle.cover_merge.proofs.ChooseLemmas.{pair_made, partner_found, no_partner}
-use Rattle.cover_merge.proofs.TriedLemmas.{skipped_none, each_on}
+use Rattle.cover_merge.specs.{Merge.IsLegal, Covering.IsLegalPair, Tried.AreNewerOf}
+use Rattle.cover_merge.proofs.{Answering.fails, ChooseLemmas.pair_made, ChooseLemmas.partner_found, ChooseLemmas.no_partner, TriedLemmas.skipped_none, TriedLemmas.each_on}
 use Rattle.cover_merge.proofs.choosing.partner.Goals as goal
 
 pub tried_at-tried-requires : goal.tried_at-tried-requires
