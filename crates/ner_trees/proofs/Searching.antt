@@ -1,17 +1,12 @@
 -- The search of a ring: what it has seen, and that it sees enough.
 use Rattle.std.proofs.Common.{◌≡◌, ℕ, suc, ◌+◌, ◌-◌, ◌*◌, ◌%◌, ◌<◌, ◌≤◌, max, Bool, true, false, ◌||◌, cond, ltb, List, Option, Some, None, refl, sym, ap, ◌∙◌, subst, arith, inl, inr, ◌⊎◌}
-use Rattle.std.proofs.lemmas.Bool.{cases_lt, cases_eq, cond-true, cond-false, lt-ltb, le-ltb, or_left, or_right}
-use Rattle.std.proofs.lemmas.Nat.{mod-mul-add}
-use Rattle.std.specs.Option.{IfSome, IfNone}
-use Rattle.std.specs.Prelude.{ℤ, pos, negsuc}
+use Rattle.std.proofs.lemmas.{Bool.cases_lt, Bool.cases_eq, Bool.cond-true, Bool.cond-false, Bool.lt-ltb, Bool.le-ltb, Bool.or_left, Bool.or_right, Nat.mod-mul-add}
+use Rattle.std.specs.{Option.IfSome, Option.IfNone, Prelude.ℤ, Prelude.pos, Prelude.negsuc}
 use Rattle.spin_base.specs.declared.chips.Chip.{Chip}
-use Rattle.machine_desc.specs.Description.{Description, HasSize}
-use Rattle.machine_desc.specs.Live.{chip_at, IsInside}
-use Rattle.ner_trees.specs.declared.displacements.Disp.{Disp}
-use Rattle.ner_trees.specs.Geometry.{forth, back, ahead_by, displacement_of, distance_of}
-use Rattle.ner_trees.specs.Search.{is_on, is_there, place_at, offset_chip, AtOffsets, AtStep, IsOnWithin, IsNearestOn, IsNoneNearer, IsBetter}
-use Rattle.ner_trees.proofs.Axis.{ahead_cases, Reaches}
-use Rattle.ner_trees.proofs.{LongestFirst.one_sided, Signed.length_is, Walking.reaches}
+use Rattle.machine_desc.specs.{Description.Description, Description.HasSize, Live.chip_at, Live.IsInside}
+use Rattle.ner_trees.specs.{declared.displacements.Disp.Disp, Geometry.forth, Geometry.back, Geometry.ahead_by, Geometry.displacement_of, Geometry.distance_of, Search.is_on, Search.is_there}
+use Rattle.ner_trees.specs.Search.{place_at, offset_chip, AtOffsets, AtStep, IsOnWithin, IsNearestOn, IsNoneNearer, IsBetter}
+use Rattle.ner_trees.proofs.{Axis.ahead_cases, Axis.Reaches, LongestFirst.one_sided, Signed.length_is, Walking.reaches}
 
 offset_is : (m : Description) (t : Chip) (r column row : ℕ) (x y : Option ℕ) → x ≡ place_at m.wrap m.width t.x r column → y ≡ place_at m.wrap m.height t.y r row →
     chip_at x y ≡ offset_chip m t r column row
