@@ -43,6 +43,6 @@ loop-step-preserved g c =
       stays = stays_on a m _ before.stays none.0;
       ready = ready_bank_on c.args.around.capacity c.args.around.patience c.args.around.links.now b m _ _ (goes_none c.args.around.capacity c.args.around.patience m _ none.0)
           (All-set (IsEndOf c.args.around.links.now) m.ends.items (b.cores + v) new c.in_default.ensures.end before.ready.ends) before.ready;
-      idle = gone_more (λ (j : ℕ). (d : ℕ) → IsIdleAt a.ends.items (b.cores + get_or b.vertices.items j d)) ring.start ring.count c.loop-step.step at (omega arith) inside (c.place_after.ensures.place (omega arith))
-          (vertex_idle b a m at v before.stays below c.index-vertex.ensures none.1) before.idle;
+      idle = gone_more (λ (j : ℕ). (d : ℕ) → IsIdleAt a.ends.items (b.cores + get_or b.vertices.items j d)) ring.start ring.count c.loop-step.step at (omega arith) inside
+          (c.place_after.ensures.place (omega arith)) (vertex_idle b a m at v before.stays below c.index-vertex.ensures none.1) before.idle;
     }
