@@ -1,10 +1,10 @@
 -- A generated job is read without a fault, as its definition gives it.
-use Rattle.std.proofs.Common.{◌≡◌, ℕ, ◌+◌, ◌-◌, ◌<◌, ◌≤◌, List, [], ◌∷◌, length, map, codes, decimal, Bool, true, Some, None, if◌then◌else◌, slice_index, refl, ap, ◌∙◌, arith}
+use Rattle.std.proofs.Common.{◌≡◌, ℕ, ◌+◌, ◌-◌, ◌<◌, ◌≤◌, List, [], ◌∷◌, length, map, codes, decimal, Bool, Some, None, if◌then◌else◌, slice_index, refl, ap, ◌∙◌, arith}
 use Rattle.std.proofs.lemmas.{Bool.le-leb, List.length-map}
 use Rattle.std.specs.Prelude.{unwrap_or}
 use Rattle.machine_desc.specs.Live.{live_count_of}
 use Rattle.app_graph.specs.{declared.graphs.Vertex.Vertex, declared.graphs.Net.Net, RunPart.key_count_of}
-use Rattle.job_text.specs.{declared.faults.JobFault.TheVariants.TooMany, Fields.is_name, Fields.count_faults}
+use Rattle.job_text.specs.{declared.faults.JobFault.TheVariants.TooMany, Fields.count_faults}
 use Rattle.job_text.proofs.Items.{list_of-items_of}
 use Rattle.job_readers.specs.{Items.items_faults, Members.number_member_faults, Members.number_member, Members.optional_number, Members.flag_member_faults, Members.flag_member}
 use Rattle.job_readers.specs.{Members.list_member_faults, Members.long_list_member_faults, Members.list_member, Entries.chip_faults, Entries.chip_value, Places.name_place_in, Places.reference_faults}
@@ -115,9 +115,7 @@ module _ (job : Drawn) (drawn : IsDrawn job) where
 
   packet_net_clean : (path : List ℕ) (p : DrawnPacket) → p.net < 300 → packet_net_faults (numbered net_of 0 job.nets) path (packet_data p) ≡ []
   unfolding packet_net_faults reference_faults packet_data
-  packet_net_clean path p below =
-      let name : is_name (110 ∷ decimal p.net) ≡ true = named 110 p.net (omega arith) (omega arith) (omega arith) in
-      rw (name, net_place p.net below) refl
+  packet_net_clean path p below = grind (arith, named 110 p.net (omega arith) (omega arith) (omega arith), net_place p.net below)
 
   index_clean : (path : List ℕ) (p : DrawnPacket) (high : ℕ) → p.index ≤ high → number_member_faults path (codes "index") 0 high None (packet_data p) ≡ []
   unfolding number_member_faults packet_data
@@ -164,9 +162,7 @@ module _ (job : Drawn) (drawn : IsDrawn job) where
 
   run_clean : (path : List ℕ) → run_members_faults 48 (graph_of job) path (run_data job.packets) ≡ []
   unfolding run_members_faults number_member_faults number_member events_faults long_list_member_faults list_member items_faults places_faults graph_of run_data
-  run_clean path =
-      let many : length (numbered generated_vertex 0 job.sdrams) ≡ 200 = length-numbered generated_vertex 0 job.sdrams ∙ drawn.vertices in
-      rw (packets_clean path, many) refl
+  run_clean path = grind (arith, length-numbered generated_vertex 0 job.sdrams, packets_clean path)
 
   run_is : run_members (graph_of job) (run_data job.packets) ≡ generated_run job.packets
   unfolding run_members number_member events_value list_member graph_of generated_run run_data

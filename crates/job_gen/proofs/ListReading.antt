@@ -12,8 +12,7 @@ pub items_clean : {X : Type 0} (P : X → Type 0) (f : List ℕ → Data → Lis
     → (path : List ℕ) (i : ℕ) (xs : List X) → All P xs → items_faults f path i (map g xs) ≡ []
 unfolding items_faults
 items_clean P f g each path i [] all = refl
-items_clean P f g each path i (x ∷ xs) all =
-    rw (each (item_at path i) x (All-head P x xs all), items_clean P f g each path (i + 1) xs (All-tail P x xs all)) refl
+items_clean P f g each path i (x ∷ xs) all = grind (arith, All-head P x xs all, items_clean P f g each path (i + 1) xs (All-tail P x xs all), All-tail P x xs all)
 
 -- what they are
 pub items_are : {X A : Type 0} (P : X → Type 0) (value : Data → A) (g : X → Data) (h : X → A) → ((x : X) → P x → value (g x) ≡ h x)
@@ -26,8 +25,7 @@ pub numbered_are : {X Y A : Type 0} (P : X → Type 0) (value : Y → A) (g : �
     → (i : ℕ) (xs : List X) → All P xs → map value (numbered g i xs) ≡ numbered h i xs
 unfolding numbered
 numbered_are P value g h each i [] all = refl
-numbered_are P value g h each i (x ∷ xs) all =
-    rw (each i x (All-head P x xs all), numbered_are P value g h each (i + 1) xs (All-tail P x xs all)) refl
+numbered_are P value g h each i (x ∷ xs) all = grind (arith, All-head P x xs all, numbered_are P value g h each (i + 1) xs (All-tail P x xs all), All-tail P x xs all)
 
 pub length-numbered : {X A : Type 0} (f : ℕ → X → A) (i : ℕ) (xs : List X) → length (numbered f i xs) ≡ length xs
 unfolding numbered

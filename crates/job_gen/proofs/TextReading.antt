@@ -100,11 +100,7 @@ item_back d ds first rest = record {
     by_comma false = IsUtf8-append (compact_text d) (items_text true ds) first.text (rest.text true)
 
 array_back : (ds : Items) → ItemsReadBack ds → ReadsBack (array ds)
-array_back ds back = record {
-  numbers = back.numbers;
-  same = ap (option_map array) back.same;
-  text = ascii 91 (items_text false ds) (one_byte 91 (omega arith)) (back.text false);
-}
+array_back ds back = grind (arith, option_map array, ascii 91 (items_text false ds) (one_byte 91 (omega arith)) (back.text false), one_byte 91 (omega arith))
 
 mapped_back : {A : Type 0} (P : A → Type 0) (f : A → Data) → ((x : A) → P x → ReadsBack (f x)) → (xs : List A) → All P xs → ItemsReadBack (items_of (map f xs))
 mapped_back P f each [] all = none_back
@@ -140,11 +136,7 @@ one_more k d ms key value rest = record { numbers = (value.numbers, rest.numbers
     by_comma false = after
 
 object_back : (ms : Members) → MembersAreText ms → of_members (members_outline ms) no_members ≡ Some ms → ReadsBack (object ms)
-object_back ms are same = record {
-  numbers = are.numbers;
-  same = ap (option_map object) same;
-  text = ascii 123 (members_text false ms) (one_byte 123 (omega arith)) (are.text false);
-}
+object_back ms are same = grind (arith, option_map object, ascii 123 (members_text false ms) (one_byte 123 (omega arith)) (are.text false), one_byte 123 (omega arith))
 
 -- ---- the parts of a job
 
