@@ -22,8 +22,8 @@ module _ (w : Whole) where
       get_or (map queue_of_link w.rests.now) l q ≡ get_or (cut_queues ((mesh w).inputs ++ (mesh w).cores) w.r.layout.now.cuts.items) l q
   queue_at_cut l q below =
       let cut = slice_get_there w.r.layout.now.cuts.items l below in
-      let place = slice_get_within w.r.layout.now.homes.items cut.0.queue (record { sender = cut.0.sender; receiver = cut.0.receiver }) (w.roomy.raised.shared.cut l cut.0 cut.1).0 in
-      let is = (queue_there w cut.0.queue (omega (arith, place, w.roomy.raised.shared.homes_are.long))).link l cut.0 cut.1 refl in
+      let place = slice_get_within w.r.layout.now.homes.items cut.0.queue (record { sender = cut.0.sender; receiver = cut.0.receiver }) (w.roomy.raised.laid.cuts.cut l cut.0 cut.1).0 in
+      let is = (queue_there w cut.0.queue (omega (arith, place, w.roomy.raised.laid.homes.long))).link l cut.0 cut.1 refl in
       get_or_default (map queue_of_link w.rests.now) l q [] (omega (arith, below, length-map w.rests.now queue_of_link, after_long)) ∙ (is
       ∙ sym (get_or_from_slice_get (cut_queues ((mesh w).inputs ++ (mesh w).cores) w.r.layout.now.cuts.items) l (get_or ((mesh w).inputs ++ (mesh w).cores) cut.0.queue []) q
       (slice_get-mapped (λ (d : Cut). get_or ((mesh w).inputs ++ (mesh w).cores) d.queue []) w.r.layout.now.cuts.items l cut.0 cut.1)))

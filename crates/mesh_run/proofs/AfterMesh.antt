@@ -23,12 +23,12 @@ none_sent u v past (x ∷ items) done =
 
 module _ (w : Whole) where
   pub after_inputs : (xs : List (List McCopy)) × (length xs ≡ port_count w.m.setup) × ((q : ℕ) (d : List McCopy) → q < port_count w.m.setup → AfterRound w q (get_or xs q d))
-  after_inputs = listed (port_count w.m.setup) (λ q x. AfterRound w q x) (λ q below. queue_after w q (let long = w.roomy.raised.shared.homes_are.long in omega (arith, below, long)))
+  after_inputs = listed (port_count w.m.setup) (λ q x. AfterRound w q x) (λ q below. queue_after w q (let long = w.roomy.raised.laid.homes.long in omega (arith, below, long)))
 
   pub after_cores : (xs : List (List McCopy)) × (length xs ≡ length w.m.setup.spots)
       × ((v : ℕ) (d : List McCopy) → v < length w.m.setup.spots → AfterRound w (port_count w.m.setup + v) (get_or xs v d))
   after_cores = listed (length w.m.setup.spots) (λ v x. AfterRound w (port_count w.m.setup + v) x)
-      (λ v below. queue_after w (port_count w.m.setup + v) (let long = w.roomy.raised.shared.homes_are.long in omega (arith, below, long)))
+      (λ v below. queue_after w (port_count w.m.setup + v) (let long = w.roomy.raised.laid.homes.long in omega (arith, below, long)))
 
   pub after_unsent : (xs : List (List McCopy)) × (length xs ≡ length w.m.setup.spots) × ((v : ℕ) (d : List McCopy) → v < length w.m.setup.spots → VertexAfter w v (get_or xs v d))
   after_unsent = listed (length w.m.setup.spots) (λ v x. VertexAfter w v x) (vertex_after w)

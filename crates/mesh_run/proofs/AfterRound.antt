@@ -90,8 +90,8 @@ module _ (w : Whole) where
           inputs_long = raised.inputs_long ∙ sym (whole_played w).inputs_long;
           cores_long = raised.cores_long ∙ sym (whole_played w).cores_long;
           unsent_long = raised.unsent_long ∙ sym (whole_played w).unsent_long;
-          floor = raised.floor;
-          shared = subst (AreShared w.m.setup w.r.layout.now.homes.items w.r.layout.now.cuts.items) (sym left) (whole_shared w);
+          laid = raised.laid;
+          shared = subst (AreShared w.m.setup w.r.layout.now.runs.items) (sym left) (whole_shared w);
           lanes = subst (HoldLanes ((mesh w).inputs ++ (mesh w).cores) w.r.layout.now.homes.items) (sym left) (whole_lanes w);
           unsent = subst (HoldUnsent w.m.setup (mesh w).unsent w.r.layout.now.homes.items) (sym left) (whole_unsent w);
           ends = w.rests.now;

@@ -30,7 +30,7 @@ module _ (w : Whole) where
       elim (cases_eq h.sender h.receiver) [
         | inl same ↦ stays_away s q (uncut w q h at same s) was
         | inr two ↦
-            let cut = w.roomy.raised.shared.all_cut q h at two in
+            let cut = w.roomy.raised.laid.cuts.all_cut q h at two in
             subst (λ n. end_at w.cleared s n ≡ Some Away) cut.3 (gone cut.0 cut.1 cut.2 (subst (λ n. end_at w.r.shares.items s n ≡ Some Away) (sym cut.3) was))
       ]
     where
@@ -46,7 +46,7 @@ module _ (w : Whole) where
   pub whole_lanes : HoldLanes ((mesh w).inputs ++ (mesh w).cores) w.r.layout.now.homes.items w.cleared
   whole_lanes = record {
     lanes = λ q h at same.
-        (queue_there w q (let below = slice_get_within w.r.layout.now.homes.items q h at in let long = w.roomy.raised.shared.homes_are.long in omega (arith, below, long))).lane h at same;
+        (queue_there w q (let below = slice_get_within w.r.layout.now.homes.items q h at in let long = w.roomy.raised.laid.homes.long in omega (arith, below, long))).lane h at same;
     away = away_after;
   }
 
@@ -60,4 +60,4 @@ module _ (w : Whole) where
   }
     where
       there : (v : ℕ) (h : Home) → slice_get w.r.layout.now.homes.items (vertex_place w.m.setup v) ≡ Some h → v < length w.m.setup.spots
-      there v h at = let below = slice_get_within w.r.layout.now.homes.items (vertex_place w.m.setup v) h at in let long = w.roomy.raised.shared.homes_are.long in omega (arith, below, long)
+      there v h at = let below = slice_get_within w.r.layout.now.homes.items (vertex_place w.m.setup v) h at in let long = w.roomy.raised.laid.homes.long in omega (arith, below, long)

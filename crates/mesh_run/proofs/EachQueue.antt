@@ -69,10 +69,10 @@ module _ (w : Whole) where
     home = record { sender = c.sender; receiver = c.receiver }
 
     between : slice_get w.r.layout.now.homes.items c.queue ≡ Some (record { sender = c.sender; receiver = c.receiver })
-    between = (w.roomy.raised.shared.cut l c stands).0
+    between = (w.roomy.raised.laid.cuts.cut l c stands).0
 
     two : c.sender ≢ c.receiver
-    two = (w.roomy.raised.shared.cut l c stands).1
+    two = (w.roomy.raised.laid.cuts.cut l c stands).1
 
     pub elsewhere : (k : ℕ) → k ≢ c.sender → k ≢ c.receiver → IsUncut w.r.layout.now.cuts.items k c.queue
     elsewhere = no_end_of_cut w.m w.is_mesh (w.turns + 1) w.r w.roomy.raised l c stands
@@ -144,7 +144,7 @@ module _ (w : Whole) where
                 filled = few_entered w.m.setup w.turns c.queue (joined (parts w)) (whole_turns w);
               });
           lane = λ h at same. absurd (two (both_ends h at same));
-          link = λ j d at is. ap (λ i. get_or (map queue_of_link w.rests.now) i []) (w.roomy.raised.shared.apart j l d c at stands is);
+          link = λ j d at is. ap (λ i. get_or (map queue_of_link w.rests.now) i []) (w.roomy.raised.laid.cuts.apart j l d c at stands is);
         }
       where
         both_ends : (h : Home) → slice_get w.r.layout.now.homes.items c.queue ≡ Some h → h.sender ≡ h.receiver → c.sender ≡ c.receiver
@@ -159,7 +159,7 @@ module _ (w : Whole) where
       elim (cases_eq home.0.sender home.0.receiver) [
         | inl same ↦ lane_after q home.0 home.1 same
         | inr other ↦
-            let cut = w.roomy.raised.shared.all_cut q home.0 home.1 other in (
+            let cut = w.roomy.raised.laid.cuts.all_cut q home.0 home.1 other in (
               get_or (map queue_of_link w.rests.now) cut.0 [],
               subst (λ (n : ℕ). AfterRound n (get_or (map queue_of_link w.rests.now) cut.0 [])) cut.3 (link_after cut.0 cut.1 cut.2),
             )

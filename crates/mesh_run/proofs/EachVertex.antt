@@ -54,7 +54,7 @@ module _ (w : Whole) where
   pub vertex_after : (v : ℕ) → v < length w.m.setup.spots → (after : List McCopy) × VertexAfter v after
   vertex_after v inside =
       let unsent = w.roomy.raised.unsent in
-      let home = slice_get_there w.r.layout.now.homes.items (vertex_place w.m.setup v) (omega (arith, inside, w.roomy.raised.shared.homes_are.long)) in
+      let home = slice_get_there w.r.layout.now.homes.items (vertex_place w.m.setup v) (omega (arith, inside, w.roomy.raised.laid.homes.long)) in
       let at = home.1 in
       let below = (home_below w (vertex_place w.m.setup v) home.0 at).1 in
       let k = home.0.receiver in

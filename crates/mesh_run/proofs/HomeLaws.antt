@@ -1,20 +1,26 @@
 -- Runs of actors, the numbers of their shares, homes of queues, and cuts.
-use Rattle.std.proofs.Common.{◌≡◌, ◌≢◌, ◌⊎◌, ℕ, ◌+◌, ◌*◌, ◌<◌, ◌≤◌, List, [], ◌∷◌, ◌++◌, replicate, length, get_or, set, Option, Some, None, refl, sym, ap, ◌∙◌, subst, arith, suc, zero, length-append}
-use Rattle.std.proofs.Common.{inl, inr}
-use Rattle.std.proofs.lemmas.{Bool.cases_eq, Bool.cases_lt, Option.none-some, Option.same_Some, Option.slice_get_within, Option.slice_get-get_or, List.get_or_append_left, List.get_or_push}
-use Rattle.std.proofs.lemmas.List.{length_push, length-set, Elements.All-append, Elements.All-nil, Elements.All-push}
+use Rattle.std.proofs.Common.{◌≡◌, ◌≢◌, ◌⊎◌, ℕ, ◌+◌, ◌-◌, ◌*◌, ◌^◌, ◌<◌, ◌≤◌, List, [], ◌∷◌, ◌++◌, replicate, length, get_or, set}
+use Rattle.std.proofs.Common.{Option, Some, None, refl, sym, ap, ◌∙◌, subst, arith, suc, zero, length-append, inl, inr}
+use Rattle.std.proofs.lemmas.Bool.{cases_eq, cases_lt}
+use Rattle.std.proofs.lemmas.Option.{none-some, same_Some, slice_get_within, slice_get-get_or}
+use Rattle.std.proofs.lemmas.List.{get_or_append_left, get_or_push, length_push, length-set}
+use Rattle.std.proofs.lemmas.List.Elements.{All-append, All-nil, All-push}
 use Rattle.std.specs.List.{All, slice_get}
-use Rattle.spin_base.specs.{declared.routes.Out.Out, Outputs.out_number, Outputs.IsOutput}
+use Rattle.spin_base.specs.declared.routes.Out.{Out, TheVariants.Link, TheVariants.Core}
+use Rattle.spin_base.specs.{Links.dir_at, Outputs.out_number, Outputs.IsOutput}
 use Rattle.spin_base.proofs.Places.{All-at, slice_get-append_left, slice_get-push_cases, slice_get-pushed, slice_get-set_same, slice_get-set_other}
-use Rattle.spin_base.proofs.Outputs.{out_number_below, out_number_injective}
+use Rattle.spin_base.proofs.{Outputs.out_number_below, Outputs.out_number_injective, Spots.dir_number-dir_at}
 use Rattle.machine_desc.specs.Live.{chip_of, index_of}
-use Rattle.machine_desc.proofs.{Far.live_inside, Far.index_below, Live.chip_of-inside, Live.index_of-chip_of}
+use Rattle.machine_desc.proofs.{Far.live_inside, Live.chip_of-inside, Live.index_of-chip_of}
 use Rattle.mesh_core.specs.State.{Setup}
 use Rattle.chip_node.specs.Items.{injection_place}
-use Rattle.mesh_run.specs.{declared.homes.Cut.Cut, declared.homes.Home.Home, Floors.grid_size, Homes.AreCutsOf, Homes.AreHomesOf, Homes.AreHomesTo, Homes.AreShareRuns, Homes.HaveSenders}
-use Rattle.mesh_run.specs.{Homes.IsBefore, Homes.IsInTable, Homes.IsShareTable, Homes.MayCut, Homes.MayGrow, Homes.SetsSender, Homes.homes_of_ports, Homes.run_start, Played.IsLiveIndex}
-use Rattle.mesh_run.specs.{Played.place_behind, Shares.IsInRun, Shares.bank_place, Shares.router_place}
-use Rattle.mesh_run.proofs.{FloorLaws.slice_get-first, FloorLaws.slice_get-second, Feeding.leads, Feeding.no_injection, Feeding.one_output}
+use Rattle.mesh_run.specs.declared.homes.{Cut.Cut, Home.Home}
+use Rattle.mesh_run.specs.Floors.{grid_size}
+use Rattle.mesh_run.specs.Homes.{AreCutsOf, AreHomesOf, AreHomesTo, AreShareRuns, HaveSenders, IsBefore, IsInTable, IsShareTable, MayCut, MayGrow, SetsSender, homes_of_ports, run_start}
+use Rattle.mesh_run.specs.Played.{IsLiveIndex, place_behind}
+use Rattle.mesh_run.specs.Shares.{IsInRun, bank_place, router_place}
+use Rattle.mesh_run.proofs.FloorLaws.{live_below, slice_get-first, slice_get-second}
+use Rattle.mesh_run.proofs.Feeding.{leads, no_injection, one_output}
 
 -- ---- runs
 
@@ -71,6 +77,7 @@ runs_all p count before after all so_far grown = subst (AreShareRuns count) (sym
       rising = pushed_rises count before so_far;
       last = λ n is. get_or_push before count 0 n (omega (arith, is, long));
       some = omega (arith, long);
+      few = omega (arith, long, so_far.few);
     })
 
 -- ---- the numbers of shares
@@ -195,6 +202,13 @@ vertex_more table chips m home homes new so_far listed is = subst (AreHomesTo ta
 pub same_chip : (u : Setup) (i j : ℕ) → IsLiveIndex u i → IsLiveIndex u j → chip_of u.machine i ≡ chip_of u.machine j → i ≡ j
 same_chip u i j first second same = sym first.is ∙ (ap (index_of u.machine) same ∙ second.is)
 
+-- each number below 24 is an output's
+pub output_of : (n : ℕ) → n < 24 → (o : Out) × IsOutput o × (out_number o ≡ n)
+output_of n below = elim (cases_lt n 6) [
+  | inl link ↦ (Link (dir_at n), tt, dir_number-dir_at n link)
+  | inr core ↦ (Core (n - 6), omega (arith, below, core), omega (arith, core))
+]
+
 -- an output more
 pub senders_more : (u : Setup) (table : List ℕ) (n m sender : ℕ) (place : Option ℕ) (p : Out) (homes new : List Home) → HaveSenders u table n m homes → IsLiveIndex u n → n < grid_size u →
     IsOutput p → out_number p ≡ m →
@@ -275,10 +289,6 @@ senders_dead u table n homes so_far dead = record {
     ]
     less i o on (inr same) = let none = same.1 in absurd (omega (arith, none))
 
--- a live chip's index is below the number of chips
-pub live_below : (u : Setup) (i : ℕ) → IsLiveIndex u i → i < grid_size u
-live_below u i on = subst (λ (n : ℕ). n < grid_size u) on.is (index_below u.machine (chip_of u.machine i) (live_inside u.machine (chip_of u.machine i) on.live))
-
 pub homes_all : (u : Setup) (table : List ℕ) (n : ℕ) (homes : List Home) → grid_size u ≤ n → HaveSenders u table n 0 homes → AreHomesOf u table homes
 homes_all u table n homes past so_far = record {
   long = so_far.homes_are.long;
@@ -292,6 +302,14 @@ pub sets_none : (sender : ℕ) (homes : List Home) → SetsSender None sender ho
 sets_none sender homes = record {
   long = refl;
   here = λ q h e. absurd (none-some q e);
+  others = λ q h elsewhere at. at;
+  receivers = λ q h at. (h, at, refl);
+}
+
+pub sets_past : (place sender : ℕ) (homes : List Home) → length homes ≤ place → SetsSender (Some place) sender homes homes
+sets_past place sender homes past = record {
+  long = refl;
+  here = λ q h e at. absurd (omega (arith, past, same_Some place q e, slice_get_within homes q h at));
   others = λ q h elsewhere at. at;
   receivers = λ q h at. (h, at, refl);
 }
@@ -318,6 +336,7 @@ pub record CutsTo (homes : List Home) (n : ℕ) (cuts : List Cut) : Type 0 where
   pub all_cut : (q : ℕ) (h : Home) → q < n → slice_get homes q ≡ Some h → h.sender ≢ h.receiver → (l : ℕ) × (c : Cut) × (slice_get cuts l ≡ Some c) × (c.queue ≡ q)
   pub apart : (k l : ℕ) (a b : Cut) → slice_get cuts k ≡ Some a → slice_get cuts l ≡ Some b → a.queue ≡ b.queue → k ≡ l
   pub below : (l : ℕ) (c : Cut) → slice_get cuts l ≡ Some c → c.queue < n
+  pub few : length cuts ≤ n
 
 pub cuts_none : (homes : List Home) (cuts : List Cut) → cuts ≡ [] → CutsTo homes 0 cuts
 cuts_none homes cuts none = subst (CutsTo homes 0) (sym none) (record {
@@ -325,6 +344,7 @@ cuts_none homes cuts none = subst (CutsTo homes 0) (sym none) (record {
   all_cut = λ q h less. absurd (omega (arith, less));
   apart = λ k l a b at. absurd (none-some a at);
   below = λ l c at. absurd (none-some c at);
+  few = omega arith;
 })
 
 pub cuts_more : (homes : List Home) (n : ℕ) (home : Home) (cuts new : List Cut) → slice_get homes n ≡ Some home → CutsTo homes n cuts → MayCut n home cuts new → CutsTo homes (n + 1) new
@@ -338,6 +358,7 @@ cuts_more homes n home cuts new at_n so_far (inl same) = subst (CutsTo homes (n 
   ];
   apart = so_far.apart;
   below = λ l c at. let was = so_far.below l c at in omega (arith, was);
+  few = omega (arith, so_far.few);
 })
 cuts_more homes n home cuts new at_n so_far (inr other) = subst (CutsTo homes (n + 1)) (sym other.1) (
     let last : Cut = record { queue = n; sender = home.sender; receiver = home.receiver } in
@@ -371,11 +392,13 @@ cuts_more homes n home cuts new at_n so_far (inr other) = subst (CutsTo homes (n
         | inl before ↦ let was = so_far.below l c before.1 in omega (arith, was)
         | inr here ↦ let queue : n ≡ c.queue = ap (λ (x : Cut). x.queue) here.1 in omega (arith, queue)
       ];
+      few = omega (arith, length_push cuts last, so_far.few);
     })
 
-pub cuts_all : (homes : List Home) (n : ℕ) (cuts : List Cut) → length homes ≤ n → CutsTo homes n cuts → AreCutsOf homes cuts
-cuts_all homes n cuts past so_far = record {
+pub cuts_all : (homes : List Home) (n : ℕ) (cuts : List Cut) → n ≡ length homes → length homes < 2 ^ 32 → CutsTo homes n cuts → AreCutsOf homes cuts
+cuts_all homes n cuts past small so_far = record {
   cut = so_far.cut;
   all_cut = λ q h at. let inside = slice_get_within homes q h at in so_far.all_cut q h (omega (arith, inside, past)) at;
   apart = so_far.apart;
+  few = omega (arith, so_far.few, past, small);
 }

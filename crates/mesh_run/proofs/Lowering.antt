@@ -17,7 +17,7 @@ use Rattle.mesh_run.proofs.{Holding.both_same, Holding.first_same, Holding.rest_
 pub fits_raised : (m : State) (more : ℕ) (r : RaisedMesh) → IsMesh m → IsRaisedFrom m more r → FitHomes r.parts r.layout.now.homes.items r.shares.items
 fits_raised m more r mesh raised =
     let shared = raised.shared in
-    let long = shared.homes_are.long in
+    let long = raised.laid.homes.long in
     let cores = mesh.core_lists in
     let unsent = mesh.unsent_lists in
     let cores_long = raised.cores_long in
@@ -36,8 +36,8 @@ fits_raised m more r mesh raised =
     both : (i : ℕ) (d : Home) → i < length r.layout.now.homes.items →
         ((get_or r.layout.now.homes.items i d).sender < length r.shares.items) × ((get_or r.layout.now.homes.items i d).receiver < length r.shares.items)
     both i d below =
-        raised.shared.homes_are.below i (get_or r.layout.now.homes.items i d) (length r.shares.items) (slice_get-get_or r.layout.now.homes.items i d below)
-        (λ a k at. subst (λ (n : ℕ). k < n) (sym raised.shared.long) (raised.shared.numbers.below a k at))
+        raised.laid.homes.below i (get_or r.layout.now.homes.items i d) (length r.shares.items) (slice_get-get_or r.layout.now.homes.items i d below)
+        (λ a k at. subst (λ (n : ℕ). k < n) (sym raised.shared.long) (raised.laid.numbers.below a k at))
 
 -- links that are up have their ends
 pub all_are_ends : (cap more : ℕ) (queues : List (List McCopy)) (ends : List LinkEnds) → AreUp cap more queues ends → All AreEnds ends
@@ -127,10 +127,10 @@ cut_at cuts n c below read = slice_get-get_or cuts n c below ∙ ap Some (sym re
 pub cut_inside : (m : State) (more n : ℕ) (r : RaisedMesh) (mid now : State) (down left : List (List McCopy)) (c : Cut) → IsMesh m → IsRaisedFrom m more r → SameButCopies r.parts mid →
     QueuesBackTo mid r.layout.now.cuts.items down n now left → slice_get r.layout.now.cuts.items n ≡ Some c → c.queue < length now.inputs + length now.cores
 cut_inside m more n r mid now down left c mesh raised same so_far at =
-    let below = slice_get_within r.layout.now.homes.items c.queue (record { sender = c.sender; receiver = c.receiver }) (raised.shared.cut n c at).0 in
+    let below = slice_get_within r.layout.now.homes.items c.queue (record { sender = c.sender; receiver = c.receiver }) (raised.laid.cuts.cut n c at).0 in
     let inputs : length now.inputs ≡ length m.inputs = so_far.same.inputs_long ∙ (same.inputs_long ∙ raised.inputs_long) in
     let cores : length now.cores ≡ length m.cores = so_far.same.cores_long ∙ (same.cores_long ∙ raised.cores_long) in
-    omega (arith, below, raised.shared.homes_are.long, mesh.input_lists, mesh.core_lists, inputs, cores)
+    omega (arith, below, raised.laid.homes.long, mesh.input_lists, mesh.core_lists, inputs, cores)
 
 -- ---- the whole mesh
 
@@ -183,7 +183,7 @@ lowered m more n r mid now back down left mesh raised moves are so_far past setu
     -- a queue that is in one share is of no cut
     uncut : (q : ℕ) (h : Home) → slice_get r.layout.now.homes.items q ≡ Some h → h.sender ≡ h.receiver → (l : ℕ) (c : Cut) → slice_get r.layout.now.cuts.items l ≡ Some c → c.queue ≢ q
     uncut q h at one l c stands here =
-        let cut = raised.shared.cut l c stands in
+        let cut = raised.laid.cuts.cut l c stands in
         let is : h ≡ record { sender = c.sender; receiver = c.receiver } = same_Some h (record { sender = c.sender; receiver = c.receiver })
         (sym at ∙ (ap (slice_get r.layout.now.homes.items) (sym here) ∙ cut.0)) in
         cut.1 (subst (λ (x : Home). x.sender ≡ x.receiver) is one)
@@ -192,7 +192,7 @@ lowered m more n r mid now back down left mesh raised moves are so_far past setu
     each q h at = elim (cases_eq h.sender h.receiver) [
       | inl one ↦ so_far.others q (uncut q h at one) ∙ moves.lanes (m.inputs ++ m.cores) q h raised.lanes at one
       | inr two ↦
-          let cut = raised.shared.all_cut q h at two in
+          let cut = raised.laid.cuts.all_cut q h at two in
           let below = slice_get_within r.layout.now.cuts.items cut.0 cut.1 cut.2 in
           let here = so_far.done cut.0 cut.1 (omega (arith, below, past)) cut.2 ∙ down_at m more r down raised are cut.0 cut.1 cut.2 in
           subst (λ (k : ℕ). get_or (now.inputs ++ now.cores) k [] ≡ get_or (m.inputs ++ m.cores) k []) cut.3 here
@@ -204,7 +204,7 @@ lowered m more n r mid now back down left mesh raised moves are so_far past setu
         let long_m : length (m.inputs ++ m.cores) ≡ length m.inputs + length m.cores = length-append m.inputs m.cores in
         let a = inputs_long in
         let b = cores_long in
-        let homes = raised.shared.homes_are.long in
+        let homes = raised.laid.homes.long in
         same_lists (now.inputs ++ now.cores) (m.inputs ++ m.cores) (omega (arith, long_now, long_m, a, b)) (λ q d below.
         let h = slice_get_there r.layout.now.homes.items q (omega (arith, below, long_now, a, b, homes, mesh.input_lists, mesh.core_lists)) in
         default_at (now.inputs ++ now.cores) q d below ∙ (each q h.0 h.1 ∙ sym (default_at (m.inputs ++ m.cores) q d (omega (arith, below, long_now, long_m, a, b)))))

@@ -8,10 +8,12 @@ use Rattle.spin_base.specs.declared.copies.McCopy.{McCopy}
 use Rattle.link_queue.specs.declared.links.LinkEnds.{LinkEnds}
 use Rattle.chip_node.specs.declared.ends.End.{End, TheVariants.Away, TheVariants.Own}
 use Rattle.mesh_core.specs.State.{IsMesh, Setup, State}
-use Rattle.mesh_run.specs.{declared.homes.Cut.Cut, declared.homes.Home.Home, declared.layout.Layout.Layout, declared.raised.RaisedMesh.RaisedMesh, declared.shares.Share.Share, Floors.IsFloorOf}
-use Rattle.mesh_run.specs.{Played.port_count, Queues.AreUp, Queues.StayUp, Queues.queue_of_link, Raised.IsRaisedFrom, Rooms.AreSameCopies, Rooms.SameCopies, Rooms.SameEnd, Split.AreShared}
-use Rattle.mesh_run.specs.{Split.HaveNoLogs, Split.HoldLanes, Split.HoldUnsent, Split.cut_queues, Split.end_at, Split.end_in, Split.unsent_at, Split.unsent_in, Splitting.AreSameRuns}
-use Rattle.mesh_run.specs.{Splitting.HoldVertices, Splitting.MovesIn, Standing.HoldsAll}
+use Rattle.mesh_run.specs.declared.{homes.Cut.Cut, homes.Home.Home, layout.Layout.Layout, raised.RaisedMesh.RaisedMesh, shares.Share.Share}
+use Rattle.mesh_run.specs.{Layouts.IsLayoutOf, Played.port_count, Queues.AreUp, Queues.StayUp, Queues.queue_of_link, Raised.IsRaisedFrom}
+use Rattle.mesh_run.specs.Rooms.{AreSameCopies, SameCopies, SameEnd}
+use Rattle.mesh_run.specs.Split.{AreShared, HaveNoLogs, HoldLanes, HoldUnsent, cut_queues, end_at, end_in, unsent_at, unsent_in}
+use Rattle.mesh_run.specs.Splitting.{AreSameRuns, HoldVertices, MovesIn}
+use Rattle.mesh_run.specs.Standing.{HoldsAll}
 use Rattle.mesh_run.proofs.{BringingUp.fewer_up, CrossingLaws.end_there, Going.GoneTo, RoomLaws.copies_same}
 
 -- ---- the same runs
@@ -20,21 +22,13 @@ was_there : (before after : List Share) (k : ℕ) (t : Share) → length after �
 was_there before after k t long at = let within = slice_get_within after k t at in slice_get_there before k (omega (arith, within, long))
 
 -- the shares have what they had of the runs
-pub shared_still : (u : Setup) (homes : List Home) (cuts : List Cut) (before after : List Share) → AreSameRuns before after → AreShared u homes cuts before → AreShared u homes cuts after
-shared_still u homes cuts before after same shared = record {
-  ends = shared.ends;
-  table = shared.table;
-  runs = shared.runs;
-  numbers = shared.numbers;
-  homes_are = shared.homes_are;
+pub shared_still : (u : Setup) (ends : List ℕ) (before after : List Share) → AreSameRuns before after → AreShared u ends before → AreShared u ends after
+shared_still u ends before after same shared = record {
   long = same.long ∙ shared.long;
   from = λ k t at. let s = was_there before after k t same.long at in same.from k s.0 t s.1 at ∙ shared.from k s.0 s.1;
   to = λ k t at. let s = was_there before after k t same.long at in same.to k s.0 t s.1 at ∙ shared.to k s.0 s.1;
   ends_long = λ k t at. let s = was_there before after k t same.long at in same.ends_long k s.0 t s.1 at ∙ shared.ends_long k s.0 s.1;
   unsent_long = λ k t at. let s = was_there before after k t same.long at in same.unsent_long k s.0 t s.1 at ∙ shared.unsent_long k s.0 s.1;
-  cut = shared.cut;
-  all_cut = shared.all_cut;
-  apart = shared.apart;
 }
 
 -- ---- a mesh moved in
@@ -46,20 +40,20 @@ unsent_held m homes shares long held =
     let here = subst (λ (n : ℕ). HoldVertices n m.unsent homes shares) long held in
     record { here = here.here; nowhere_else = here.nowhere_else }
 
-pub raised_in : (m left : State) (more : ℕ) (start : List Share) (ends : List LinkEnds) (r : RaisedMesh) → IsMesh m → IsFloorOf m.setup r.layout.now.floor →
-    AreShared m.setup r.layout.now.homes.items r.layout.now.cuts.items start → HoldsAll ends r.standing →
+pub raised_in : (m left : State) (more : ℕ) (start : List Share) (ends : List LinkEnds) (r : RaisedMesh) → IsMesh m → IsLayoutOf m.setup r.layout.now →
+    AreShared m.setup r.layout.now.runs.items start → HoldsAll ends r.standing →
     AreUp m.setup.capacity more (cut_queues (m.inputs ++ m.cores) r.layout.now.cuts.items) ends → length r.crossing.items ≡ length r.layout.now.cuts.items →
     MovesIn m r.layout.now.homes.items start left r.shares.items →
     r.parts.setup ≡ left.setup → r.parts.hands ≡ left.hands → r.parts.inputs ≡ left.inputs → r.parts.cores ≡ left.cores → r.parts.unsent ≡ left.unsent →
     r.logs.delivered.items ≡ left.delivered → r.logs.dumped.items ≡ left.dumped → IsRaisedFrom m 0 r
-raised_in m left more start ends r mesh floor shared holds up crossing moves setup hands inputs cores unsent delivered dumped = record {
+raised_in m left more start ends r mesh laid shared holds up crossing moves setup hands inputs cores unsent delivered dumped = record {
   setup = setup ∙ moves.same.setup;
   hands = hands ∙ moves.same.hands;
   inputs_long = ap length inputs ∙ moves.same.inputs_long;
   cores_long = ap length cores ∙ moves.same.cores_long;
   unsent_long = ap length unsent ∙ moves.same.unsent_long;
-  floor = floor;
-  shared = shared_still m.setup r.layout.now.homes.items r.layout.now.cuts.items start r.shares.items moves.runs shared;
+  laid = laid;
+  shared = shared_still m.setup r.layout.now.runs.items start r.shares.items moves.runs shared;
   lanes = moves.lanes;
   unsent = unsent_held m r.layout.now.homes.items r.shares.items mesh.input_lists moves.vertices;
   ends = ends;
@@ -152,9 +146,9 @@ roomier m less more r s ends was same holds up copies = record {
   inputs_long = ap (λ (p : State). length p.inputs) same.parts ∙ was.inputs_long;
   cores_long = ap (λ (p : State). length p.cores) same.parts ∙ was.cores_long;
   unsent_long = ap (λ (p : State). length p.unsent) same.parts ∙ was.unsent_long;
-  floor = subst (λ (l : Layout). IsFloorOf m.setup l.floor) (sym same.layout) was.floor;
-  shared = subst (λ (l : Layout). AreShared m.setup l.homes.items l.cuts.items s.shares.items) (sym same.layout)
-      (shared_still m.setup r.layout.now.homes.items r.layout.now.cuts.items r.shares.items s.shares.items (same_runs r.shares.items s.shares.items copies) was.shared);
+  laid = subst (IsLayoutOf m.setup) (sym same.layout) was.laid;
+  shared = subst (λ (l : Layout). AreShared m.setup l.runs.items s.shares.items) (sym same.layout)
+      (shared_still m.setup r.layout.now.runs.items r.shares.items s.shares.items (same_runs r.shares.items s.shares.items copies) was.shared);
   lanes = subst (λ (l : Layout). HoldLanes (m.inputs ++ m.cores) l.homes.items s.shares.items) (sym same.layout)
       (lanes_still (m.inputs ++ m.cores) r.layout.now.homes.items r.shares.items s.shares.items copies was.lanes);
   unsent = subst (λ (l : Layout). HoldUnsent m.setup m.unsent l.homes.items s.shares.items) (sym same.layout)

@@ -310,9 +310,6 @@ module _ {ends : List LinkEnds} {place : ℕ} {old : LinkEnds} {s : Standing} {h
     pub rest_places : places ≡ cap_of r.now.link
     rest_places = are ∙ ap cap_of (index ∙ slot_is (λ (e : LinkEnds). e.link) (set ends place r.now) s.links.items place r.now link r.holds.links rest_stands)
 
-    pub rest_fits : held ≤ places
-    rest_fits = let fits = held_fits in let same = rest_places in omega (arith, fits, same)
-
   -- the same without its ends
   module _ {mid : Standing} (lacks : LacksEnds (set ends place r.now) place mid) where
     pub lent_link : {link : Link} → link ≡ get_or mid.links.items place link → link ≡ r.now.link

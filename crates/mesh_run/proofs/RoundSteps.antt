@@ -78,6 +78,7 @@ module _ {m : State} {r : RaisedMesh} {lent : Standing} {dealt : List Share} whe
           senders = λ l c at. (_, (laid l c at).sends);
           receivers = λ l c at. (_, (laid l c at).takes);
           apart = apart.apart;
+          few = apart.few;
         }
 
     -- no end stands with the links

@@ -276,23 +276,18 @@ pub vertex_home : (m : State) (homes : List Home) (shares : List Share) (ports v
 vertex_home m homes shares ports v fits is below =
     ap (λ (p : ℕ). slice_get homes (p + v)) (sym is) ∙ slice_get-get_or homes (ports + v) (record { sender = 0; receiver = 0 }) (home_inside m homes shares ports v fits is below)
 
--- the share of its receiver is there
-pub receiver_there : (m : State) (homes : List Home) (start second now : List Share) (ports v : ℕ) → FitHomes m homes start → AreSameButEnds start second → AreSameButUnsent second now →
-    ports ≡ length m.inputs → v < length m.unsent → (get_or homes (ports + v) (record { sender = 0; receiver = 0 })).receiver < length now
-receiver_there m homes start second now ports v fits ends unsent is below =
-    subst (λ (k : ℕ). (get_or homes (ports + v) (record { sender = 0; receiver = 0 })).receiver < k) (sym (unsent.0 ∙ ends.0))
-    (fits.receivers (ports + v) (record { sender = 0; receiver = 0 }) (home_inside m homes start ports v fits is below))
-
--- a share has a place for each vertex
-pub unsent_wide : (m : State) (homes : List Home) (start second now : List Share) (k : ℕ) (t : Share) → FitHomes m homes start → AreSameButEnds start second → AreSameButUnsent second now →
-    slice_get now k ≡ Some t → length t.hold.unsent.items ≡ length m.unsent
-unsent_wide m homes start second now k t fits ends unsent at =
-    let within = slice_get_within now k t at in
-    let long_b = unsent.0 in
-    let s = slice_get_there start k (omega (arith, within, long_b, ends.0)) in
-    let x = slice_get_there second k (omega (arith, within, long_b)) in
-    (unsent.1 k x.0 t x.1 at).unsent_long ∙ (ap (λ e. length e.items) (ends.1 k s.0 x.0 s.1 x.1).unsent
-    ∙ All-at (λ (y : Share). length y.hold.unsent.items ≡ length m.unsent) start k s.0 fits.unsent_long s.1)
+-- the share of its receiver is there, with a place for the vertex
+pub vertex_there : (m : State) (homes : List Home) (start second now : List Share) (ports v : ℕ) → FitHomes m homes start → AreSameButEnds start second → AreSameButUnsent second now →
+    ports ≡ length m.inputs → v < length m.unsent →
+    (t : Share) × (slice_get now (get_or homes (ports + v) (record { sender = 0; receiver = 0 })).receiver ≡ Some t) × (v < length t.hold.unsent.items)
+vertex_there m homes start second now ports v fits ends unsent is below =
+    let k = (get_or homes (ports + v) (record { sender = 0; receiver = 0 })).receiver in
+    let s = slice_get_there start k (fits.receivers (ports + v) (record { sender = 0; receiver = 0 }) (home_inside m homes start ports v fits is below)) in
+    let x = slice_get_there second k (omega (arith, slice_get_within start k s.0 s.1, ends.0)) in
+    let t = slice_get_there now k (omega (arith, slice_get_within second k x.0 x.1, unsent.0)) in
+    let wide = (unsent.1 k x.0 t.0 x.1 t.1).unsent_long ∙ (ap (λ e. length e.items) (ends.1 k s.0 x.0 s.1 x.1).unsent
+    ∙ All-at (λ (y : Share). length y.hold.unsent.items ≡ length m.unsent) start k s.0 fits.unsent_long s.1) in
+    (t.0, t.1, omega (arith, below, wide))
 
 -- where the same is unsent in each share, it is at each place
 by_unsent : (a b : List Share) (s v : ℕ) → length b ≡ length a → ((k : ℕ) (x y : Share) → slice_get a k ≡ Some x → slice_get b k ≡ Some y → y.hold.unsent ≡ x.hold.unsent) →

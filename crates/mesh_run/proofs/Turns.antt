@@ -11,8 +11,8 @@ use Rattle.chip_node.specs.{declared.ends.Served.TheVariants.Dumped, declared.no
 use Rattle.chip_node.specs.{Acting.RoutesOne, Acting.SendsOne, Acting.place_at_router, Items.Item, Items.Service, Items.took, Items.served, Items.sent, Items.got, Items.where_same, Items.getting_of}
 use Rattle.chip_node.specs.{Items.gettings, Items.sending_of, Items.sendings, Items.service_of, Items.services, Items.taking_of, Items.takings, Routing.outputs_at}
 use Rattle.mesh_core.specs.{State.Setup, Step.outputs}
-use Rattle.mesh_run.specs.{Played.owed_on, Played.place_behind, Played.AreTurns, Played.IsDoneOn, Played.IsLiveIndex, Played.IsVertexOn, Floors.IsBankOf, Shares.actor_of, Shares.bank_place}
-use Rattle.mesh_run.specs.Shares.{router_place}
+use Rattle.mesh_run.specs.Played.{owed_on, place_behind, AreTurns, IsDoneOn, IsLiveIndex, IsVertexOn}
+use Rattle.mesh_run.specs.{Floors.IsBankOf, Floors.IsRouterOf, Shares.actor_of, Shares.bank_place, Shares.router_place}
 use Rattle.mesh_run.proofs.{Apart.elsewhere, Apart.here, OutputBits.has_bit}
 
 -- ---- lists
@@ -155,14 +155,6 @@ module _ (u : Setup) where
 
   -- ---- one turn of a router
 
-  -- a router with the chip, the table and the outputs of a live chip
-  pub record IsRouterOf (i : ℕ) (r : RouterNode) : Type 0 where
-    pub live : IsLiveIndex u i
-    pub index : r.index ≡ i
-    pub chip : r.chip ≡ chip_of u.machine i
-    pub table : r.table.now ≡ slice_index_or u.tables i []
-    pub behind : (o : Out) → IsOutput o → place_at_router r.behind.now o ≡ place_behind u (chip_of u.machine i) o
-
   services_here : (j i : ℕ) (c : Chip) (place : Service → Option ℕ) → j ≡ i → (done : List Service) → services i (map (λ s. served j c (place s) s) done) ≡ done
   services_here j i c place same [] = refl
   services_here j i c place same (s ∷ done) = ap₂ (λ (a b : List Service). a ++ b) (here j i (s ∷ []) same) (services_here j i c place same done)
@@ -170,7 +162,7 @@ module _ (u : Setup) where
   services_elsewhere : (j i : ℕ) (c : Chip) (place : Service → Option ℕ) → j ≢ i → (done : List Service) → services i (map (λ s. served j c (place s) s) done) ≡ []
   services_elsewhere j i c place other done = flat_map_map_none (service_of i) (λ s. served j c (place s) s) (λ s. elsewhere j i (s ∷ []) other) done
 
-  routed_each_once : (r : RouterNode) (a : ℕ) → IsRouterOf a r → (items : List Item) → (h : RoutesOne r.table.now r items) → (i : ℕ) → (r.index ≡ i) ⊎ (r.index ≢ i) →
+  routed_each_once : (r : RouterNode) (a : ℕ) → IsRouterOf u a r → (items : List Item) → (h : RoutesOne r.table.now r items) → (i : ℕ) → (r.index ≡ i) ⊎ (r.index ≢ i) →
       map told (services i items) ≡ owed_on u (chip_of u.machine i) (takings i items)
   routed_each_once r a of items h i (inl same) =
       let place : Service → Option ℕ = λ s. place_at_router r.behind.now s.out in
@@ -198,7 +190,7 @@ module _ (u : Setup) where
       (subst (All (λ (p : Out × McCopy). IsOutput p.0)) (sym h.each_once)
       (All-map (λ (p : Out × McCopy). IsOutput p.0) (λ o. (o, h.copy)) (outputs_at r.table.now h.port h.copy) (outputs_have_bits r.table.now h.port h.copy)))
 
-  routed_each : (r : RouterNode) (a : ℕ) → IsRouterOf a r → (items : List Item) → RoutesOne r.table.now r items → All (IsDoneOn u) items
+  routed_each : (r : RouterNode) (a : ℕ) → IsRouterOf u a r → (items : List Item) → RoutesOne r.table.now r items → All (IsDoneOn u) items
   routed_each r a of items h =
       let live : IsLiveIndex u r.index = subst (IsLiveIndex u) (sym of.index) of.live in
       subst (All (IsDoneOn u)) (sym h.are)
@@ -213,7 +205,7 @@ module _ (u : Setup) where
         All-contains (λ (t : Service). place_at_router r.behind.now t.out ≡ None → t.fate ≡ Dumped) h.done s h.nowhere in_done,
       )))))
 
-  pub routed_turns : (r : RouterNode) (a : ℕ) → IsRouterOf a r → (items : List Item) → RoutesOne r.table.now r items → AreTurns u 1 items
+  pub routed_turns : (r : RouterNode) (a : ℕ) → IsRouterOf u a r → (items : List Item) → RoutesOne r.table.now r items → AreTurns u 1 items
   routed_turns r a of items h = record {
     each = routed_each r a of items h;
     each_once = λ i. routed_each_once r a of items h i (same_or_not r.index i);

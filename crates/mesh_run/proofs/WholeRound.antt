@@ -77,20 +77,20 @@ module _ (w : Whole) where
   whole_turns =
       let shared = w.roomy.raised.shared in
       let listed_long = all_parts.1 in
-      turns_joined u w.turns (2 * (u.machine.width * u.machine.height)) shared.ends parts shared.runs (omega (arith, shared.long, dealt_long, listed_long))
+      turns_joined u w.turns (2 * (u.machine.width * u.machine.height)) w.r.layout.now.runs.items parts w.roomy.raised.laid.runs (omega (arith, shared.long, dealt_long, listed_long))
       (λ k d below. ((all_parts.2 k d (omega (arith, below, listed_long))).plays (first_share k (omega (arith, below, listed_long)))).turns_are)
       (λ k d below. own k d (omega (arith, below, listed_long)))
     where
       first_share : (k : ℕ) → k < length w.dealt → Share
       first_share k below = (slice_get_there w.dealt k below).0
 
-      own : (k : ℕ) (d : List Item) → k < length w.dealt → AreOf (run_start w.roomy.raised.shared.ends k) (slice_index_or w.roomy.raised.shared.ends k 0) (get_or parts k d)
+      own : (k : ℕ) (d : List Item) → k < length w.dealt → AreOf (run_start w.r.layout.now.runs.items k) (slice_index_or w.r.layout.now.runs.items k 0) (get_or parts k d)
       own k d below =
           let was = slice_get_there w.r.shares.items k (let as_dealt = dealt_long in omega (arith, as_dealt, below)) in
           let s = first_share k below in
           let same = w.deals.same.1 k was.0 (get_or w.dealt k s) was.1 (slice_get-get_or w.dealt k s below) in
           let mine = ((all_parts.2 k d below).plays s).own in
-          subst (λ n. AreOf n (slice_index_or w.roomy.raised.shared.ends k 0) (get_or parts k d)) (same.from ∙ w.roomy.raised.shared.from k was.0 was.1)
+          subst (λ n. AreOf n (slice_index_or w.r.layout.now.runs.items k 0) (get_or parts k d)) (same.from ∙ w.roomy.raised.shared.from k was.0 was.1)
           (subst (λ n. AreOf (get_or w.dealt k s).from n (get_or parts k d)) (same.to ∙ w.roomy.raised.shared.to k was.0 was.1) mine)
 
   -- whether a copy moved is noted

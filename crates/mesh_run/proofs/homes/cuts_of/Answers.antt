@@ -14,4 +14,4 @@ loop-place-preserved c =
     c.loop-place.invariant c.in_ok-push_cut.ensures
 
 pub returns : goal.returns
-returns c = cuts_all c.args.homes.now c.loop-place.place c.loop-place.cuts.items (omega arith) c.loop-place.invariant
+returns c = cuts_all c.args.homes.now c.loop-place.place c.loop-place.cuts.items (omega arith) c.requires c.loop-place.invariant

@@ -43,7 +43,7 @@ loop-number-preserved g c =
     let here : n < length left = subst (λ k. n < k) (sym long) below in
     let read = c.replace-copies.ensures.value ∙ (c.index_mut.ensures.value ∙ get_or_default left n _ [] here) in
     cuts_more c.move_out.new.parts cuts c.bring_down.new.queues.items n c.loop-number.parts c.swap_queue.new.parts left _ c.index.result.now c.replace-copies.result c.replace-copies.new.dest
-    r.2.shared.apart c.loop-number.invariant at inside read c.swap_queue.ensures.stands refl
+    r.2.laid.cuts.apart c.loop-number.invariant at inside read c.swap_queue.ensures.stands refl
 
 pub returns : goal.returns
 returns g c = λ m mesh raised.

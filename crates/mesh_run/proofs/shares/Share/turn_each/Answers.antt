@@ -15,11 +15,20 @@ flagged u links s awake short moved h =
     record { ends_long = h.ends_long; unsent_long = h.unsent_long; within = h.within; routers = h.routers; banks = h.banks; ends = h.ends }
 
 pub actors-init : goal.actors-init
-actors-init g c = let r = c.requires in (r.floor, r.share, omega arith, each_none c.args.ground.setup.now c.args.ground.around.patience c.args.self.now c.args.self.now.from)
+actors-init g c = (c.requires, omega arith, each_none c.args.ground.footing.setup.now c.args.ground.around.patience c.args.self.now c.args.self.now.from)
+
+pub turn_one-requires-clause-within : goal.turn_one-requires-clause-within
+turn_one-requires-clause-within g c =
+    let h = c.actors.invariant in
+    let past : c.actors.at ≤ c.if-not-all.at = elim c.if-not-all.branch [
+      | then-not-all+in-Some w ↦ let is = w.at-is in let from = w.in-Some.ensures.from in omega (arith, is, from)
+      | else-not-all w ↦ let is = w.at-is in omega (arith, is)
+    ] in
+    record { above = omega (arith, h.2.plays.from, h.1, past); below = c.if-at-self.true }
 
 pub actors-preserved : goal.actors-preserved
 actors-preserved g c =
-    let u = c.args.ground.setup.now in
+    let u = c.args.ground.footing.setup.now in
     let patience = c.args.ground.around.patience in
     let links = c.args.ground.around.links.now in
     let start = c.args.self.now in
@@ -30,11 +39,7 @@ actors-preserved g c =
       | then-not-all+in-Some w ↦ let is = w.at-is in let from = w.in-Some.ensures.from in omega (arith, is, from)
       | else-not-all w ↦ let is = w.at-is in omega (arith, is)
     ] in
-    let so_far = each_past u patience start before c.actors.at at past h.3 in
-    let above : before.from ≤ at = let same = h.3.plays.from in omega (arith, h.2, past, same) in
-    let on : (s : Share) → c.if-at-self.self ≡ s → IsShareOf u links s → PlaysOne u patience at before s →
-    IsShareOf u links c.if-at-self.self × OneEach u patience start (at + 1) c.if-at-self.self =
-    λ s is share plays. subst (λ (x : Share). IsShareOf u links x × OneEach u patience start (at + 1) x) (sym is) (share, each_more u patience start before s at so_far plays) in
+    let so_far = each_past u patience start c.actors.self c.actors.at at past h.2 in
     let after : IsShareOf u links c.if-at-self.self × OneEach u patience start (at + 1) c.if-at-self.self = elim c.if-at-self.branch [
       | then-at-self+in-Moved w ↦
           let a = w.in-Moved.ensures.acts in
@@ -53,6 +58,6 @@ actors-preserved g c =
           on _ w.self-is w.act.ensures.share (one_stays u patience at before _ a.from a.to a.moved a.does)
       | else-at-self w ↦
           subst (λ (s : Share). IsShareOf u links s × OneEach u patience start (at + 1) s) (sym w.self-is)
-          (h.1, each_past u patience start before at (at + 1) (omega arith) so_far)
+          (h.0, each_past u patience start c.actors.self at (at + 1) (omega arith) so_far)
     ] in
-    (h.0, after.0, omega (arith, h.2, past), after.1)
+    (after.0, omega (arith, h.1, past), after.1)

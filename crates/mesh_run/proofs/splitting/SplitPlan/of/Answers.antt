@@ -43,7 +43,7 @@ returns g c =
     let queues = c.deref-2.ensures.value ∙ (c.in_ok-crossing.ensures ∙ ap (cut_queues (m.inputs ++ m.cores)) c.deref.ensures.value) in
     let up = c.in_ok-standing.ensures in
     record {
-      shared = plan_shared m.setup runs laid.table homes l.cuts.items (length m.unsent) shares laid.runs laid.numbers laid.homes laid.cuts nothing c.requires.mesh.unsent_lists;
+      shared = plan_shared m.setup runs (length homes) (length m.unsent) shares nothing laid.homes.long c.requires.mesh.unsent_lists;
       nothing = nothing;
       ends = up.0;
       holds = up.1;
