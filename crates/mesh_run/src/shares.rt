@@ -75,26 +75,14 @@ impl Share {
                 }
             }
             if at < self.to {
-                self.turn_one(rt, ground, number, at, all);
-            }
-            at += 1;
-        }
-    }
-
-    // One turn of the actor at a place.
-    fn turn_one<R: Wait>(&mut self, rt: &R, ground: Ground, number: u32, at: usize, all: bool)
-        requires share { IsShareOf ground.footing.setup.now ground.around.links.now self.old }
-        requires within { IsInRun self.old.from self.old.to at }
-        ensures plays { PlaysOne ground.entry.footing.setup.now ground.entry.around.patience at self.old
-            self.new }
-        ensures share { IsShareOf ground.entry.footing.setup.now ground.entry.around.links.now self.new }
-    {
-        match self.act(rt, ground, number, at, all) {
-            Turn::Moved => self.moved = true,
-            Turn::Waits => self.short.set(at),
-            Turn::Nothing => {
-                if !self.polled.has(at) {
-                    self.awake.clear(at);
+                match self.act(rt, ground, number, at, all) {
+                    Turn::Moved => self.moved = true,
+                    Turn::Waits => self.short.set(at),
+                    Turn::Nothing => {
+                        if !self.polled.has(at) {
+                            self.awake.clear(at);
+                        }
+                    }
                 }
             }
             at += 1;

@@ -2,10 +2,11 @@ use Rattle.std.proofs.Common.{◌≡◌, ◌≤◌, ◌+◌, Bool, true, List, r
 use Rattle.link_queue.specs.declared.links.Link.{Link}
 use Rattle.chip_node.specs.declared.flags.Flags.{Flags}
 use Rattle.mesh_core.specs.State.{Setup}
-use Rattle.mesh_run.specs.{declared.shares.Share.Share, Shares.IsShareOf, Shares.MovesAt, Shares.PlaysOne}
-use Rattle.mesh_run.proofs.{Acting.each_more, Acting.each_none, Acting.each_past, Acting.one_moves, Acting.one_stays, Acting.OneEach, shares.Share.turn_each.Goals.then-not-all+in-Some}
-use Rattle.mesh_run.proofs.shares.Share.turn_each.Goals.{else-not-all, else-at-self, then-at-self+in-Moved, then-at-self+in-Waits, then-at-self+in-Nothing+then-not-has}
-use Rattle.mesh_run.proofs.shares.Share.turn_each.Goals.{then-at-self+in-Nothing+else-not-has}
+use Rattle.mesh_run.specs.declared.shares.Share.{Share}
+use Rattle.mesh_run.specs.Shares.{IsShareOf, MovesAt, PlaysOne}
+use Rattle.mesh_run.proofs.Acting.{each_more, each_none, each_past, one_moves, one_stays, OneEach}
+use Rattle.mesh_run.proofs.shares.Share.turn_each.Goals.{then-not-all+in-Some, else-not-all, else-at-self}
+use Rattle.mesh_run.proofs.shares.Share.turn_each.Goals.{then-at-self+in-Moved, then-at-self+in-Waits, then-at-self+in-Nothing+then-not-has, then-at-self+in-Nothing+else-not-has}
 use Rattle.mesh_run.proofs.shares.Share.turn_each.Goals as goal
 
 -- a share with other flags is a share of the same mesh
@@ -17,8 +18,8 @@ flagged u links s awake short moved h =
 pub actors-init : goal.actors-init
 actors-init g c = (c.requires, omega arith, each_none c.args.ground.footing.setup.now c.args.ground.around.patience c.args.self.now c.args.self.now.from)
 
-pub turn_one-requires-clause-within : goal.turn_one-requires-clause-within
-turn_one-requires-clause-within g c =
+pub act-requires-clause-within : goal.act-requires-clause-within
+act-requires-clause-within g c =
     let h = c.actors.invariant in
     let past : c.actors.at ≤ c.if-not-all.at = elim c.if-not-all.branch [
       | then-not-all+in-Some w ↦ let is = w.at-is in let from = w.in-Some.ensures.from in omega (arith, is, from)
@@ -39,7 +40,11 @@ actors-preserved g c =
       | then-not-all+in-Some w ↦ let is = w.at-is in let from = w.in-Some.ensures.from in omega (arith, is, from)
       | else-not-all w ↦ let is = w.at-is in omega (arith, is)
     ] in
-    let so_far = each_past u patience start c.actors.self c.actors.at at past h.2 in
+    let so_far = each_past u patience start before c.actors.at at past h.2 in
+    let above : before.from ≤ at = let same = h.2.plays.from in omega (arith, h.1, past, same) in
+    let on : (s : Share) → c.if-at-self.self ≡ s → IsShareOf u links s → PlaysOne u patience at before s →
+    IsShareOf u links c.if-at-self.self × OneEach u patience start (at + 1) c.if-at-self.self =
+    λ s is share plays. subst (λ (x : Share). IsShareOf u links x × OneEach u patience start (at + 1) x) (sym is) (share, each_more u patience start before s at so_far plays) in
     let after : IsShareOf u links c.if-at-self.self × OneEach u patience start (at + 1) c.if-at-self.self = elim c.if-at-self.branch [
       | then-at-self+in-Moved w ↦
           let a = w.in-Moved.ensures.acts in
@@ -58,6 +63,6 @@ actors-preserved g c =
           on _ w.self-is w.act.ensures.share (one_stays u patience at before _ a.from a.to a.moved a.does)
       | else-at-self w ↦
           subst (λ (s : Share). IsShareOf u links s × OneEach u patience start (at + 1) s) (sym w.self-is)
-          (h.0, each_past u patience start c.actors.self at (at + 1) (omega arith) so_far)
+          (h.0, each_past u patience start before at (at + 1) (omega arith) so_far)
     ] in
     (after.0, omega (arith, h.1, past), after.1)
