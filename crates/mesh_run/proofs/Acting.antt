@@ -1,11 +1,10 @@
 -- What one turn of the actor at a place does to a share, and turns one after the other.
-use Rattle.std.proofs.Common.{◌≡◌, ◌≢◌, ◌⊎◌, ℕ, zero, suc, ◌+◌, ◌*◌, ◌/◌, ◌%◌, ◌<◌, ◌≤◌, Bool, true, false, List, [], ◌∷◌, ◌++◌, length, take, drop, Option, None, Some, refl, sym, ap, ◌∙◌, subst}
-use Rattle.std.proofs.Common.{arith, inl, inr}
+use Rattle.std.proofs.Common.{◌≡◌, ◌≢◌, ◌⊎◌, ℕ, ◌+◌, ◌*◌, ◌/◌, ◌%◌, ◌<◌, ◌≤◌, Bool, true, false, List, [], ◌++◌, length, Option, None, Some, refl, sym, ap, ◌∙◌, subst, arith, inl, inr}
 use Rattle.std.proofs.lemmas.{List.Elements.All-append, List.Elements.All-nil, List.Elements.All-weaker, Bool.cases_eq, Nat.div-add-mod', Nat.mod_below, Option.slice_get_within}
-use Rattle.std.specs.List.{All, slice_get, slice_index_or}
-use Rattle.spin_base.proofs.{Outputs.out_number_below, Places.All-each, Places.both_none}
+use Rattle.std.specs.List.{All, slice_get}
+use Rattle.spin_base.proofs.Places.{All-each, both_none}
 use Rattle.spin_base.specs.{declared.routes.Out.Out, declared.routes.Out.TheVariants.Link, declared.routes.Out.TheVariants.Core, Links.port_number, Outputs.out_number, Outputs.IsOutput}
-use Rattle.machine_desc.specs.Live.{chip_of, index_of, is_live_chip}
+use Rattle.machine_desc.specs.Live.{chip_of, index_of}
 use Rattle.machine_desc.proofs.{Far.live_inside, Live.index_of-chip_of}
 use Rattle.link_queue.specs.declared.links.Link.{Link as QueueLink}
 use Rattle.chip_node.specs.declared.holdings.{Holdings.Holdings, Turn.Turn, Turn.TheVariants.Moved, Turn.TheVariants.Nothing, Turn.TheVariants.Waits}
@@ -14,12 +13,10 @@ use Rattle.chip_node.specs.{Acting.IsReadyRouter, Acting.RouterActs, Acting.plac
 use Rattle.chip_node.specs.Items.{port_place}
 use Rattle.chip_node.proofs.{Flows.goes_none, Flows.goes_on, Flows.holds_sender_on, Stays.stays_same}
 use Rattle.mesh_core.specs.State.{Setup}
-use Rattle.mesh_run.specs.declared.shares.Share.{Share}
-use Rattle.mesh_run.specs.Floors.{grid_size, IsBankOf, IsRouterOf}
-use Rattle.mesh_run.specs.Played.{place_behind, port_count, IsLiveIndex}
-use Rattle.mesh_run.specs.Shares.{actor_of, bank_place, router_place, ActsAt, AreOf, DoesAt, IsInRun, IsNoted, IsShareOf, MovesAt, PlaysOne, PlaysRound, PlaysTurns, SharePlays}
-use Rattle.mesh_run.proofs.Apart.{not_to_itself, one_output}
-use Rattle.mesh_run.proofs.Turns.{IsNotOf, bank_by, bank_turns, routed_by, routed_some, routed_turns, turns_beside, turns_none, turns_on}
+use Rattle.mesh_run.specs.{declared.shares.Share.Share, Floors.grid_size, Floors.IsBankOf, Floors.IsRouterOf, Played.place_behind, Played.IsLiveIndex, Shares.actor_of, Shares.bank_place}
+use Rattle.mesh_run.specs.Shares.{router_place, ActsAt, AreOf, DoesAt, IsInRun, IsNoted, IsShareOf, MovesAt, PlaysOne, PlaysRound, PlaysTurns, SharePlays}
+use Rattle.mesh_run.proofs.{Apart.not_to_itself, Apart.one_output, Turns.IsNotOf, Turns.bank_by, Turns.bank_turns, Turns.routed_by, Turns.routed_some, Turns.routed_turns, Turns.turns_beside}
+use Rattle.mesh_run.proofs.Turns.{turns_none, turns_on}
 
 -- ---- places of actors
 
@@ -92,14 +89,7 @@ module _ (u : Setup) (links : List QueueLink) (s : Share) where
   }
 
   pub share_same : (t : Share) → t.from ≡ s.from → t.to ≡ s.to → t.hold ≡ s.hold → IsShareOf u links s → IsShareOf u links t
-  share_same t from to hold share = record {
-    ends_long = subst (λ (h : Holdings). length h.ends.items ≡ port_count u + length u.spots) (sym hold) share.ends_long;
-    unsent_long = subst (λ (h : Holdings). length h.unsent.items ≡ length u.spots) (sym hold) share.unsent_long;
-    within = subst (λ n. n ≤ 2 * grid_size u) (sym to) share.within;
-    routers = λ i o q live within behind. subst (λ (h : Holdings). HoldsSender h.ends.items q) (sym hold) (share.routers i o q live (was_in t from to within) behind);
-    banks = λ i live within. subst (λ (h : Holdings). HoldsSender h.ends.items (injection_place i)) (sym hold) (share.banks i live (was_in t from to within));
-    ends = subst (λ (h : Holdings). AreEndsOf links h.ends.items) (sym hold) share.ends;
-  }
+  share_same t from to hold share = grind (arith, was_in)
 
 -- ---- what a turn does
 
@@ -128,25 +118,13 @@ module _ (u : Setup) (patience : ℕ) where
 
   router_does : (cap at i : ℕ) (r : RouterNode) (s t : Share) (turn : Turn) → cap ≡ u.capacity → IsRouterOf u i r → router_place i ≡ at →
       RouterActs cap patience r.table.now r s.hold turn t.hold → DoesAt u patience at s turn t
-  router_does cap at i r s t Moved is of place acts = record {
-    items = acts.0;
-    goes = subst (λ n. Goes n patience s.hold acts.0 t.hold) is acts.2;
-    of_it = All-weaker (λ x. actor_of x ≡ router_place r.index) (λ x. actor_of x ≡ at) (λ x by. by ∙ (ap router_place of.index ∙ place)) acts.0 (routed_by u r acts.0 acts.1);
-    turns_are = routed_turns u r i of acts.0 acts.1;
-    some = routed_some u r acts.0 acts.1;
-  }
+  router_does cap at i r s t Moved is of place acts = grind (arith, routed_turns u r i of acts.0 acts.1, routed_some u r acts.0 acts.1, routed_by u r acts.0 acts.1, All-weaker)
   router_does cap at i r s t Nothing is of place acts = acts
   router_does cap at i r s t Waits is of place acts = acts
 
   bank_does : (cap at i : ℕ) (k : CoreBank) (s t : Share) (turn : Turn) → cap ≡ u.capacity → IsLiveIndex u i → IsBankOf u i k → bank_place i ≡ at →
       BankActs cap patience k s.hold turn t.hold → DoesAt u patience at s turn t
-  bank_does cap at i k s t Moved is live of place acts = record {
-    items = acts.0;
-    goes = subst (λ n. Goes n patience s.hold acts.0 t.hold) is acts.2;
-    of_it = All-weaker (λ x. actor_of x ≡ bank_place k.index) (λ x. actor_of x ≡ at) (λ x by. by ∙ (ap bank_place of.index ∙ place)) acts.0 (bank_by u k acts.0 acts.1);
-    turns_are = bank_turns u i k acts.0 live of acts.1;
-    some = acts.1.some;
-  }
+  bank_does cap at i k s t Moved is live of place acts = grind (arith, bank_turns u i k acts.0 live of acts.1, bank_by u k acts.0 acts.1, All-weaker)
   bank_does cap at i k s t Nothing is live of place acts = acts
   bank_does cap at i k s t Waits is live of place acts = acts
 
@@ -210,13 +188,7 @@ module _ (u : Setup) (patience : ℕ) where
     pub noted : IsNoted start.moved items now.moved
 
   plays_none : (n : ℕ) (s t : Share) → t.from ≡ s.from → t.to ≡ s.to → t.hold ≡ s.hold → SharePlays u patience n s [] t
-  plays_none n s t from to hold = record {
-    from = from;
-    to = to;
-    goes = subst (Goes u.capacity patience s.hold []) (sym hold) (goes_none u.capacity patience s.hold s.hold (stays_same s.hold));
-    own = All-nil (λ x. IsInRun s.from s.to (actor_of x));
-    turns_are = turns_none u n;
-  }
+  plays_none n s t from to hold = grind (arith, goes_none u.capacity patience s.hold s.hold (stays_same s.hold), stays_same s.hold, turns_none u n, All-nil)
 
   pub each_none : (start : Share) (at : ℕ) → OneEach start at start
   each_none start at = record { items = []; plays = plays_none 1 start start refl refl refl; before = All-nil (λ x. actor_of x < at); noted = noted_none start.moved start.moved refl }
@@ -227,12 +199,7 @@ module _ (u : Setup) (patience : ℕ) where
 
   -- a place further on
   pub each_past : (start now : Share) (at next : ℕ) → at ≤ next → OneEach start at now → OneEach start next now
-  each_past start now at next past h = record {
-    items = h.items;
-    plays = h.plays;
-    before = All-weaker (λ x. actor_of x < at) (λ x. actor_of x < next) (λ x below. omega (arith, below, past)) h.items h.before;
-    noted = h.noted;
-  }
+  each_past start now at next past h = grind (arith, All-weaker)
 
   pub each_more : (start now new : Share) (at : ℕ) → OneEach start at now → PlaysOne u patience at now new → OneEach start (at + 1) new
   each_more start now new at h k = record {

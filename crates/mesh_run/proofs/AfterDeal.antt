@@ -1,5 +1,5 @@
 -- The shares of a split mesh, with the ends of the links between them dealt: each share holds what its actors need.
-use Rattle.std.proofs.Common.{◌≡◌, ◌≢◌, ℕ, ◌*◌, ◌^◌, ◌<◌, ◌≤◌, List, [], ◌++◌, length, map, get_or, Option, Some, refl, sym, ap, ◌∙◌, subst, arith, inl, inr, zero, suc}
+use Rattle.std.proofs.Common.{◌≡◌, ◌≢◌, ℕ, ◌*◌, ◌<◌, ◌≤◌, List, [], ◌++◌, length, map, get_or, Option, Some, refl, sym, ap, ◌∙◌, subst, arith, inl, inr, zero, suc}
 use Rattle.std.proofs.lemmas.{Bool.cases_eq, List.length-map, Option.get_or_from_slice_get, Option.slice_get_within, Option.slice_get-get_or, Option.same_Some}
 use Rattle.std.specs.List.{All, slice_get, slice_index_or}
 use Rattle.spin_base.proofs.{Places.one_item_at, Places.slice_get-mapped, Places.slice_get_there, Spots.out_of-has_bit}
@@ -14,8 +14,7 @@ use Rattle.mesh_core.specs.State.{IsMesh, Setup, State}
 use Rattle.mesh_run.specs.{declared.homes.Cut.Cut, declared.homes.Home.Home, declared.raised.RaisedMesh.RaisedMesh, declared.shares.Share.Share, Crossing.AreCuts, Crossing.Deals, Crossing.IsUncut}
 use Rattle.mesh_run.specs.{Floors.grid_size, Homes.AreShareRuns, Homes.run_start, Queues.WasUp, Raised.IsRaisedFrom, Shares.bank_place, Shares.router_place, Shares.IsInRun, Shares.IsShareOf}
 use Rattle.mesh_run.specs.Split.{end_at, end_in}
-use Rattle.mesh_run.proofs.Feeding.{LeadsTo, by_link, leads, place_below, to_vertex}
-use Rattle.mesh_run.proofs.FloorLaws.{live_below}
+use Rattle.mesh_run.proofs.{Feeding.LeadsTo, Feeding.by_link, Feeding.leads, Feeding.place_below, Feeding.to_vertex, FloorLaws.live_below}
 
 -- an output that leads somewhere has a bit
 has_bit : (u : Setup) (i : ℕ) (o : Out) (q : ℕ) → LeadsTo u (chip_of u.machine i) o q → IsOutput o
@@ -57,8 +56,7 @@ in_share dealt k q s e at stands = ap (λ (x : Option Share). end_in x q) (sym a
 by_sender : (ends : List LinkEnds) (dealt : List Share) (k q sender : ℕ) (s : Share) → slice_get dealt k ≡ Some s → k ≡ sender →
     Holds ends dealt k q sender → HoldsSender s.hold.ends.items q
 by_sender ends dealt k q sender s at same (lane a stands) = record { end = Own a; stands = in_share dealt k q s (Own a) at stands; sends = tt }
-by_sender ends dealt k q sender s at same (sends l e of stands) =
-    record { end = Sends (record { link = l; tx = e.tx }); stands = in_share dealt k q s (Sends (record { link = l; tx = e.tx })) at stands; sends = tt }
+by_sender ends dealt k q sender s at same (sends l e of stands) = grind (arith, in_share dealt k q s (Sends (record { link = l; tx = e.tx })) at stands)
 by_sender ends dealt k q sender s at same (takes other l e of stands) = absurd (other same)
 by_sender ends dealt k q sender s at same (none other stands) = absurd (other same)
 

@@ -1,22 +1,17 @@
 -- After a whole round the links are up for the queues of the cuts, and nothing is logged in the shares.
-use Rattle.std.proofs.Common.{◌≡◌, ℕ, ◌<◌, List, [], ◌++◌, length, map, get_or, refl, sym, ◌∙◌, subst, arith}
+use Rattle.std.proofs.Common.{◌≡◌, ℕ, ◌<◌, List, [], ◌++◌, length, map, get_or, refl, sym, ◌∙◌, arith}
 use Rattle.std.proofs.lemmas.{List.get_or_default, List.length-map, Option.get_or_from_slice_get, Option.slice_get_within, Option.slice_get-get_or}
 use Rattle.spin_base.proofs.Places.{slice_get-mapped, slice_get_there}
 use Rattle.spin_base.specs.declared.copies.McCopy.{McCopy}
-use Rattle.mesh_run.specs.{declared.homes.Cut.Cut, Queues.queue_of_link, Queues.AreUp, Queues.IsUp, Split.cut_queues, Split.HaveNoLogs}
+use Rattle.mesh_run.specs.{declared.homes.Cut.Cut, Queues.queue_of_link, Queues.AreUp, Split.cut_queues, Split.HaveNoLogs}
 use Rattle.mesh_run.proofs.{AfterMesh.mesh, AfterMesh.queue_there, Resting.fewer, WholeRound.Whole}
 
 module _ (w : Whole) where
   pub whole_no_logs : HaveNoLogs w.cleared
-  whole_no_logs = λ i d below.
-      let was = slice_get_there w.collected i (let long = w.clears.0 in omega (arith, below, long)) in
-      let same = w.clears.1 i was.0 (get_or w.cleared i d) was.1 (slice_get-get_or w.cleared i d below) in
-      (same.dumps, same.deliveries)
+  whole_no_logs = grind (arith, slice_get_there, get_or, slice_get-get_or)
 
   after_long : length w.rests.now ≡ length w.r.layout.now.cuts.items
-  after_long =
-      let many = length-map w.r.layout.now.cuts.items (λ (d : Cut). get_or (w.m.inputs ++ w.m.cores) d.queue []) in
-      omega (arith, w.roomy.raised.up.long, many, w.collects.long, w.rests.long)
+  after_long = grind (arith, length-map, get_or)
 
   queue_at_cut : (l : ℕ) (q : List McCopy) → l < length w.r.layout.now.cuts.items →
       get_or (map queue_of_link w.rests.now) l q ≡ get_or (cut_queues ((mesh w).inputs ++ (mesh w).cores) w.r.layout.now.cuts.items) l q
@@ -29,14 +24,4 @@ module _ (w : Whole) where
       (slice_get-mapped (λ (d : Cut). get_or ((mesh w).inputs ++ (mesh w).cores) d.queue []) w.r.layout.now.cuts.items l cut.0 cut.1)))
 
   pub whole_up : AreUp w.m.setup.capacity 0 (cut_queues ((mesh w).inputs ++ (mesh w).cores) w.r.layout.now.cuts.items) w.rests.now
-  whole_up =
-      let many = length-map w.r.layout.now.cuts.items (λ (d : Cut). get_or ((mesh w).inputs ++ (mesh w).cores) d.queue []) in
-      let links = after_long in
-      let mapped = length-map w.rests.now queue_of_link in
-      record {
-        long = links ∙ sym many;
-        each = λ l q e below.
-            let inside : l < length w.r.layout.now.cuts.items = omega (arith, below, many) in
-            subst (λ (x : List McCopy). IsUp w.m.setup.capacity 0 x (get_or w.rests.now l e)) (queue_at_cut l q inside)
-            (fewer w.m.setup.capacity w.rested.free (get_or (map queue_of_link w.rests.now) l q) (get_or w.rests.now l e) (w.rests.up.each l q e (omega (arith, inside, mapped, links))));
-      }
+  whole_up = grind (arith, mesh w, after_long, length-map w.rests.now queue_of_link, get_or, queue_at_cut, fewer)

@@ -80,9 +80,7 @@ module _ (m : State) (is_mesh : IsMesh m) (more : ℕ) (r : RaisedMesh) (raised 
 
   -- the ends that a played share holds are ends of the links at their places
   played_ends : (k : ℕ) (t : Share) → slice_get played k ≡ Some t → All (IsEndOf links) t.hold.ends.items
-  played_ends k t at =
-      let stays = (plays k t (omega (arith, slice_get_within played k t at, long))).1 in
-      subst (λ (x : Share). All (IsEndOf links) x.hold.ends.items) (get_or_from_slice_get played k t t at) stays.ends
+  played_ends k t at = grind (arith, slice_get_within played k t at, get_or_from_slice_get played k t t at)
 
   -- the links that were collected can rest
   pub links_were_up : (brought : Standing) (collected : List Share) (collects : HoldsCollected raised.ends r.layout.now.cuts.items played brought collected) →

@@ -1,5 +1,5 @@
 -- What a whole round logged is what its items tell, and the mesh to which it leads is split as it was.
-use Rattle.std.proofs.Common.{◌≡◌, ℕ, ◌<◌, Bool, false, ◌||◌, List, [], ◌∷◌, ◌++◌, length, get_or, refl, sym, ap, ap₂, ◌∙◌, subst, arith, suc}
+use Rattle.std.proofs.Common.{◌≡◌, ℕ, ◌<◌, Bool, false, List, [], ◌∷◌, ◌++◌, length, get_or, refl, sym, ap, ap₂, ◌∙◌, subst, arith}
 use Rattle.std.proofs.lemmas.{List.get_or_default, Option.slice_get-get_or}
 use Rattle.std.specs.{List.flat_map, List.list_any, Global.Vec}
 use Rattle.chip_node.specs.{Going.Goes, Items.Item, Items.deliveries, Items.delivered_of, Items.dumped_of, Items.records}
@@ -15,17 +15,13 @@ any_same : {X Y : Type 0} (f : X → Bool) (g : Y → Bool) (xs : List X) (ys : 
 any_same f g [] [] long each = refl
 any_same f g [] (y ∷ ys) long each = absurd (omega (arith, long))
 any_same f g (x ∷ xs) [] long each = absurd (omega (arith, long))
-any_same f g (x ∷ xs) (y ∷ ys) long each =
-    ap₂ (λ a b. a || b) (each 0 x y (omega arith)) (any_same f g xs ys (omega (arith, long)) (λ i a b below. each (suc i) a b (omega (arith, below))))
+any_same f g (x ∷ xs) (y ∷ ys) long each = grind arith
 
 -- what one share logged
 share_logged : (cap patience : ℕ) (s d p c : Share) (items : List Item) → (d.hold.deliveries ≡ s.hold.deliveries) × (d.hold.dumps ≡ s.hold.dumps) →
     (s.hold.dumps.items ≡ []) × (s.hold.deliveries.items ≡ []) → Goes cap patience d.hold items p.hold →
     (c.hold.deliveries ≡ p.hold.deliveries) × (c.hold.dumps ≡ p.hold.dumps) → (c.hold.deliveries.items ≡ deliveries items) × (c.hold.dumps.items ≡ records items)
-share_logged cap patience s d p c items first empty goes last = (
-  ap (λ v. v.items) last.0 ∙ (goes.delivered ∙ ap (λ l. l ++ deliveries items) (ap (λ v. v.items) first.0 ∙ empty.1)),
-  ap (λ v. v.items) last.1 ∙ (goes.dumped ∙ ap (λ l. l ++ records items) (ap (λ v. v.items) first.1 ∙ empty.0)),
-)
+share_logged cap patience s d p c items first empty goes last = grind arith
 
 module _ (w : Whole) where
   collected_long : length w.collected ≡ length w.dealt
@@ -54,23 +50,14 @@ module _ (w : Whole) where
 
   -- what all shares logged
   pub whole_delivered : flat_map (λ (s : Share). s.hold.deliveries.items) w.collected ≡ deliveries (joined (parts w))
-  whole_delivered =
-      flat_same (λ (s : Share). s.hold.deliveries.items) (λ (p : List Item). flat_map delivered_of p) w.collected (parts w)
-      (omega (arith, parts_many, collected_long)) (λ i x z below. (logged i x z below).0)
-      ∙ sym (flat_map_joined delivered_of (parts w))
+  whole_delivered = grind (arith, flat_map_joined delivered_of (parts w), parts w, parts_many, collected_long, flat_same, logged)
 
   pub whole_dumped : flat_map (λ (s : Share). s.hold.dumps.items) w.collected ≡ records (joined (parts w))
-  whole_dumped =
-      flat_same (λ (s : Share). s.hold.dumps.items) (λ (p : List Item). flat_map dumped_of p) w.collected (parts w)
-      (omega (arith, parts_many, collected_long)) (λ i x z below. (logged i x z below).1)
-      ∙ sym (flat_map_joined dumped_of (parts w))
+  whole_dumped = grind (arith, flat_map_joined dumped_of (parts w), parts w, parts_many, collected_long, flat_same, logged)
 
   -- whether a copy moved is noted after ends are collected as it was before
   moved_same : list_any (λ (s : Share). s.moved) w.played ≡ list_any (λ (s : Share). s.moved) w.collected
-  moved_same = any_same (λ (s : Share). s.moved) (λ (s : Share). s.moved) w.played w.collected (sym w.collects.collects.same.0) (λ i x y below.
-      let same = w.collects.collects.same in
-      let p = slice_get-get_or w.played i x below in
-      sym (same.1 i (get_or w.played i x) (get_or w.collected i y) p (slice_get-get_or w.collected i y (omega (arith, below, same.0)))).moved)
+  moved_same = grind (arith, any_same, slice_get-get_or, get_or)
 
   -- the mesh after a round: its shares, its links and its logs are those that the round left, and the rest is as it was
   module _ (shares : Vec Share) (logs : MeshLogs) (left : shares.items ≡ w.cleared) where

@@ -30,10 +30,7 @@ module _ (w : Whole) where
     pub link : (l : ℕ) (c : Cut) → slice_get w.r.layout.now.cuts.items l ≡ Some c → c.queue ≡ q → get_or (map queue_of_link w.rests.now) l [] ≡ after
 
   pub home_below : (q : ℕ) (h : Home) → slice_get w.r.layout.now.homes.items q ≡ Some h → (h.sender < length w.dealt) × (h.receiver < length w.dealt)
-  home_below q h at =
-      let below = homes_below w.m w.is_mesh (w.turns + 1) w.r w.roomy.raised q h at in
-      let as_dealt = dealt_long w in
-      (omega (arith, below.0, as_dealt), omega (arith, below.1, as_dealt))
+  home_below q h at = grind (arith, homes_below w.m w.is_mesh (w.turns + 1) w.r w.roomy.raised q h at, dealt_long w)
 
   held_fits : (q : ℕ) → length (held_at w.m q) ≤ w.m.setup.capacity
   held_fits q = fits_at w.m.setup.capacity (w.m.inputs ++ w.m.cores) q (All-append (FitsQueue w.m.setup.capacity) w.m.inputs w.m.cores w.is_mesh.inputs_within w.is_mesh.cores_within)

@@ -21,9 +21,7 @@ same_unsent before after k v long same below =
 
 module _ (w : Whole) where
   dealt_unsent : (k v : ℕ) → k < length w.dealt → unsent_at w.dealt k v ≡ unsent_at w.r.shares.items k v
-  dealt_unsent k v below =
-      let as_dealt = dealt_long w in
-      same_unsent w.r.shares.items w.dealt k v as_dealt (λ s t at there. (w.deals.same.1 k s t at there).unsent) (omega (arith, below, as_dealt))
+  dealt_unsent k v below = grind (arith, dealt_long w, same_unsent)
 
   -- the lists after the round are those that the turns left
   cleared_unsent : (k v : ℕ) → k < length w.dealt → unsent_at w.cleared k v ≡ unsent_at w.played k v

@@ -31,15 +31,7 @@ module _ (u : Setup) where
       (ap (λ (e : Chip). place_behind u e s.out) is ∙ (sym done.2 ∙ (same ∙ ap (λ n. Some (7 * n + 6)) (sym live.is)))) in
       let none = ap length (not_there place (injection_place i) (brought s s.fate) other) in
       omega (arith, none)
-  sent_there i live (sent j v k) done = elim (cases_eq j i) [
-    | inl same ↦
-        let one = ap length (here (injection_place j) (injection_place i) (k ∷ []) (ap injection_place same)) in
-        let also = ap length (here j i (k ∷ []) same) in
-        omega (arith, one, also)
-    | inr other ↦
-        let none = ap length (elsewhere (injection_place j) (injection_place i) (k ∷ []) (λ same. other (omega (arith, same)))) in
-        omega (arith, none)
-  ]
+  sent_there i live (sent j v k) done = grind (arith, cases_eq j i, here, elsewhere)
   sent_there i live (got j v place k) done = omega arith
 
   fewer : {X Y : Type 0} (f : Item → List X) (g : Item → List Y) → ((x : Item) → IsDoneOn u x → length (f x) ≤ length (g x)) → (items : List Item) → All (IsDoneOn u) items →
@@ -82,11 +74,7 @@ module _ (u : Setup) where
 
   few_owed : (c : Chip) (o : Out) → IsOutput o → (taken : List (Port × McCopy)) → count_by (by o) (owed_on u c taken) ≤ length taken
   few_owed c o output [] = omega arith
-  few_owed c o output (t ∷ taken) =
-      let first = map {B = Out × McCopy} (λ p. (p, t.1)) (outputs u c t.0 t.1) in
-      let both = count_by-append (by o) first (owed_on u c taken) in
-      let mapped = count_by-map {B = Out × McCopy} (by o) (λ p. (p, t.1)) (outputs u c t.0 t.1) in
-      omega (arith, both, mapped, few_outputs c o t.0 t.1 output, few_owed c o output taken)
+  few_owed c o output (t ∷ taken) = grind (arith, few_outputs c o t.0 t.1 output, few_owed c o output taken, count_by-append, count_by-map)
 
   -- what one item brings to the queue behind an output, its router served there
   served_there : (i : ℕ) (o : Out) (q : ℕ) → IsLiveIndex u i → place_behind u (chip_of u.machine i) o ≡ Some q → (x : Item) → IsDoneOn u x →

@@ -1,34 +1,26 @@
 -- Floors chip by chip: the vertices on a chip, the queues behind its outputs, and that there are few vertices.
-use Rattle.std.proofs.Common.{◌≡◌, ◌≢◌, ℕ, zero, suc, ◌+◌, ◌*◌, ◌<◌, ◌≤◌, Bool, true, false, List, [], ◌∷◌, ◌++◌, map, take, drop, length, get_or, Option, Some}
-use Rattle.std.proofs.Common.{None, refl, sym, ap, ◌∙◌, subst, arith, append_assoc, length-append, inl, inr}
-use Rattle.std.proofs.lemmas.Bool.{cases_eq, cases_lt}
-use Rattle.std.proofs.lemmas.Option.{get_or_from_slice_get, none-some, same_Some, slice_get-get_or, slice_get_within}
-use Rattle.std.proofs.lemmas.List.{get_or-map, length-drop, length-map, length_push, length-take}
-use Rattle.std.proofs.Math.Nat.{mul-le-mul_left}
+use Rattle.std.proofs.Common.{◌≡◌, ◌≢◌, ℕ, zero, suc, ◌+◌, ◌*◌, ◌<◌, ◌≤◌, Bool, true, false, List, [], ◌∷◌, ◌++◌, map, take, drop, length, get_or, Option, Some, None, refl, sym, ap, ◌∙◌, subst, arith}
+use Rattle.std.proofs.Common.{append_assoc, length-append, inl, inr}
+use Rattle.std.proofs.lemmas.{Bool.cases_eq, Bool.cases_lt, Option.get_or_from_slice_get, Option.none-some, Option.same_Some, Option.slice_get-get_or, Option.slice_get_within, List.get_or-map}
+use Rattle.std.proofs.{lemmas.List.length-drop, lemmas.List.length-map, lemmas.List.length_push, lemmas.List.length-take, Math.Nat.mul-le-mul_left}
 use Rattle.std.specs.{List.All, List.AllPairs, List.slice_get, List.slice_index_or, Option.option_to_list}
-use Rattle.spin_base.specs.declared.{chips.Chip.Chip, chips.Spot.Spot, routes.Out.Out}
-use Rattle.spin_base.specs.Outputs.{out_number, IsOutput}
+use Rattle.spin_base.specs.{declared.chips.Chip.Chip, declared.chips.Spot.Spot, declared.routes.Out.Out, Outputs.out_number, Outputs.IsOutput}
 use Rattle.spin_base.proofs.Members.{Among, Contains-at, among_contains, among_either, among_left, among_only, among_right, contains_among}
-use Rattle.spin_base.proofs.Places.{All-at, slice_get_there, slice_get-append_left, slice_get-push_cases, slice_get-pushed}
-use Rattle.spin_base.proofs.Outputs.{out_number_below, out_number_injective}
+use Rattle.spin_base.proofs.{Places.All-at, Places.slice_get_there, Places.slice_get-append_left, Places.slice_get-push_cases, Places.slice_get-pushed, Outputs.out_number_below}
+use Rattle.spin_base.proofs.Outputs.{out_number_injective}
 use Rattle.machine_desc.specs.{Description.Description, Description.HasSize, Live.chip_of, Live.is_live_chip, Live.IsSite, NetsOn.vertex_at}
 use Rattle.machine_desc.proofs.{Branches.length_le_from_apart, Far.index_below, Far.live_inside, Live.index_of-chip_of}
 use Rattle.mesh_core.specs.{State.Setup, VertexTable.spot_place}
-use Rattle.mesh_core.proofs.VertexTableLaws.{same_spot_place, site_inside, spot_place-below}
-use Rattle.mesh_core.proofs.Ways.{vertex_at_stands, vertex_there}
-use Rattle.chip_node.specs.Acting.{place_in}
-use Rattle.chip_node.specs.declared.nodes.{Behind.Behind, CoreBank.CoreBank, RouterNode.RouterNode}
-use Rattle.mesh_run.specs.declared.floors.Floor.{Floor}
-use Rattle.mesh_run.specs.Floors.{AddsBehind, AreVerticesOn, AreVerticesOf, IsBankOf, IsFloorOf, IsFloorSoFar, IsRouterOf, grid_size, live_if, live_one, place_of_slot}
-use Rattle.mesh_run.specs.Played.{place_behind, port_count, IsLiveIndex, IsVertexOn}
+use Rattle.mesh_core.proofs.{VertexTableLaws.same_spot_place, VertexTableLaws.site_inside, VertexTableLaws.spot_place-below, Ways.vertex_at_stands, Ways.vertex_there}
+use Rattle.chip_node.specs.{Acting.place_in, declared.nodes.Behind.Behind, declared.nodes.CoreBank.CoreBank, declared.nodes.RouterNode.RouterNode}
+use Rattle.mesh_run.specs.{declared.floors.Floor.Floor, Floors.AddsBehind, Floors.AreVerticesOn, Floors.AreVerticesOf, Floors.IsBankOf, Floors.IsFloorOf, Floors.IsFloorSoFar, Floors.IsRouterOf}
+use Rattle.mesh_run.specs.{Floors.grid_size, Floors.live_if, Floors.live_one, Floors.place_of_slot, Played.place_behind, Played.port_count, Played.IsLiveIndex, Played.IsVertexOn}
 
 -- ---- few vertices
 
 -- vertices on different sites are at different places of the table of spots
 pub few_chips : (m : Description) → HasSize m → m.width * m.height ≤ 4096
-few_chips m size =
-    let area : m.width * m.height ≤ m.width * 64 = mul-le-mul_left m.width size.height_to_64 in
-    omega (arith, size.width_to_64, area)
+few_chips m size = grind (arith, mul-le-mul_left m.width size.height_to_64)
 
 -- Different items with different numbers below a bound are no more than the bound.
 few_numbered : {A : Type 0} (f : A → ℕ) (n : ℕ) (xs : List A) (x : A) → AllPairs (λ a b. a ≢ b) xs → ((k : ℕ) → k < length xs → f (get_or xs k x) < n)
@@ -107,10 +99,7 @@ spot_is spot chip n here number = ap (λ (x : Chip). let t : Spot = record { chi
 
 module _ (u : Setup) (i : ℕ) where
   pub vertices_none : (vs : List ℕ) → vs ≡ [] → AreVerticesOn u i 0 vs
-  vertices_none vs none = record {
-    each = λ v has. absurd (subst (λ (l : List ℕ). Among v l) none (contains_among v vs has));
-    all = λ v spot stands here below. absurd (omega (arith, below));
-  }
+  vertices_none vs none = grind (arith, Among, contains_among)
 
   more_by : (n : ℕ) (old new : List ℕ) (found : Option ℕ) → AllPairs (λ a b. a ≢ b) u.spots → AreVerticesOn u i n old → vertex_at u.spots (record { chip = chip_of u.machine i; core = n }) ≡ found →
       new ≡ old ++ option_to_list found → AreVerticesOn u i (n + 1) new

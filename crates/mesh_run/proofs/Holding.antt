@@ -74,12 +74,7 @@ none_less : (n : ℕ) → n - 0 ≡ n
 none_less n = omega arith
 
 pub down_none : (all : List LinkEnds) (s : Standing) (qs : List (List McCopy)) → HoldsAll all s → DownFrom all 0 s qs qs
-down_none all s qs holds = record {
-  few = omega arith;
-  long = refl;
-  stand = subst (λ l. HoldsAll l s) (sym (ap (λ n. take n all) (none_less (length all)) ∙ take_all (length all) all (omega arith))) holds;
-  down = λ i e q from below. absurd (omega (arith, from, below));
-}
+down_none all s qs holds = grind (arith, none_less (length all), take_all (length all) all (omega arith))
 
 -- an item within a list
 there : {X : Type 0} (xs : List X) (i : ℕ) → i < length xs → (x : X) × ((d : X) → get_or xs i d ≡ x)

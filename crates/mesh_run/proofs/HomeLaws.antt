@@ -1,26 +1,20 @@
 -- Runs of actors, the numbers of their shares, homes of queues, and cuts.
-use Rattle.std.proofs.Common.{◌≡◌, ◌≢◌, ◌⊎◌, ℕ, ◌+◌, ◌-◌, ◌*◌, ◌^◌, ◌<◌, ◌≤◌, List, [], ◌∷◌, ◌++◌, replicate, length, get_or, set}
-use Rattle.std.proofs.Common.{Option, Some, None, refl, sym, ap, ◌∙◌, subst, arith, suc, zero, length-append, inl, inr}
-use Rattle.std.proofs.lemmas.Bool.{cases_eq, cases_lt}
-use Rattle.std.proofs.lemmas.Option.{none-some, same_Some, slice_get_within, slice_get-get_or}
-use Rattle.std.proofs.lemmas.List.{get_or_append_left, get_or_push, length_push, length-set}
-use Rattle.std.proofs.lemmas.List.Elements.{All-append, All-nil, All-push}
+use Rattle.std.proofs.Common.{◌≡◌, ◌≢◌, ◌⊎◌, ℕ, ◌+◌, ◌-◌, ◌*◌, ◌^◌, ◌<◌, ◌≤◌, List, [], ◌∷◌, ◌++◌, replicate, length, get_or, set, Option, Some, None, refl, sym, ap, ◌∙◌, subst, arith, suc, zero}
+use Rattle.std.proofs.Common.{length-append, inl, inr}
+use Rattle.std.proofs.lemmas.{Bool.cases_eq, Bool.cases_lt, Option.none-some, Option.same_Some, Option.slice_get_within, Option.slice_get-get_or, List.get_or_append_left, List.get_or_push}
+use Rattle.std.proofs.lemmas.List.{length_push, length-set, Elements.All-append, Elements.All-nil, Elements.All-push}
 use Rattle.std.specs.List.{All, slice_get}
-use Rattle.spin_base.specs.declared.routes.Out.{Out, TheVariants.Link, TheVariants.Core}
-use Rattle.spin_base.specs.{Links.dir_at, Outputs.out_number, Outputs.IsOutput}
+use Rattle.spin_base.specs.{declared.routes.Out.Out, declared.routes.Out.TheVariants.Link, declared.routes.Out.TheVariants.Core, Links.dir_at, Outputs.out_number, Outputs.IsOutput}
 use Rattle.spin_base.proofs.Places.{All-at, slice_get-append_left, slice_get-push_cases, slice_get-pushed, slice_get-set_same, slice_get-set_other}
 use Rattle.spin_base.proofs.{Outputs.out_number_below, Outputs.out_number_injective, Spots.dir_number-dir_at}
 use Rattle.machine_desc.specs.Live.{chip_of, index_of}
 use Rattle.machine_desc.proofs.{Far.live_inside, Live.chip_of-inside, Live.index_of-chip_of}
 use Rattle.mesh_core.specs.State.{Setup}
 use Rattle.chip_node.specs.Items.{injection_place}
-use Rattle.mesh_run.specs.declared.homes.{Cut.Cut, Home.Home}
-use Rattle.mesh_run.specs.Floors.{grid_size}
-use Rattle.mesh_run.specs.Homes.{AreCutsOf, AreHomesOf, AreHomesTo, AreShareRuns, HaveSenders, IsBefore, IsInTable, IsShareTable, MayCut, MayGrow, SetsSender, homes_of_ports, run_start}
-use Rattle.mesh_run.specs.Played.{IsLiveIndex, place_behind}
-use Rattle.mesh_run.specs.Shares.{IsInRun, bank_place, router_place}
-use Rattle.mesh_run.proofs.FloorLaws.{live_below, slice_get-first, slice_get-second}
-use Rattle.mesh_run.proofs.Feeding.{leads, no_injection, one_output}
+use Rattle.mesh_run.specs.{declared.homes.Cut.Cut, declared.homes.Home.Home, Floors.grid_size, Homes.AreCutsOf, Homes.AreHomesOf, Homes.AreHomesTo, Homes.AreShareRuns, Homes.HaveSenders}
+use Rattle.mesh_run.specs.{Homes.IsBefore, Homes.IsInTable, Homes.IsShareTable, Homes.MayCut, Homes.MayGrow, Homes.SetsSender, Homes.homes_of_ports, Homes.run_start, Played.IsLiveIndex}
+use Rattle.mesh_run.specs.{Played.place_behind, Shares.IsInRun, Shares.bank_place, Shares.router_place}
+use Rattle.mesh_run.proofs.{FloorLaws.live_below, FloorLaws.slice_get-first, FloorLaws.slice_get-second, Feeding.leads, Feeding.no_injection, Feeding.one_output}
 
 -- ---- runs
 
@@ -31,14 +25,10 @@ pub record RiseTo (place : ℕ) (ends : List ℕ) : Type 0 where
   pub few : length ends ≤ place
 
 pub rise_none : (ends : List ℕ) → ends ≡ [] → RiseTo 0 ends
-rise_none ends none =
-    let long = ap length none in
-    record { rising = λ a b less below. absurd (omega (arith, below, long)); most = λ a below. absurd (omega (arith, below, long)); few = omega (arith, long) }
+rise_none ends none = grind arith
 
 rise_on : (p : ℕ) (ends : List ℕ) → RiseTo p ends → RiseTo (p + 1) ends
-rise_on p ends so_far =
-    let few = so_far.few in
-    record { rising = so_far.rising; most = λ a below. let m = so_far.most a below in omega (arith, m); few = omega (arith, few) }
+rise_on p ends so_far = grind arith
 
 pushed_rises : (p : ℕ) (ends : List ℕ) → RiseTo p ends → (a b : ℕ) → a < b → b < length (ends ++ p ∷ []) → get_or (ends ++ p ∷ []) a 0 ≤ get_or (ends ++ p ∷ []) b 0
 pushed_rises p ends so_far a b less below =
@@ -103,11 +93,7 @@ run_from count ends zero runs below = omega arith
 run_from count ends (suc k) runs below = runs.rising k (suc k) (omega arith) below
 
 pub table_none : (ends table : List ℕ) → table ≡ [] → TableTo ends 0 table
-table_none ends table none = record {
-  long = ap length none;
-  done = λ a k less in_run. absurd (omega (arith, less));
-  below = λ a k at. absurd (none-some k (ap (λ (l : List ℕ). slice_get l a) (sym none) ∙ at));
-}
+table_none ends table none = grind (arith, none-some)
 
 pub run_more : (ends : List ℕ) (n p : ℕ) (table new : List ℕ) → RunTo ends n p table → new ≡ table ++ n ∷ [] → RunTo ends n (p + 1) new
 run_more ends n p table new so_far is = subst (RunTo ends n (p + 1)) (sym is) (record {
@@ -124,17 +110,7 @@ run_more ends n p table new so_far is = subst (RunTo ends n (p + 1)) (sym is) (r
 })
 
 pub run_all : (ends : List ℕ) (n p : ℕ) (table : List ℕ) → RunTo ends n p table → p ≡ get_or ends n 0 → TableTo ends (n + 1) table
-run_all ends n p table so_far all = record {
-  long = so_far.long ∙ (all ∙ sym (start_more ends n));
-  done = λ a k less in_run. elim (cases_eq k n) [
-    | inl same ↦
-        let from : run_start ends n ≤ a = subst (λ (j : ℕ). run_start ends j ≤ a) same in_run.above in
-        let to : a < get_or ends n 0 = subst (λ (j : ℕ). a < get_or ends j 0) same in_run.below in
-        so_far.here a from (omega (arith, to, all)) ∙ ap Some (sym same)
-    | inr other ↦ so_far.done a k (omega (arith, less, other)) in_run
-  ];
-  below = so_far.below;
-}
+run_all ends n p table so_far all = grind (arith, start_more ends n, get_or ends n 0, cases_eq)
 
 pub table_all : (count : ℕ) (ends : List ℕ) (n : ℕ) (table : List ℕ) → AreShareRuns count ends → n ≡ length ends → TableTo ends n table → IsShareTable count ends table
 table_all count ends n table runs all so_far = record {
@@ -150,11 +126,7 @@ table_all count ends n table runs all so_far = record {
 -- ---- homes
 
 pub homes_none : (table : List ℕ) (homes : List Home) → homes ≡ [] → AreHomesTo table 0 0 homes
-homes_none table homes none = subst (AreHomesTo table 0 0) (sym none) (record {
-  long = refl;
-  listed = All-nil (IsInTable table);
-  banks = λ i k h below. absurd (omega (arith, below));
-})
+homes_none table homes none = grind (arith, All-nil (IsInTable table))
 
 pub ports_more : (table : List ℕ) (n router bank : ℕ) (homes new : List Home) → AreHomesTo table n 0 homes → slice_get table (router_place n) ≡ Some router →
     slice_get table (bank_place n) ≡ Some bank → new ≡ homes ++ homes_of_ports router bank → AreHomesTo table (n + 1) 0 new
@@ -187,14 +159,7 @@ ports_more table n router bank homes new so_far at_router at_bank is = subst (Ar
 
 pub vertex_more : (table : List ℕ) (chips m : ℕ) (home : Home) (homes new : List Home) → AreHomesTo table chips m homes → IsInTable table home → new ≡ homes ++ home ∷ [] →
     AreHomesTo table chips (m + 1) new
-vertex_more table chips m home homes new so_far listed is = subst (AreHomesTo table chips (m + 1)) (sym is) (
-    let long = so_far.long in
-    record {
-      long = omega (arith, long, length_push homes home);
-      listed = All-push (IsInTable table) homes home so_far.listed listed;
-      banks = λ i k h below at_k at_h.
-          so_far.banks i k h below at_k (sym (slice_get-first homes (home ∷ []) (injection_place i) (omega (arith, below, long))) ∙ at_h);
-    })
+vertex_more table chips m home homes new so_far listed is = grind (arith, length_push homes home, All-push (IsInTable table) homes home so_far.listed listed, slice_get-first)
 
 -- ---- senders
 

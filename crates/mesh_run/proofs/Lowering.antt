@@ -5,7 +5,7 @@ use Rattle.std.proofs.lemmas.List.{get_or-set_same, length-map, length-set, same
 use Rattle.std.specs.List.{All, slice_get}
 use Rattle.spin_base.proofs.Places.{slice_get_there}
 use Rattle.spin_base.specs.declared.copies.McCopy.{McCopy}
-use Rattle.link_queue.specs.{declared.links.LinkEnds.LinkEnds, Ends.sending}
+use Rattle.link_queue.specs.declared.links.LinkEnds.{LinkEnds}
 use Rattle.mesh_core.specs.State.{IsMesh, State}
 use Rattle.mesh_run.specs.{declared.homes.Cut.Cut, declared.homes.Home.Home, declared.raised.RaisedMesh.RaisedMesh, Played.port_count, Queues.AreEnds, Queues.AreUp, Queues.DownTo, Queues.IsDown}
 use Rattle.mesh_run.specs.{Queues.IsUp, Raised.IsRaisedFrom, Split.cut_queues, Splitting.FitHomes, Splitting.HoldVertices, Splitting.MovesOut, Splitting.SameButCopies, Splitting.SetsQueue}
@@ -44,9 +44,7 @@ pub all_are_ends : (cap more : ℕ) (queues : List (List McCopy)) (ends : List L
 all_are_ends cap more queues ends up = λ i e below. let long = up.long in (up.each i [] e (omega (arith, below, long))).ends
 
 pub no_more_links : (m : State) (more : ℕ) (r : RaisedMesh) → (raised : IsRaisedFrom m more r) → length raised.ends ≤ length r.crossing.items
-no_more_links m more r raised =
-    let mapped = length-map r.layout.now.cuts.items (λ (c : Cut). get_or (m.inputs ++ m.cores) c.queue []) in
-    omega (arith, raised.up.long, mapped, raised.crossing)
+no_more_links m more r raised = grind (arith, length-map, get_or)
 
 -- ---- a link that is down
 
@@ -56,8 +54,7 @@ none_behind (c ∷ copies) = ap (λ l. c ∷ l) (none_behind copies)
 
 -- a link that is up and then down gives its queue back
 pub same_queue : (cap more : ℕ) (queue after : List McCopy) (e : LinkEnds) → IsUp cap more queue e → IsDown e after → after ≡ queue
-same_queue cap more queue after e up down =
-    ap (λ l. l ++ after) (sym up.rx_new.took) ∙ (sym down.all ∙ (ap (λ l. l ++ (sending e.tx).sent) up.tx_new.first ∙ (ap (λ l. queue ++ l) up.tx_new.sent ∙ none_behind queue)))
+same_queue cap more queue after e up down = grind (arith, none_behind queue)
 
 pub down_at : (m : State) (more : ℕ) (r : RaisedMesh) (down : List (List McCopy)) → (raised : IsRaisedFrom m more r) → DownTo raised.ends down → (l : ℕ) (c : Cut) →
     slice_get r.layout.now.cuts.items l ≡ Some c → get_or down l [] ≡ get_or (m.inputs ++ m.cores) c.queue []
@@ -85,14 +82,7 @@ pub record QueuesBackTo (mid : State) (cuts : List Cut) (down : List (List McCop
   pub long : length left ≡ length down
 
 pub cuts_none : (mid : State) (cuts : List Cut) (down : List (List McCopy)) → QueuesBackTo mid cuts down 0 mid down
-cuts_none mid cuts down = record {
-  same = same_state mid;
-  unsent = refl;
-  done = λ l c less. absurd (omega (arith, less));
-  others = λ q not. refl;
-  left_down = λ l from. refl;
-  long = refl;
-}
+cuts_none mid cuts down = grind (arith, same_state mid)
 
 -- each queue is of one cut at most
 abbrev pub AreOfOneCut : List Cut → Type 0
@@ -144,15 +134,7 @@ two_lists (x ∷ a) (y ∷ c) b d e long =
     (both_same x y a c (first_same x y (a ++ b) (c ++ d) e) rest.0, rest.1)
 
 equal_states : (s t : State) → s.setup ≡ t.setup → s.unsent ≡ t.unsent → s.inputs ≡ t.inputs → s.hands ≡ t.hands → s.cores ≡ t.cores → s.delivered ≡ t.delivered → s.dumped ≡ t.dumped → s ≡ t
-equal_states s t setup unsent inputs hands cores delivered dumped = λ i. record {
-  setup = setup i;
-  unsent = unsent i;
-  inputs = inputs i;
-  hands = hands i;
-  cores = cores i;
-  delivered = delivered i;
-  dumped = dumped i;
-}
+equal_states s t setup unsent inputs hands cores delivered dumped = grind arith
 
 -- all that was split stands again where it stood
 pub lowered : (m : State) (more n : ℕ) (r : RaisedMesh) (mid now back : State) (down left : List (List McCopy)) → IsMesh m → (raised : IsRaisedFrom m more r) →

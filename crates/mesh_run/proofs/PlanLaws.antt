@@ -1,15 +1,13 @@
 -- How a mesh is split.
-use Rattle.std.proofs.Common.{◌≡◌, ℕ, ◌+◌, ◌*◌, ◌<◌, ◌≤◌, List, [], ◌++◌, map, length, get_or, Some, sym, ap, ◌∙◌, subst, arith, inl, inr}
-use Rattle.std.proofs.lemmas.{Bool.cases_lt, Option.slice_get_within, Option.slice_get-get_or}
-use Rattle.std.proofs.lemmas.List.{get_or-map, get_or_past, length-map, length-replicate, Elements.All-append}
+use Rattle.std.proofs.Common.{◌≡◌, ℕ, ◌+◌, ◌*◌, ◌<◌, ◌≤◌, List, [], ◌++◌, length, get_or, Some, sym, ap, ◌∙◌, subst, arith}
+use Rattle.std.proofs.lemmas.{Bool.cases_lt, Option.slice_get_within, Option.slice_get-get_or, List.get_or-map, List.get_or_past, List.length-map, List.length-replicate, List.Elements.All-append}
 use Rattle.std.specs.List.{All, slice_get}
 use Rattle.spin_base.specs.declared.copies.McCopy.{McCopy}
 use Rattle.spin_base.proofs.Places.{All-at}
 use Rattle.chip_node.specs.declared.ends.End.TheVariants.{Away}
 use Rattle.mesh_core.specs.State.{FitsQueue, IsMesh, Setup, State}
-use Rattle.mesh_run.specs.declared.{homes.Cut.Cut, homes.Home.Home, shares.Share.Share}
-use Rattle.mesh_run.specs.{Floors.grid_size, Homes.AreCutsOf, Homes.AreHomesOf, Homes.IsShareTable, Played.port_count, Split.AreShared, Split.cut_queues}
-use Rattle.mesh_run.specs.Splitting.{AreInside, FitHomes, HoldNothing, IsEmptyHand}
+use Rattle.mesh_run.specs.{declared.homes.Cut.Cut, declared.homes.Home.Home, declared.shares.Share.Share, Floors.grid_size, Homes.AreCutsOf, Homes.AreHomesOf, Homes.IsShareTable, Played.port_count}
+use Rattle.mesh_run.specs.{Split.AreShared, Split.cut_queues, Splitting.AreInside, Splitting.FitHomes, Splitting.HoldNothing, Splitting.IsEmptyHand}
 use Rattle.mesh_run.proofs.FloorLaws.{few_chips, few_vertices}
 
 -- each share has a place for each queue, and for each vertex
@@ -54,10 +52,7 @@ cuts_inside homes cuts n are long = λ i d below.
     subst (λ (k : ℕ). (get_or cuts i d).queue < k) long (slice_get_within homes (get_or cuts i d).queue (record { sender = (get_or cuts i d).sender; receiver = (get_or cuts i d).receiver }) cut.0)
 
 pub fits_at : (cap : ℕ) (queues : List (List McCopy)) (i : ℕ) → All (FitsQueue cap) queues → length (get_or queues i []) ≤ cap
-fits_at cap queues i all = elim (cases_lt i (length queues)) [
-  | inl inside ↦ (all i [] inside).within
-  | inr past ↦ let none : length (get_or queues i []) ≡ 0 = ap length (get_or_past queues i [] past) in omega (arith, none)
-]
+fits_at cap queues i all = grind (arith, cases_lt i (length queues), get_or queues i, get_or_past queues i)
 
 pub cuts_fit : (m : State) (cuts : List Cut) → IsMesh m → All (λ q. length q ≤ m.setup.capacity) (cut_queues (m.inputs ++ m.cores) cuts)
 cuts_fit m cuts mesh = λ i d below.

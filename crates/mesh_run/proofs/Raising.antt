@@ -8,12 +8,10 @@ use Rattle.spin_base.specs.declared.copies.McCopy.{McCopy}
 use Rattle.link_queue.specs.declared.links.LinkEnds.{LinkEnds}
 use Rattle.chip_node.specs.declared.ends.End.{End, TheVariants.Away, TheVariants.Own}
 use Rattle.mesh_core.specs.State.{IsMesh, Setup, State}
-use Rattle.mesh_run.specs.declared.{homes.Cut.Cut, homes.Home.Home, layout.Layout.Layout, raised.RaisedMesh.RaisedMesh, shares.Share.Share}
-use Rattle.mesh_run.specs.{Layouts.IsLayoutOf, Played.port_count, Queues.AreUp, Queues.StayUp, Queues.queue_of_link, Raised.IsRaisedFrom}
-use Rattle.mesh_run.specs.Rooms.{AreSameCopies, SameCopies, SameEnd}
-use Rattle.mesh_run.specs.Split.{AreShared, HaveNoLogs, HoldLanes, HoldUnsent, cut_queues, end_at, end_in, unsent_at, unsent_in}
-use Rattle.mesh_run.specs.Splitting.{AreSameRuns, HoldVertices, MovesIn}
-use Rattle.mesh_run.specs.Standing.{HoldsAll}
+use Rattle.mesh_run.specs.{declared.homes.Home.Home, declared.layout.Layout.Layout, declared.raised.RaisedMesh.RaisedMesh, declared.shares.Share.Share, Layouts.IsLayoutOf, Played.port_count}
+use Rattle.mesh_run.specs.{Queues.AreUp, Queues.StayUp, Queues.queue_of_link, Raised.IsRaisedFrom, Rooms.AreSameCopies, Rooms.SameCopies, Rooms.SameEnd, Split.AreShared, Split.HaveNoLogs}
+use Rattle.mesh_run.specs.{Split.HoldLanes, Split.HoldUnsent, Split.cut_queues, Split.end_at, Split.end_in, Split.unsent_at, Split.unsent_in, Splitting.AreSameRuns, Splitting.HoldVertices}
+use Rattle.mesh_run.specs.{Splitting.MovesIn, Standing.HoldsAll}
 use Rattle.mesh_run.proofs.{BringingUp.fewer_up, CrossingLaws.end_there, Going.GoneTo, RoomLaws.copies_same}
 
 -- ---- the same runs
@@ -68,13 +66,7 @@ raised_in m left more start ends r mesh laid shared holds up crossing moves setu
 -- ---- shares with the same copies
 
 pub same_runs : (before after : List Share) → AreSameCopies before after → AreSameRuns before after
-same_runs before after same = record {
-  long = same.0;
-  from = λ k s t at also. (same.1 k s t at also).from;
-  to = λ k s t at also. (same.1 k s t at also).to;
-  ends_long = λ k s t at also. (same.1 k s t at also).ends_long;
-  unsent_long = λ k s t at also. ap (λ l. length l.items) (same.1 k s t at also).unsent;
-}
+same_runs before after same = grind arith
 
 -- an end stands where it stood, with the same copies
 same_end_at : (before after : List Share) (s q : ℕ) (a : End) → AreSameCopies before after → end_at before s q ≡ Some a → (b : End) × (end_at after s q ≡ Some b) × SameEnd a b
@@ -177,10 +169,7 @@ still_for cap more less queues ends now was up = subst (λ (qs : List (List McCo
 
 -- the links of a split mesh are up for the queues that they know
 pub known_up : (m : State) (r : RaisedMesh) (cap : ℕ) → (raised : IsRaisedFrom m 0 r) → cap ≡ r.parts.setup.capacity → AreUp cap 0 (map queue_of_link raised.ends) raised.ends
-known_up m r cap raised is =
-    let queues : List (List McCopy) = cut_queues (m.inputs ++ m.cores) r.layout.now.cuts.items in
-    subst (λ (n : ℕ). AreUp n 0 (map queue_of_link raised.ends) raised.ends) (sym (is ∙ ap (λ (u : Setup). u.capacity) raised.setup))
-    (subst (λ (qs : List (List McCopy)). AreUp m.setup.capacity 0 qs raised.ends) (known_queues m.setup.capacity 0 queues raised.ends raised.up) raised.up)
+known_up m r cap raised is = grind (arith, known_queues m.setup.capacity 0 (cut_queues (m.inputs ++ m.cores) r.layout.now.cuts.items) raised.ends raised.up)
 
 -- a split mesh of which the links have places for more copies, and the shares the same ones
 pub with_links : (m : State) (more less : ℕ) (r s : RaisedMesh) (cap : ℕ) → (raised : IsRaisedFrom m 0 r) → less ≤ more → cap ≡ r.parts.setup.capacity →

@@ -1,5 +1,5 @@
 -- The steps of a round, each as far as what its call promises: ends dealt, turns played, ends collected, links at rest, logs gathered.
-use Rattle.std.proofs.Common.{◌≡◌, ℕ, ◌+◌, ◌<◌, Bool, List, ◌++◌, length, get_or, refl, sym, ap, ◌∙◌, subst}
+use Rattle.std.proofs.Common.{arith, ◌≡◌, ℕ, ◌+◌, ◌<◌, Bool, List, ◌++◌, length, get_or, sym, subst}
 use Rattle.std.specs.{Global.Vec, List.All, List.flat_map}
 use Rattle.link_queue.specs.declared.links.{Link.Link, LinkEnds.LinkEnds}
 use Rattle.mesh_core.specs.State.{IsMesh, Setup, State}
@@ -7,7 +7,6 @@ use Rattle.mesh_run.specs.declared.{gathering.MeshLogs.MeshLogs, homes.Cut.Cut, 
 use Rattle.mesh_run.specs.{Crossing.AreCuts, Crossing.AreLaid, Crossing.Deals, Crossing.HoldsCollected, Crossing.HoldsNoEnds, Gathering.AreEmptied, Gathering.FitsLogs, Gathering.IsAnyMoved}
 use Rattle.mesh_run.specs.{Queues.RestAll, Queues.WasUp, Raised.IsRoomyFrom, Raised.PlaysTo, Shares.IsShareOf, Shares.PlaysAndStays, Standing.HoldsAll}
 use Rattle.mesh_run.proofs.{AfterDeal.cuts_apart, AfterDeal.dealt_shares, AfterDeal.links_many, AfterPlay.ends_laid, AfterPlay.links_were_up, AfterPlay.logs_fit, AfterRound.whole_plays}
-use Rattle.mesh_run.proofs.WholeRound.{Whole}
 
 -- ends were dealt to the shares of a mesh with room for a round
 pub record IsDealt (m : State) (r : RaisedMesh) (lent : Standing) (dealt : List Share) : Type 0 where
@@ -38,28 +37,16 @@ module _ {m : State} {r : RaisedMesh} {lent : Standing} {dealt : List Share} whe
   pub is_dealt : {cuts : List Cut} → IsMesh m → IsRoomyFrom m (r.pace.turns + 1) r → cuts ≡ r.layout.now.cuts.items →
       ((ends : List LinkEnds) → HoldsAll ends r.standing → Deals ends cuts r.shares.items dealt) →
       ((ends : List LinkEnds) → HoldsAll ends r.standing → HoldsNoEnds ends lent) → IsDealt m r lent dealt
-  is_dealt is_mesh roomy same deals none = record {
-    is_mesh = is_mesh;
-    roomy = roomy;
-    deals = subst (λ (l : List Cut). Deals roomy.raised.ends l r.shares.items dealt) same (deals roomy.raised.ends roomy.raised.holds);
-    none_left = none roomy.raised.ends roomy.raised.holds;
-  }
+  is_dealt is_mesh roomy same deals none = grind arith
 
   -- all are shares of the mesh
   pub shares_of_mesh : IsDealt m r lent dealt → All (IsShareOf r.parts.setup lent.links.items) dealt
-  shares_of_mesh d =
-      subst (λ (u : Setup). All (IsShareOf u lent.links.items) dealt) (sym d.roomy.raised.setup)
-      (dealt_shares m d.is_mesh (r.pace.turns + 1) r d.roomy.raised dealt d.deals lent.links.items d.none_left.links)
+  shares_of_mesh d = grind (arith, dealt_shares m d.is_mesh (r.pace.turns + 1) r d.roomy.raised dealt d.deals lent.links.items d.none_left.links)
 
   module _ {played : List Share} where
     -- what the turns of all shares promise
     pub is_turned : IsDealt m r lent dealt → length played ≡ length dealt → PlayAndStay r lent.links.items dealt played → IsTurned m r lent dealt played
-    is_turned d long plays = record {
-      before = d;
-      long = long;
-      plays = λ k s below. subst (λ (u : Setup). PlaysAndStays u lent.links.items r.pace.patience r.pace.turns (get_or dealt k s) (get_or played k s))
-          d.roomy.raised.setup (plays k s below);
-    }
+    is_turned d long plays = grind (arith, get_or)
 
     -- each end of a link is where its cut says
     pub cuts_laid : IsTurned m r lent dealt played → AreLaid lent.links.items played r.layout.now.cuts.items
@@ -92,13 +79,7 @@ module _ {m : State} {r : RaisedMesh} {lent : Standing} {dealt : List Share} whe
       pub is_collected : {cuts : List Cut} → IsTurned m r lent dealt played → cuts ≡ r.layout.now.cuts.items →
           ((ends : List LinkEnds) → HoldsNoEnds ends lent → length ends ≡ length cuts → HoldsCollected ends cuts played brought collected) →
           IsCollected m r lent dealt played brought collected
-      is_collected t same collects =
-          let none = no_ends t in
-          record {
-            turned = t;
-            collects = subst (λ (l : List Cut). HoldsCollected none.0 l played brought collected) same
-                (collects none.0 none.1 (none.2 ∙ ap length (sym same)));
-          }
+      is_collected t same collects = grind arith
 
       -- the links can rest
       pub can_rest : IsCollected m r lent dealt played brought collected → (ends : List LinkEnds) × HoldsAll ends brought × All (WasUp r.parts.setup.capacity) ends
@@ -124,28 +105,4 @@ module _ {m : State} {r : RaisedMesh} {lent : Standing} {dealt : List Share} whe
           logs.delivered.items ≡ r.logs.delivered.items ++ flat_map (λ s. s.hold.deliveries.items) collected →
           logs.dumped.items ≡ r.logs.dumped.items ++ flat_map (λ s. s.hold.dumps.items) collected → IsAnyMoved collected moved →
           PlaysTo r.pace.patience r.pace.turns m moved (record r { standing = standing; shares = shares; logs = logs })
-      round_plays {rested} standing shares logs moved h rests clears delivered dumped moved_are =
-          let t = h.turned in
-          let d = t.before in
-          let w : Whole = record {
-            m = m;
-            is_mesh = d.is_mesh;
-            patience = r.pace.patience;
-            turns = r.pace.turns;
-            r = r;
-            roomy = d.roomy;
-            dealt = dealt;
-            deals = d.deals;
-            played = played;
-            played_long = t.long;
-            plays = λ k s below. (t.plays k s below).0;
-            brought = brought;
-            collected = collected;
-            collects = h.collects;
-            standing = standing;
-            rested = rested;
-            rests = subst (λ (u : Setup). RestAll u.capacity h.collects.ends standing rested) d.roomy.raised.setup (rests h.collects.ends h.collects.holds);
-            cleared = shares.items;
-            clears = clears;
-          } in
-          whole_plays w shares logs refl moved (record { delivered = delivered; dumped = dumped }) moved_are
+      round_plays {rested} standing shares logs moved h rests clears delivered dumped moved_are = grind (arith, whole_plays)

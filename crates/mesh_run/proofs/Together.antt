@@ -83,20 +83,13 @@ module _ (u : Setup) (n count : ℕ) (ends : List ℕ) (parts : List (List Item)
 
   pub turns_joined : AreShareRuns count ends → length parts ≡ length ends → ((k : ℕ) (d : List Item) → k < length parts → AreTurns u n (get_or parts k d)) →
       ((k : ℕ) (d : List Item) → k < length parts → AreOf (run_start ends k) (slice_index_or ends k 0) (get_or parts k d)) → AreTurns u n (joined parts)
-  turns_joined runs long turns own =
-      subst (λ (l : List (List Item)). AreTurns u n (joined l)) (take_all (length parts) parts (omega arith)) (so_far runs long turns own (length parts) (omega arith)).turns
+  turns_joined runs long turns own = grind (arith, take_all (length parts) parts (omega arith), so_far runs long turns own (length parts) (omega arith))
 
 -- ---- what is noted
 
 noted_or : (xs ys : List Item) (y z : Bool) → IsNoted false xs y → IsNoted false ys z → IsNoted false (xs ++ ys) (y || z)
-noted_or xs ys true z h k = elim h [
-  | inl before ↦ inl before
-  | inr some ↦ inr (λ none. some (both_none xs ys none).0)
-]
-noted_or xs ys false true h k = elim k [
-  | inl before ↦ inl before
-  | inr some ↦ inr (λ none. some (both_none xs ys none).1)
-]
+noted_or xs ys true z h k = grind (arith, both_none)
+noted_or xs ys false true h k = grind (arith, both_none)
 noted_or xs ys false false h k = (refl, ap (λ l. l ++ ys) h.1 ∙ k.1)
 
 pub noted_joined : (shares : List Share) (parts : List (List Item)) → length parts ≡ length shares →

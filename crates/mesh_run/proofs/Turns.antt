@@ -11,8 +11,8 @@ use Rattle.chip_node.specs.{declared.ends.Served.TheVariants.Dumped, declared.no
 use Rattle.chip_node.specs.{Acting.RoutesOne, Acting.SendsOne, Acting.place_at_router, Items.Item, Items.Service, Items.took, Items.served, Items.sent, Items.got, Items.where_same, Items.getting_of}
 use Rattle.chip_node.specs.{Items.gettings, Items.sending_of, Items.sendings, Items.service_of, Items.services, Items.taking_of, Items.takings, Routing.outputs_at}
 use Rattle.mesh_core.specs.{State.Setup, Step.outputs}
-use Rattle.mesh_run.specs.Played.{owed_on, place_behind, AreTurns, IsDoneOn, IsLiveIndex, IsVertexOn}
-use Rattle.mesh_run.specs.{Floors.IsBankOf, Floors.IsRouterOf, Shares.actor_of, Shares.bank_place, Shares.router_place}
+use Rattle.mesh_run.specs.{Played.owed_on, Played.place_behind, Played.AreTurns, Played.IsDoneOn, Played.IsLiveIndex, Floors.IsBankOf, Floors.IsRouterOf, Shares.actor_of, Shares.bank_place}
+use Rattle.mesh_run.specs.Shares.{router_place}
 use Rattle.mesh_run.proofs.{Apart.elsewhere, Apart.here, OutputBits.has_bit}
 
 -- ---- lists
@@ -75,10 +75,7 @@ module _ (u : Setup) where
       ∙ ap (owed_on u (chip_of u.machine i)) (sym (flat_map-append (taking_of i) xs ys)))))
 
   length_on : {Y : Type 0} (f : Item → List Y) (xs ys : List Item) (m n : ℕ) → length (flat_map f xs) ≤ m → length (flat_map f ys) ≤ n → length (flat_map f (xs ++ ys)) ≤ m + n
-  length_on f xs ys m n h k =
-      let both = ap length (flat_map-append f xs ys) in
-      let long = length-append (flat_map f xs) (flat_map f ys) in
-      omega (arith, both, long, h, k)
+  length_on f xs ys m n h k = grind (arith, flat_map-append f xs ys, length-append (flat_map f xs) (flat_map f ys))
 
   pub counted_on : (t s g a b c : ℕ) (xs ys : List Item) → AreCounted u t s g xs → AreCounted u a b c ys → AreCounted u (t + a) (s + b) (g + c) (xs ++ ys)
   counted_on t s g a b c xs ys h k = record {
@@ -91,13 +88,7 @@ module _ (u : Setup) where
 
   -- no turns
   pub counted_none : AreCounted u 0 0 0 []
-  counted_none = record {
-    each = All-nil (IsDoneOn u);
-    each_once = λ i. refl;
-    takings_few = λ i. omega arith;
-    sendings_few = λ i. omega arith;
-    gettings_few = λ i. omega arith;
-  }
+  counted_none = grind (arith, All-nil (IsDoneOn u))
 
   pub turns_none : (n : ℕ) → AreTurns u n []
   turns_none n = turns_of 0 0 0 n [] (omega arith) (omega arith) (omega arith) counted_none
@@ -132,16 +123,8 @@ module _ (u : Setup) where
   -- where one of two lists has none of an actor, both have no more than one has
   length_beside : {Y : Type 0} (f : Item → List Y) (a n : ℕ) → ((x : Item) → actor_of x ≢ a → f x ≡ []) → (xs ys : List Item) → IsNotOf a xs ⊎ IsNotOf a ys →
       length (flat_map f xs) ≤ n → length (flat_map f ys) ≤ n → length (flat_map f (xs ++ ys)) ≤ n
-  length_beside f a n none xs ys (inl apart) h k =
-      let empty = ap length (flat_map_none f xs (All-weaker (λ x. actor_of x ≢ a) (λ x. f x ≡ []) none xs apart)) in
-      let both = ap length (flat_map-append f xs ys) in
-      let long = length-append (flat_map f xs) (flat_map f ys) in
-      omega (arith, both, long, empty, k)
-  length_beside f a n none xs ys (inr apart) h k =
-      let empty = ap length (flat_map_none f ys (All-weaker (λ x. actor_of x ≢ a) (λ x. f x ≡ []) none ys apart)) in
-      let both = ap length (flat_map-append f xs ys) in
-      let long = length-append (flat_map f xs) (flat_map f ys) in
-      omega (arith, both, long, empty, h)
+  length_beside f a n none xs ys (inl apart) h k = grind (arith, flat_map-append f xs ys, length-append (flat_map f xs) (flat_map f ys), flat_map_none, All-weaker)
+  length_beside f a n none xs ys (inr apart) h k = grind (arith, flat_map-append f xs ys, length-append (flat_map f xs) (flat_map f ys), flat_map_none, All-weaker)
 
   -- turns of other actors, beside turns
   pub turns_beside : (n : ℕ) (xs ys : List Item) → ((a : ℕ) → IsNotOf a xs ⊎ IsNotOf a ys) → AreTurns u n xs → AreTurns u n ys → AreTurns u n (xs ++ ys)
@@ -240,27 +223,10 @@ module _ (u : Setup) where
   -- ---- one turn of a bank
 
   sends_counted : (i : ℕ) (b : CoreBank) (items : List Item) → IsLiveIndex u i → IsBankOf u i b → SendsOne b items → AreCounted u 0 1 0 items
-  sends_counted i b items live of h = subst (AreCounted u 0 1 0) (sym h.are) (record {
-    each = All-cons (IsDoneOn u) (sent b.index h.vertex h.copy) []
-        (subst (IsLiveIndex u) (sym of.index) live, subst (λ n. IsVertexOn u n h.vertex) (sym of.index) (of.vertices h.vertex h.has)) (All-nil (IsDoneOn u));
-    each_once = λ j. refl;
-    takings_few = λ j. omega arith;
-    sendings_few = λ j. few_more b.index j h.copy;
-    gettings_few = λ j. omega arith;
-  })
+  sends_counted i b items live of h = grind (arith, All-cons (IsDoneOn u) (sent b.index h.vertex h.copy), All-nil (IsDoneOn u), few_more)
 
   gets_counted : (i : ℕ) (b : CoreBank) (items : List Item) → IsLiveIndex u i → IsBankOf u i b → GetsOne b items → AreCounted u 0 0 1 items
-  gets_counted i b items live of h = subst (AreCounted u 0 0 1) (sym h.are) (record {
-    each = All-cons (IsDoneOn u) (got b.index h.vertex (b.cores + h.vertex) h.copy) [] (
-      subst (IsLiveIndex u) (sym of.index) live,
-      subst (λ n. IsVertexOn u n h.vertex) (sym of.index) (of.vertices h.vertex h.has),
-      ap (λ n. n + h.vertex) of.cores,
-    ) (All-nil (IsDoneOn u));
-    each_once = λ j. refl;
-    takings_few = λ j. omega arith;
-    sendings_few = λ j. omega arith;
-    gettings_few = λ j. few_more b.index j h.copy;
-  })
+  gets_counted i b items live of h = grind (arith, All-cons (IsDoneOn u) (got b.index h.vertex (b.cores + h.vertex) h.copy), All-nil (IsDoneOn u), few_more)
 
   more_counted : (s g a b : ℕ) (items : List Item) → s ≤ a → g ≤ b → AreCounted u 0 s g items → AreCounted u 0 a b items
   more_counted s g a b items few less h = record {
@@ -272,16 +238,7 @@ module _ (u : Setup) where
   }
 
   pub bank_turns : (i : ℕ) (b : CoreBank) (items : List Item) → IsLiveIndex u i → IsBankOf u i b → BankMoves b items → AreTurns u 1 items
-  bank_turns i b items live of h = subst (AreTurns u 1) (sym h.are) (
-      let first : AreCounted u 0 1 0 h.first = elim h.sends [
-        | inl none ↦ subst (AreCounted u 0 1 0) (sym none) (more_counted 0 0 1 0 [] (omega arith) (omega arith) counted_none)
-        | inr sends ↦ sends_counted i b h.first live of sends
-      ] in
-      let second : AreCounted u 0 0 1 h.second = elim h.gets [
-        | inl none ↦ subst (AreCounted u 0 0 1) (sym none) (more_counted 0 0 0 1 [] (omega arith) (omega arith) counted_none)
-        | inr gets ↦ gets_counted i b h.second live of gets
-      ] in
-      turns_of 0 1 1 1 (h.first ++ h.second) (omega arith) (omega arith) (omega arith) (counted_on 0 1 0 0 0 1 h.first h.second first second))
+  bank_turns i b items live of h = grind (arith, more_counted 0 0 1 0, counted_none, more_counted 0 0 0 1, sends_counted, gets_counted, turns_of, counted_on)
 
   pub bank_by : (b : CoreBank) (items : List Item) → BankMoves b items → All (λ x. actor_of x ≡ bank_place b.index) items
   bank_by b items h = subst (All Is) (sym h.are) (All-append Is h.first h.second

@@ -1,5 +1,5 @@
 -- A whole round of all shares: the ends of links dealt, turns played, ends collected, links at rest and logs gathered.
-use Rattle.std.proofs.Common.{◌≡◌, ℕ, ◌+◌, ◌*◌, ◌<◌, false, List, [], length, get_or, Some, ◌∙◌, subst, arith}
+use Rattle.std.proofs.Common.{◌≡◌, ℕ, ◌+◌, ◌*◌, ◌<◌, false, List, length, get_or, Some, ◌∙◌, subst, arith}
 use Rattle.std.proofs.lemmas.{List.get_or_default, Option.slice_get-get_or}
 use Rattle.std.specs.List.{list_any, slice_get, slice_index_or}
 use Rattle.spin_base.proofs.Places.{slice_get_there}
@@ -42,18 +42,7 @@ module _ (w : Whole) where
     pub noted : (s : Share) → IsNoted false items (get_or w.played k s).moved
 
   part_at : (k : ℕ) → k < length w.dealt → (items : List Item) × Part k items
-  part_at k below =
-      let s = (slice_get_there w.dealt k below).0 in
-      let one = w.plays k s below in
-      let here : (d : Share) → get_or w.dealt k s ≡ get_or w.dealt k d = λ d. get_or_default w.dealt k s d below in
-      let there : (d : Share) → get_or w.played k s ≡ get_or w.played k d = λ d. get_or_default w.played k s d (let long = w.played_long in omega (arith, long, below)) in (
-        one.items,
-        record {
-          plays = λ d. subst (λ (x : Share). SharePlays u w.patience w.turns x one.items (get_or w.played k d)) (here d)
-              (subst (λ (x : Share). SharePlays u w.patience w.turns (get_or w.dealt k s) one.items x) (there d) one.plays);
-          noted = λ d. subst (λ (x : Share). IsNoted false one.items x.moved) (there d) one.noted;
-        },
-      )
+  part_at k below = grind (arith, slice_get_there w.dealt k below, get_or w.dealt k ((slice_get_there w.dealt k below).0), get_or_default)
 
   -- what all shares did
   pub all_parts : (parts : List (List Item)) × (length parts ≡ length w.dealt) × ((k : ℕ) (d : List Item) → k < length w.dealt → Part k (get_or parts k d))
@@ -63,11 +52,7 @@ module _ (w : Whole) where
   parts = all_parts.0
 
   pub played_parts : PlayedParts u.capacity w.patience w.dealt w.played parts
-  played_parts = record {
-    long = w.played_long;
-    parts_long = all_parts.1;
-    goes = λ k s below. ((all_parts.2 k [] below).plays s).goes;
-  }
+  played_parts = grind arith
 
   pub dealt_long : length w.dealt ≡ length w.r.shares.items
   dealt_long = w.deals.same.0
@@ -95,10 +80,7 @@ module _ (w : Whole) where
 
   -- whether a copy moved is noted
   pub whole_noted : IsNoted false (joined parts) (list_any (λ s. s.moved) w.played)
-  whole_noted =
-      let many = w.played_long in
-      noted_joined w.played parts (let listed_long = all_parts.1 in omega (arith, many, listed_long))
-      (λ k s p below. (all_parts.2 k p (omega (arith, below, many))).noted s)
+  whole_noted = grind (arith, noted_joined)
 
   -- ---- a queue that is a lane of one share
 

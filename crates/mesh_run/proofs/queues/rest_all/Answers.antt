@@ -1,9 +1,7 @@
 use Rattle.std.proofs.Common.{◌≡◌, ◌&&◌, Bool, nat_eq, min, List, sym, ap, ◌∙◌, subst, arith}
 use Rattle.link_queue.specs.declared.links.LinkEnds.{LinkEnds}
-use Rattle.mesh_run.specs.declared.queues.Rested.{Rested}
-use Rattle.mesh_run.specs.Queues.{RestAll, WasUp, free_places_of}
-use Rattle.mesh_run.proofs.Holding.{only_ends}
-use Rattle.mesh_run.proofs.Resting.{all_rest, links_past, next_at, next_was, none_rest, one_rests, rest_inside, rest_places}
+use Rattle.mesh_run.specs.{declared.queues.Rested.Rested, Queues.RestAll, Queues.WasUp, Queues.free_places_of}
+use Rattle.mesh_run.proofs.{Holding.only_ends, Resting.all_rest, Resting.links_past, Resting.next_at, Resting.next_was, Resting.none_rest, Resting.one_rests, Resting.rest_inside, Resting.rest_places}
 use Rattle.mesh_run.proofs.queues.rest_all.Goals.{then-quiet, else-quiet}
 use Rattle.mesh_run.proofs.queues.rest_all.Goals as goal
 

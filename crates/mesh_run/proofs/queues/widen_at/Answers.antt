@@ -1,8 +1,6 @@
-use Rattle.std.proofs.Common.{sym, ap, ◌∙◌, subst, arith}
-use Rattle.link_queue.specs.declared.links.{Link.Link, Rx.Rx, Tx.Tx}
-use Rattle.link_queue.specs.Ends.{IsTx, IsRx, sending}
-use Rattle.mesh_run.proofs.Resting.{held_short, lent_inside, lent_link, put_again, rest_count, rest_inside, rest_places}
-use Rattle.mesh_run.proofs.Resting.{rest_sent, rest_stands, rest_took, rest_wide, rest_within, widened_up}
+use Rattle.std.proofs.Common.{sym, subst, arith}
+use Rattle.link_queue.specs.{declared.links.Link.Link, declared.links.Rx.Rx, declared.links.Tx.Tx, Ends.IsTx, Ends.IsRx}
+use Rattle.mesh_run.proofs.Resting.{held_short, lent_inside, lent_link, put_again, rest_count, rest_inside, rest_places, rest_sent, rest_stands, rest_took, rest_wide, rest_within, widened_up}
 use Rattle.mesh_run.proofs.queues.widen_at.Goals as goal
 
 pub index-requires : goal.index-requires
@@ -44,38 +42,16 @@ invariant_of-resting g c =
     }
 
 pub widened-requires : goal.widened-requires
-widened-requires g c =
-    let u = c.requires in
-    let is = c.for_held-wider.ensures in
-    record {
-      some = omega (arith, is, c.args.places.some);
-      fits = omega (arith, held_short u.3 (c.rest_at-held.ensures u.0 u.1 u.2 u.3) u.4, is);
-    }
+widened-requires g c = grind (arith, held_short (c.requires).3 (c.rest_at-held.ensures (c.requires).0 (c.requires).1 (c.requires).2 (c.requires).3) (c.requires).4)
 
 pub set-requires : goal.set-requires
-set-requires g c =
-    let u = c.requires in
-    let r = c.rest_at-held.ensures u.0 u.1 u.2 u.3 in
-    (_, c.take_ends-tx.ensures.left _ r.holds, rest_within u.3 r)
+set-requires g c = grind (arith, rest_within (c.requires).3 (c.rest_at-held.ensures (c.requires).0 (c.requires).1 (c.requires).2 (c.requires).3))
 
 pub put_ends-requires : goal.put_ends-requires
-put_ends-requires g c =
-    let u = c.requires in
-    let r = c.rest_at-held.ensures u.0 u.1 u.2 u.3 in
-    (_, c.take_ends-tx.ensures.left _ r.holds, rest_within u.3 r)
+put_ends-requires g c = grind (arith, rest_within (c.requires).3 (c.rest_at-held.ensures (c.requires).0 (c.requires).1 (c.requires).2 (c.requires).3))
 
 pub returns-in-Ok-clause-wide : goal.returns-in-Ok-clause-wide
-returns-in-Ok-clause-wide g c = λ ends old holds at up.
-    let r = c.rest_at-held.ensures ends old holds at in
-    let taken = c.take_ends-tx.ensures.ends _ r.now r.holds (rest_stands at r) in
-    let made = c.in-Ok.ensures in
-    widened_up at r up c.args.places.turns (ap (λ (x : Tx). (sending x).first) taken.0) c.for_held-wider.ensures made.sending made.taking made.cap made.room
-    (c.set.ensures _ (c.take_ends-tx.ensures.left _ r.holds))
+returns-in-Ok-clause-wide g c = grind (arith, rest_stands, widened_up)
 
 pub returns-in-Err-clause-back : goal.returns-in-Err-clause-back
-returns-in-Err-clause-back g c = λ ends old holds at up.
-    let r = c.rest_at-held.ensures ends old holds at in
-    let stands = rest_stands at r in
-    let taken = c.take_ends-tx.ensures.ends _ r.now r.holds stands in
-    let back = c.in-Err.ensures.back in
-    put_again at r up (back.0 ∙ taken.0) (back.1 ∙ taken.1) (c.put_ends.ensures _ r.now (c.take_ends-tx.ensures.left _ r.holds) stands)
+returns-in-Err-clause-back g c = grind (arith, rest_stands, put_again)

@@ -1,17 +1,16 @@
-use Rattle.std.proofs.Common.{◌≡◌, ◌<◌, ◌≤◌, ℕ, length, get_or, sym, ◌∙◌, subst, arith}
+use Rattle.std.proofs.Common.{◌≡◌, ◌<◌, ◌≤◌, ℕ, length, get_or, ◌∙◌, subst, arith}
 use Rattle.std.proofs.lemmas.Option.{slice_get-get_or}
 use Rattle.mesh_core.specs.State.{State}
 use Rattle.mesh_run.specs.declared.homes.Home.{Home}
-use Rattle.mesh_run.proofs.CrossingLaws.{end_still}
-use Rattle.mesh_run.proofs.SplitLaws.{holds_on, holds_self, lanes_more, lanes_none, moved_in, place_there, vertex_home, vertex_there, vertices_to_more, vertices_to_none}
+use Rattle.mesh_run.proofs.{CrossingLaws.end_still, SplitLaws.holds_on, SplitLaws.holds_self, SplitLaws.lanes_more, SplitLaws.lanes_none, SplitLaws.moved_in, SplitLaws.place_there}
+use Rattle.mesh_run.proofs.SplitLaws.{vertex_home, vertex_there, vertices_to_more, vertices_to_none}
 use Rattle.mesh_run.proofs.splitting.move_in.Goals as goal
 
 pub loop-place-init : goal.loop-place-init
 loop-place-init c = lanes_none c.args.parts.now c.args.homes.now c.args.shares.now.items
 
 pub swap_queue-copies-requires : goal.swap_queue-copies-requires
-swap_queue-copies-requires c =
-    omega (arith, c.requires.4.long, c.loop-place.invariant.same.inputs_long, c.loop-place.invariant.same.cores_long, c.loop-place-test.true)
+swap_queue-copies-requires c = grind arith
 
 pub put_lane-requires : goal.put_lane-requires
 put_lane-requires c =

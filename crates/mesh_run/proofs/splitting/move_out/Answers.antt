@@ -2,16 +2,15 @@ use Rattle.std.proofs.Common.{◌≡◌, ◌<◌, ◌≤◌, ℕ, length, get_or
 use Rattle.std.proofs.lemmas.Option.{slice_get-get_or}
 use Rattle.mesh_core.specs.State.{State}
 use Rattle.mesh_run.specs.declared.homes.Home.{Home}
-use Rattle.mesh_run.proofs.CrossingLaws.{end_still}
-use Rattle.mesh_run.proofs.SplitLaws.{moved_out, out_more, out_none, place_there, unsent_out_more, unsent_out_none, vertex_home, vertex_there}
+use Rattle.mesh_run.proofs.{CrossingLaws.end_still, SplitLaws.moved_out, SplitLaws.out_more, SplitLaws.out_none, SplitLaws.place_there, SplitLaws.unsent_out_more, SplitLaws.unsent_out_none}
+use Rattle.mesh_run.proofs.SplitLaws.{vertex_home, vertex_there}
 use Rattle.mesh_run.proofs.splitting.move_out.Goals as goal
 
 pub loop-place-init : goal.loop-place-init
 loop-place-init c = out_none c.args.parts.now c.args.homes.now c.args.shares.now.items
 
 pub take_lane-requires-clause-queue : goal.take_lane-requires-clause-queue
-take_lane-requires-clause-queue c =
-    omega (arith, c.requires.long, c.loop-place.invariant.same.inputs_long, c.loop-place.invariant.same.cores_long, c.loop-place-test.true)
+take_lane-requires-clause-queue c = grind arith
 
 pub take_lane-requires-clause-end : goal.take_lane-requires-clause-end
 take_lane-requires-clause-end c =

@@ -2,11 +2,10 @@ use Rattle.std.proofs.Common.{◌≡◌, ◌≤◌, ◌+◌, Bool, true, List, r
 use Rattle.link_queue.specs.declared.links.Link.{Link}
 use Rattle.chip_node.specs.declared.flags.Flags.{Flags}
 use Rattle.mesh_core.specs.State.{Setup}
-use Rattle.mesh_run.specs.declared.shares.Share.{Share}
-use Rattle.mesh_run.specs.Shares.{IsShareOf, MovesAt, PlaysOne}
-use Rattle.mesh_run.proofs.Acting.{each_more, each_none, each_past, one_moves, one_stays, OneEach}
-use Rattle.mesh_run.proofs.shares.Share.turn_each.Goals.{then-not-all+in-Some, else-not-all, else-at-self}
-use Rattle.mesh_run.proofs.shares.Share.turn_each.Goals.{then-at-self+in-Moved, then-at-self+in-Waits, then-at-self+in-Nothing+then-not-has, then-at-self+in-Nothing+else-not-has}
+use Rattle.mesh_run.specs.{declared.shares.Share.Share, Shares.IsShareOf, Shares.MovesAt, Shares.PlaysOne}
+use Rattle.mesh_run.proofs.{Acting.each_more, Acting.each_none, Acting.each_past, Acting.one_moves, Acting.one_stays, Acting.OneEach, shares.Share.turn_each.Goals.then-not-all+in-Some}
+use Rattle.mesh_run.proofs.shares.Share.turn_each.Goals.{else-not-all, else-at-self, then-at-self+in-Moved, then-at-self+in-Waits, then-at-self+in-Nothing+then-not-has}
+use Rattle.mesh_run.proofs.shares.Share.turn_each.Goals.{then-at-self+in-Nothing+else-not-has}
 use Rattle.mesh_run.proofs.shares.Share.turn_each.Goals as goal
 
 -- a share with other flags is a share of the same mesh
