@@ -26,7 +26,7 @@ abbrev pub HasRoomBehind : ℕ → RouterNode → Holdings → Out → Type 0
 HasRoomBehind cap r h o = (q : ℕ) (e : End) → place_at_router r.behind.now o ≡ Some q → slice_get h.ends.items q ≡ Some e → EndHasRoom cap e
 
 -- A router may serve an output: its turn may begin, the output has a bit, and there is room for a copy behind it and for a record.
-pub record CanServe (links : List Link) (cap : ℕ) (r : RouterNode) (h : Holdings) (o : Out) : Type 0 where
+pub record MayServe (links : List Link) (cap : ℕ) (r : RouterNode) (h : Holdings) (o : Out) : Type 0 where
   pub ready : IsReadyRouter links r h
   pub numbered : IsOutput o
   pub room : HasRoomBehind cap r h o

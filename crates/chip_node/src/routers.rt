@@ -5,7 +5,7 @@ ghost use Rattle.chip_node.specs.Acting.{IsIdleRouter, IsReadyRouter, RouterActs
 ghost use Rattle.chip_node.specs.Going.{AreEndsOf, Goes, HasAmpleRoom};
 ghost use Rattle.chip_node.specs.Items.{port_place};
 ghost use Rattle.chip_node.specs.Passing.{SendsBehind};
-ghost use Rattle.chip_node.specs.Taking.{AreOuts, CanServe, HasRoomBehind, HasRoomForOuts, HasRoomIn, Looks};
+ghost use Rattle.chip_node.specs.Taking.{AreOuts, MayServe, HasRoomBehind, HasRoomForOuts, HasRoomIn, Looks};
 ghost use Rattle.chip_node.specs.declared.ends.Served.TheVariants.{Dumped};
 ghost use Rattle.chip_node.specs.declared.holdings.Turn.TheVariants.{Moved};
 
@@ -222,7 +222,7 @@ impl RouterNode<'_> {
         out: Out,
         copy: McCopy,
     ) -> Served
-        requires { CanServe around.links.now around.capacity self hold.old out }
+        requires { MayServe around.links.now around.capacity self hold.old out }
         ensures goes { Goes around.entry.capacity around.entry.patience hold.old
             (service_items self.entry (record { out = out; copy = copy; fate = result } ∷ []))
             hold.new }
@@ -254,7 +254,7 @@ impl RouterNode<'_> {
         out: Out,
         copy: McCopy,
     ) -> Served
-        requires { CanServe around.links.now around.capacity self hold.old out }
+        requires { MayServe around.links.now around.capacity self hold.old out }
         ensures sends { SendsBehind around.entry.capacity around.entry.patience
             (place_at_router self.entry.behind.now out) copy result hold.old.ends.items
             hold.new.ends.items }
