@@ -187,7 +187,7 @@ module _ (m : State) (is_mesh : IsMesh m) (more : ℕ) (r : RaisedMesh) (raised 
             raised.laid.numbers.number a k has_run (record { above = omega (arith, in_run.above, run_from); below = omega (arith, in_run.below, run_to) })
 
         ends_many : length t.hold.ends.items ≡ length r.layout.now.homes.items
-        ends_many = (deals.same.1 k was.0 t was.1 at).ends_long ∙ (r.layout.now.runs.items_long k was.0 was.1 ∙ sym raised.laid.homes.long)
+        ends_many = (deals.same.1 k was.0 t was.1 at).ends_long ∙ (raised.shared.ends_long k was.0 was.1 ∙ sym raised.laid.homes.long)
 
         sender_of : (q : ℕ) (h : Home) → slice_get r.layout.now.homes.items q ≡ Some h → h.sender ≡ k → HoldsSender t.hold.ends.items q
         sender_of q h home is = by_sender raised.ends dealt k q h.sender t at (sym is) (of_queue q h k home below_dealt)

@@ -7,8 +7,8 @@ use Rattle.mesh_run.proofs.queues.bring_up.Goals as goal
 pub loop-place-init : goal.loop-place-init
 loop-place-init g c = up_none c.args.places.cap (c.args.places.turns + 1) (length c.args.queues.now) c.args.queues.now c.in_ok-rising.rising refl c.in_ok-rising.ensures
 
-pub link_for-ends-requires : goal.link_for-ends-requires
-link_for-ends-requires g c =
+pub link_for-requires : goal.link_for-requires
+link_for-requires g c =
     let q = c.index-queues-place.result in
     subst (λ (p : List McCopy). length p ≤ c.args.places.cap) (sym (c.as_slice.ensures ∙ c.index-queues-place.is)) (c.requires c.loop-place.place q c.loop-place-test.true)
 

@@ -8,7 +8,7 @@ pub of-requires : goal.of-requires
 of-requires c = subst (λ (s : State). length s.setup.tables ≡ grid_size s.setup) (sym c.parts.view_is) c.requires.table_list
 
 pub invariant_of-footing : goal.invariant_of-footing
-invariant_of-footing c = c.in_ok-floor.ensures
+invariant_of-footing c = record { stands = c.in_ok-floor.ensures }
 
 pub share_table-requires : goal.share_table-requires
 share_table-requires c = subst (λ n. AreShareRuns n c.deref.result.now) (sym c.actors.ensures)

@@ -40,12 +40,12 @@ collected : (g : Over) (c : After-collect g) (m : State) → IsTurned m c.args.s
     IsCollected m c.args.self.now c.deal.new.standing c.deal.new.shares.items c.play_all.new.shares.items c.collect.new.standing c.collect.new.shares.items
 collected g c m before = is_collected before (c.deref-3.ensures.value ∙ ap (λ (x : RaisedMesh). x.layout.now.cuts.items) c.self.view_is) c.collect.ensures
 
-pub play_all-requires-clause-shares : goal.play_all-requires-clause-shares
-play_all-requires-clause-shares g c κs within =
+pub play_all-requires-after_bounds : goal.play_all-requires-after_bounds
+play_all-requires-after_bounds g c κs within =
     let q = c.requires in
     subst (λ (x : RaisedMesh). All (IsShareOf x.parts.setup c.deref-2.result.now) c.deal.new.shares.items) (sym c.self.view_is)
     (subst (λ (l : List Link). All (IsShareOf c.args.self.now.parts.setup l) c.deal.new.shares.items) (sym c.deref-2.ensures.value)
-    (shares_of_mesh (dealt g (goal.at.play_all-requires-clause-shares g c).After-deal q.0 q.1 q.2)))
+    (shares_of_mesh (dealt g (goal.at.play_all-requires-after_bounds g c).After-deal q.0 q.1 q.2)))
 
 pub collect-requires-clause-cuts : goal.collect-requires-clause-cuts
 collect-requires-clause-cuts g c =
