@@ -55,8 +55,16 @@ comes_by m edges s from port (y ∷ ys) k x way h =
 
     place : Later → (d : Dir) (c : Chip) → y.out ≡ Link d → Contains edges (record { chip = from; dir = d }) → far_of m from d ≡ Some c →
         IsWay m edges s c ys → (j : ℕ) → slice_get ys j ≡ Some x → ComesBy m edges (y ∷ ys) port j x.chip
-    place on d c is has leads rest zero h = grind (arith, way_first m edges s c ys x rest h, same_exit y (record { chip = from; out = Link d }) way.0 is)
-    place on d c is has leads rest (suc j) h = grind arith
+    place on d c is has leads rest zero h = record {
+      edge = record { chip = from; dir = d };
+      in_tree = has;
+      leads = leads ∙ ap Some (sym (way_first m edges s c ys x rest h));
+      before = ap Some (same_exit y (record { chip = from; out = Link d }) way.0 is);
+      arrives = ap port_after is;
+    }
+    place on d c is has leads rest (suc j) h =
+        let later : ComesBy m edges ys (port_after y.out) j x.chip = on c rest j h in
+        record { edge = later.edge; in_tree = later.in_tree; leads = later.leads; before = later.before; arrives = later.arrives }
 
     leaves : Later → GoesOn m edges s from y.out ys (λ e. IsWay m edges s e ys) → ComesBy m edges (y ∷ ys) port k x.chip
     leaves on (inl (d, is, has, (e, far, rest))) = place on d e is has far rest k h

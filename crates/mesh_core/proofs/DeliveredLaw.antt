@@ -161,7 +161,10 @@ module _ (s : State) (nets : List NetPlan) (packets : List Packet) (job : MeetsJ
           subst (λ n. IsKeyOf net.block n) (sym key) net_key
 
       one : count_by (is_packet_on_trail i from to branch) (marks_of s) ≡ 1
-      one = grind (arith, asks net p, its_key (job.ledger.each_asked i (asks net p) asked).0 (job.ledger.each_asked i (asks net p) asked).1 (job.ledger.each_asked i (asks net p) asked).2, count_by)
+      one =
+          let k = job.ledger.each_asked i (asks net p) asked in
+          ap (λ n. count_by (is_packet_on_trail n from to branch) (marks_of s)) (sym k.2)
+          ∙ job.ledger.ledger.once_on_each k.0 k.1 net in_nets (its_key k.0 k.1 k.2) target branch from to w
 
       agrees : (d : Delivery) → Among d s.delivered → q d ≡ is_packet_on_trail i from to branch (mark_of d)
       agrees d a = both_ways (q d) (is_packet_on_trail i from to branch (mark_of d)) forth back

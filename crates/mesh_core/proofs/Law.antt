@@ -226,10 +226,16 @@ module _ (s : State) (net : NetPlan) (stands : Stands s net) where
       goal = vertex_at_stands s.setup.spots u to' w'.ends
 
       site : IsSite s.setup.machine there.0
-      site = grind (arith, get_or_from_slice_get s.setup.spots v there.0 there.0 there.1, slice_get_within s.setup.spots v there.0 there.1)
+      site =
+          subst (IsSite s.setup.machine) (get_or_from_slice_get s.setup.spots v there.0 there.0 there.1)
+          (stands.mesh.sites v there.0 (slice_get_within s.setup.spots v there.0 there.1))
 
       ends : ExitLeads s.setup.machine net.tree.edges u ys hop (record { chip = c; out = o }) → ((v == to') && (hop + 1 == length ys)) ≡ true
-      ends (inl (d, out, in_tree, next)) = grind (arith, All-contains)
+      ends (inl (d, out, in_tree, next)) =
+          let live : IsLiveLink s.setup.machine c d = All-contains (λ (f : Edge). IsLiveLink s.setup.machine f.chip f.dir) net.tree.edges
+          (record { chip = c; dir = d }) stands.tree.edges_live in_tree in
+          let not_live = dead d out in
+          cc
       ends (inr (chip, out, last)) =
           let same : there.0 ≡ u = same_site s.setup.machine there.0 u site (target_site s net stands u w'.is_target) (there.2 ∙ sym chip) (there.3 ∙ out) in
           let same_v : v ≡ to' = AllPairs-apart s.setup.spots u stands.mesh.different v to' (there.1 ∙ ap Some same) goal in
@@ -243,7 +249,12 @@ module _ (s : State) (net : NetPlan) (stands : Stands s net) where
           ExitLeads s.setup.machine net.tree.edges u ys hop x → leaves_there c o (slice_get ys hop) ≡ true
       by_end x at last u_is (inl (d, out, in_tree, (y, far, next))) =
           let past : suc hop < length ys = slice_get_within ys (suc hop) y next in absurd (omega arith)
-      by_end x at last u_is (inr (chip, out, long)) = grind (arith, chip_eq_same c, out_eq_same o, and_from)
+      by_end x at last u_is (inr (chip, out, long)) =
+          let same_c : x.chip ≡ c = sym chip ∙ (ap (λ (z : Spot). z.chip) u_is ∙ there.2) in
+          let same_o : x.out ≡ o = out ∙ (ap (λ (z : Spot). out_of z.core) u_is ∙ there.3) in
+          rw at (and_from (chip_eq x.chip c) (out_eq x.out o)
+          (ap (λ (z : Chip). chip_eq z c) same_c ∙ chip_eq_same c)
+          (ap (λ (z : Out). out_eq z o) same_o ∙ out_eq_same o))
 
       back : ((v == to') && (hop + 1 == length ys)) ≡ true → leaves_there c o (slice_get ys hop) ≡ true
       back both =
