@@ -258,4 +258,7 @@ end_on_branch m root edges targets tree s has =
 -- Each edge of a routing tree lies on a branch to some target.
 pub link_on_branch : (m : Description) (root : Chip) (edges : List Edge) (targets : List Spot) → IsRoutingTree m root edges targets →
     (e : Edge) → Contains edges e → (s : Spot) × Contains targets s × ((xs : List Exit) × IsBranch m root edges s xs × Contains xs (exit_of e))
-link_on_branch m root edges targets tree e has = grind (arith, edge_on_branch, chip_of_target)
+link_on_branch m root edges targets tree e has =
+    let below = edge_on_branch m root edges (map (λ t. t.chip) targets) tree e has in
+    let s = chip_of_target targets below.0 below.1 in
+    (s.0, s.1, below.2 s.0 s.2)
