@@ -324,7 +324,12 @@ module _ (s : State) (net : NetPlan) (stands : Stands s net) where
       -- a copy is on a trail in hand where it is on it dumped, and goes on from either
       crossing : (k : McCopy) (c : Chip) (o : Out) → Crosses s k c o come → on_trail from to xs k.hop (in_hand c o) ≡ true →
           count_by p come ≡ (if p (mark k (in_hand c o)) then 1 else 0)
-      crossing k c o (inl (d, e, is_link, live, far, comes)) on' = grind (arith, mark (onward k) (in_queue e (ByLink (opposite_of d))), mark k (in_hand c o), count_by, one_for_one, link_on)
+      crossing k c o (inl (d, e, is_link, live, far, comes)) on' =
+          let y : Mark = mark (onward k) (in_queue e (ByLink (opposite_of d))) in
+          let on_link : on_trail from to xs k.hop (in_hand c (Link d)) ≡ true = ap (λ (q : Out). on_trail from to xs k.hop (in_hand c q)) (sym is_link) ∙ on' in
+          ap (λ l. count_by p l) comes
+          ∙ one_for_one p (mark k (in_hand c o)) y
+          (link_on t u xs ys from from' to to' w w' c e d k.hop live far on_link ∙ ap (λ (q : Out). on_trail from' to' ys k.hop (in_hand c q)) (sym is_link))
       crossing k c o (inr (v, dead, vertex, comes)) on' =
           let y : Mark = mark (onward k) (at_core v) in
           ap (λ l. count_by p l) comes
@@ -337,7 +342,8 @@ module _ (s : State) (net : NetPlan) (stands : Stands s net) where
           ∙ one_for_one p (mark k (unsent v)) (mark k (in_queue m.0.chip Local))
           (inject_on t u xs ys from from' to to' w w' v m.0 k.hop m.1 on')
       by_station k (in_queue c port) m key on' = ap (λ l. count_by p l) m ∙ take_on t u xs ys from from' to to' w w' c port k key on'
-      by_station k (in_hand c o) (inl m) key on' = grind (arith, one_for_one p (mark k (in_hand c o)) (mark k (dumped c o)) refl, mark k (in_hand c o), mark k (dumped c o), count_by)
+      by_station k (in_hand c o) (inl m) key on' =
+          ap (λ l. count_by p l) m ∙ one_for_one p (mark k (in_hand c o)) (mark k (dumped c o)) refl
       by_station k (in_hand c o) (inr m) key on' = crossing k c o m on'
       by_station k (at_core v) m key on' = ap (λ l. count_by p l) m ∙ one_for_one p (mark k (at_core v)) (mark k (delivered v)) refl
       by_station k (delivered v) m key on' = absurd m

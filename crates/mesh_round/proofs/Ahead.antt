@@ -149,5 +149,18 @@ sum_of_passing p left t l (x ∷ xs) each = by_test (p x) refl (sum_of_passing p
     Holds n = sum_by (λ z. cond (p z) (left z) 0) (x ∷ xs) + n * t ≤ n * l
 
     by_test : (b : Bool) → p x ≡ b → sum_by (λ z. cond (p z) (left z) 0) xs + count_by p xs * t ≤ count_by p xs * l → Holds (count_by p (x ∷ xs))
-    by_test true is rest = grind (arith, count_by-cons p x xs, count_by p xs, sum_by-cons)
-    by_test false is rest = grind (arith, count_by-cons p x xs, count_by p xs, sum_by-cons)
+    by_test true is rest =
+        let sum = sum_by-cons (λ z. cond (p z) (left z) 0) x xs in
+        let first : cond (p x) (left x) 0 ≡ left x = ap (λ b. cond b (left x) 0) is in
+        let one_more : 1 + count_by p xs ≡ suc (count_by p xs) = omega arith in
+        let count : count_by p (x ∷ xs) ≡ suc (count_by p xs) = count_by-cons p x xs ∙ (ap (λ b. cond b 1 0 + count_by p xs) is ∙ one_more) in
+        let less = each x (inl refl) is in
+        let more_t : suc (count_by p xs) * t ≡ t + count_by p xs * t = omega arith in
+        let more_l : suc (count_by p xs) * l ≡ l + count_by p xs * l = omega arith in
+        subst Holds (sym count) (omega (arith, sum, first, less, rest, more_t, more_l))
+    by_test false is rest =
+        let sum = sum_by-cons (λ z. cond (p z) (left z) 0) x xs in
+        let first : cond (p x) (left x) 0 ≡ 0 = ap (λ b. cond b (left x) 0) is in
+        let zero_more : 0 + count_by p xs ≡ count_by p xs = omega arith in
+        let count : count_by p (x ∷ xs) ≡ count_by p xs = count_by-cons p x xs ∙ (ap (λ b. cond b 1 0 + count_by p xs) is ∙ zero_more) in
+        subst Holds (sym count) (omega (arith, sum, first, rest))

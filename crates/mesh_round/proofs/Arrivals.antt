@@ -77,10 +77,14 @@ module _ (m : State) (f : Flow) (n : State) (nets : List NetPlan) (labels : ℕ 
         st = stand r.net r.in_nets
 
         link_there : (d : Dir) (e : Chip) → o ≡ Link d → IsLiveLink u.machine c d → far_of u.machine c d ≡ Some e → ⊥
-        link_there d e out live far = grind (arith, input_is_somewhere)
+        link_there d e out live far =
+            let is : behind u c o ≡ input (queue_at u.machine e (ByLink (opposite_of d))) =
+            ap (behind u c) out ∙ (ap (λ b. behind_link u c d b (far_of u.machine c d)) live ∙ ap (behind_link u c d true) far) in
+            input_is_somewhere (sym is ∙ none)
 
         by_exit : ExitLeads u.machine r.net.tree.edges r.trail.target r.trail.branch k.hop (record { chip = c; out = o }) → ⊥
-        by_exit (inl (d, out, in_tree, (y, far, next))) = grind (arith, link_there, All-contains)
+        by_exit (inl (d, out, in_tree, (y, far, next))) =
+            link_there d y.chip out (All-contains (λ e. IsLiveLink u.machine e.chip e.dir) r.net.tree.edges (record { chip = c; dir = d }) st.tree.edges_live in_tree) far
         by_exit (inr (chip, out, last)) =
             let spot = All-contains (Contains u.spots) r.net.targets r.trail.target st.targets r.trail.way.is_target in
             let there = vertex_behind_there u.spots c o r.trail.target spot (leads_to c o r.trail.target chip out) in
@@ -113,7 +117,19 @@ module _ (m : State) (f : Flow) (n : State) (nets : List NetPlan) (labels : ℕ 
         P k = k.hop < b + 1 → Right (mark (back k) (in_hand c o)) × (onward (back k) ≡ k)
 
         took : (k : McCopy) → Among k (taken_for u f c o) → P (onward k)
-        took k a' small = grind (arith, mark k (in_hand c o), among_gathered, among_filter, All-contains, among_contains, not_last, any_among, Among, out_eq_true, come_right, map_among, back_onward)
+        took k a' small =
+            let at = among_gathered (λ i port. filter (leaves_by u c o port) (f.left (at_port u c port))) k all_ports a' in
+            let port : Port = at.1 in
+            let left = among_filter (leaves_by u c o port) k (f.left (at_port u c port)) at.3 in
+            let hop = All-contains (λ (d : McCopy). d.hop ≤ last_hop) (f.left (at_port u c port)) k (passes.hops (at_port u c port)) (among_contains k (f.left (at_port u c port)) left.0) in
+            let less : k.hop < last_hop = not_last u c o port k left.1 hop in
+            let found = any_among (out_eq o) (outputs u c port k) left.1 in
+            let given : Among o (outputs u c port k) = subst (λ p. Among p (outputs u c port k)) (sym (out_eq_true o found.0 found.2)) found.1 in
+            let was = before port k left.0 (omega (arith, small, less)) in
+            let held = come_right (mark k (in_queue c port)) was (map (λ p. mark k (in_hand c p)) (outputs u c port k)) refl (mark k (in_hand c o))
+            (map_among (λ p. mark k (in_hand c p)) o (outputs u c port k) given) in
+            let same : back (onward k) ≡ k = back_onward k less in
+            (subst (λ d. Right (mark d (in_hand c o))) (sym same) held, ap onward same)
 
         taken : (k : McCopy) → Contains (map onward (taken_for u f c o)) k → P k
         taken k has =
@@ -144,7 +160,13 @@ module _ (m : State) (f : Flow) (n : State) (nets : List NetPlan) (labels : ℕ 
       P j = Right (mark j (in_queue c Local))
 
       sent : (j : McCopy) → Contains (sent_on u f c) j → P j
-      sent j has = grind (arith, contains_among j (sent_on u f c) has, among_gathered, among_filter, unsent_right, slice_get_within, come_right, mark, chip_eq_true)
+      sent j has =
+          let at = among_gathered (λ v spot. of_chip c spot (f.sent v)) j u.spots (contains_among j (sent_on u f c) has) in
+          let spot : Spot = at.1 in
+          let mine = among_filter (λ k'. chip_eq spot.chip c) j (f.sent at.0) at.3 in
+          let first = unsent_right at.0 j (slice_get_within u.spots at.0 spot at.2) mine.0 in
+          let come = come_right (mark j (unsent at.0)) first (mark j (in_queue spot.chip Local) ∷ []) (spot, at.2, refl) (mark j (in_queue spot.chip Local)) (inl refl) in
+          subst (λ e. Right (mark j (in_queue e Local))) (chip_eq_true spot.chip c mine.1) come
 
   -- what entered the queue of a port, where all copies that came with a smaller hop number stood right
   came_right : (b : ℕ) → ((e : Chip) (p : Port) → IsInside u.machine e → (j : McCopy) → Among j (held_in m (at_port u e p) ++ f.entered (at_port u e p)) → j.hop < b → Right (mark j (in_queue e p))) →

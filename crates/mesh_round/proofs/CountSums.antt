@@ -49,5 +49,11 @@ same_sums {X} xs ys same w =
         ∙ sum_plus (λ x. one_if (nat_lt 0 (v x))) (λ x. v x - 1) zs
 
     below : (b : ℕ) (v : X → ℕ) → ((x : X) → Among x xs → v x ≤ b) → ((x : X) → Among x ys → v x ≤ b) → sum_by v xs ≡ sum_by v ys
-    below zero v in_xs in_ys = grind (arith, sum_none)
-    below (suc b) v in_xs in_ys = grind (arith, nat_lt)
+    below zero v in_xs in_ys =
+        sum_none v xs (λ x a. let small = in_xs x a in omega arith) ∙ sym (sum_none v ys (λ x a. let small = in_ys x a in omega arith))
+    below (suc b) v in_xs in_ys =
+        let first = split v xs in
+        let second = split v ys in
+        let equal = same (λ x. nat_lt 0 (v x)) in
+        let rest = below b (λ x. v x - 1) (λ x a. let small = in_xs x a in omega arith) (λ x a. let small = in_ys x a in omega arith) in
+        omega arith

@@ -23,13 +23,15 @@ move_nears s x come small move y is_come = by_station x.copy x.station small mov
 
     crossing : (k : McCopy) (c : Chip) (o : Out) (n : ℕ) → 3 * (last_hop - k.hop - 1) + 1 < n → Crosses s k c o come → moves_left (last_hop - y.copy.hop) y.station < n
     crossing k c o n less (inl (d, e, out, live, far', is)) =
-        grind (arith, one (mark (onward k) (in_queue e (ByLink (opposite_of d)))) n is (omega (arith, (omega arith), less)), mark (onward k) (in_queue e (ByLink (opposite_of d))))
+        let next : last_hop - min (k.hop + 1) last_hop ≡ last_hop - k.hop - 1 = omega arith in
+        one (mark (onward k) (in_queue e (ByLink (opposite_of d)))) n is (omega (arith, next, less))
     crossing k c o n less (inr (v, dead, vertex, is)) = one (mark (onward k) (at_core v)) n is (omega (arith, less))
 
     taking : (k : McCopy) (c : Chip) (port : Port) (os : List Out) → k.hop < last_hop → Among y (map (λ o. mark k (in_hand c o)) os) →
         moves_left (last_hop - y.copy.hop) y.station < 3 * (last_hop - k.hop) + 1
     taking k c port [] low a = absurd a
-    taking k c port (o ∷ os) low (inl same) = grind arith
+    taking k c port (o ∷ os) low (inl same) =
+        subst (λ (w : Mark). moves_left (last_hop - w.copy.hop) w.station < 3 * (last_hop - k.hop) + 1) (sym same) (omega (arith, low))
     taking k c port (o ∷ os) low (inr later) = taking k c port os low later
 
     by_last : (k : McCopy) (c : Chip) (port : Port) (b : Bool) → (k.hop == last_hop) ≡ b → k.hop ≤ last_hop → (os : List Out) →
@@ -42,7 +44,8 @@ move_nears s x come small move y is_come = by_station x.copy x.station small mov
 
     by_station : (k : McCopy) (at : Station) → k.hop ≤ last_hop → IsMoveOf s k at come → moves_left (last_hop - y.copy.hop) y.station < far k at
     by_station k (unsent v) within m = one (mark k (in_queue m.0.chip Local)) _ m.2 (omega arith)
-    by_station k (in_queue c port) within m = grind (arith, Among)
+    by_station k (in_queue c port) within m =
+        by_last k c port (k.hop == last_hop) refl within (outs_of (lookup (table_at s.setup.machine s.setup.tables c) k.key port)) (subst (λ (l : List Mark). Among y l) m is_come)
     by_station k (in_hand c o) within (inl m) = one (mark k (dumped c o)) _ m (omega arith)
     by_station k (in_hand c o) within (inr m) = crossing k c o _ (omega arith) m
     by_station k (at_core v) within m = one (mark k (delivered v)) _ m (omega arith)

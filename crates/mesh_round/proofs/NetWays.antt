@@ -6,7 +6,7 @@ use Rattle.std.specs.List.{All, Contains, list_any, slice_get, sum_by}
 use Rattle.spin_base.proofs.{Equality.chip_eq_same, Equality.port_eq_same, Members.Among, Members.Contains-map, Members.among_any, Members.among_contains, Members.among_either, Members.any_among}
 use Rattle.spin_base.proofs.{Members.contains_among, Tests.answers_none}
 use Rattle.spin_base.specs.{Equality.chip_eq, Equality.port_eq, declared.chips.Chip.Chip, declared.chips.Port.Port, declared.chips.Port.TheVariants.Local, declared.chips.Spot.Spot}
-use Rattle.machine_desc.specs.{Branch.Exit, Branch.IsBranch, Branch.arrival_at, Description.Description, NetsOn.IsWayOn, RoutingTree.IsRoutingTree, RoutingTree.IsTreeChip}
+use Rattle.machine_desc.specs.{Branch.Exit, Branch.IsBranch, Branch.arrival_at, Description.Description, NetsOn.IsWayOn, RoutingTree.IsRoutingTree, RoutingTree.IsTreeChip, RoutingTree.end_of}
 use Rattle.machine_desc.specs.declared.{nets.NetPlan.NetPlan, trees.Edge.Edge}
 use Rattle.machine_desc.proofs.{Branches.ComesBy, Branches.comes_by, Branches.length_le_from_apart, Branches.same_place, Branches.target_on_branch, Branches.way_first, TreeLemmas.tree_end}
 use Rattle.mesh_core.specs.Trail.{comes_in_there}
@@ -121,7 +121,13 @@ module _ (m : Description) (root : Chip) (edges : List Edge) where
   same_number c d (inl c_is) (inl d_is) same = c_is ∙ sym d_is
   same_number c d (inl c_is) (inr into) same = absurd (omega (arith, same))
   same_number c d (inr into) (inl d_is) same = absurd (omega (arith, same))
-  same_number c d (inr into) (inr also) same = grind (arith, get_or_default edges also.0 into.1 also.1 also.2, get_or)
+  same_number c d (inr into) (inr also) same =
+      let place : into.0 ≡ also.0 = omega (arith, same) in
+      let first : get_or edges into.0 into.1 ≡ into.1 = into.3 in
+      let second : get_or edges also.0 into.1 ≡ also.1 = get_or_default edges also.0 into.1 also.1 also.2 ∙ also.3 in
+      let edge : into.1 ≡ also.1 = sym first ∙ (ap (λ k. get_or edges k into.1) place ∙ second) in
+      let ends : Some c ≡ Some d = sym into.4 ∙ (ap (end_of m) edge ∙ also.4) in
+      cc
 
   abbrev numbers : (cs : List Chip) → ((c : Chip) → Among c cs → IsTreeChip m root edges c) → List ℕ
   numbers [] on = []
@@ -157,7 +163,8 @@ module _ (m : Description) (root : Chip) (edges : List Edge) where
   -- chips of a tree of which no two are the same are at most its root and one for each edge
   few_chips : (cs : List Chip) → ((c : Chip) → Among c cs → IsTreeChip m root edges c) → IsApart cs → length cs ≤ 1 + length edges
   few_chips cs on apart =
-      grind (arith, length_le_from_apart (numbers cs on) (1 + length edges) (numbers_apart cs on apart) (numbers_below cs on), numbers_apart cs on apart, numbers_below cs on, many_numbers cs on)
+      let few = length_le_from_apart (numbers cs on) (1 + length edges) (numbers_apart cs on apart) (numbers_below cs on) in
+      omega (arith, few, many_numbers cs on)
 
 -- ---- the ways of a net
 
@@ -190,7 +197,9 @@ module _ (m : Description) (spots : List Spot) (net : NetPlan) (tree : IsRouting
 
   pub ways_to : (earlier : List Counted) (ts : List Spot) → ((t : Spot) → Among t ts → Contains net.targets t) → List Counted
   ways_to earlier [] within = []
-  ways_to earlier (t ∷ ts) within = grind (arith, way_to earlier t (within t (inl refl)))
+  ways_to earlier (t ∷ ts) within =
+      let w = (way_to earlier t (within t (inl refl))).0 in
+      w ∷ ways_to (w ∷ earlier) ts (λ u a. within u (inr a))
 
   -- ways that come before
   abbrev AreBefore : List Counted → Type 0
@@ -203,7 +212,9 @@ module _ (m : Description) (spots : List Spot) (net : NetPlan) (tree : IsRouting
   -- the chips that count
   all_chips : (earlier : List Counted) (ts : List Spot) → ((t : Spot) → Among t ts → Contains net.targets t) → List Chip
   all_chips earlier [] within = []
-  all_chips earlier (t ∷ ts) within = grind (arith, way_to earlier t (within t (inl refl)))
+  all_chips earlier (t ∷ ts) within =
+      let w = (way_to earlier t (within t (inl refl))).0 in
+      new_chips earlier w.branch (length w.branch) 0 ++ all_chips (w ∷ earlier) ts (λ u a. within u (inr a))
 
   many_chips : (earlier : List Counted) (ts : List Spot) (within : (t : Spot) → Among t ts → Contains net.targets t) →
       sum_by (λ (w : Counted). counted_from w.counted w.branch 0) (ways_to earlier ts within) ≡ length (all_chips earlier ts within)
@@ -333,7 +344,9 @@ module _ (m : Description) (spots : List Spot) (net : NetPlan) (tree : IsRouting
       (w : Counted) × Among w (ways_to earlier ts within) × IsWayOn m spots net t w.branch w.from w.to
   unfolding ways_to
   way_in earlier [] within t a = absurd a
-  way_in earlier (u ∷ ts) within t (inl here) = grind (arith, way_to earlier u (within u (inl refl)), here)
+  way_in earlier (u ∷ ts) within t (inl here) =
+      let it = way_to earlier u (within u (inl refl)) in
+      (it.0, inl refl, subst (λ (s : Spot). IsWayOn m spots net s it.0.branch it.0.from it.0.to) (sym here) it.1)
   way_in earlier (u ∷ ts) within t (inr later) =
       let rest = way_in ((way_to earlier u (within u (inl refl))).0 ∷ earlier) ts (λ v a. within v (inr a)) t later in
       (rest.0, inr rest.1, rest.2)
@@ -386,7 +399,10 @@ module _ (m : Description) (spots : List Spot) (net : NetPlan) (tree : IsRouting
   -- where there is a way, the first counts the sending
   pub some_sends : (w : Counted) → Among w net_ways → (v : Counted) × Among v net_ways × (v.sending ≡ 1) × (v.from ≡ w.from)
   unfolding net_ways
-  some_sends w a = grind (arith, first_sends net.targets own w a, each_way (first_sends net.targets own w a).0 (first_sends net.targets own w a).1, each_way w a)
+  some_sends w a =
+      let v = first_sends net.targets own w a in
+      let one : Some v.0.from ≡ Some w.from = sym (each_way v.0 v.1).is_way.begins ∙ (each_way w a).is_way.begins in
+      (v.0, v.1, v.2, let same : v.0.from ≡ w.from = cc in same)
 
   -- whether a way comes in at a chip by a port, at a place
   abbrev pub comes_at : ℕ → Chip → Port → Counted → Bool
@@ -412,7 +428,15 @@ module _ (m : Description) (spots : List Spot) (net : NetPlan) (tree : IsRouting
           (v : Counted) × Among v (ways_to (first ∷ earlier) ts (λ u b. within u (inr b))) × (comes_at hop c port v ≡ true) × (v.counted hop ≡ 1)) →
           (w ≡ first) ⊎ Among w (ways_to (first ∷ earlier) ts (λ u b. within u (inr b))) →
           (v : Counted) × ((v ≡ first) ⊎ Among v (ways_to (first ∷ earlier) ts (λ u b. within u (inr b)))) × (comes_at hop c port v ≡ true) × (v.counted hop ≡ 1)
-      by_test true on later found = grind (arith, comes_parts first.branch hop c port on, first)
+      by_test true on later found =
+          let there = comes_parts first.branch hop c port on in
+          let same : come_in earlier hop there.exit.chip (arrival_at first.branch hop) ≡ come_in earlier hop c port =
+          ap (λ d. come_in earlier hop d (arrival_at first.branch hop)) there.chip ∙ ap (come_in earlier hop c) there.port_is in
+          let mine : first.counted hop ≡ 1 =
+          ap (λ f. f hop) it.2.0
+          ∙ (ap (new_place earlier first.branch hop) there.at
+          ∙ ap (λ b. cond b 0 1) (same ∙ none)) in
+          (first, inl refl, on, mine)
       by_test false off later (inl here) = absurd (true≢false (sym comes ∙ (ap (comes_at hop c port) here ∙ off)))
       by_test false off later (inr found) = let rest = later off found in (rest.0, inr rest.1, rest.2, rest.3)
 

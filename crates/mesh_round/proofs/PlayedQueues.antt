@@ -93,7 +93,9 @@ module _ (r : Round) where
       by : (x : Item) → Contains r.items x → All IsSmall (entered_by q x)
       by (took i p k) has = All-nil IsSmall
       by (served i c place s) has = fits_there IsSmall place q (brought s s.fate) (small s s.fate)
-      by (sent i v k) has = grind (arith, All-from_flat_map IsNew (sent_in v) r.items (new_sent v), All-cons IsSmall k, All-nil IsSmall, one_here, All-contains, fits_same)
+      by (sent i v k) has =
+          let new : k.hop ≡ 0 = one_here IsNew v k (All-contains (λ x. All IsNew (sent_in v x)) r.items (sent i v k) (All-from_flat_map IsNew (sent_in v) r.items (new_sent v)) has) in
+          fits_same IsSmall _ q (k ∷ []) (All-cons IsSmall k [] (omega (arith, new)) (All-nil IsSmall))
       by (got i v place k) has = All-nil IsSmall
 
   small_held : (q : ℕ) → q < port_count u + length u.spots → All IsSmall (held_at r.m q)

@@ -58,10 +58,18 @@ module _ (p : Mark → Bool) (m : State) (f : Flow) (n : State) (mesh : IsMesh m
       part port o = sum_by (weight c o) (filter (leaves_by u c o port) (f.left (at_port u c port)))
 
       one : (port : Port) → taken_at c port ≡ sum_by (λ o. part port o) all_outs
-      one port = grind (arith, sum_agree, sum_swap, sum_filter, sum_outputs)
+      one port =
+          let left = f.left (at_port u c port) in
+          sum_agree (in_hands c port) (λ k. sum_by (λ o. cond (leaves_by u c o port k) (weight c o k) 0) all_outs) left
+          (λ k a. sum_outputs u c port k (λ o. weight c o k))
+          ∙ (sum_swap (λ k o. cond (leaves_by u c o port k) (weight c o k) 0) left all_outs
+          ∙ sum_agree (λ o. sum_by (λ k. cond (leaves_by u c o port k) (weight c o k) 0) left) (λ o. part port o) all_outs
+          (λ o a. sym (sum_filter (leaves_by u c o port) (weight c o) left)))
 
       whole : (o : Out) → sum_by (λ port. part port o) all_ports ≡ sum_by (weight c o) (taken_for u f c o)
-      whole o = grind (arith, sum_gathered, sum_at-plain)
+      whole o =
+          sym (sum_gathered (weight c o) (λ i port. filter (leaves_by u c o port) (f.left (at_port u c port))) 0 all_ports
+          ∙ sum_at-plain (λ port. sum_by (weight c o) (filter (leaves_by u c o port) (f.left (at_port u c port)))) 0 all_ports)
 
   -- ---- by queues
 
@@ -187,7 +195,11 @@ module _ (p : Mark → Bool) (m : State) (f : Flow) (n : State) (mesh : IsMesh m
       share r c o = cond (chip_eq r.chip c && out_eq r.out o) (weight c o r.copy) 0
 
       by_records : (c : Chip) → sum_by (λ o. sum_by (weight c o) (dumped_at f c o)) all_outs ≡ sum_by (λ r. sum_by (λ o. share r c o) all_outs) f.dumped
-      by_records c = grind (arith, sum_agree, sum_swap, sum_map, sum_filter)
+      by_records c =
+          sum_agree (λ o. sum_by (weight c o) (dumped_at f c o)) (λ o. sum_by (λ r. share r c o) f.dumped) all_outs
+          (λ o a. sum_map (λ (r : DumpRec). r.copy) (weight c o) (filter (λ (r : DumpRec). chip_eq r.chip c && out_eq r.out o) f.dumped)
+          ∙ sum_filter (λ (r : DumpRec). chip_eq r.chip c && out_eq r.out o) (λ (r : DumpRec). weight c o r.copy) f.dumped)
+          ∙ sum_swap (λ o r. share r c o) all_outs f.dumped
 
   -- how many of the marks that left hands across outputs pass
   abbrev pub crossing : ℕ
@@ -207,4 +219,8 @@ module _ (p : Mark → Bool) (m : State) (f : Flow) (n : State) (mesh : IsMesh m
       dropped c = sum_by (λ o. sum_by (weight c o) (dumped_at f c o)) all_outs
 
       at_chip : (c : Chip) → IsLiveChip u.machine c → sum_by (taken_at c) all_ports ≡ across c + dropped c
-      at_chip c live = grind (arith, sum_agree, sum_plus, back, taken_is, has_bit)
+      at_chip c live =
+          by_output c
+          ∙ (sum_agree (λ o. sum_by (weight c o) (taken_for u f c o)) (λ o. sum_by (weight c o) (map back (f.entered (behind u c o))) + sum_by (weight c o) (dumped_at f c o)) all_outs
+          (λ o a. taken_is m f n passes c o live (has_bit o a) (weight c o))
+          ∙ sum_plus (λ o. sum_by (weight c o) (map back (f.entered (behind u c o)))) (λ o. sum_by (weight c o) (dumped_at f c o)) all_outs)

@@ -1,7 +1,7 @@
 -- The mesh after the copy was delivered is the one that the step gives.
 use Rattle.std.proofs.Common.{◌≡◌, ◌∙◌, ap, sym, arith, Some, ℕ, List}
 use Rattle.std.proofs.lemmas.List.{with_items_is}
-use Rattle.std.specs.List.{slice_get}
+use Rattle.std.specs.{List.slice_get, Vec.with_items}
 use Rattle.spin_base.specs.declared.copies.{Event.TheVariants.Collect, McCopy.McCopy}
 use Rattle.mesh_core.specs.{Queues.front_of, Queues.drop_front, State.State, Step.step_of, Whole.state_of}
 use Rattle.mesh_core.proofs.{Keeping.IsMesh-step_of, StepParts.step_of-collect}
@@ -9,7 +9,10 @@ use Rattle.mesh_core.proofs.meshes.Mesh.collect.Goals as goal
 
 -- the lists after the event
 after : goal.After-self-1 → State
-after c = grind arith
+after c = record (state_of c.self.inside) {
+  cores = (with_items c.self.inside.cores c.drop_front.new.queues).items;
+  delivered = c.push.new.self;
+}
 
 moves : (c : goal.After-self-1) → step_of (state_of c.self.inside) (Collect c.args.v) ≡ Some (after c)
 unfolding after

@@ -1,7 +1,7 @@
 -- The mesh after the copy was dropped is the one that the step gives.
 use Rattle.std.proofs.Common.{◌≡◌, ◌∙◌, ap, sym, subst, arith, false, Some, ℕ}
 use Rattle.std.proofs.lemmas.List.{with_items_is}
-use Rattle.std.specs.List.{slice_get}
+use Rattle.std.specs.{List.slice_get, Vec.with_items}
 use Rattle.spin_base.specs.declared.copies.{Event.TheVariants.Dump, McCopy.McCopy}
 use Rattle.machine_desc.specs.Live.{index_of}
 use Rattle.mesh_core.specs.{Serving.queue_named, Serving.copy_served, Serving.hands_after, State.State, State.Queue, State.behind, Step.has_room_behind, Step.step_of, Whole.state_of}
@@ -10,7 +10,10 @@ use Rattle.mesh_core.proofs.meshes.Mesh.dump.Goals as goal
 
 -- the lists after the event
 after : goal.After-self-1 → State
-after c = grind arith
+after c = record (state_of c.self.inside) {
+  hands = (with_items c.self.inside.hands c.serve.new.hands).items;
+  dumped = c.push.new.self;
+}
 
 moves : (c : goal.After-self-1) → step_of (state_of c.self.inside) (Dump c.args.c c.args.out) ≡ Some (after c)
 unfolding after

@@ -1,16 +1,19 @@
 -- The mesh after the copy was sent is the one that the step gives.
-use Rattle.std.proofs.Common.{◌≡◌, ◌∙◌, ap, sym, arith, true, Some, ℕ, List}
+use Rattle.std.proofs.Common.{◌≡◌, ◌∙◌, ap, sym, subst, arith, true, Some, ℕ, List}
 use Rattle.std.proofs.lemmas.{List.with_items_is, Option.slice_get-get_or, Bool.ltb-true}
-use Rattle.std.specs.List.{slice_get}
+use Rattle.std.specs.{List.slice_get, Vec.with_items}
 use Rattle.spin_base.specs.declared.{chips.Spot.Spot, chips.Port.TheVariants.Local, copies.Event.TheVariants.Inject, copies.McCopy.McCopy}
 use Rattle.machine_desc.specs.Description.{Description}
-use Rattle.mesh_core.specs.{Queues.front_of, Queues.drop_front, State.State, State.queue_at, Step.has_room, Step.push_at, Step.step_of, Whole.state_of}
+use Rattle.mesh_core.specs.{Queues.front_of, Queues.drop_front, State.State, State.queue_at, Step.has_room, Step.push_at, Step.step_of, Step.after_event, Whole.state_of}
 use Rattle.mesh_core.proofs.{Keeping.IsMesh-step_of, StepParts.step_of-inject, StepParts.after_event-moved}
 use Rattle.mesh_core.proofs.meshes.Mesh.inject.Goals as goal
 
 -- the lists after the event
 after : goal.After-self-2-1 → State
-after c = grind arith
+after c = record (state_of c.self.inside) {
+  unsent = (with_items c.self.inside.unsent c.drop_front.new.queues).items;
+  inputs = (with_items c.self.inside.inputs c.push_at.new.queues).items;
+}
 
 moves : (c : goal.After-self-2-1) → step_of (state_of c.self.inside) (Inject c.args.v) ≡ Some (after c)
 unfolding after
@@ -47,4 +50,5 @@ invariant_of-self-2 c = IsMesh-step_of (state_of c.self.inside) (after c) (Injec
 
 pub returns-clause-moves : goal.returns-clause-moves
 unfolding after
-returns-clause-moves c = grind (arith, after c, after_event-moved (state_of c.self.inside) (after c) (Inject c.args.v) (moves c), moves c)
+returns-clause-moves c =
+    subst (λ (s : State). after c ≡ after_event s (Inject c.args.v)) c.self.view_is (after_event-moved (state_of c.self.inside) (after c) (Inject c.args.v) (moves c))

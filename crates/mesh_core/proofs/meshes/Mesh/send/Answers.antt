@@ -1,17 +1,21 @@
 -- The mesh after the copy was sent is the one that the step gives.
 use Rattle.std.proofs.Common.{◌≡◌, ◌∙◌, ap, sym, subst, arith, true, Some, ℕ}
 use Rattle.std.proofs.lemmas.List.{with_items_is}
-use Rattle.std.specs.List.{slice_get}
+use Rattle.std.specs.{List.slice_get, Vec.with_items}
 use Rattle.spin_base.specs.{declared.copies.Event.TheVariants.Send, declared.copies.McCopy.McCopy, Hops.onward}
 use Rattle.machine_desc.specs.Live.{index_of}
 use Rattle.mesh_core.specs.{Serving.queue_named, Serving.copy_served, Serving.inputs_after, Serving.cores_after, Serving.hands_after, State.State, State.Queue, State.behind, Step.has_room_behind}
-use Rattle.mesh_core.specs.{Step.step_of, Whole.state_of}
+use Rattle.mesh_core.specs.{Step.step_of, Step.after_event, Whole.state_of}
 use Rattle.mesh_core.proofs.{Keeping.IsMesh-step_of, StepParts.step_of-send, StepParts.after_event-moved}
 use Rattle.mesh_core.proofs.meshes.Mesh.send.Goals as goal
 
 -- the lists after the event
 after : goal.After-self-3-1 → State
-after c = grind arith
+after c = record (state_of c.self.inside) {
+  inputs = (with_items c.self.inside.inputs c.push_behind.new.inputs).items;
+  cores = (with_items c.self.inside.cores c.push_behind.new.cores).items;
+  hands = (with_items c.self.inside.hands c.serve.new.hands).items;
+}
 
 moves : (c : goal.After-self-3-1) → step_of (state_of c.self.inside) (Send c.args.c c.args.out) ≡ Some (after c)
 unfolding after
@@ -41,4 +45,5 @@ invariant_of-self-2 c = IsMesh-step_of (state_of c.self.inside) (after c) (Send 
 
 pub returns-clause-moves : goal.returns-clause-moves
 unfolding after
-returns-clause-moves c = grind (arith, after c, after_event-moved (state_of c.self.inside) (after c) (Send c.args.c c.args.out) (moves c), moves c)
+returns-clause-moves c =
+    subst (λ (s : State). after c ≡ after_event s (Send c.args.c c.args.out)) c.self.view_is (after_event-moved (state_of c.self.inside) (after c) (Send c.args.c c.args.out) (moves c))

@@ -1,16 +1,20 @@
 -- The mesh after the copy was taken is the one that the step gives.
 use Rattle.std.proofs.Common.{◌≡◌, ◌∙◌, ap, sym, subst, arith, true, Some, None, ℕ, ◌<◌, ◌*◌, length, List, set}
 use Rattle.std.proofs.lemmas.List.{with_items_is}
-use Rattle.std.specs.List.{slice_get}
+use Rattle.std.specs.{List.slice_get, Vec.with_items, Vec.with_item}
 use Rattle.spin_base.specs.declared.copies.{Event.TheVariants.Take, McCopy.McCopy}
 use Rattle.machine_desc.specs.{Description.Description, Live.index_of, Live.is_live_chip}
-use Rattle.mesh_core.specs.{Queues.front_of, Queues.drop_front, State.State, State.queue_at, Step.in_hand, Step.outputs, Step.step_of, Whole.state_of}
+use Rattle.mesh_core.specs.{declared.places.Did.TheVariants.Moved, Queues.front_of, Queues.drop_front, State.State, State.queue_at, Step.in_hand, Step.outputs, Step.step_of, Step.answer}
+use Rattle.mesh_core.specs.{Step.after_event, Whole.state_of}
 use Rattle.mesh_core.proofs.{Keeping.IsMesh-step_of, StepParts.step_of-take, StepParts.answer-moved, StepParts.after_event-moved, ServingLaws.outputs_at, ServingLaws.no_hand}
 use Rattle.mesh_core.proofs.meshes.Mesh.take.Goals as goal
 
 -- the lists after the event
 after : goal.After-self-2-1 → State
-after c = grind arith
+after c = record (state_of c.self.inside) {
+  inputs = (with_items c.self.inside.inputs c.drop_front.new.queues).items;
+  hands = (with_item c.self.inside.hands c.index-chip.result c.taken.result).items;
+}
 
 moves : (c : goal.After-self-2-1) → step_of (state_of c.self.inside) (Take c.args.c c.args.port) ≡ Some (after c)
 unfolding after
@@ -45,8 +49,10 @@ unfolding after
 invariant_of-self c = IsMesh-step_of (state_of c.self.inside) (after c) (Take c.args.c c.args.port) c.self.invariant (moves c)
 
 pub returns-clause-answer : goal.returns-clause-answer
-returns-clause-answer c = grind (arith, answer-moved (state_of c.self.inside) (after c) (Take c.args.c c.args.port) (moves c), after c, moves c)
+returns-clause-answer c =
+    subst (λ (s : State). Moved ≡ answer s (Take c.args.c c.args.port)) c.self.view_is (answer-moved (state_of c.self.inside) (after c) (Take c.args.c c.args.port) (moves c))
 
 pub returns-clause-moves : goal.returns-clause-moves
 unfolding after
-returns-clause-moves c = grind (arith, after c, after_event-moved (state_of c.self.inside) (after c) (Take c.args.c c.args.port) (moves c), moves c)
+returns-clause-moves c =
+    subst (λ (s : State). after c ≡ after_event s (Take c.args.c c.args.port)) c.self.view_is (after_event-moved (state_of c.self.inside) (after c) (Take c.args.c c.args.port) (moves c))
