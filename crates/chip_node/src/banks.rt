@@ -38,9 +38,9 @@ impl CoreBank {
         both(sent, got)
     }
 
-    // Offers the first unsent copy of the first vertex that has one, where the chip is marked for it or all is looked at. Where there is none, the mark goes. Where one was sent,
-    // the chip's router is awake, and its local port marked.
-    fn send_marked<R: Wait>(
+    // Offers the first unsent copy of the first vertex that has one, where the chip is marked for it or all is looked at. Where there is
+    // none, the mark goes. Where one was sent, the chip's router is awake, and its local port marked.
+    fn send<R: Wait>(
         &self,
         rt: &R,
         around: Around,
@@ -75,7 +75,7 @@ impl CoreBank {
             Served::Sent => {
                 let _ = hold.unsent[vertex].pop();
                 awake.wake(Behind {
-                    place: Port::COUNT * self.index + 6,
+                    place,
                     taker: 2 * self.index,
                 });
                 Turn::Moved

@@ -4,7 +4,7 @@ ghost use Rattle.std.specs.Option.{option_copied};
 
 use crate::hands::Hand;
 use crate::parts::{EmptyLists, MeshParts};
-use crate::queues::{drop_front, push_at};
+use crate::queues::drop_front;
 use crate::setups::{MeshSetup, every_setup_has_sites, queue_place};
 use machine_desc::Machine;
 use spin_base::{Chip, Delivery, DumpRec, Fifo, McCopy, Memory, Port, Seq, Spot};
@@ -140,7 +140,12 @@ impl Mesh {
             }) }
         ensures err { OnErr result (self.new ≡ self.old) }
     {
-        push_at(&mut self.unsent, vertex as usize, copy)
+        let place = vertex as usize;
+        if place < self.unsent.len() {
+            self.unsent[place].push(copy)
+        } else {
+            Ok(())
+        }
     }
 
     /// Takes away the first copy that vertex `vertex` has not sent yet, if there is one. It takes constant time and no memory.

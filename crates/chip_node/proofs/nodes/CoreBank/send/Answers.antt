@@ -3,7 +3,7 @@ use Rattle.std.proofs.lemmas.List.{get_or_default, Elements.All-contains, Elemen
 use Rattle.chip_node.specs.{Going.IsEndOf, Items.injection_place}
 use Rattle.chip_node.proofs.{Banking.popped_rest, EndSteps.end_refuses_full, EndSteps.end_stays_refuses, Flows.goes_none, Flows.ready_bank_on, Placing.sent_goes, Placing.stays_at, Placing.Writes}
 use Rattle.chip_node.proofs.Sending.{sender_stands}
-use Rattle.chip_node.proofs.nodes.CoreBank.send_marked.Goals as goal
+use Rattle.chip_node.proofs.nodes.CoreBank.send.Goals as goal
 
 pub returns-in-Sent-clause-acts : goal.returns-in-Sent-clause-acts
 returns-in-Sent-clause-acts g c =
@@ -41,7 +41,7 @@ returns-in-Dumped-clause-acts g c =
     stays_at a _ (injection_place b.index) old new w (end_stays_refuses c.args.around.capacity 1 old new c.in-Dumped.ensures.served) refl refl refl
 
 pub returns-in-Dumped-clause-idle : goal.returns-in-Dumped-clause-idle
-returns-in-Dumped-clause-idle g c = λ all moved roomy.
+returns-in-Dumped-clause-idle g c = λ is moved roomy.
     inr (
       c.index_mut.result.now,
       sender_stands c.requires.sender c.index_mut.result.now c.index_mut.ensures.value,
