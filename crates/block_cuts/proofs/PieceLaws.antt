@@ -74,13 +74,27 @@ less_whole (suc i) p e k above agree m miss = elim (cut_cases p e i) [
     turned other = grind (arith, other, bit_at-lt e.key i, bit_at-lt k i)
 
     own_above : bit_at p.mask i ≡ 0 → bit_at e.mask i ≡ 1 → Above i (own_half p e (2 ^ i)) e
-    own_above free cares j from on = grind (arith, cases_lt i j, own_wants_here p e i free cares, own_wants)
+    own_above free cares j from on = elim (cases_lt i j) [
+      | inl higher ↦ (own_wants p e i free cares j (bit_at p.key j) (record { cares = above j higher on; value = refl })).cares
+      | inr here ↦ let same : i ≡ j = omega arith in subst (λ n. bit_at (own_half p e (2 ^ i)).mask n ≡ 1) same (own_wants_here p e i free cares).cares
+    ]
 
     own_agree : bit_at p.mask i ≡ 0 → bit_at e.mask i ≡ 1 → Agree (own_half p e (2 ^ i)) e
-    own_agree free cares j own on = grind (arith, wants_own p e i free cares j (bit_at (own_half p e (2 ^ i)).key j) (record { cares = own; value = refl }), agree)
+    own_agree free cares j own on = elim (wants_own p e i free cares j (bit_at (own_half p e (2 ^ i)).key j) (record { cares = own; value = refl })) [
+      | inl this ↦ this.1 ∙ ap (bit_at e.key) (sym this.0)
+      | inr of_p ↦ sym of_p.value ∙ agree j of_p.cares on
+    ]
 
     still_above : (bit_at p.mask i ≡ 1) ⊎ (bit_at e.mask i ≡ 0) → Above i p e
-    still_above which j from on = grind (arith, cases_lt i j)
+    still_above which j from on = elim (cases_lt i j) [
+      | inl higher ↦ above j higher on
+      | inr here ↦
+          let same : i ≡ j = omega arith in
+          elim which [
+            | inl cares ↦ subst (λ n. bit_at p.mask n ≡ 1) same cares
+            | inr off ↦ absurd (omega (arith, ap (bit_at e.mask) same, off, on))
+          ]
+    ]
 
 less_apart : (i : ℕ) (p e : Block) → Apart (less i p e)
 less_apart zero p e = tt
