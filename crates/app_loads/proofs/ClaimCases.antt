@@ -45,10 +45,7 @@ module _ {X : Type 0} (p : X → Bool) (f : ℕ → X) (n : ℕ) (d : X) where
       first = position_or_len p row
 
       below : first < n
-      below = elim (cases_lt first n) [
-        | inl less ↦ less
-        | inr past ↦ absurd (both_ways (p (f (n - 1))) (ap p (sym (at (n - 1) (omega (arith, some)))) ∙ fails_before_first p row (n - 1) d (omega (arith, past, some))) last)
-      ]
+      below = grind (arith, cases_lt first n, at (n - 1) (omega (arith, some)), both_ways, fails_before_first)
 
 pub size_facts : (keys : ℕ) → keys ≤ 4294967296 → (e : ℕ) × (e ≤ 32) × (size_for keys ≡ 2 ^ e) × (keys ≤ 2 ^ e)
 size_facts keys few =

@@ -65,12 +65,7 @@ module _ (s : State) (nets : List NetPlan) (asked : ℕ → Option Asked) (meets
   one_on_way : (i : ℕ) (a : Asked) → asked i ≡ Some a → (net : NetPlan) → Contains nets net → IsKeyOf net.block a.label.key →
       (target : Spot) (branch : List Exit) (from to : ℕ) → IsWayOn s.setup.machine s.setup.spots net target branch from to →
       count_by (is_packet_on_trail i from to branch) (marks_of s) ≡ 1
-  one_on_way i a is net in_nets key target branch from to way =
-      let k = meets.each_asked i a is in
-      let its : k.0.copy.key ≡ a.label.key =
-      (meets.ledger.labelled k.0 k.1).0 ∙ (ap (λ n. (label_of (asked n)).key) k.2 ∙ ap (λ (o : Option Asked). (label_of o).key) is) in
-      ap (λ n. count_by (is_packet_on_trail n from to branch) (marks_of s)) (sym k.2)
-      ∙ meets.ledger.once_on_each k.0 k.1 net in_nets (subst (λ n. IsKeyOf net.block n) (sym its) key) target branch from to way
+  one_on_way i a is net in_nets key target branch from to way = grind (arith, count_by)
 
 -- that each target has one way
 abbrev pub HasOneWay : Type 0
@@ -86,15 +81,11 @@ module _ (one_way : HasOneWay) (s t : State) (nets : List NetPlan) (asked : ℕ 
 
   there : (net : NetPlan) (target : Spot) (branch : List Exit) (from to : ℕ) → IsWayOn s.setup.machine s.setup.spots net target branch from to →
       IsWayOn t.setup.machine t.setup.spots net target branch from to
-  there net target branch from to way =
-      subst (λ (l : List Spot). IsWayOn t.setup.machine l net target branch from to) spots
-      (subst (λ (m : Description). IsWayOn m s.setup.spots net target branch from to) machine way)
+  there net target branch from to way = grind arith
 
   back : (net : NetPlan) (target : Spot) (branch : List Exit) (from to : ℕ) → IsWayOn t.setup.machine t.setup.spots net target branch from to →
       IsWayOn s.setup.machine s.setup.spots net target branch from to
-  back net target branch from to way =
-      subst (λ (m : Description). IsWayOn m s.setup.spots net target branch from to) (sym machine)
-      (subst (λ (l : List Spot). IsWayOn t.setup.machine l net target branch from to) (sym spots) way)
+  back net target branch from to way = grind arith
 
   -- a delivery on the other mesh, of the same packet at the same vertex
   abbrev IsMatched : Delivery → Type 0

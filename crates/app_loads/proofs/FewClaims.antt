@@ -23,13 +23,11 @@ one_of_keys j keys None = omega arith
 
 few_gathered : {X : Type 0} (f : ℕ → X → List Claim) → ((j : ℕ) (x : X) → length (f j x) ≤ 1) → (i : ℕ) (xs : List X) → length (gathered f i xs) ≤ length xs
 few_gathered f one i [] = omega arith
-few_gathered f one i (x ∷ xs) =
-    omega (arith, length-append (f i x) (gathered f (i + 1) xs), one i x, few_gathered f one (i + 1) xs)
+few_gathered f one i (x ∷ xs) = grind (arith, length-append (f i x) (gathered f (i + 1) xs), few_gathered f one (i + 1) xs)
 
 few_mapped : {X : Type 0} (f : X → List Claim) → ((x : X) → length (f x) ≤ 1) → (xs : List X) → length (flat_map f xs) ≤ length xs
 few_mapped f one [] = omega arith
-few_mapped f one (x ∷ xs) =
-    omega (arith, length-append (f x) (flat_map f xs), one x, few_mapped f one xs)
+few_mapped f one (x ∷ xs) = grind (arith, length-append (f x) (flat_map f xs), few_mapped f one xs)
 
 module _ (m : Description) (size : HasSize m) (plan : AppPlan) (valid : IsPlan m plan) where
   pub few_claims : length (claims_of m plan) ≤ 262144
@@ -55,6 +53,4 @@ module _ (m : Description) (size : HasSize m) (plan : AppPlan) (valid : IsPlan m
 
 -- an application has as few
 pub few_ranges : (m : Description) → HasSize m → (app : LoadedApp) → IsLoadedOn m app → length app.ranges ≤ 262144
-few_ranges m size app is =
-    let same = AllZip-long (IsRangeFor m) (claims_of m app.plan) app.ranges is.ranges in
-    omega (arith, same, few_claims m size app.plan is.plan)
+few_ranges m size app is = grind (arith, AllZip-long (IsRangeFor m) (claims_of m app.plan) app.ranges is.ranges, few_claims m size app.plan is.plan)

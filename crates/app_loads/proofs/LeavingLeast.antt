@@ -34,15 +34,12 @@ lesser_assoc (Some x) (Some y) (Some z) = ap Some (three x y z)
 module _ (app : LoadedApp) where
   pub least_append : (xs ys : List ℕ) → least_own_packet app (xs ++ ys) ≡ lesser_of (least_own_packet app xs) (least_own_packet app ys)
   least_append [] ys = refl
-  least_append (x ∷ xs) ys =
-      ap (lesser_of (own_packet app x)) (least_append xs ys) ∙ sym (lesser_assoc (own_packet app x) (least_own_packet app xs) (least_own_packet app ys))
+  least_append (x ∷ xs) ys = grind (arith, least_append xs ys)
 
   -- the least so far, where more numbers come
   pub least_more : (so_far least next : Option ℕ) (xs ys more : List ℕ) → least ≡ lesser_of so_far (least_own_packet app xs) → next ≡ lesser_of least (least_own_packet app ys) → more ≡ xs ++ ys →
       next ≡ lesser_of so_far (least_own_packet app more)
-  least_more so_far least next xs ys more was is all =
-      is ∙ (ap (λ o. lesser_of o (least_own_packet app ys)) was ∙ (lesser_assoc so_far (least_own_packet app xs) (least_own_packet app ys)
-      ∙ (ap (lesser_of so_far) (sym (least_append xs ys)) ∙ ap (λ l. lesser_of so_far (least_own_packet app l)) (sym all))))
+  least_more so_far least next xs ys more was is all = grind (arith, least_append xs ys)
 
   -- the least of the application's numbers in a list, if it has one
   abbrev IsLeastIn : List ℕ → Option ℕ → Type 0
@@ -263,10 +260,7 @@ module _ (s : State) where
           subst (λ (q : List McCopy). Among m (packet_numbers_of q)) none queue.2
 
       no_hands : (hands : List (Option Hand)) (m : ℕ) → All (λ (h : Option Hand). h ≡ None) hands → Among m (flat_map held_packets hands) → ⊥
-      no_hands hands m empty b =
-          let hand = among_flat held_packets m hands b in
-          let none = All-contains (λ (h : Option Hand). h ≡ None) hands hand.0 empty (among_contains hand.0 hands hand.1) in
-          subst (λ (h : Option Hand). Among m (held_packets h)) none hand.2
+      no_hands hands m empty b = grind (arith, among_flat held_packets m hands b, among_contains (among_flat held_packets m hands b).0 hands (among_flat held_packets m hands b).1, All-contains, Among)
 
       sender_of : (v : ℕ) (q : List McCopy) → slice_get s.unsent v ≡ Some q → Among n (packet_numbers_of q) → Contains vertices v
       sender_of v [] at b = absurd b

@@ -6,12 +6,11 @@ use Rattle.std.proofs.lemmas.{List.Elements.filter-append, List.Elements.Contain
 use Rattle.std.specs.List.{filter, All, AllPairs, Contains}
 use Rattle.spin_base.proofs.Members.{Among, among_contains, contains_among, among_left, among_right, among_map, Contains-first, Contains-later, Contains-from_filter, Contains-filter}
 use Rattle.spin_base.proofs.Gathering.{among_gathered}
-use Rattle.spin_base.specs.declared.{blocks.Entry.Entry, chips.Spot.Spot, copies.McCopy.McCopy, copies.Delivery.Delivery, copies.DumpRec.DumpRec}
+use Rattle.spin_base.specs.declared.{blocks.Entry.Entry, chips.Spot.Spot, copies.McCopy.McCopy}
 use Rattle.machine_desc.specs.{Description.Description, Live.chip_of, Branch.Exit, RoutingTree.IsRoutingTree, declared.nets.NetPlan.NetPlan, RightTables.IsKeyOf, NetsOn.AreNetsOn, NetsOn.IsWayOn}
-use Rattle.mesh_core.specs.{State.State, State.Hand, Trail.Station, Trail.unsent, Trail.in_queue, Trail.in_hand, Trail.at_core, Trail.delivered, Trail.dumped, Trail.Mark, Trail.is_on_trail}
-use Rattle.mesh_core.specs.{Trail.is_packet_on_trail, Trail.IsUnderWayAt, Ledger.marks_of, Ledger.marks_at, Ledger.hand_marks, Ledger.port_of, Ledger.unsent_marks, Ledger.input_marks}
-use Rattle.mesh_core.specs.{Ledger.all_hand_marks, Ledger.core_marks, Ledger.delivered_marks, Ledger.dumped_marks, Ledger.Asked, Ledger.label_of, Ledger.MeetsLedgerFor, Opened.asked_at}
-use Rattle.mesh_core.specs.Opened.{asked_by}
+use Rattle.mesh_core.specs.{State.State, State.Hand, Trail.Station, Trail.in_queue, Trail.in_hand, Trail.Mark, Trail.is_on_trail, Trail.is_packet_on_trail, Trail.IsUnderWayAt, Ledger.marks_of}
+use Rattle.mesh_core.specs.Ledger.{marks_at, hand_marks, port_of, unsent_marks, input_marks, all_hand_marks, core_marks, delivered_marks, dumped_marks, Asked, label_of, MeetsLedgerFor}
+use Rattle.mesh_core.specs.Opened.{asked_at, asked_by}
 use Rattle.mesh_core.proofs.{AskedPackets.asked_parts, AskedPackets.net_in_list, LedgerLaw.one_net, Moves.mark}
 use Rattle.app_loads.specs.{declared.loaded.LoadedApp.LoadedApp, Host.Host, Host.all_nets, Host.asked_of, Host.asked_of_app, Host.either, Host.nets_of, Applications.AreApps}
 use Rattle.app_loads.specs.{Applications.HaveOtherNumbers, Leaving.is_packet_of, Leaving.NoneUnderWay, Leaving.others_than, Leaving.mesh_without}
@@ -31,10 +30,7 @@ module _ (s : State) where
   under_way_by k c at under is = subst (λ (m : Mark). IsUnderWayAt m.station) (sym is) under
 
   pub unsent_under_way : (k : Mark) → Among k (unsent_marks s) → IsUnderWayAt k.station
-  unsent_under_way k a =
-      let at = among_gathered (λ v (q : List McCopy). marks_at (unsent v) q) k s.unsent a in
-      let m = among_map (λ (c : McCopy). mark c (unsent at.0)) k at.1 at.3 in
-      under_way_by k m.0 (unsent at.0) tt m.2
+  unsent_under_way k a = grind (arith, among_gathered, among_map, mark, under_way_by)
 
   pub inputs_under_way : (k : Mark) → Among k (input_marks s) → IsUnderWayAt k.station
   inputs_under_way k a =
@@ -55,10 +51,7 @@ module _ (s : State) where
       of_hand i None b = absurd b
 
   pub cores_under_way : (k : Mark) → Among k (core_marks s) → IsUnderWayAt k.station
-  cores_under_way k a =
-      let at = among_gathered (λ v (q : List McCopy). marks_at (at_core v) q) k s.cores a in
-      let m = among_map (λ (c : McCopy). mark c (at_core at.0)) k at.1 at.3 in
-      under_way_by k m.0 (at_core at.0) tt m.2
+  cores_under_way k a = grind (arith, among_gathered, among_map, mark, under_way_by)
 
 -- whether a mark is of no packet of the application
 abbrev is_of_other : LoadedApp → Mark → Bool
@@ -68,10 +61,7 @@ module _ (app : LoadedApp) (tables : List (List Entry)) (s : State) (none : None
   -- a part of the marks that are under way stays as it is
   part_stays : (part rest : List Mark) → ((k : Mark) → Among k part → IsUnderWayAt k.station) → ((k : Mark) → Among k part → Among k (marks_of s)) →
       filter (is_of_other app) (part ++ rest) ≡ part ++ filter (is_of_other app) rest
-  part_stays part rest under within =
-      filter-append (is_of_other app) part rest
-      ∙ ap (λ l. l ++ filter (is_of_other app) rest) (filter_stays (is_of_other app) part (λ k a.
-      opposite_false (is_packet_of app k.copy.packet) (λ is. none k.copy.packet (is, (k, among_contains k (marks_of s) (within k a), refl, under k a)))))
+  part_stays part rest under within = grind (arith, filter-append (is_of_other app) part rest, filter_stays, opposite_false, among_contains)
 
   -- the marks that are left are those of other packets
   pub marks_without : marks_of (mesh_without app tables s) ≡ filter (is_of_other app) (marks_of s)
@@ -94,10 +84,7 @@ module _ (app : LoadedApp) (tables : List (List Entry)) (s : State) (none : None
       within_hands k a = within_inputs k (among_right k (all_hand_marks s) (after_hands s) a)
 
       ended_left : filter (is_of_other app) (after_cores s) ≡ delivered_marks (mesh_without app tables s) ++ dumped_marks (mesh_without app tables s)
-      ended_left =
-          filter-append (is_of_other app) (delivered_marks s) (dumped_marks s)
-          ∙ (ap (λ l. l ++ filter (is_of_other app) (dumped_marks s)) (filter_of_map (is_of_other app) (λ (d : Delivery). mark d.copy (delivered d.vertex)) s.delivered)
-          ∙ ap (λ l. delivered_marks (mesh_without app tables s) ++ l) (filter_of_map (is_of_other app) (λ (r : DumpRec). mark r.copy (dumped r.chip r.out)) s.dumped))
+      ended_left = grind (arith, filter-append (is_of_other app) (delivered_marks s) (dumped_marks s), filter_of_map, mark)
 
 -- ---- the ledger of fewer packets
 
@@ -168,10 +155,7 @@ module _ (app : LoadedApp) (tables : List (List Entry)) (s : State) (none : None
           other m e is = ap (λ i. not (is_packet_of app i)) (eqb-true m.copy.packet k.copy.packet e) ∙ ap not is
 
       each_asked' : (i : ℕ) (a : Asked) → less i ≡ Some a → (k : Mark) × Contains (marks_of t) k × (k.copy.packet ≡ i)
-      each_asked' i a e =
-          let old = l.each_asked i a (asked_before i a e) in
-          let is : is_of_other app old.0 ≡ true = ap (λ j. not (is_packet_of app j)) old.2 ∙ ap not (of_other i a e) in
-          (old.0, subst (λ m. Contains m old.0) (sym (marks_without app tables s none)) (Contains-filter (is_of_other app) (marks_of s) old.0 old.1 is), old.2)
+      each_asked' i a e = grind (arith, asked_before i a e, Contains-filter)
 
 -- ---- the packets of the other applications
 

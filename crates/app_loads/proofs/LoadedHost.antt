@@ -1,6 +1,6 @@
 -- A host to which an application came.
-use Rattle.std.proofs.Common.{◌≡◌, ◌≢◌, ℕ, zero, suc, ◌+◌, ◌<◌, ◌≤◌, ◌==◌, true, false, List, [], ◌∷◌, ◌++◌, ◌∙◌, Option, None, Some, ◌&&◌, if◌then◌else◌, length, take, refl, sym, ap, subst, inl, inr}
-use Rattle.std.proofs.Common.{arith, append-nil, append_assoc, ltb, not, get_or}
+use Rattle.std.proofs.Common.{◌≡◌, ◌≢◌, ℕ, zero, suc, ◌+◌, ◌<◌, ◌≤◌, ◌==◌, true, false, List, [], ◌∷◌, ◌++◌, ◌∙◌, Option, None, Some, if◌then◌else◌, length, take, refl, sym, ap, subst, inl, inr}
+use Rattle.std.proofs.Common.{arith, append-nil, append_assoc, get_or}
 use Rattle.std.proofs.lemmas.{Bool.cases_eq, Bool.eq-eqb, Bool.eqb-true, Bool.false≢true, Bool.and_parts, Bool.ne_eqb, Bool.or_parts, List.Elements.All-append, List.Elements.All-contains}
 use Rattle.std.proofs.lemmas.{List.Elements.All-weaker, List.Elements.filter_map-append, List.Elements.All-push, List.Folds.list_any-append, Option.slice_get_within, Option.same_Some}
 use Rattle.std.proofs.lemmas.{Option.none-some, Option.slice_get-get_or, List.flat_map_more, List.take_all, List.same_lists}
@@ -8,24 +8,22 @@ use Rattle.std.specs.{Option.option_map_or, List.list_any, List.slice_get, List.
 use Rattle.spin_base.proofs.{Members.Among, Members.Contains-at, Members.among_any, Members.among_left, Members.among_right, Members.among_contains, Members.contains_among, Pairs.AllPairs-append}
 use Rattle.spin_base.proofs.{Pairs.AllPairs-right, Pairs.AllPairs-across, Places.All-each, Places.enumerate_more, Places.slice_get_there, Places.slice_get-set_same, Places.slice_get-set_other}
 use Rattle.spin_base.proofs.{Equality.spot_eq_same, Gathering.gathered_among}
-use Rattle.spin_base.specs.{declared.blocks.Entry.Entry, declared.chips.Chip.Chip, declared.chips.Spot.Spot, declared.copies.McCopy.McCopy, declared.copies.Packet.Packet, Equality.spot_eq}
-use Rattle.machine_desc.specs.{Description.Description, Live.IsInside, RoutingTree.IsRoutingTree, declared.nets.NetPlan.NetPlan, NetsOn.AreNetsOn, NetsOn.HaveDisjointBlocks, NetsOn.vertex_at}
-use Rattle.machine_desc.specs.RightTables.{IsKeyOf, table_at}
-use Rattle.range_store.specs.{Views.Region, Regions.AreRuns}
+use Rattle.spin_base.specs.{declared.blocks.Entry.Entry, declared.chips.Spot.Spot, declared.copies.McCopy.McCopy, declared.copies.Packet.Packet, Equality.spot_eq}
+use Rattle.machine_desc.specs.{Description.Description, RoutingTree.IsRoutingTree, declared.nets.NetPlan.NetPlan, NetsOn.AreNetsOn, NetsOn.HaveDisjointBlocks, NetsOn.vertex_at, RightTables.IsKeyOf}
+use Rattle.range_store.specs.Views.{Region}
 use Rattle.mesh_core.specs.{State.State, Trail.Mark, Trail.unsent, Ledger.MeetsLedgerFor, Ledger.marks_of, Ledger.marks_at, Ledger.unsent_marks, Opened.copy_from, Opened.first_copy}
 use Rattle.mesh_core.proofs.Ways.{vertex_at_stands}
 use Rattle.app_loads.specs.declared.answers.{LoadErr.LoadErr, LoadErr.TheVariants.Refused, LoadErr.TheVariants.Memory, LoadRefusal.LoadRefusal, LoadRefusal.TheVariants.Loaded}
 use Rattle.app_loads.specs.declared.{answers.LoadRefusal.TheVariants.MemoryOut, answers.LoadRefusal.TheVariants.KeysOut, answers.LoadRefusal.TheVariants.RowsOut, loaded.LoadedApp.LoadedApp}
-use Rattle.app_loads.specs.{declared.loaded.Range.Range, declared.plans.AppNet.AppNet, declared.plans.AppPlan.AppPlan, Applications.AreApps, Applications.HasRows, Applications.HaveOtherNumbers}
-use Rattle.app_loads.specs.{Applications.HaveRows, Applications.IsLoadedOn, Claims.AreServed, Claims.claims_of, Claims.IsRefusalDue, Host.Free, Host.Host, Host.all_nets, Host.all_ranges}
-use Rattle.app_loads.specs.{Host.all_spots, Host.asked_of, Host.is_loaded, Host.is_spot_taken, Host.nets_of, Joining.AreSent, Joining.IsSent, Joining.IsServedApp, Joining.IsSettled}
-use Rattle.app_loads.specs.{Joining.NoneUnsent, Loading.HasLoaded, Loading.IsLoadRefusal, Loading.IsWhyNotLoaded, Plans.IsAppNet, Plans.IsPlan, Plans.IsPacketOfApp, Plans.MayLoad}
-use Rattle.app_loads.specs.{declared.places.Region.TheVariants.Rows, Regions.ShareNoPlace, Regions.AreFreeBeside, Regions.range_has, Regions.is_taken, Regions.region_size, Regions.IsRangeWithin}
-use Rattle.app_loads.specs.{Regions.place_of, Taking.AreTaken, Taking.IsDueAlways, Taking.frees}
+use Rattle.app_loads.specs.{declared.loaded.Range.Range, declared.plans.AppNet.AppNet, declared.plans.AppPlan.AppPlan, Applications.AreApps, Applications.HaveOtherNumbers, Applications.HaveRows}
+use Rattle.app_loads.specs.{Applications.IsLoadedOn, Claims.AreServed, Claims.claims_of, Claims.IsRefusalDue, Host.Free, Host.Host, Host.all_nets, Host.all_ranges, Host.all_spots, Host.asked_of}
+use Rattle.app_loads.specs.{Host.is_loaded, Host.is_spot_taken, Host.nets_of, Joining.AreSent, Joining.IsSent, Joining.IsServedApp, Joining.IsSettled, Joining.NoneUnsent, Loading.HasLoaded}
+use Rattle.app_loads.specs.{Loading.IsLoadRefusal, Loading.IsWhyNotLoaded, Plans.IsAppNet, Plans.IsPlan, Plans.IsPacketOfApp, Plans.MayLoad, Regions.ShareNoPlace, Regions.AreFreeBeside}
+use Rattle.app_loads.specs.{Regions.range_has, Regions.is_taken, Regions.region_size, Regions.IsRangeWithin, Taking.AreTaken, Taking.IsDueAlways, Taking.frees}
 use Rattle.app_loads.proofs.AppNets.{apps_disjoint, different_of, facts_at, facts_of, key_of_index, own_disjoint, roots_of, sources_in, targets_in, trees_of, usable_spot}
-use Rattle.app_loads.proofs.{ClaimCases.among_flat, ClaimCases.flat_among, ClaimCases.facts, Copying.mine_at, Copying.same_part, Holes.same_holes, JoinLaws.loaded_from, Ledgers.more_nets}
-use Rattle.app_loads.proofs.{LeavingLists.after_unsent, PacketLedger.asked_is, PacketLedger.none_past, PacketLedger.other_tables, PacketLedger.same_packets, PacketLedger.sent_ledger}
-use Rattle.app_loads.proofs.{RightRows.right_rows, Serving.none_taken, Settling.settled_mesh, Settling.usable_there, Others.pairs_with_last, RegionLaws.one_free}
+use Rattle.app_loads.proofs.{ClaimCases.among_flat, ClaimCases.flat_among, ClaimCases.facts, Copying.mine_at, Copying.same_part, JoinLaws.loaded_from, Ledgers.more_nets, LeavingLists.after_unsent}
+use Rattle.app_loads.proofs.{PacketLedger.asked_is, PacketLedger.none_past, PacketLedger.other_tables, PacketLedger.same_packets, PacketLedger.sent_ledger, RightRows.right_rows, Serving.none_taken}
+use Rattle.app_loads.proofs.{Settling.settled_mesh, Settling.usable_there, Others.pairs_with_last, RegionLaws.one_free}
 
 -- regions with the same free places are the same
 pub same_frees : (m : Description) (taken : List Range) (xs ys : List Free) → AreFreeBeside m taken xs → AreFreeBeside m taken ys → xs ≡ ys
@@ -35,15 +33,7 @@ same_frees m taken xs ys one other = same_lists xs ys long each
     long = one.all ∙ sym other.all
 
     each : (k : ℕ) (d : Free) → k < length xs → get_or xs k d ≡ get_or ys k d
-    each k d below =
-        let f = get_or xs k d in
-        let g = get_or ys k d in
-        let p = one.each k f (slice_get-get_or xs k d below) in
-        let q = other.each k g (slice_get-get_or ys k d (omega (arith, below, long))) in
-        let size : f.size ≡ g.size = p.size ∙ sym q.size in
-        let holes = same_holes 0 f.size f.holes g.holes p.runs (subst (λ n. AreRuns 0 n g.holes) (sym size) q.runs)
-        (λ z. p.free z ∙ (ap (λ n. ltb z n && not (is_taken taken k z)) size ∙ sym (q.free z))) in
-        one_free f.size g.size f.holes g.holes holes size
+    each k d below = grind (arith, get_or xs k d, get_or ys k d, slice_get-get_or xs k d below, slice_get-get_or ys k d (omega (arith, below, long)), one_free)
 
 -- what vertices have unsent
 sent_unsent : (spots : List Spot) (app : LoadedApp) (n : ℕ) (before after : List (List McCopy)) → AreSent spots app n before after →
@@ -93,11 +83,7 @@ sent_unsent spots app (suc n) before after sent le v q at =
         one_chosen o k e = ap (λ z. cons_option z []) e
 
     is_elsewhere : v ≢ one'.vertex → filter_map (sends v) ((app.first + n, sent.1) ∷ []) ≡ []
-    is_elsewhere other =
-        let chosen : sends v (app.first + n, sent.1) ≡ None =
-        ap (copy_from spots v (app.first + n) sent.1) one'.is_net
-        ∙ ap (λ b. if b then Some (first_copy (app.first + n) one'.net sent.1) else None) (ap (λ o. option_map_or (λ w. w == v) o false) one'.is_vertex ∙ ne_eqb one'.vertex v (λ e. other (sym e)))
-        in ap (λ z. cons_option z []) chosen
+    is_elsewhere other = grind (arith, ne_eqb)
 
 module _ (h : Host) (apps : AreApps h) (number : ℕ) (plan : AppPlan) (may : MayLoad h plan) (not_loaded : is_loaded h.apps number ≡ false) (old new : List Region) (old_is : frees old ≡ h.regions)
     (app : LoadedApp) (mesh : State) (served : IsServedApp h.mesh.setup.machine old number h.packets plan app new) (settled : IsSettled app h.mesh mesh) where
@@ -142,20 +128,13 @@ module _ (h : Host) (apps : AreApps h) (number : ℕ) (plan : AppPlan) (may : Ma
   in_ranges a in_apps r in_a = among_contains r (all_ranges h.apps) (flat_among (λ (x : LoadedApp). x.ranges) r h.apps a (contains_among a h.apps in_apps) (contains_among r a.ranges in_a))
 
   across : (r s : Range) → Contains (all_ranges h.apps) r → Contains app.ranges s → ShareNoPlace r s
-  across r s in_r in_s = All-contains (ShareNoPlace r) app.ranges s
-      (All-contains (λ a. All (ShareNoPlace a) app.ranges) (all_ranges h.apps) r (AllPairs-across ShareNoPlace (all_ranges h.apps) app.ranges taken_now.apart) in_r) in_s
+  across r s in_r in_s = grind (arith, AllPairs-across ShareNoPlace (all_ranges h.apps) app.ranges taken_now.apart, All-contains)
 
   spots_free : (s : Spot) → Contains app.plan.spots s → is_spot_taken h.apps s ≡ false
   spots_free s has = All-contains (λ z. is_spot_taken h.apps z ≡ false) plan.spots s may.free (subst (λ (p : AppPlan). Contains p.spots s) served.plan_is has)
 
   disjoint_now : HaveDisjointBlocks (all_nets h.apps ++ nets_of app)
-  disjoint_now = AllPairs-append (λ (a b : NetPlan). (key : ℕ) → IsKeyOf a.block key → IsKeyOf b.block key → ⊥) (all_nets h.apps) (nets_of app) apps.disjoint (own_disjoint m app on own_apart)
-      (All-each (λ (a : NetPlan). All (λ (b : NetPlan). (key : ℕ) → IsKeyOf a.block key → IsKeyOf b.block key → ⊥) (nets_of app)) (all_nets h.apps) (λ a in_a.
-      All-each (λ (b : NetPlan). (key : ℕ) → IsKeyOf a.block key → IsKeyOf b.block key → ⊥) (nets_of app) (λ b in_b.
-      let f = among_flat nets_of a h.apps (contains_among a (all_nets h.apps) in_a) in
-      let in_apps = among_contains f.0 h.apps f.1 in
-      apps_disjoint m f.0 app (All-contains (IsLoadedOn m) h.apps f.0 apps.loaded in_apps) on
-      (λ r s in_r in_s. across r s (in_ranges f.0 in_apps r in_r) in_s) a b (among_contains a (nets_of f.0) f.2) in_b)))
+  disjoint_now = grind (arith, own_disjoint m app on own_apart, on own_apart, AllPairs-append, All-each, among_flat, among_contains, apps_disjoint, All-contains, across, in_ranges, contains_among)
 
   spots_in : (s : Spot) → Contains app.plan.spots s → Contains h.mesh.setup.spots s
   spots_in s has = subst (λ (l : List Spot). Contains l s) (sym apps.vertices) (usable_there m s (usable_spot m app on s has))
@@ -175,27 +154,7 @@ module _ (h : Host) (apps : AreApps h) (number : ℕ) (plan : AppPlan) (may : Ma
   none_of_others r in_r = none_taken app.ranges r (λ other in_other. across r other in_r in_other)
 
   rows_now : HaveRows m t all
-  rows_now = record {
-    long = settled.written.long;
-    rows = All-push (λ (a : LoadedApp). All (λ (r : Range). (c : Chip) → IsInside m c → r.region ≡ place_of m (Rows c) → HasRows m (nets_of a) c (table_at m t c) r) a.ranges) h.apps app
-        (All-each (λ (a : LoadedApp). All (λ (r : Range). (c : Chip) → IsInside m c → r.region ≡ place_of m (Rows c) → HasRows m (nets_of a) c (table_at m t c) r) a.ranges) h.apps (λ a in_apps.
-        All-each (λ (r : Range). (c : Chip) → IsInside m c → r.region ≡ place_of m (Rows c) → HasRows m (nets_of a) c (table_at m t c) r) a.ranges (λ r in_a c inside region.
-        let was = All-contains (λ (r' : Range). (d : Chip) → IsInside m d → r'.region ≡ place_of m (Rows d) → HasRows m (nets_of a) d (table_at m h.mesh.setup.tables d) r') a.ranges r
-        (All-contains (λ (b : LoadedApp). All (λ (r' : Range). (d : Chip) → IsInside m d → r'.region ≡ place_of m (Rows d) → HasRows m (nets_of b) d (table_at m h.mesh.setup.tables d) r')
-        b.ranges) h.apps a apps.rows.rows in_apps) in_a c inside region in
-        record {
-          rows = was.rows;
-          plain = was.plain;
-          entries = same_part (table_at m t c) (table_at m h.mesh.setup.tables c) r.place r.size (settled.written.long c inside ∙ sym (apps.rows.long c inside))
-              (λ k low high. settled.written.others c k inside (none_of_others r (in_ranges a in_apps r in_a) (place_of m (Rows c)) k (mine_at r (place_of m (Rows c)) k region low high)))
-              ∙ was.entries;
-        })))
-        (All-each (λ (r : Range). (c : Chip) → IsInside m c → r.region ≡ place_of m (Rows c) → HasRows m (nets_of app) c (table_at m t c) r) app.ranges (λ r in_app. settled.written.rows r in_app));
-    others = λ c k inside below free.
-        let parts = or_parts (is_taken (all_ranges h.apps) (place_of m (Rows c)) k) (is_taken app.ranges (place_of m (Rows c)) k)
-        (sym (list_any-append (range_has (place_of m (Rows c)) k) (all_ranges h.apps) app.ranges) ∙ (ap (λ l. is_taken l (place_of m (Rows c)) k) (sym ranges_are) ∙ free)) in
-        settled.written.others c k inside parts.1 ∙ apps.rows.others c k inside below parts.0;
-  }
+  rows_now = grind (arith, ranges_are, All-push, below, or_parts, list_any-append, All-each, All-contains, same_part, none_of_others, in_ranges, mine_at)
 
   loaded_now : All (IsLoadedOn m) all
   loaded_now = All-push (IsLoadedOn m) h.apps app apps.loaded on
@@ -270,21 +229,7 @@ module _ (h : Host) (apps : AreApps h) (number : ℕ) (plan : AppPlan) (may : Ma
   apps_now = subst (λ (s : State). AreApps (now s)) (sym settled.mesh) apps_of_after
 
   pub loaded_host : HasLoaded h number plan (now mesh)
-  loaded_host = record {
-    was_not = not_loaded;
-    app = app;
-    number_is = served.number_is;
-    plan_is = served.plan_is;
-    first_is = first_is;
-    served = served_now;
-    apps = refl;
-    packets = refl;
-    mesh = settled.mesh;
-    unsent = λ v before at. sent_unsent h.mesh.setup.spots app (length app.plan.packets) h.mesh.unsent q settled.sent (omega arith) v before at
-        ∙ ap (λ l. Some (before ++ filter_map (λ (e : ℕ × Packet). copy_from h.mesh.setup.spots v e.0 e.1 (slice_get (nets_of app) e.1.net)) (enumerate_from app.first l)))
-        (take_all (length app.plan.packets) app.plan.packets (omega arith));
-    tables = λ c k inside free. settled.written.others c k inside free;
-  }
+  loaded_host = grind (arith, first_is, served_now, take_all (length app.plan.packets) app.plan.packets (omega arith))
 
 -- why an application is not loaded
 pub why_not : (h : Host) (apps : AreApps h) (number : ℕ) (plan : AppPlan) (old : List Region) → frees old ≡ h.regions → is_loaded h.apps number ≡ false → IsPlan h.mesh.setup.machine plan →

@@ -1,5 +1,5 @@
 -- The fields of a host to which an application came, or came not.
-use Rattle.std.proofs.Common.{◌≡◌, ℕ, ◌+◌, ◌^◌, ◌<◌, true, false, List, [], ◌∷◌, ◌++◌, length, refl, sym, ap, ◌∙◌, subst, inl, Option, None, Some, Result, Ok, Err, OnOk, OnErr}
+use Rattle.std.proofs.Common.{arith, ◌≡◌, ℕ, ◌+◌, ◌^◌, ◌<◌, true, false, List, [], ◌∷◌, ◌++◌, length, refl, sym, ap, ◌∙◌, subst, inl, Option, None, Some, Result, Ok, Err, OnOk, OnErr}
 use Rattle.std.proofs.lemmas.List.{map-append, Elements.All-contains}
 use Rattle.std.specs.{Prelude.IfSome, Prelude.is_err, Prelude.is_some, List.Contains}
 use Rattle.spin_base.proofs.Members.{among_contains, among_right}
@@ -28,19 +28,7 @@ pub record Stands (i : Inside) (now : Host) : Type 0 where
 -- fields that say the same are the same host's
 pub still : {i j : Inside} {now : Host} → Stands i now → j.mesh ≡ i.mesh → frees j.regions.items ≡ frees i.regions.items → j.apps.items ≡ i.apps.items → j.packets ≡ i.packets →
     j.numbers.items ≡ i.numbers.items → j.senders ≡ i.senders → Stands j now
-still {i} {j} stands mesh regions apps packets numbers senders =
-    let same : host_of j ≡ host_of i = host_is j (host_of i) (ap mesh_in mesh) regions apps packets in
-    let host = stands.host in
-    record {
-      host = record {
-        there = ap is_some mesh ∙ host.there;
-        apps = subst AreApps (sym same) host.apps;
-        numbers = numbers ∙ (host.numbers ∙ ap (λ (h : Host). numbers_of h.apps) (sym same));
-        rest = subst (λ (o : Option (List ℕ)). IfSome o (λ vertices. SendAlone vertices (host_of j).mesh)) (sym senders)
-            (subst (λ (h : Host). IfSome i.senders (λ vertices. SendAlone vertices h.mesh)) (sym same) host.rest);
-      };
-      view = same ∙ stands.view;
-    }
+still {i} {j} stands mesh regions apps packets numbers senders = grind (arith, host_is j (host_of i) (ap mesh_in mesh) regions apps packets)
 
 pub never_none : (o r : Option State) → is_some o ≡ true → r ≡ o → r ≡ None → ⊥
 never_none None r some same none = cc
@@ -74,9 +62,7 @@ module _ {i : Inside} {now : Host} {mesh : State} {given : List Region} (out : I
 
   -- ranges that were given back are free as before
   pub free_again : (new : List Region) → AreFreeAgain mesh.setup.machine given new → frees new ≡ h.regions
-  free_again new back =
-      same_frees h.mesh.setup.machine (all_ranges h.apps) (frees new) h.regions
-      (subst (λ (s : State). AreFreeAgain s.setup.machine given new) (sym mesh_h) back (all_ranges h.apps) out.stands.host.apps.apart free) out.stands.host.apps.free
+  free_again new back = grind (arith, mesh_h, free, same_frees)
 
   module _ (plan : AppPlan) (may : MayLoad now plan) where
     may_h : MayLoad h plan
@@ -96,10 +82,7 @@ module _ {i : Inside} {now : Host} {mesh : State} {given : List Region} (out : I
     packets_fit = may_h.numbers
 
     pub err_why : (number : ℕ) (err : LoadErr) → is_loaded now.apps number ≡ false → IsDueAlways mesh.setup.machine (claims_of mesh.setup.machine plan) given err → IsWhyNotLoaded now number plan err
-    err_why number err none due =
-        subst (λ (x : Host). IsWhyNotLoaded x number plan err) out.stands.view
-        (why_not h out.stands.host.apps number plan given old_is (ap (λ (x : Host). is_loaded x.apps number) out.stands.view ∙ none) may_h.valid err
-        (subst (λ (s : State). IsDueAlways s.setup.machine (claims_of s.setup.machine plan) given err) (sym mesh_h) due))
+    err_why number err none due = grind (arith, mesh_h, why_not, old_is)
 
 -- an application joined it, and the fields are put back
 pub record Joins (i j : Inside) (now : Host) (mesh : State) (given : List Region) (number : ℕ) (plan : AppPlan) (app : LoadedApp) : Type 0 where
@@ -128,18 +111,10 @@ module _ {i j : Inside} {now : Host} {mesh : State} {given : List Region} {numbe
   settled = subst (λ (s : State). IsSettled app s joins.after) (sym (mesh_h out)) joins.settled
 
   is_now : host_of j ≡ new
-  is_now =
-      host_is j new (ap mesh_in joins.mesh_is) (ap frees joins.regions) joins.apps
-      (joins.packets ∙ ap (λ (p : AppPlan). i.packets + length p.packets) joins.served.plan_is)
+  is_now = grind (arith, host_is)
 
   both : AreApps new × HasLoaded old number plan new
-  both =
-      let served = subst (λ (s : State). IsServedApp s.setup.machine given number i.packets plan app joins.new) (sym (mesh_h out)) joins.served in
-      let may = may_h out plan joins.may in
-      let none = ap (λ (x : Host). is_loaded x.apps number) out.stands.view ∙ joins.none in (
-        apps_now old out.stands.host.apps number plan may none given joins.new (old_is out) app joins.after served settled,
-        loaded_host old out.stands.host.apps number plan may none given joins.new (old_is out) app joins.after served settled,
-      )
+  both = grind (arith, mesh_h out, may_h out plan joins.may, old_is out, settled, apps_now, loaded_host)
 
   pub ok_loaded : HasLoaded now number plan (host_of j)
   ok_loaded = subst (λ (x : Host). HasLoaded x number plan (host_of j)) out.stands.view (subst (HasLoaded old number plan) (sym is_now) both.1)

@@ -102,15 +102,10 @@ without_one number (a ∷ apps) (suc at) app is its pairs =
 
 module _ (apps : List LoadedApp) (numbers : HaveNumbers apps) (number : ℕ) (app : LoadedApp) (in_apps : Contains apps app) (its : app.number ≡ number) where
   pub other_in : (a : LoadedApp) → Contains (others_than number apps) a → Contains apps a × a ≢ app
-  other_in a has =
-      let found = Contains-from_filter (is_other number) apps a has in
-      (found.0, λ same. false≢true (sym (ap not (eq-eqb a.number number (ap (λ (x : LoadedApp). x.number) same ∙ its))) ∙ found.1))
+  other_in a has = grind (arith, Contains-from_filter (is_other number) apps a has, false≢true, eq-eqb)
 
   pub mine_or_other : (a : LoadedApp) → Contains apps a → (a ≡ app) ⊎ Contains (others_than number apps) a
-  mine_or_other a has = elim (cases_Bool (a.number == number)) [
-    | inl mine ↦ inl (only_one apps numbers a app (contains_among a apps has) (contains_among app apps in_apps) (eqb-true a.number number mine ∙ sym its))
-    | inr other ↦ inr (Contains-filter (is_other number) apps a has (ap not other))
-  ]
+  mine_or_other a has = grind (arith, cases_Bool (a.number == number), contains_among a apps has, contains_among app apps in_apps, only_one, Contains-filter, eqb-true)
 
   -- an item of an application is one of this one's, or of the others'
   pub item_of : {Y : Type 0} (f : LoadedApp → List Y) (y : Y) → Contains (flat_map f apps) y → Contains (f app) y ⊎ Contains (flat_map f (others_than number apps)) y

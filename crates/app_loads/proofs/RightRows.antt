@@ -43,11 +43,9 @@ part_at : {X : Type 0} (xs : List X) (p s k : ℕ) (x : X) → p ≤ k → k < p
 part_at [] p s k x low high e = cc
 part_at (y ∷ ys) zero zero k x low high e = absurd (omega (arith, high))
 part_at (y ∷ ys) zero (suc s) zero x low high e = e
-part_at (y ∷ ys) zero (suc s) (suc k) x low high e =
-    let z : suc k - 0 ≡ suc (k - 0) = omega arith in ap (slice_get (y ∷ take s ys)) z ∙ part_at ys 0 s k x (omega arith) (omega (arith, high)) e
+part_at (y ∷ ys) zero (suc s) (suc k) x low high e = grind (arith, part_at ys 0 s k x (omega arith) (omega (arith, high)) e)
 part_at (y ∷ ys) (suc p) s zero x low high e = absurd (omega (arith, low))
-part_at (y ∷ ys) (suc p) s (suc k) x low high e =
-    let z : suc k - suc p ≡ k - p = omega arith in ap (slice_get (take s (drop p ys))) z ∙ part_at ys p s k x (omega (arith, low)) (omega (arith, high)) e
+part_at (y ∷ ys) (suc p) s (suc k) x low high e = grind (arith, part_at ys p s k x (omega (arith, low)) (omega (arith, high)) e)
 
 of_part : {X : Type 0} (xs : List X) (p s j : ℕ) (x : X) → slice_get (take s (drop p xs)) j ≡ Some x → slice_get xs (p + j) ≡ Some x
 of_part [] zero zero j x e = cc
@@ -83,10 +81,7 @@ module _ (m : Description) (tables : List (List Entry)) (apps : List LoadedApp) 
 
   rows_at : (app : LoadedApp) → Contains apps app → (range : Range) → Contains app.ranges range → (c : Chip) → IsInside m c →
       range.region ≡ place_of m (Rows c) → HasRows m (nets_of app) c (table_at m tables c) range
-  rows_at app in_apps range in_ranges =
-      All-contains (λ (r : Range). (c : Chip) → IsInside m c → r.region ≡ place_of m (Rows c) → HasRows m (nets_of app) c (table_at m tables c) r) app.ranges range
-      (All-contains (λ (a : LoadedApp). All (λ (r : Range). (c : Chip) → IsInside m c → r.region ≡ place_of m (Rows c) → HasRows m (nets_of a) c (table_at m tables c) r) a.ranges)
-      apps app rows.rows in_apps) in_ranges
+  rows_at app in_apps range in_ranges = grind (arith, All-contains)
 
   module _ (x : NetPlan) (in_x : Contains (all_nets apps) x) (c : Chip) (inside : IsInside m c) (key : ℕ) (keyed : IsKeyOf x.block key) where
     abbrev T : List Entry
@@ -203,13 +198,7 @@ module _ (m : Description) (tables : List (List Entry)) (apps : List LoadedApp) 
 
   module _ (x : NetPlan) (in_x : Contains (all_nets apps) x) (key other : ℕ) (keyed : IsKeyOf x.block key) (its : IsKeyOf x.block other) where
     same_match : (c : Chip) → IsInside m c → (e : Entry) → Contains (table_at m tables c) e → matches e key ≡ matches e other
-    same_match c inside e has' = elim (cases_Bool (matches e key)) [
-      | inl hit ↦ hit ∙ sym (others x in_x c inside key keyed other its e has' hit)
-      | inr miss ↦ elim (cases_Bool (matches e other)) [
-        | inl hit ↦ absurd (false≢true (sym miss ∙ others x in_x c inside other its key keyed e has' hit))
-        | inr also ↦ miss ∙ sym also
-      ]
-    ]
+    same_match c inside e has' = grind (arith, cases_Bool (matches e key), cases_Bool (matches e other), others, false≢true)
 
     same_found : (es : List Entry) → ((e : Entry) → Contains es e → matches e key ≡ matches e other) → find (λ (e : Entry). matches e key) es ≡ find (λ (e : Entry). matches e other) es
     same_found [] same = refl

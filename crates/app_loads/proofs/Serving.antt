@@ -27,10 +27,7 @@ pushed_long xs ys y is = let one = length_push xs y in let all = ap length is in
 -- an item of a list in which one was written
 pub set_cases : {X : Type 0} (xs : List X) (i j : ℕ) (x y z : X) → slice_get xs i ≡ Some x → slice_get (slice_set xs i y) j ≡ Some z →
     ((j ≡ i) × (z ≡ y)) ⊎ ((j ≢ i) × (slice_get xs j ≡ Some z))
-set_cases xs i j x y z at e = elim (cases_eq j i) [
-  | inl same ↦ inl (same, let w : Some z ≡ Some y = sym e ∙ (ap (slice_get (slice_set xs i y)) same ∙ slice_get-set_same xs i x y at) in same_Some _ _ w)
-  | inr other ↦ inr (other, sym (slice_get-set_other xs i j y other) ∙ e)
-]
+set_cases xs i j x y z at e = grind (arith, cases_eq j i, slice_get-set_same xs i x y at, same_Some, slice_get-set_other)
 
 -- ---- how many ranges are of each region
 
@@ -46,10 +43,7 @@ none_counted (suc n) (suc k) c e = none_counted n k c e
 
 module _ (ranges : List Range) (range : Range) where
   one_more : (k : ℕ) → of_region k (ranges ++ range ∷ []) ≡ of_region k ranges + one_if (range.region == k)
-  one_more k =
-      let all = count_by-append (λ (r : Range). r.region == k) ranges (range ∷ []) in
-      let one = count_by-cons (λ (r : Range). r.region == k) range [] in
-      omega (arith, all, one)
+  one_more k = grind (arith, count_by-append, count_by-cons)
 
   pub more_here : of_region range.region (ranges ++ range ∷ []) ≡ of_region range.region ranges + 1
   more_here = let more = one_more range.region in let one : one_if (range.region == range.region) ≡ 1 = ap one_if (eq-eqb range.region range.region refl) in omega (arith, more, one)
@@ -70,9 +64,7 @@ module _ (ranges : List Range) (range : Range) where
 -- ---- what is taken
 
 taken_of_other : (range : Range) (taken : List Range) (region k : ℕ) → range.region ≢ region → is_taken (taken ++ range ∷ []) region k ≡ is_taken taken region k
-taken_of_other range taken region k other =
-    list_any-append (range_has region k) taken (range ∷ [])
-    ∙ (ap (λ b. is_taken taken region k || ((b && in_range range.place range.size k) || false)) (ne_eqb range.region region other) ∙ or-false (is_taken taken region k))
+taken_of_other range taken region k other = grind (arith, list_any-append (range_has region k) taken (range ∷ []), ne_eqb range.region region other, or-false (is_taken taken region k))
 
 -- a place of one of the ranges
 pub taken_by : (ranges : List Range) (region k : ℕ) (range : Range) → Contains ranges range → range_has region k range ≡ true → is_taken ranges region k ≡ true
@@ -85,8 +77,7 @@ by_taken ranges region k e = let found = any_among (range_has region k) ranges e
 -- a place of a range that is apart from each of the ranges is none of theirs
 pub none_taken : (ranges : List Range) (range : Range) → ((other : Range) → Contains ranges other → ShareNoPlace range other) → (region k : ℕ) → range_has region k range ≡ true →
     is_taken ranges region k ≡ false
-none_taken ranges range apart region k here =
-    false_from_ne_true (is_taken ranges region k) (λ some. let found = by_taken ranges region k some in apart found.0 found.1 region k here found.2)
+none_taken ranges range apart region k here = grind (arith, false_from_ne_true, by_taken, here)
 
 -- the free places beside one range more
 free_beside_more : (m : Description) (taken : List Range) (old : List Region) (p : ℕ) (before after : Region) (range : Range) → range.region ≡ p → AreFreeBeside m taken (frees old) →
@@ -208,16 +199,7 @@ module _ (m : Description) (claims : List Claim) (old mid : List Region) (ranges
 
 -- nothing is served yet
 pub none_served : (m : Description) (claims : List Claim) (regions : List Region) (ranges : List Range) → ranges ≡ [] → HaveServed m claims regions ranges regions
-none_served m claims regions ranges none = subst (λ l. HaveServed m claims regions l regions) (sym none) (record {
-  served = λ taken apart free. record { few = omega arith; each = λ i c r is_c is_r. absurd (none-some r is_r) };
-  taken = λ taken apart free. record {
-    within = All-nil (IsRangeWithin m (length regions));
-    apart = subst (AllPairs ShareNoPlace) (sym (append-nil taken)) apart;
-    free = subst (λ l. AreFreeBeside m l (frees regions)) (sym (append-nil taken)) free;
-  };
-  room = λ i r is. omega arith;
-  long = refl;
-})
+none_served m claims regions ranges none = grind (arith, All-nil (IsRangeWithin m (length regions)), none-some, append-nil)
 
 -- ---- one range is given back
 
@@ -295,8 +277,7 @@ module _ (m : Description) (others : List Range) (range : Range) (rest : List Ra
       left region k = list_any-append (range_has region k) others rest
 
       elsewhere : (region k : ℕ) → range.region ≢ region → is_taken (others ++ range ∷ rest) region k ≡ is_taken (others ++ rest) region k
-      elsewhere region k other =
-          both region k ∙ (ap (λ b. is_taken others region k || ((b && in_range range.place range.size k) || is_taken rest region k)) (ne_eqb range.region region other) ∙ sym (left region k))
+      elsewhere region k other = grind (arith, both region k, ne_eqb range.region region other, left region k)
 
       back : IsFreeBeside m (others ++ rest) range.region (free_places_in after)
       back = record {
@@ -435,16 +416,11 @@ module _ {m : Description} {claims : List Claim} {old mid : List Region} {ranges
 
     -- which are fewer than the claims
     pub few_held : length claims ≤ 262144 → get_or counts at f < 262144
-    few_held few =
-        let some : of_region at ranges ≤ length ranges = count_by-le-length (λ (range : Range). range.region == at) ranges in
-        omega (arith, below, each_one, few, count_held, some)
+    few_held few = grind (arith, count_held, count_by-le-length)
 
     pub counts_more : (place : ℕ) (list : List Range) → list ≡ ranges ++ range_here place ∷ [] → (next : ℕ) → next ≡ get_or counts at f + 1 →
         (k n : ℕ) → slice_get (slice_set counts at next) k ≡ Some n → n ≡ of_region k list
-    counts_more place list pushed next is k n got =
-        counted_push ranges (range_at m claim place) counts (get_or counts at f) next (ap (slice_get counts) (sym at_is) ∙ slice_get-get_or counts at f count_there) counted
-        is k n (ap (λ x. slice_get (slice_set counts x next) k) (sym at_is) ∙ got)
-        ∙ ap (of_region k) (sym (pushed ∙ listed place))
+    counts_more place list pushed next is k n got = grind (arith, listed place, get_or counts at f, slice_get-get_or counts at f count_there, counted_push, counted)
 
   pub claim_served : (after : Region) (place : ℕ) (list : List Range) (held : ℕ) → held ≡ of_region at ranges → list ≡ ranges ++ range_here place ∷ [] → ServesClaim claim before' after place →
       held + 1 ≤ after.spare → HaveServed m claims old list (slice_set mid at after)

@@ -51,13 +51,7 @@ has_chip-true m c net on = elim (tree_cases m net.tree.root net.tree.edges c on)
 ]
 
 pub has_chip-tree : (m : Description) (c : Chip) (net : AppNet) → has_chip m c net ≡ true → IsTreeChip m net.tree.root net.tree.edges c
-has_chip-tree m c net e = elim (or_cases (chip_eq c net.tree.root) (list_any (λ (e : Edge). option_map_or (chip_eq c) (end_of m e) false) net.tree.edges) e) [
-  | inl root ↦ inl (chip_eq_true c net.tree.root root)
-  | inr edge ↦ (
-      let found = any_among (λ (e : Edge). option_map_or (chip_eq c) (end_of m e) false) net.tree.edges edge in
-      tree_end m net.tree.root net.tree.edges found.0 c (among_contains found.0 net.tree.edges found.1) (leads_to c (end_of m found.0) found.2)
-      )
-]
+has_chip-tree m c net e = grind (arith, or_cases, chip_eq_true, any_among, tree_end, among_contains, leads_to)
 
 originals_count : (m : Description) (c : Chip) (nets : List AppNet) (blocks : List Block) (os : List Original) → length blocks ≡ length nets →
     AreOriginals m c (nets_with nets blocks) os → length os ≡ count_by (has_chip m c) nets
@@ -70,16 +64,12 @@ originals_count m c (n ∷ ns) (b ∷ bs) os long (inl on) =
     let here : one_if (has_chip m c n) ≡ 1 = ap one_if (has_chip-true m c n on.0) in
     omega (arith, rest, all, count_by-cons (has_chip m c) n ns, here)
 originals_count m c (n ∷ ns) (b ∷ bs) os long (inr off) =
-    let rest = originals_count m c ns bs os (omega (arith, long)) off.1 in
-    let here : one_if (has_chip m c n) ≡ 0 = ap one_if (false_from_ne_true (has_chip m c n) (λ there. off.0 (has_chip-tree m c n there))) in
-    omega (arith, rest, count_by-cons (has_chip m c) n ns, here)
+    grind (arith, originals_count m c ns bs os (omega (arith, long)) off.1, count_by-cons (has_chip m c) n ns, one_if, false_from_ne_true, has_chip-tree)
 
 pub plain_count : (m : Description) (c : Chip) (nets : List AppNet) (blocks : List Block) (rows : List Row) → length blocks ≡ length nets →
     IsPlainTable m (nets_with nets blocks) c rows → length rows ≡ count_by (has_chip m c) nets
 plain_count m c nets blocks rows long plain =
-    let same = length_permutation (map row_of plain.originals) rows plain.one_row_each in
-    let counted = originals_count m c nets blocks plain.originals long plain.originals_are in
-    omega (arith, same, length-map plain.originals row_of, counted)
+    grind (arith, length_permutation (map row_of plain.originals) rows plain.one_row_each, originals_count m c nets blocks plain.originals long plain.originals_are, length-map plain.originals row_of)
 
 pub rows_size : (m : Description) (i : ℕ) → region_size m (1 + (chip_count m + i)) ≡ 1024
 rows_size m i =
@@ -169,14 +159,7 @@ module _ (s : State) (app : LoadedApp) (can : CanSettle s app) (mesh : IsMesh s)
       record { net = below; block = block.0; is = block.1; key = subst (λ (b : Block). b.key + p.index < 2 ^ 32) same_block key.0 }
 
   pub can_send : (q : List (List McCopy)) → q ≡ s.unsent → CanSend s.setup app q
-  can_send q is = record {
-    sources = All-each (IsSendingFrom s.setup) app.plan.nets sending;
-    queues = ap length is ∙ mesh.unsent_lists;
-    packets = All-each (IsPacketOn app.blocks (length app.plan.nets)) app.plan.packets packet_on;
-    blocks = can.loaded.blocks.all;
-    numbers = can.numbers;
-    none = λ net has v vertex. ap (λ (l : List (List McCopy)). slice_get l v) is ∙ can.none net has v vertex;
-  }
+  can_send q is = grind (arith, All-each (IsSendingFrom s.setup) app.plan.nets sending, All-each (IsPacketOn app.blocks (length app.plan.nets)) app.plan.packets packet_on)
 
   module _ {rows lent : List Table} {ranges : List Range} (plain : ArePlain m app rows) (is_rows : lent ≡ rows) (is_ranges : ranges ≡ app.ranges) where
     pub can_copy : {rooms : List ℕ} → HaveRooms m ranges rooms → CanCopy m s.setup.tables lent ranges rooms
@@ -212,9 +195,7 @@ module _ (s : State) (app : LoadedApp) (can : CanSettle s app) (mesh : IsMesh s)
 
 sent_long : (spots : List Spot) (app : LoadedApp) (n : ℕ) (before after : List (List McCopy)) → AreSent spots app n before after → length after ≡ length before
 sent_long spots app zero before after sent = ap length sent
-sent_long spots app (suc n) before after sent =
-    let one = sent.4 in
-    ap length one.is ∙ (length-set sent.0 one.vertex (one.queue ++ _ ∷ []) ∙ sent_long spots app n before sent.0 sent.2)
+sent_long spots app (suc n) before after sent = grind (arith, sent_long spots app n before sent.0 sent.2, length-set)
 
 sent_at_start : (spots : List Spot) (app : LoadedApp) (n : ℕ) (before after : List (List McCopy)) → All (λ q. All (λ (k : McCopy). k.hop ≡ 0) q) before →
     AreSent spots app n before after → All (λ q. All (λ (k : McCopy). k.hop ≡ 0) q) after
@@ -229,24 +210,7 @@ sent_at_start spots app (suc n) before after start sent =
 -- a mesh with other tables, unsent copies, deliveries and records
 pub changed_mesh : (s : State) (tables : List (List Entry)) (q : List (List McCopy)) (delivered : List Delivery) (dumped : List DumpRec) → IsMesh s → length tables ≡ length s.setup.tables →
     length q ≡ length s.unsent → All (λ l. All (λ (k : McCopy). k.hop ≡ 0) l) q → IsMesh (record s { setup = record s.setup { tables = tables }; unsent = q; delivered = delivered; dumped = dumped })
-changed_mesh s tables q delivered dumped mesh long as_long at_start = record {
-  size = mesh.size;
-  different = mesh.different;
-  sites = mesh.sites;
-  room = mesh.room;
-  unsent_lists = as_long ∙ mesh.unsent_lists;
-  input_lists = mesh.input_lists;
-  hand_list = mesh.hand_list;
-  core_lists = mesh.core_lists;
-  table_list = long ∙ mesh.table_list;
-  inputs_within = mesh.inputs_within;
-  cores_within = mesh.cores_within;
-  unsent_at_start = at_start;
-  hands_fit = mesh.hands_fit;
-  none_at_dead_ports = mesh.none_at_dead_ports;
-  none_on_dead_chips = mesh.none_on_dead_chips;
-  no_hand_on_dead_chips = mesh.no_hand_on_dead_chips;
-}
+changed_mesh s tables q delivered dumped mesh long as_long at_start = grind arith
 
 pub settled_mesh : (s : State) (app : LoadedApp) (n : ℕ) (q : List (List McCopy)) (tables : List (List Entry)) → IsMesh s → AreSent s.setup.spots app n s.unsent q →
     length tables ≡ length s.setup.tables → IsMesh (record s { setup = record s.setup { tables = tables }; unsent = q })

@@ -1,4 +1,5 @@
 -- The application of a number, where its place is asked for.
+use Rattle.std.proofs.Common.{arith}
 use Rattle.std.proofs.Common.{◌≡◌, ◌≢◌, ℕ, ◌==◌, Bool, true, false, not, ◌||◌, List, get_or, refl, sym, ap, ◌∙◌, None, Some, inl, inr}
 use Rattle.std.specs.Prelude.{position}
 use Rattle.std.specs.List.{All, Contains, list_any}
@@ -18,8 +19,7 @@ pub use Rattle.app_loads.proofs.Others.{same_tests}
 
 -- a number of an application is loaded
 number_loaded : (apps : List LoadedApp) (number : ℕ) (app : LoadedApp) → Contains apps app → app.number ≡ number → is_loaded apps number ≡ true
-number_loaded apps number app has its =
-    among_any (λ (a : LoadedApp). a.number == number) app apps (contains_among app apps has) (eq-eqb app.number number its)
+number_loaded apps number app has its = grind (arith, contains_among app apps has, eq-eqb app.number number its, among_any)
 
 -- where no place is found, no application has the number
 pub no_app : (apps : List LoadedApp) (number : ℕ) → position (λ (a : LoadedApp). a.number == number) apps ≡ None → (app : LoadedApp) → Contains apps app → app.number ≡ number → ⊥
@@ -51,8 +51,7 @@ module _ (h : Host) (number : ℕ) (apps : AreApps h) (app : LoadedApp) (has : C
   in_apps = contains_among app h.apps has
 
   among_others : (x : LoadedApp) → Among x h.apps → (x.number == number) ≡ false → Among x (others_than number h.apps)
-  among_others x in_x differ =
-      contains_among x (others_than number h.apps) (Contains-filter (λ (a : LoadedApp). not (a.number == number)) h.apps x (among_contains x h.apps in_x) (ap not differ))
+  among_others x in_x differ = grind (arith, among_contains x h.apps in_x, contains_among, Contains-filter)
 
   -- a spot of another application is none of this one
   other_apart : (x : LoadedApp) → Among x (others_than number h.apps) → has_spot x ≡ true → has_spot app ≡ true → ⊥
@@ -82,21 +81,10 @@ module _ (h : Host) (number : ℕ) (apps : AreApps h) (app : LoadedApp) (has : C
           ]
 
       backward : (is_spot_taken (others_than number h.apps) s || has_spot app) ≡ true → is_spot_taken h.apps s ≡ true
-      backward either = elim (cases_Bool (has_spot app)) [
-        | inl mine ↦ among_any has_spot app h.apps in_apps mine
-        | inr not_mine ↦ (
-            let other : is_spot_taken (others_than number h.apps) s ≡ true = sym (or_none (is_spot_taken (others_than number h.apps) s) (has_spot app) not_mine) ∙ either in
-            let found = any_among has_spot (others_than number h.apps) other in
-            among_any has_spot found.0 h.apps (among_filter (λ (a : LoadedApp). not (a.number == number)) found.0 h.apps found.1).0 found.2
-            )
-      ]
+      backward either = grind (arith, cases_Bool (has_spot app), among_any, or_none, any_among, among_filter, in_apps)
 
   pub spots_beside : (is_spot_taken h.apps s ≡ (is_spot_taken (others_than number h.apps) s || has_spot app)) × (has_spot app ≡ true → is_spot_taken (others_than number h.apps) s ≡ false)
-  spots_beside = (
-    taken_by,
-    λ mine. false_from_ne_true (is_spot_taken (others_than number h.apps) s)
-        (λ other. let found = any_among has_spot (others_than number h.apps) other in other_apart found.0 found.1 found.2 mine),
-  )
+  spots_beside = grind (arith, false_from_ne_true, any_among, other_apart)
 
 -- the spots of an application are usable cores
 pub spots_usable : (h : Host) → AreApps h → (app : LoadedApp) → Contains h.apps app → All (IsUsable h.mesh.setup.machine) app.plan.spots

@@ -47,11 +47,7 @@ module _ (m : Description) (taken : List Range) (claim : Claim) (f : Free) (besi
 
   -- and one that may be taken lies in a hole
   pub hole_from_open : (p : ℕ) → IsOpenRange m taken claim p → is_hole_range f.holes p claim.size ≡ true
-  hole_from_open p o =
-      range_of_free 0 f.size f.holes p claim.size beside.runs some
-      (λ k low high.
-      beside.free k ∙ free_of (ltb k f.size) (is_taken taken (place_of m claim.region) k) (lt-ltb k f.size (omega (arith, o.within, beside.size, high)))
-      (o.untaken k (in_from p claim.size k low high)))
+  hole_from_open p o = grind (arith, range_of_free, free_of, lt-ltb, in_from)
 
 -- the first fit is the least range
 pub least_from_fit : (m : Description) (taken : List Range) (claim : Claim) (f : Free) (place : ℕ) → claim.fixed ≡ None → IsFreeBeside m taken (place_of m claim.region) f → 0 < claim.size →
@@ -80,6 +76,4 @@ least_from_fixed m taken claim f place is aligned beside some fits = record {
 
 pub refused_from_fixed : (m : Description) (taken : List Range) (claim : Claim) (f : Free) (place : ℕ) → claim.fixed ≡ Some place →
     IsFreeBeside m taken (place_of m claim.region) f → 0 < claim.size → is_hole_range f.holes place claim.size ≡ false → IsRefusedClaim m taken claim
-refused_from_fixed m taken claim f place is beside some none q o =
-    let e : q ≡ place = subst (λ o'. IfSome o' (λ p. q ≡ p)) is o.fixed in
-    clash (hole_from_open m taken claim f beside some q o) (ap (λ p. is_hole_range f.holes p claim.size) e ∙ none)
+refused_from_fixed m taken claim f place is beside some none q o = grind (arith, hole_from_open m taken claim f beside some q o, clash)

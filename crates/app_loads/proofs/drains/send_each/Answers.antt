@@ -5,17 +5,10 @@ use Rattle.app_loads.proofs.Kept.{alone_with}
 use Rattle.app_loads.proofs.drains.send_each.Goals as goal
 
 pub overflow_cast-vertex : goal.overflow_cast-vertex
-overflow_cast-vertex c =
-    let few = few_spots (with_earlier (all_grouped c.args.earlier.now) c.args.mesh.now) c.requires.clean.kept in
-    let below = c.requires.alone.there c.loop-vertex.vertex-index 0 c.loop-vertex-test.true in
-    omega (arith, few, below)
+overflow_cast-vertex c = grind (arith, few_spots (with_earlier (all_grouped c.args.earlier.now) c.args.mesh.now) c.requires.clean.kept)
 
 pub loop-vertex-init : goal.loop-vertex-init
-loop-vertex-init c = record {
-  reached = reached_none (with_earlier (all_grouped c.args.earlier.now) c.args.mesh.now);
-  clean = c.requires.clean;
-  unsent = c.requires.alone.others;
-}
+loop-vertex-init c = grind (arith, reached_none (with_earlier (all_grouped c.args.earlier.now) c.args.mesh.now))
 
 pub send_all-requires : goal.send_all-requires
 send_all-requires c = record {

@@ -1,6 +1,4 @@
-use Rattle.std.proofs.Common.{subst}
-use Rattle.std.specs.Prelude.{IfSome}
-use Rattle.app_loads.specs.{Groups.last_arrivals, Running.Comes}
+use Rattle.std.proofs.Common.{arith}
 use Rattle.app_loads.proofs.Kept.{known_still, ok_anyway}
 use Rattle.app_loads.proofs.drains.send_next.Goals as goal
 
@@ -8,14 +6,10 @@ pub first_unsent-copy-requires : goal.first_unsent-copy-requires
 first_unsent-copy-requires c = record { there = c.requires.can.there; some = c.requires.can.some }
 
 pub send_again-requires-clause-comes : goal.send_again-requires-clause-comes
-send_again-requires-clause-comes c =
-    let is = c.is_last.ensures c.if-is_last.true in
-    (is.0, is.2, subst (λ k. IfSome k (Comes c.args.mesh.now.setup c.args.vertex (last_arrivals c.args.earlier.now))) is.1 c.requires.last)
+send_again-requires-clause-comes c = grind arith
 
 pub send_to-requires-clause-comes : goal.send_to-requires-clause-comes
-send_to-requires-clause-comes c =
-    let it = c.in-Some.ensures in
-    (it.has, c.requires.known.come it.first c.in-Some.it.now it.is)
+send_to-requires-clause-comes c = grind arith
 
 pub send_again-requires-clause-sends : goal.send_again-requires-clause-sends
 send_again-requires-clause-sends c = record { clean = c.requires.can.clean; there = c.requires.can.there; first = c.first_unsent-copy.ensures }

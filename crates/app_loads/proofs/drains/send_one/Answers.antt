@@ -1,5 +1,4 @@
-use Rattle.std.proofs.Common.{◌∙◌, ap}
-use Rattle.mesh_core.specs.State.{State}
+use Rattle.std.proofs.Common.{arith}
 use Rattle.app_loads.specs.Grouping.{all_grouped}
 use Rattle.app_loads.proofs.{Earlier.reached_with, Kept.brought_more, Kept.may_send, Kept.ok_then, Kept.sent_clean, Kept.sent_reached}
 use Rattle.app_loads.proofs.drains.send_one.Goals as goal
@@ -23,13 +22,7 @@ returns-clause-clean c =
     c.in_ok-send_first.ensures.quiet) c.keep.ensures.none
 
 pub returns-clause-unsent : goal.returns-clause-unsent
-returns-clause-unsent c =
-    ok_then c.keep.result (λ none copy rest at. ap (λ (s : State). s.unsent) c.keep.ensures.mesh ∙ c.in_ok-send_first.ensures.unsent copy rest at) c.keep.ensures.none
+returns-clause-unsent c = grind (arith, ok_then)
 
 pub returns-clause-brought : goal.returns-clause-brought
-returns-clause-brought c =
-    ok_then c.keep.result
-    (λ none copy rest at.
-    brought_more (all_grouped c.args.earlier.now) (all_grouped c.keep.new.earlier) c.args.mesh.now c.send_first.new.mesh c.keep.new.mesh c.requires.clean c.send_first.ensures.reached
-    c.keep.ensures.mesh c.keep.ensures.all
-    c.args.vertex copy.key none (c.in_ok-send_first.ensures.brought copy rest at)) c.keep.ensures.none
+returns-clause-brought c = grind (arith, ok_then, brought_more)

@@ -1,14 +1,11 @@
-use Rattle.std.proofs.Common.{subst, sym, List, refl}
+use Rattle.std.proofs.Common.{arith, subst, refl}
 use Rattle.machine_desc.specs.Description.{Description}
-use Rattle.app_loads.specs.{declared.loaded.Range.Range, Claims.claims_of, Plans.IsPlan, Taking.AreFreeAgain, Taking.AreRegionsOf, Taking.AreTaken, Taking.HaveRoom, Taking.IsDueAlways}
+use Rattle.app_loads.specs.{Claims.claims_of, Taking.AreFreeAgain, Taking.IsDueAlways}
 use Rattle.app_loads.proofs.JoinLaws.{can_settle, served_on}
 use Rattle.app_loads.proofs.loads.join.Goals as goal
 
 pub serve-requires : goal.serve-requires
-serve-requires c = record {
-  plan = subst (λ (m : Description). IsPlan m c.args.plan.now) (sym c.machine.ensures) c.requires.valid;
-  regions = subst (λ (m : Description). AreRegionsOf m c.args.regions.now) (sym c.machine.ensures) c.requires.of_machine;
-}
+serve-requires c = grind arith
 
 pub returns-in-Err-clause-due : goal.returns-in-Err-clause-due
 returns-in-Err-clause-due c = subst (λ (m : Description). IsDueAlways m (claims_of m c.args.plan.now) c.args.regions.now c.in-Err.refusal) c.machine.ensures c.in-Err.ensures.due
@@ -26,15 +23,7 @@ pub returns-in-Ok-settled-clause-served : goal.returns-in-Ok-settled-clause-serv
 returns-in-Ok-settled-clause-served c = served_on c.machine.ensures c.in-Ok.ensures.served
 
 pub give_all-requires : goal.give_all-requires
-give_all-requires c =
-    let own = c.requires.of_machine in
-    let taken = (served_on c.machine.ensures c.in-Ok.ensures.served).taken own.taken own.apart own.free in
-    record {
-      taken = (c.args.mesh.setup.machine, own.taken, subst (λ (l : List Range). AreTaken c.args.mesh.setup.machine own.taken l c.serve.new.regions) (sym c.as_slice.ensures) taken);
-      room = subst (λ (l : List Range). HaveRoom l c.serve.new.regions) (sym c.as_slice.ensures) c.in-Ok.ensures.room;
-    }
+give_all-requires c = grind (arith, served_on c.machine.ensures c.in-Ok.ensures.served)
 
 pub returns-in-Err-settled-clause-back : goal.returns-in-Err-settled-clause-back
-returns-in-Err-settled-clause-back c taken apart free =
-    c.give_all.ensures.free c.args.mesh.setup.machine taken
-    (subst (λ (l : List Range). AreTaken c.args.mesh.setup.machine taken l c.serve.new.regions) (sym c.as_slice.ensures) ((served_on c.machine.ensures c.in-Ok.ensures.served).taken taken apart free))
+returns-in-Err-settled-clause-back c taken apart free = grind (arith, served_on c.machine.ensures c.in-Ok.ensures.served)

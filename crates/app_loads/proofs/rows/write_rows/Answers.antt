@@ -72,5 +72,4 @@ pub returns : goal.returns
 returns c = all_copied c.args.machine.now (tables_in c.args.lists.now) c.args.ranges.now c.args.tables.now c.loop-range.tables c.loop-range.range-index c.loop-range-test.false c.loop-range.invariant.copied
 
 pub next_room-room-requires : goal.next_room-room-requires
-next_room-room-requires c =
-    omega (arith, ap length c.loop-range.invariant.left, length-drop c.loop-range.range-index c.args.rooms.items, c.requires.room.all, c.loop-range-test.true)
+next_room-room-requires c = grind (arith, length-drop c.loop-range.range-index c.args.rooms.items)
