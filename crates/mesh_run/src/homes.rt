@@ -25,7 +25,10 @@ pub(crate) fn runs_of(alloc: Global, footing: Footing, workers: u32) -> Result<V
     ensures { IfOk result (λ ends. AreShareRuns (2 * grid_size footing.entry.setup.now) ends.items) }
 {
     let count = footing.actors() as usize;
-    let size = footing.live_actors().div_ceil(workers.max(1) as usize).max(1);
+    let size = footing
+        .live_actors()
+        .div_ceil(workers.max(1) as usize)
+        .max(1);
     let mut ends = Vec::new(alloc);
     let mut here: usize = 0;
     for place in 0..count {
@@ -66,11 +69,7 @@ pub(crate) fn share_table(alloc: Global, ends: &[usize], count: u32) -> Result<V
 
 /// The homes of all queues: an output's router sends to the queue behind it, and a bank to its chip's injection queue; a router takes from
 /// its ports' queues, and a bank from those of its vertices.
-pub(crate) fn homes_of(
-    alloc: Global,
-    footing: Footing,
-    table: &[u32],
-) -> Result<Vec<Home>, Memory>
+pub(crate) fn homes_of(alloc: Global, footing: Footing, table: &[u32]) -> Result<Vec<Home>, Memory>
     requires { length table.now ≡ 2 * grid_size footing.setup.now }
     ensures { IfOk result (λ homes. AreHomesOf footing.entry.setup.now table.now homes.items) }
 {
