@@ -1,6 +1,6 @@
 -- That a vertex is on a chip has one proof at most. So a struct may keep that a floor is a setup's.
 use Rattle.std.specs.Prelude.{◌≡◌, ℕ, Some, slice_get}
-use Rattle.std.proofs.Common.{ap, sym, subst, ◌∙◌}
+use Rattle.std.proofs.Common.{sym, subst, ◌∙◌}
 use Rattle.std.proofs.Props.{props}
 use Rattle.std.proofs.lemmas.Option.{same_Some}
 use Rattle.spin_base.specs.declared.chips.Spot.{Spot}

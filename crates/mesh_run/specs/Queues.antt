@@ -1,5 +1,5 @@
 -- A queue brought up as a link, at rest between rounds, and brought down.
-use Rattle.std.specs.Prelude.{◌≡◌, ℕ, ◌+◌, ◌*◌, ◌-◌, ◌==◌, ◌<◌, ◌≤◌, Bool, min, List, [], ◌∷◌, ◌++◌, map, length, All, if◌then◌else◌, slice_index_or, slice_set}
+use Rattle.std.specs.Prelude.{◌≡◌, ℕ, ◌+◌, ◌*◌, ◌-◌, ◌==◌, ◌<◌, ◌≤◌, Bool, min, List, [], ◌++◌, map, length, All, if◌then◌else◌, slice_index_or, slice_set}
 use Rattle.std.specs.List.{list_all}
 use Rattle.spin_base.specs.declared.copies.McCopy.{McCopy}
 use Rattle.link_queue.specs.declared.links.LinkEnds.{LinkEnds}

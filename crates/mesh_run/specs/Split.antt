@@ -1,5 +1,5 @@
 -- A mesh that is split into shares, with links between them (this project's own).
-use Rattle.std.specs.Prelude.{◌≡◌, ◌≢◌, ◌⊎◌, ℕ, ◌+◌, ◌*◌, ◌<◌, List, [], map, length, Option, Some, None, All, slice_get, slice_index_or}
+use Rattle.std.specs.Prelude.{◌≡◌, ◌≢◌, ◌⊎◌, ℕ, ◌+◌, ◌<◌, List, [], map, length, Option, Some, None, All, slice_get, slice_index_or}
 use Rattle.spin_base.specs.declared.copies.McCopy.{McCopy}
 use Rattle.spin_base.specs.WithRoom.{WithRoom}
 use Rattle.mesh_core.specs.State.{Setup}
