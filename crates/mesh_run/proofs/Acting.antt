@@ -1,12 +1,9 @@
 -- What one turn of the actor at a place does to a share, and turns one after the other.
-use Rattle.std.proofs.Common.{◌≡◌, ◌≢◌, ◌⊎◌, ℕ, ◌+◌, ◌*◌, ◌/◌, ◌%◌, ◌<◌, ◌≤◌, Bool, true, false, List, []}
-use Rattle.std.proofs.Common.{◌++◌, length, Option, None, Some, refl, sym, ap, ◌∙◌, subst, arith, inl, inr}
-use Rattle.std.proofs.lemmas.List.{Elements.All-append, Elements.All-nil, Elements.All-weaker}
-use Rattle.std.proofs.lemmas.{Bool.cases_eq, Nat.div-add-mod', Nat.mod_below, Option.slice_get_within}
+use Rattle.std.proofs.Common.{◌≡◌, ◌≢◌, ◌⊎◌, ℕ, ◌+◌, ◌*◌, ◌/◌, ◌%◌, ◌<◌, ◌≤◌, Bool, true, false, List, [], ◌++◌, length, Option, None, Some, refl, sym, ap, ◌∙◌, subst, arith, inl, inr}
+use Rattle.std.proofs.lemmas.{List.Elements.All-append, List.Elements.All-nil, List.Elements.All-weaker, Bool.cases_eq, Nat.div-add-mod', Nat.mod_below, Option.slice_get_within}
 use Rattle.std.specs.List.{All, slice_get}
-use Rattle.spin_base.proofs.{Places.All-each, Places.both_none}
-use Rattle.spin_base.specs.declared.routes.Out.{Out, TheVariants.Link, TheVariants.Core}
-use Rattle.spin_base.specs.{Links.port_number, Outputs.out_number, Outputs.IsOutput}
+use Rattle.spin_base.proofs.Places.{All-each, both_none}
+use Rattle.spin_base.specs.{declared.routes.Out.Out, declared.routes.Out.TheVariants.Link, declared.routes.Out.TheVariants.Core, Links.port_number, Outputs.out_number, Outputs.IsOutput}
 use Rattle.machine_desc.specs.Live.{chip_of, index_of}
 use Rattle.machine_desc.proofs.{Far.live_inside, Live.index_of-chip_of}
 use Rattle.link_queue.specs.declared.links.Link.{Link as QueueLink}

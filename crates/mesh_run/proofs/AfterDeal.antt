@@ -1,7 +1,6 @@
 -- The shares of a split mesh, with the ends of the links between them dealt: each share holds what its actors need.
 use Rattle.std.proofs.Common.{◌≡◌, ◌≢◌, ℕ, ◌*◌, ◌<◌, ◌≤◌, List, [], ◌++◌, length, map, get_or, Option, Some, refl, sym, ap, ◌∙◌, subst, arith, inl, inr, zero, suc}
-use Rattle.std.proofs.lemmas.{Bool.cases_eq, List.length-map}
-use Rattle.std.proofs.lemmas.Option.{get_or_from_slice_get, slice_get_within, slice_get-get_or, same_Some}
+use Rattle.std.proofs.lemmas.{Bool.cases_eq, List.length-map, Option.get_or_from_slice_get, Option.slice_get_within, Option.slice_get-get_or, Option.same_Some}
 use Rattle.std.specs.List.{All, slice_get, slice_index_or}
 use Rattle.spin_base.proofs.{Places.one_item_at, Places.slice_get-mapped, Places.slice_get_there, Spots.out_of-has_bit}
 use Rattle.spin_base.specs.{Outputs.IsOutput, WithRoom.WithRoom, declared.copies.McCopy.McCopy, declared.routes.Out.Out}

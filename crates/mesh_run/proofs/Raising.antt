@@ -8,12 +8,10 @@ use Rattle.spin_base.specs.declared.copies.McCopy.{McCopy}
 use Rattle.link_queue.specs.declared.links.LinkEnds.{LinkEnds}
 use Rattle.chip_node.specs.declared.ends.End.{End, TheVariants.Away, TheVariants.Own}
 use Rattle.mesh_core.specs.State.{IsMesh, Setup, State}
-use Rattle.mesh_run.specs.declared.{homes.Home.Home, layout.Layout.Layout, raised.RaisedMesh.RaisedMesh, shares.Share.Share}
-use Rattle.mesh_run.specs.{Layouts.IsLayoutOf, Played.port_count, Queues.AreUp, Queues.StayUp, Queues.queue_of_link, Raised.IsRaisedFrom}
-use Rattle.mesh_run.specs.Rooms.{AreSameCopies, SameCopies, SameEnd}
-use Rattle.mesh_run.specs.Split.{AreShared, HaveNoLogs, HoldLanes, HoldUnsent, cut_queues, end_at, end_in, unsent_at, unsent_in}
-use Rattle.mesh_run.specs.Splitting.{AreSameRuns, HoldVertices, MovesIn}
-use Rattle.mesh_run.specs.Standing.{HoldsAll}
+use Rattle.mesh_run.specs.{declared.homes.Home.Home, declared.layout.Layout.Layout, declared.raised.RaisedMesh.RaisedMesh, declared.shares.Share.Share, Layouts.IsLayoutOf, Played.port_count}
+use Rattle.mesh_run.specs.{Queues.AreUp, Queues.StayUp, Queues.queue_of_link, Raised.IsRaisedFrom, Rooms.AreSameCopies, Rooms.SameCopies, Rooms.SameEnd, Split.AreShared, Split.HaveNoLogs}
+use Rattle.mesh_run.specs.{Split.HoldLanes, Split.HoldUnsent, Split.cut_queues, Split.end_at, Split.end_in, Split.unsent_at, Split.unsent_in, Splitting.AreSameRuns, Splitting.HoldVertices}
+use Rattle.mesh_run.specs.{Splitting.MovesIn, Standing.HoldsAll}
 use Rattle.mesh_run.proofs.{BringingUp.fewer_up, CrossingLaws.end_there, Going.GoneTo, RoomLaws.copies_same}
 
 -- ---- the same runs
