@@ -8,7 +8,10 @@ use Rattle.mesh_run.proofs.{AfterMesh.mesh, AfterMesh.queue_there, Resting.fewer
 
 module _ (w : Whole) where
   pub whole_no_logs : HaveNoLogs w.cleared
-  whole_no_logs = grind (arith, slice_get_there, get_or, slice_get-get_or)
+  whole_no_logs = λ i d below.
+      let was = slice_get_there w.collected i (let long = w.clears.0 in omega (arith, below, long)) in
+      let same = w.clears.1 i was.0 (get_or w.cleared i d) was.1 (slice_get-get_or w.cleared i d below) in
+      (same.dumps, same.deliveries)
 
   after_long : length w.rests.now ≡ length w.r.layout.now.cuts.items
   after_long = grind (arith, length-map, get_or)
@@ -24,4 +27,14 @@ module _ (w : Whole) where
       (slice_get-mapped (λ (d : Cut). get_or ((mesh w).inputs ++ (mesh w).cores) d.queue []) w.r.layout.now.cuts.items l cut.0 cut.1)))
 
   pub whole_up : AreUp w.m.setup.capacity 0 (cut_queues ((mesh w).inputs ++ (mesh w).cores) w.r.layout.now.cuts.items) w.rests.now
-  whole_up = grind (arith, mesh w, after_long, length-map w.rests.now queue_of_link, get_or, queue_at_cut, fewer)
+  whole_up =
+      let many = length-map w.r.layout.now.cuts.items (λ (d : Cut). get_or ((mesh w).inputs ++ (mesh w).cores) d.queue []) in
+      let links = after_long in
+      let mapped = length-map w.rests.now queue_of_link in
+      record {
+        long = links ∙ sym many;
+        each = λ l q e below.
+            let inside : l < length w.r.layout.now.cuts.items = omega (arith, below, many) in
+            subst (λ (x : List McCopy). IsUp w.m.setup.capacity 0 x (get_or w.rests.now l e)) (queue_at_cut l q inside)
+            (fewer w.m.setup.capacity w.rested.free (get_or (map queue_of_link w.rests.now) l q) (get_or w.rests.now l e) (w.rests.up.each l q e (omega (arith, inside, mapped, links))));
+      }

@@ -15,7 +15,8 @@ any_same : {X Y : Type 0} (f : X → Bool) (g : Y → Bool) (xs : List X) (ys : 
 any_same f g [] [] long each = refl
 any_same f g [] (y ∷ ys) long each = absurd (omega (arith, long))
 any_same f g (x ∷ xs) [] long each = absurd (omega (arith, long))
-any_same f g (x ∷ xs) (y ∷ ys) long each = grind arith
+any_same f g (x ∷ xs) (y ∷ ys) long each =
+    ap₂ (λ a b. a || b) (each 0 x y (omega arith)) (any_same f g xs ys (omega (arith, long)) (λ i a b below. each (suc i) a b (omega (arith, below))))
 
 -- what one share logged
 share_logged : (cap patience : ℕ) (s d p c : Share) (items : List Item) → (d.hold.deliveries ≡ s.hold.deliveries) × (d.hold.dumps ≡ s.hold.dumps) →

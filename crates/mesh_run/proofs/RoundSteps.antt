@@ -37,7 +37,12 @@ module _ {m : State} {r : RaisedMesh} {lent : Standing} {dealt : List Share} whe
   pub is_dealt : {cuts : List Cut} → IsMesh m → IsRoomyFrom m (r.pace.turns + 1) r → cuts ≡ r.layout.now.cuts.items →
       ((ends : List LinkEnds) → HoldsAll ends r.standing → Deals ends cuts r.shares.items dealt) →
       ((ends : List LinkEnds) → HoldsAll ends r.standing → HoldsNoEnds ends lent) → IsDealt m r lent dealt
-  is_dealt is_mesh roomy same deals none = grind arith
+  is_dealt is_mesh roomy same deals none = record {
+    is_mesh = is_mesh;
+    roomy = roomy;
+    deals = subst (λ (l : List Cut). Deals roomy.raised.ends l r.shares.items dealt) same (deals roomy.raised.ends roomy.raised.holds);
+    none_left = none roomy.raised.ends roomy.raised.holds;
+  }
 
   -- all are shares of the mesh
   pub shares_of_mesh : IsDealt m r lent dealt → All (IsShareOf r.parts.setup lent.links.items) dealt
@@ -79,7 +84,13 @@ module _ {m : State} {r : RaisedMesh} {lent : Standing} {dealt : List Share} whe
       pub is_collected : {cuts : List Cut} → IsTurned m r lent dealt played → cuts ≡ r.layout.now.cuts.items →
           ((ends : List LinkEnds) → HoldsNoEnds ends lent → length ends ≡ length cuts → HoldsCollected ends cuts played brought collected) →
           IsCollected m r lent dealt played brought collected
-      is_collected t same collects = grind arith
+      is_collected t same collects =
+          let none = no_ends t in
+          record {
+            turned = t;
+            collects = subst (λ (l : List Cut). HoldsCollected none.0 l played brought collected) same
+                (collects none.0 none.1 (none.2 ∙ ap length (sym same)));
+          }
 
       -- the links can rest
       pub can_rest : IsCollected m r lent dealt played brought collected → (ends : List LinkEnds) × HoldsAll ends brought × All (WasUp r.parts.setup.capacity) ends

@@ -1,4 +1,4 @@
-use Rattle.std.proofs.Common.{arith, ◌+◌, List, ◌∙◌, subst}
+use Rattle.std.proofs.Common.{◌+◌, List, ◌∙◌, subst}
 use Rattle.link_queue.specs.declared.links.LinkEnds.{LinkEnds}
 use Rattle.mesh_run.specs.{Queues.StayUp, Standing.HoldsAll}
 use Rattle.mesh_run.proofs.{Holding.only_ends, Resting.StaysAs, Resting.after_refusal, Resting.all_stay, Resting.links_past, Resting.next_at, Resting.next_up, Resting.none_done, Resting.one_done}
@@ -30,4 +30,7 @@ loop-place-preserved g c =
     (h.0, h.1, h.2, one_done at.now h.3 n at.up at.holds)
 
 pub returns-clause-wide : goal.returns-clause-wide
-returns-clause-wide g c = grind (arith, only_ends, all_stay, links_past)
+returns-clause-wide g c = λ ends holds.
+    let h = c.loop-place.invariant in
+    subst (λ (l : List LinkEnds). StayUp c.args.places.cap (c.args.places.turns + 1) l c.loop-place.standing) (only_ends h.0 ends c.args.standing.now h.1 holds)
+    (all_stay h.3 (links_past h.3 h.1 (c.len-place-end.ensures ∙ c.args.standing.now.links.ok.0) c.loop-place-test.false))

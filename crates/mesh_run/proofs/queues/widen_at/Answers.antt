@@ -51,7 +51,17 @@ pub put_ends-requires : goal.put_ends-requires
 put_ends-requires g c = grind (arith, rest_within (c.requires).3 (c.rest_at-held.ensures (c.requires).0 (c.requires).1 (c.requires).2 (c.requires).3))
 
 pub returns-in-Ok-clause-wide : goal.returns-in-Ok-clause-wide
-returns-in-Ok-clause-wide g c = grind (arith, rest_stands, widened_up)
+returns-in-Ok-clause-wide g c = λ ends old holds at up.
+    let r = c.rest_at-held.ensures ends old holds at in
+    let taken = c.take_ends-tx.ensures.ends _ r.now r.holds (rest_stands at r) in
+    let made = c.in-Ok.ensures in
+    widened_up at r up c.args.places.turns (ap (λ (x : Tx). (sending x).first) taken.0) c.for_held-wider.ensures made.sending made.taking made.cap made.room
+    (c.set.ensures _ (c.take_ends-tx.ensures.left _ r.holds))
 
 pub returns-in-Err-clause-back : goal.returns-in-Err-clause-back
-returns-in-Err-clause-back g c = grind (arith, rest_stands, put_again)
+returns-in-Err-clause-back g c = λ ends old holds at up.
+    let r = c.rest_at-held.ensures ends old holds at in
+    let stands = rest_stands at r in
+    let taken = c.take_ends-tx.ensures.ends _ r.now r.holds stands in
+    let back = c.in-Err.ensures.back in
+    put_again at r up (back.0 ∙ taken.0) (back.1 ∙ taken.1) (c.put_ends.ensures _ r.now (c.take_ends-tx.ensures.left _ r.holds) stands)

@@ -1,10 +1,10 @@
-use Rattle.std.proofs.Common.{arith, ℕ, ◌+◌, List, length, sym, ap, ◌∙◌, subst}
+use Rattle.std.proofs.Common.{ℕ, ◌+◌, List, ◌++◌, length, sym, ap, ◌∙◌, subst}
 use Rattle.std.proofs.lemmas.List.{with_items_is}
-use Rattle.std.specs.List.{All}
+use Rattle.std.specs.{List.All, List.flat_map, Vec.with_items}
 use Rattle.link_queue.specs.declared.links.{Link.Link, LinkEnds.LinkEnds}
 use Rattle.mesh_core.specs.State.{IsMesh, State}
 use Rattle.mesh_run.specs.{declared.homes.Cut.Cut, declared.raised.RaisedMesh.RaisedMesh, declared.shares.Share.Share, Crossing.AreCuts, Crossing.AreLaid, Crossing.Deals, Crossing.HoldsNoEnds}
-use Rattle.mesh_run.specs.{Gathering.FitsLogs, Queues.WasUp, Raised.IsRoomyFrom, Shares.IsShareOf, Standing.HoldsAll}
+use Rattle.mesh_run.specs.{Gathering.AreEmptied, Gathering.FitsLogs, Gathering.IsAnyMoved, Queues.RestAll, Queues.WasUp, Raised.IsRoomyFrom, Raised.PlaysTo, Shares.IsShareOf, Standing.HoldsAll}
 use Rattle.mesh_run.proofs.{AfterDeal.cuts_apart, RoundSteps.IsCollected, RoundSteps.IsDealt, RoundSteps.IsTurned, RoundSteps.PlayAndStay, RoundSteps.can_rest, RoundSteps.cuts_laid}
 use Rattle.mesh_run.proofs.RoundSteps.{is_collected, is_dealt, is_turned, no_ends, room_for_logs, round_plays, shares_of_mesh, still_cuts}
 use Rattle.mesh_run.proofs.raised.RaisedMesh.play_roomy.{Given.Over, Goals.After-collect, Goals.After-deal, Goals.After-play_all}
@@ -87,4 +87,25 @@ gather-requires g c =
     (room_for_logs (collected g (goal.at.gather-requires g c).After-collect q.0 turn)))
 
 pub returns-clause-played : goal.returns-clause-played
-returns-clause-played g c = grind (arith, with_items_is c.collect.new.shares c.gather.new.shares (c.gather.ensures.cleared.0 ∙ c.deref_mut.ensures.len), turned, dealt, collected, round_plays)
+returns-clause-played g c = λ m is_mesh roomy.
+    let r = c.args.self.now in
+    let standing = c.rest_all.new.standing in
+    let shares = with_items c.collect.new.shares c.gather.new.shares in
+    let logs = c.gather.new.self in
+    let turn = turned g (goal.at.returns-clause-played g c).After-play_all m (dealt g (goal.at.returns-clause-played g c).After-deal m is_mesh roomy) in
+    let all = collected g (goal.at.returns-clause-played g c).After-collect m turn in
+    let value = c.deref_mut.ensures.value in
+    subst (λ (x : RaisedMesh). PlaysTo r.pace.patience r.pace.turns m c.gather.result (record x { standing = standing; shares = shares; logs = logs }))
+    (sym c.self.view_is)
+    (round_plays standing shares logs c.gather.result all
+    (subst (λ (n : ℕ). (ends : List LinkEnds) → HoldsAll ends c.collect.new.standing → RestAll n ends standing c.rest_all.result)
+    (c.capacity-2.ensures ∙ ap (λ (x : RaisedMesh). x.parts.setup.capacity) c.self.view_is) c.rest_all.ensures)
+    (subst (AreEmptied c.collect.new.shares.items) (sym (with_items_is c.collect.new.shares c.gather.new.shares (c.gather.ensures.cleared.0 ∙ c.deref_mut.ensures.len)))
+    (subst (λ (l : List Share). AreEmptied l c.gather.new.shares) value c.gather.ensures.cleared))
+    (c.gather.ensures.delivered
+    ∙ (ap (λ (x : RaisedMesh). x.logs.delivered.items ++ flat_map (λ (s : Share). s.hold.deliveries.items) c.deref_mut.result.now) c.self.view_is
+    ∙ ap (λ (l : List Share). r.logs.delivered.items ++ flat_map (λ (s : Share). s.hold.deliveries.items) l) value))
+    (c.gather.ensures.dumped
+    ∙ (ap (λ (x : RaisedMesh). x.logs.dumped.items ++ flat_map (λ (s : Share). s.hold.dumps.items) c.deref_mut.result.now) c.self.view_is
+    ∙ ap (λ (l : List Share). r.logs.dumped.items ++ flat_map (λ (s : Share). s.hold.dumps.items) l) value))
+    (subst (λ (l : List Share). IsAnyMoved l c.gather.result) value c.gather.ensures.moved))
