@@ -7,8 +7,9 @@
 
 `bodies` looks at each body of two lines and more. Beside its lemma it writes a second one of the same statement, whose body is `grind`
 with the lemmas that the first one cites: with their arguments where these are known at the head of the body, by their bare names
-elsewhere. One `rt check` of the crate tries all of them, since one that fails keeps no other from being checked. Each that is proved
-takes the place of the first body, and the second lemma goes. `blocks` does the same for the parts of a body that stays: a case, a
+elsewhere. One `rt check` of the crate tries all of them, since one that fails keeps no other from being checked. Each that is not refused
+takes the place of the first body, and the second lemma goes. Then the crate is checked again, and bodies that are refused come back: those
+of lemmas that no check came to, and of values on which a type rests. `blocks` does the same for the parts of a body that stays: a case, a
 field, a `let`. `imports` drops the names that a file of proofs does not use, adds those of the tactics, and writes those of one
 folder on one line.
 
@@ -70,8 +71,11 @@ def lemmas_in(lines):
             while end < len(lines) and lines[end].strip() and (indent(lines[end]) > depth or closing.match(lines[end])):
                 end += 1
             equations.append((begin, end))
-        is_whole = not any(re.search(r"\bwhere\b", it) for it in lines[at : end + 1])
-        if equations and is_whole:
+        if any(re.search(r"\bwhere\b", it) for it in lines[at : end + 1]):
+            # What stands below `where` is checked with the lemma, and not by itself.
+            while end < len(lines) and not (lines[end].strip() and indent(lines[end]) <= depth):
+                end += 1
+        elif equations:
             found.append((head[2], stated, unfolds, equations, end))
         at = max(end, at + 1)
     return found
@@ -255,6 +259,28 @@ def with_tactics(lines):
     return lines[:at] + lacking + lines[at:]
 
 
+def said_of(crate):
+    """What a check of the crate says, or nothing where it comes to no function."""
+    ran = subprocess.run(["rt", "check", "--jobs", "1"], cwd=f"crates/{crate}", stdout=subprocess.PIPE, stderr=subprocess.STDOUT, errors="replace", check=False)
+    if f"fn {crate}::" not in ran.stdout:
+        print(ran.stdout[-2000:], "\nno verdict")
+        return None
+    return ran.stdout
+
+
+def put(before, taken):
+    """Writes the files as they were, but for the bodies that are taken; those that overlap another one are left."""
+    count = gain = 0
+    for file, lines in before.items():
+        lines, free = list(lines), len(lines)
+        for _, _, begin, end, new in sorted((it for it in taken if it[1] == file), key=lambda it: (-it[2], it[3])):
+            if end <= free:
+                lines[begin:end] = new
+                count, gain, free = count + 1, gain + end - begin - len(new), begin
+        write(file, with_tactics(lines))
+    return count, gain
+
+
 def shorten(crate, parts):
     before = {file: read(file) for file in files_of(crate)}
     tries = {}
@@ -264,26 +290,28 @@ def shorten(crate, parts):
             write(file, lines)
             tries |= more
     print(f"{crate}: {len(tries)} tries", flush=True)
-    ran = subprocess.run(["rt", "check", "--jobs", "1"], cwd=f"crates/{crate}", stdout=subprocess.PIPE, stderr=subprocess.STDOUT, errors="replace", check=False)
-    for file, lines in before.items():
-        write(file, lines)
-    if f"fn {crate}::" not in ran.stdout:
-        print(ran.stdout[-2000:], "\nno verdict: nothing was changed")
+    said = said_of(crate)
+    put(before, [])
+    if not said:
         return 1
-    refused = set(re.findall(r"([^\s`,()]+__\d+)", ran.stdout))
-    broken = re.findall(r"^\.?/?(proofs/\S+\.antt):\d+:\d+: error: (?!`|\d+ declaration)", ran.stdout, re.M)
-    good = [it for name, it in tries.items() if name not in refused and it[0] not in {f"crates/{crate}/{file}" for file in broken}]
-    taken, gain = [], 0
-    for file, begin, end, new in sorted(good, key=lambda it: it[1] - it[2] + len(it[3])):
-        if all(file != other or end <= first or begin >= last for other, first, last, _ in taken):
-            taken.append((file, begin, end, new))
-            gain += end - begin - len(new)
-    for file in {it[0] for it in taken}:
-        lines = read(file)
-        for _, begin, end, new in sorted((it for it in taken if it[0] == file), key=lambda it: -it[1]):
-            lines[begin:end] = new
-        write(file, with_tactics(lines))
-    print(f"{crate}: {len(taken)} of {len(tries)} taken, {gain} lines fewer")
+    refused = set(re.findall(r"([^\s`,()]+__\d+)", said))
+    broken = {f"crates/{crate}/{it}" for it in re.findall(r"^\.?/?(proofs/\S+\.antt):\d+:\d+: error: (?!`|\d+ declaration)", said, re.M)}
+    taken = [(name.rpartition("__")[0], *it) for name, it in tries.items() if name not in refused and it[0] not in broken]
+    while taken:
+        count, gain = put(before, taken)
+        said = said_of(crate)
+        errors = re.findall(r"^\.?/?(proofs/\S+\.antt):\d+:\d+: error: (?!\d+ declaration)(.*)", said or "", re.M)
+        if said and not errors:
+            break
+        words = {(f"crates/{crate}/{file}", name) for file, text in errors for name in re.findall(r"[^\s`(),]+", text)}
+        left = [it for it in taken if (it[1], it[0]) not in words]
+        files = {file for file, _ in words}
+        taken = left if len(left) < len(taken) else [it for it in taken if it[1] not in files] if said and files & {it[1] for it in taken} else []
+        print(f"{crate}: {len(taken)} left after {len(errors)} errors", flush=True)
+    if not taken:
+        put(before, [])
+        count = gain = 0
+    print(f"{crate}: {count} of {len(tries)} taken, {gain} lines fewer")
     return 0
 
 
