@@ -1,6 +1,6 @@
 -- The ledger of copies is kept by every event, by every list of events and by putting a copy back: for a list of nets, for
 -- asked packets and for a job.
-use Rattle.std.proofs.Common.{arith, ◌≡◌, ℕ, List, [], ◌∷◌, Bool, true, false, Option, Some, None, refl, sym, ◌∙◌, subst, unwrap_or, if◌then◌else◌}
+use Rattle.std.proofs.Common.{◌≡◌, ℕ, List, [], ◌∷◌, Bool, true, false, Option, Some, None, refl, sym, ◌∙◌, subst, unwrap_or, if◌then◌else◌}
 use Rattle.std.specs.List.{Contains}
 use Rattle.spin_base.proofs.{Exchange.among_taken_out, Members.among_contains}
 use Rattle.spin_base.specs.{declared.copies.DumpRec.DumpRec, declared.copies.Event.Event, declared.copies.Packet.Packet, Hops.onward}
@@ -29,7 +29,13 @@ pub record Keeps (s t : State) (nets : List NetPlan) (labels : ℕ → Label) : 
 
 keeps_itself : (s : State) (nets : List NetPlan) (labels : ℕ → Label) → IsMesh s → AreRight s.setup.machine s.setup.tables nets → MeetsLedger s nets labels →
     Keeps s s nets labels
-keeps_itself s nets labels mesh right ledger = grind arith
+keeps_itself s nets labels mesh right ledger = record {
+  mesh = mesh;
+  right = right;
+  ledger = ledger;
+  no_new = λ k has. (k, has, refl);
+  none_lost = λ k has. (k, has, refl);
+}
 
 move_keeps : (s t : State) (nets : List NetPlan) (labels : ℕ → Label) → IsMesh s → AreRight s.setup.machine s.setup.tables nets → MeetsLedger s nets labels →
     IsMesh t → Exchange s t → Keeps s t nets labels
@@ -163,8 +169,10 @@ put_back_keeps_for s nets asked mesh right before =
 
 pub events_keep_job : (s : State) (nets : List NetPlan) (packets : List Packet) → IsMesh s → AreRight s.setup.machine s.setup.tables nets → MeetsJobLedger s nets packets →
     (es : List Event) → MeetsJobLedger (after_events s es) nets packets
-events_keep_job s nets packets mesh right job es = grind (arith, events_keep_for s nets (asked_by nets packets) mesh right job.ledger es)
+events_keep_job s nets packets mesh right job es =
+    record { of_nets = job.of_nets; ledger = events_keep_for s nets (asked_by nets packets) mesh right job.ledger es }
 
 pub put_back_keeps_job : (s : State) (nets : List NetPlan) (packets : List Packet) → IsMesh s → AreRight s.setup.machine s.setup.tables nets → MeetsJobLedger s nets packets →
     MeetsJobLedger (after_put_back s) nets packets
-put_back_keeps_job s nets packets mesh right job = grind (arith, put_back_keeps_for s nets (asked_by nets packets) mesh right job.ledger)
+put_back_keeps_job s nets packets mesh right job =
+    record { of_nets = job.of_nets; ledger = put_back_keeps_for s nets (asked_by nets packets) mesh right job.ledger }

@@ -1,7 +1,7 @@
 -- The ledger of copies is kept by every bag of moves, of which an event is one move.
-use Rattle.std.proofs.Common.{◌≡◌, ℕ, ◌+◌, ◌<◌, ◌≤◌, List, [], ◌∷◌, Bool, true, false, ◌==◌, if◌then◌else◌, refl, ap, sym, ◌∙◌, subst, arith, inl, inr, ◌⊎◌, length, count_by, suc, zero}
+use Rattle.std.proofs.Common.{◌≡◌, ℕ, ◌+◌, ◌<◌, ◌≤◌, List, [], ◌∷◌, Bool, true, false, ◌==◌, ◌&&◌, if◌then◌else◌, refl, ap, sym, ◌∙◌, subst, arith, inl, inr, ◌⊎◌, length, count_by, suc, zero}
 use Rattle.std.proofs.lemmas.{List.Elements.All-contains, Bool.cases_order, Bool.and_parts, Bool.eqb-true, List.get_or_default, Option.slice_get_within}
-use Rattle.std.specs.List.{All, Contains}
+use Rattle.std.specs.List.{slice_index_or, All, Contains}
 use Rattle.spin_base.proofs.{Counts.count_by-cons, Counts.count_by-none, Exchange.count_taken_out, Exchange.count_put_in, Members.Among, Members.among_contains, Members.contains_among}
 use Rattle.spin_base.specs.{declared.chips.Spot.Spot, Hops.last_hop}
 use Rattle.machine_desc.specs.{RoutingTree.IsRoutingTree, Branch.Exit, declared.nets.NetPlan.NetPlan, RightTables.IsKeyOf, RightTables.RoutesByTree, RightTables.AreRight, NetsOn.HaveDisjointBlocks}
@@ -17,7 +17,21 @@ use Rattle.mesh_core.proofs.Law.{leaves_parts}
 -- the net in whose block a key is, is one
 pub one_net : (nets : List NetPlan) → HaveDisjointBlocks nets → (a b : NetPlan) → Contains nets a → Contains nets b → (key : ℕ) →
     IsKeyOf a.block key → IsKeyOf b.block key → a ≡ b
-one_net nets disjoint a b in_a in_b key key_a key_b = grind (arith, cases_order in_a.0 in_b.0, get_or_default nets in_b.0 a b in_b.1, get_or_default nets in_a.0 b a in_a.1)
+one_net nets disjoint a b in_a in_b key key_a key_b = elim (cases_order in_a.0 in_b.0) [
+  | inl same ↦ sym in_a.2 ∙ (ap (λ k. slice_index_or nets k a) same ∙ (get_or_default nets in_b.0 a b in_b.1 ∙ in_b.2))
+  | inr (inl before) ↦
+      let first : slice_index_or nets in_a.0 a ≡ a = in_a.2 in
+      let second : slice_index_or nets in_b.0 a ≡ b = get_or_default nets in_b.0 a b in_b.1 ∙ in_b.2 in
+      absurd (disjoint in_a.0 in_b.0 a before in_b.1 key
+      (subst (λ (n : NetPlan). IsKeyOf n.block key) (sym first) key_a)
+      (subst (λ (n : NetPlan). IsKeyOf n.block key) (sym second) key_b))
+  | inr (inr after) ↦
+      let first : slice_index_or nets in_b.0 b ≡ b = in_b.2 in
+      let second : slice_index_or nets in_a.0 b ≡ a = get_or_default nets in_a.0 b a in_a.1 ∙ in_a.2 in
+      absurd (disjoint in_b.0 in_a.0 b after in_a.1 key
+      (subst (λ (n : NetPlan). IsKeyOf n.block key) (sym first) key_b)
+      (subst (λ (n : NetPlan). IsKeyOf n.block key) (sym second) key_a))
+]
 
 -- ---- counts of one packet
 
@@ -26,8 +40,14 @@ count_of_packet : (n m from to : ℕ) (branch : List Exit) (come : List Mark) �
     (same : Bool) → (m == n) ≡ same → (leaves : Mark) → leaves.copy.packet ≡ m →
     (same ≡ true → count_by (is_on_trail from to branch) come ≡ (if is_on_trail from to branch leaves then 1 else 0)) →
     count_by (is_packet_on_trail n from to branch) come ≡ (if is_packet_on_trail n from to branch leaves then 1 else 0)
-count_of_packet n m from to branch come of_m true is leaves leaves_m counts = grind (arith, count_agree)
-count_of_packet n m from to branch come of_m false is leaves leaves_m counts = grind (arith, count_by-none come, count_agree)
+count_of_packet n m from to branch come of_m true is leaves leaves_m counts =
+    count_agree (is_packet_on_trail n from to branch) (is_on_trail from to branch) come
+    (λ y a. ap (λ b. b && is_on_trail from to branch y) (ap (λ k. k == n) (of_m y a) ∙ is))
+    ∙ (counts refl ∙ ap (λ b. if b && is_on_trail from to branch leaves then 1 else 0) (sym (ap (λ k. k == n) leaves_m ∙ is)))
+count_of_packet n m from to branch come of_m false is leaves leaves_m counts =
+    count_agree (is_packet_on_trail n from to branch) (λ y. false) come
+    (λ y a. ap (λ b. b && is_on_trail from to branch y) (ap (λ k. k == n) (of_m y a) ∙ is))
+    ∙ (count_by-none come ∙ ap (λ b. if b && is_on_trail from to branch leaves then 1 else 0) (sym (ap (λ k. k == n) leaves_m ∙ is)))
 
 -- ---- bags of moves
 
@@ -162,7 +182,9 @@ module _ (s t : State) (nets : List NetPlan) (labels : ℕ → Label)
 
     left_counts : (p : Mark → Bool) (v : Moved s) (moves : List (Moved s)) → Among v moves → p v.leaves ≡ true → 1 ≤ count_left p moves
     left_counts p v [] a passes = absurd a
-    left_counts p v (w ∷ moves) (inl here) passes = grind (arith, counts_one)
+    left_counts p v (w ∷ moves) (inl here) passes =
+        let first = counts_one (p w.leaves) (ap (λ (u : Moved s). p u.leaves) (sym here) ∙ passes) in
+        omega arith
     left_counts p v (w ∷ moves) (inr later) passes = let rest = left_counts p v moves later passes in omega arith
 
     come_counts : (k : Mark) (moves : List (Moved s)) → 1 ≤ count_come (mark_eq k) moves → (v : Moved s) × Among v moves × Among k v.come
@@ -234,7 +256,10 @@ module _ (s t : State) (nets : List NetPlan) (labels : ℕ → Label)
         (moves : List (Moved s)) → ((v : Moved s) → Among v moves → Among v bag.moves) →
         count_come (is_packet_on_trail n from to branch) moves ≡ count_left (is_packet_on_trail n from to branch) moves
     all_moves n net has key target branch from to w [] within = refl
-    all_moves n net has key target branch from to w (v ∷ moves) within = grind (arith, one_move n net has key target branch from to w v (within v (inl refl)))
+    all_moves n net has key target branch from to w (v ∷ moves) within =
+        let first = one_move n net has key target branch from to w v (within v (inl refl)) in
+        let rest = all_moves n net has key target branch from to w moves (λ u a. within u (inr a)) in
+        omega arith
 
     -- The ledger is kept by a bag of moves.
     pub bag_keeps_ledger : MeetsLedger t nets labels

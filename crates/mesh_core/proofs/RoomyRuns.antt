@@ -1,8 +1,8 @@
 -- Where a queue has room for a copy of each packet that is under way, no list of events makes a dump record. So a run that comes
 -- to rest has delivered all, where it has room for a copy of each packet of the job.
-use Rattle.std.proofs.Common.{◌≡◌, ◌≤◌, ℕ, refl, sym, ◌∙◌, subst, arith, List, [], ◌∷◌, length}
+use Rattle.std.proofs.Common.{◌≡◌, ◌≤◌, ℕ, refl, ap, sym, ◌∙◌, subst, arith, List, [], ◌∷◌, length, Option}
 use Rattle.std.proofs.lemmas.List.FromFn.{length-range_with_len}
-use Rattle.std.specs.List.{slice_get, range_with_len}
+use Rattle.std.specs.{Prelude.unwrap_or, List.slice_get, List.range_with_len}
 use Rattle.spin_base.specs.declared.copies.{Event.Event, Event.TheVariants.Inject, Event.TheVariants.Take, Event.TheVariants.Send, Event.TheVariants.Dump, Event.TheVariants.Collect, Packet.Packet}
 use Rattle.machine_desc.specs.{Live.index_of, declared.nets.NetPlan.NetPlan, NetsOn.AreNetsOn, RightTables.AreRight}
 use Rattle.mesh_core.specs.{State.Setup, State.State, State.IsMesh, Step.after_event, Step.after_events, Ledger.label_of, Ledger.Label, Ledger.MeetsLedger, Ledger.OnlyUnderWay, Opened.asked_by}
@@ -15,7 +15,8 @@ module _ (nets : List NetPlan) (labels : ℕ → Label) (numbers : List ℕ) whe
   records_stay s mesh ledger only roomy (Inject v) = dumped_stays s (Inject v) tt
   records_stay s mesh ledger only roomy (Take c port) = dumped_stays s (Take c port) tt
   records_stay s mesh ledger only roomy (Send c o) = dumped_stays s (Send c o) tt
-  records_stay s mesh ledger only roomy (Dump c o) = grind (arith, dump_none s nets labels numbers mesh ledger only roomy c o (slice_get s.hands (index_of s.setup.machine c)) refl)
+  records_stay s mesh ledger only roomy (Dump c o) =
+      ap (λ (t : Option State). (unwrap_or t s).dumped) (dump_none s nets labels numbers mesh ledger only roomy c o (slice_get s.hands (index_of s.setup.machine c)) refl)
   records_stay s mesh ledger only roomy (Collect v) = dumped_stays s (Collect v) tt
 
   -- Nor does a list of events.

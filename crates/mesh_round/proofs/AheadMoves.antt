@@ -107,7 +107,12 @@ module _ (s t : State) (nets : List NetPlan) (labels : ℕ → Label) (mesh : Is
             by_trail : (on : Bool) → is_on w v.leaves ≡ on → count_by (is_on w) v.come ≡ (if is_on w v.leaves then 1 else 0) →
                 sum_by left_there v.come ≡ sum_by (λ y. cond (is_on w y) (left_of w y) 0) v.come → taken_there v ≡ cond (is_on w v.leaves) (taken_of w v.leaves) 0 →
                 left_there v.leaves ≡ cond (is_on w v.leaves) (left_of w v.leaves) 0 → sum_by left_there v.come + taken_there v ≤ left_there v.leaves
-            by_trail false off came mine taken left = grind (arith, is_on w, left_of w, taken_of w v.leaves, sum_of_passing, counts)
+            by_trail false off came mine taken left =
+                let none : count_by (is_on w) v.come ≡ 0 = came ∙ ap (λ c. if c then 1 else 0) off in
+                let less = sum_of_passing (is_on w) (left_of w) 0 0 v.come (λ y b y_on. absurd (let some = counts (is_on w) y v.come b y_on in omega (arith, some, none))) in
+                let untaken : cond (is_on w v.leaves) (taken_of w v.leaves) 0 ≡ 0 = ap (λ c. cond c (taken_of w v.leaves) 0) off in
+                let zero_t : count_by (is_on w) v.come * 0 ≡ 0 = omega arith in
+                omega (arith, less, mine, taken, untaken, zero_t)
             by_trail true on came mine taken left =
                 let single : count_by (is_on w) v.come ≡ 1 = came ∙ ap (λ c. if c then 1 else 0) on in
                 let less = sum_of_passing (is_on w) (left_of w) (taken_of w v.leaves) (left_of w v.leaves) v.come (move_takes w s v.leaves v.come short v.is_move on) in

@@ -12,8 +12,8 @@ use Rattle.spin_base.proofs.{Members.Contains-filter, Places.slice_get_there, Eq
 use Rattle.machine_desc.specs.{Description.Description, Live.chip_of, Live.IsLiveChip, Branch.Exit, declared.nets.NetPlan.NetPlan, NetsOn.AreNetsOn, NetsOn.IsWayOn, RightTables.IsKeyOf}
 use Rattle.machine_desc.specs.RightTables.{AreRight}
 use Rattle.mesh_core.specs.{State.Setup, State.State, State.IsMesh, State.Queue, State.input, State.core, State.nowhere, State.behind, Trail.Station, Trail.in_queue, Trail.in_hand, Trail.at_core}
-use Rattle.mesh_core.specs.{Trail.dumped, Trail.Mark, Trail.on_trail, Trail.is_on_trail, Ledger.marks_of, Ledger.marks_at, Ledger.port_of, Ledger.input_marks, Ledger.label_of, Ledger.Label}
-use Rattle.mesh_core.specs.{Ledger.MeetsLedger, Opened.asked_by, Opened.MeetsJobLedger}
+use Rattle.mesh_core.specs.{Trail.dumped, Trail.Mark, Trail.on_trail, Trail.is_on_trail, Ledger.marks_of, Ledger.marks_at, Ledger.port_of, Ledger.input_marks, Ledger.core_marks, Ledger.label_of}
+use Rattle.mesh_core.specs.{Ledger.Label, Ledger.MeetsLedger, Opened.asked_by, Opened.MeetsJobLedger}
 use Rattle.mesh_core.proofs.{AskedPackets.asked_parts, Law.move_counts, Law.comes_parts, LedgerLaw.Bag, LedgerLaw.one_net, LedgerLaw.stands, Moves.mark, Standing.dumped_mark, Ways.Stands}
 use Rattle.mesh_core.proofs.{Ways.one_place, Ways.vertex_at_stands, Counting.counted}
 use Rattle.mesh_round.specs.RoundFlow.{Flow, Passes, IsRound, WasFullAt, HasRounds, more, held_in, capacity_of, dumped_at}
@@ -138,7 +138,9 @@ module _ (m : State) (f : Flow) (n : State) (nets : List NetPlan) (packets : Lis
       let part : count_by p (marks_at (station_of u (input i)) (held_in m (input i))) ≤ count_by p (input_marks m) =
       one_of_lists p (λ l. in_queue (chip_of u.machine (l / 7)) (port_of (l % 7))) m.inputs i in
       omega (arith, part, in_parts m f n mesh after passes p m)
-  queue_counts p (core v) = grind (arith, one_of_lists p at_core m.cores v, in_parts m f n mesh after passes p m)
+  queue_counts p (core v) =
+      let part : count_by p (marks_at (station_of u (core v)) (held_in m (core v))) ≤ count_by p (core_marks m) = one_of_lists p at_core m.cores v in
+      omega (arith, part, in_parts m f n mesh after passes p m)
   queue_counts p nowhere = omega arith
 
   module _ (c : Chip) (o : Out) (live : IsLiveChip u.machine c) (is : IsOutput o) where
@@ -248,7 +250,9 @@ module _ (m : State) (f : Flow) (n : State) (nets : List NetPlan) (packets : Lis
               is_true false one = absurd (omega (arith, one))
 
       still_there : Among (mark k (dumped c o)) (marks_of n)
-      still_there = grind (arith, among_right (record { chip = c; out = o; copy = k }) m.dumped f.dumped in_flow, dumped_mark, Among)
+      still_there =
+          let r : DumpRec = record { chip = c; out = o; copy = k } in
+          dumped_mark n r (subst (λ rs. Among r rs) (sym passes.dumped) (among_right r m.dumped f.dumped in_flow))
 
       number_below : (j : McCopy) → IsRight (mark j at) → j.packet < length packets
       number_below j r =

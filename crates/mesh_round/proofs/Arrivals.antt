@@ -1,22 +1,22 @@
 -- Each copy that came into a queue in a round stands right there: on a trail of its net, with the key and payload of its packet.
 -- By induction on its hop number.
-use Rattle.std.proofs.Common.{◌≡◌, ◌≢◌, ℕ, ◌+◌, ◌<◌, zero, suc, true, List, [], ◌∷◌, ◌++◌, map, Some, None, length, refl, ap, sym, ◌∙◌, subst, arith, inl, inr}
+use Rattle.std.proofs.Common.{◌≡◌, ◌≢◌, ℕ, ◌+◌, ◌<◌, ◌≤◌, zero, suc, true, List, [], ◌∷◌, ◌++◌, map, filter, Some, None, length, refl, ap, sym, ◌∙◌, subst, arith, inl, inr}
 use Rattle.std.proofs.lemmas.{Bool.cases_Bool, Bool.cases_lt, List.get_or_past, List.Elements.All-contains, List.Sorted.All-permutation, Option.slice_get_within, Option.get_or_from_slice_get}
 use Rattle.std.proofs.lemmas.Option.{none-some}
 use Rattle.std.specs.List.{slice_index_or, Contains}
 use Rattle.spin_base.proofs.{Gathering.among_gathered, Gathering.gathered_among, Members.Among, Members.among_contains, Members.contains_among, Members.among_map, Members.map_among}
 use Rattle.spin_base.proofs.{Members.among_filter, Members.any_among, Members.among_left, Members.among_either, Places.All-each, Places.slice_get_there, Equality.chip_eq_true, Equality.out_eq_true}
-use Rattle.spin_base.specs.declared.{chips.Chip.Chip, chips.Dir.Dir, chips.Port.Port, chips.Port.TheVariants.Local, routes.Out.Out, routes.Out.TheVariants.Link, copies.McCopy.McCopy}
-use Rattle.spin_base.specs.{Links.opposite_of, Outputs.IsOutput, Hops.onward}
+use Rattle.spin_base.specs.declared.{chips.Chip.Chip, chips.Dir.Dir, chips.Spot.Spot, chips.Port.Port, chips.Port.TheVariants.Local, routes.Out.Out, routes.Out.TheVariants.Link, copies.McCopy.McCopy}
+use Rattle.spin_base.specs.{Links.opposite_of, Equality.chip_eq, Equality.out_eq, Outputs.IsOutput, Hops.last_hop, Hops.onward}
 use Rattle.spin_base.specs.declared.chips.Port.TheVariants.{Link as ByLink}
 use Rattle.machine_desc.specs.{Live.far_of, Live.is_live_chip, Live.is_live_link, Live.IsInside, Live.IsLiveChip, Live.IsLiveLink, declared.nets.NetPlan.NetPlan, RightTables.AreRight}
 use Rattle.machine_desc.proofs.{Branches.exit_leads, Branches.ExitLeads, Far.live_inside, Far.live_ends, Far.live_back, Far.far_back}
-use Rattle.mesh_core.specs.{State.Setup, State.State, State.IsMesh, State.Queue, State.input, State.core, State.nowhere, State.behind, State.vertex_behind, Trail.unsent, Trail.in_queue, Trail.in_hand}
-use Rattle.mesh_core.specs.{Trail.Mark, Ledger.marks_of, Ledger.marks_at, Ledger.unsent_marks, Ledger.input_marks, Ledger.all_hand_marks, Ledger.core_marks, Ledger.delivered_marks}
-use Rattle.mesh_core.specs.Ledger.{dumped_marks, Label, MeetsLedger}
+use Rattle.mesh_core.specs.State.{Setup, State, IsMesh, Queue, input, core, nowhere, behind, behind_link, queue_at, vertex_behind}
+use Rattle.mesh_core.specs.{Step.outputs, Trail.unsent, Trail.in_queue, Trail.in_hand, Trail.Mark, Ledger.marks_of, Ledger.marks_at, Ledger.all_ports, Ledger.unsent_marks, Ledger.input_marks}
+use Rattle.mesh_core.specs.Ledger.{all_hand_marks, core_marks, delivered_marks, dumped_marks, Label, MeetsLedger}
 use Rattle.mesh_core.proofs.{Keeping.input_is_somewhere, Keeping.core_is_somewhere, Law.leaves_parts, LedgerLaw.IsRight, LedgerLaw.right_before, LedgerLaw.right_come, LedgerLaw.stands, Moves.mark}
 use Rattle.mesh_core.proofs.{Moves.IsMove, Moves.Crosses, Queued.waiting_mark, Ways.Stands, Ways.vertex_behind_there, Ways.leads_to}
-use Rattle.mesh_round.specs.RoundFlow.{Flow, Passes, at_port, held_in, taken_for, dumped_at, sent_on}
+use Rattle.mesh_round.specs.RoundFlow.{Flow, Passes, at_port, held_in, leaves_by, taken_for, dumped_at, sent_on, of_chip}
 use Rattle.mesh_round.proofs.{Ends.by_link, Ends.to_vertex, Ends.to_none, Ends.leads, Ends.Leads, Entered.station_of, Entered.station_is, Entered.crosses_behind, Entered.behind_far, Weights.back}
 use Rattle.mesh_round.proofs.Weights.{back_onward, not_last}
 
@@ -192,13 +192,17 @@ module _ (m : State) (f : Flow) (n : State) (nets : List NetPlan) (labels : ℕ 
   port_right : (b : ℕ) (c : Chip) (port : Port) → IsInside u.machine c → (k : McCopy) → Among k (held_in m (at_port u c port) ++ f.entered (at_port u c port)) → k.hop < b →
       Right (mark k (in_queue c port))
   port_right zero c port inside k a low = absurd (omega (arith, low))
-  port_right (suc b) c port inside k a low = grind (arith, among_either k (held_in m (at_port u c port)) (f.entered (at_port u c port)) a, station_is u c port inside, mark, held_right, came_right)
+  port_right (suc b) c port inside k a low = elim (among_either k (held_in m (at_port u c port)) (f.entered (at_port u c port)) a) [
+    | inl held ↦ subst (λ st. Right (mark k st)) (station_is u c port inside) (held_right (at_port u c port) k held)
+    | inr came ↦ came_right b (λ e p in_e j b' small. port_right b e p in_e j b' small) c port inside k came (omega (arith, low))
+  ]
 
   -- What a live chip's router sent by an output, or dumped there, stood right in its hand and stands, or would stand, right in
   -- the queue behind the output.
   pub crossing_right : (c : Chip) (o : Out) → IsLiveChip u.machine c → IsOutput o → (j : McCopy) → Among j (f.entered (behind u c o) ++ map onward (dumped_at f c o)) →
       Right (mark (back j) (in_hand c o)) × (onward (back j) ≡ j)
-  crossing_right c o live is j a = grind (arith, live_inside u.machine c live, port_right, left_came)
+  crossing_right c o live is j a =
+      hand_right c o j.hop (λ port k left small. port_right j.hop c port (live_inside u.machine c live) k (left_came (at_port u c port) k left) small) live is j a (omega arith)
 
   pub arrived_right : (c : Chip) (o : Out) → IsLiveChip u.machine c → IsOutput o → (j : McCopy) → Among j (f.entered (behind u c o) ++ map onward (dumped_at f c o)) →
       Right (mark j (station_of u (behind u c o)))

@@ -1,5 +1,6 @@
 -- Of each packet each way has so much left; each round in which a copy moves takes at least one. So there are few such rounds.
-use Rattle.std.proofs.Common.{◌≡◌, ℕ, zero, suc, ◌+◌, ◌*◌, ◌≤◌, ◌==◌, cond, refl, ap, sym, ◌∙◌, subst, arith, inl, inr, List, [], ◌∷◌, ◌++◌, length, map, Bool, true, Option, Some, None, count_by}
+use Rattle.std.proofs.Common.{◌≡◌, ℕ, zero, suc, ◌+◌, ◌*◌, ◌≤◌, ◌==◌, ◌&&◌, cond, refl, ap, sym, ◌∙◌, subst, arith, inl, inr, List, [], ◌∷◌, ◌++◌, length, map, Bool, true, Option, Some, None}
+use Rattle.std.proofs.Common.{count_by}
 use Rattle.std.proofs.lemmas.{Bool.and_from, Bool.eq-eqb, Bool.true≢false, List.Elements.All-contains, List.Sums.sum_by-append, List.Sums.sum_by-cons, Option.none-some, Option.same_Some}
 use Rattle.std.specs.List.{All, Contains, slice_get, sum_by}
 use Rattle.spin_base.proofs.Members.{Among, among_either, among_left, among_map, among_right, map_among}
@@ -86,8 +87,15 @@ module _ (u : Setup) (nets : List NetPlan) (packets : List Packet) (stand : AreN
   to_packet : (i : ℕ) (ps : List Packet) (k : ℕ) (p : Packet) → slice_get ps k ≡ Some p → (w : Counted) → Among w (ways_of p) → Among (of_packet (i + k) w) (ways_from i ps)
   unfolding ways_from
   to_packet i [] k p at w a = cc
-  to_packet i (q ∷ ps) zero p at w a = grind (arith, ways_of q, ways_from (suc i) ps, among_left, Among, map_among)
-  to_packet i (q ∷ ps) (suc k) p at w a = grind (arith, ways_of q, ways_from (suc i) ps, to_packet (suc i) ps k p at w a, among_right, Among)
+  to_packet i (q ∷ ps) zero p at w a =
+      let same : q ≡ p = cc in
+      let number : i ≡ i + 0 = omega arith in
+      among_left (of_packet (i + 0) w) (map (of_packet i) (ways_of q)) (ways_from (suc i) ps)
+      (subst (λ n. Among (of_packet n w) (map (of_packet i) (ways_of q))) number (map_among (of_packet i) w (ways_of q) (subst (λ (r : Packet). Among w (ways_of r)) (sym same) a)))
+  to_packet i (q ∷ ps) (suc k) p at w a =
+      let number : suc i + k ≡ i + suc k = omega arith in
+      among_right (of_packet (i + suc k) w) (map (of_packet i) (ways_of q)) (ways_from (suc i) ps)
+      (subst (λ n. Among (of_packet n w) (ways_from (suc i) ps)) number (to_packet (suc i) ps k p at w a))
 
   -- ---- how much is left at most
 
@@ -177,7 +185,10 @@ module _ (m n : State) (f : Flow) (nets : List NetPlan) (packets : List Packet) 
 
   -- what is left before is what is left afterwards, and what the moves took
   all_take : ahead ways (marks_of n) + sum_by moves_take ways ≤ ahead ways (marks_of m)
-  all_take = grind (arith, each_takes, sum_within, left_for, sum_plus)
+  all_take =
+      let less = sum_within (λ (x : PacketWay). sum_by (left_for x.packet x.way) (marks_of n) + moves_take x) (λ (x : PacketWay). sum_by (left_for x.packet x.way) (marks_of m)) ways each_takes in
+      let both = sum_plus (λ (x : PacketWay). sum_by (left_for x.packet x.way) (marks_of n)) moves_take ways in
+      omega (arith, less, both)
 
   -- ---- a mark that is sent, taken or got takes of a way
 
@@ -207,7 +218,8 @@ module _ (m n : State) (f : Flow) (nets : List NetPlan) (packets : List Packet) 
 
       by_station : (w : Counted) → Among w ws → (k : McCopy) (at : Station) → is_step_at at ≡ true → on_trail w.from w.to w.branch k.hop at ≡ true → IsTaken ws k at
       by_station w in_ws k (unsent q) steps on =
-          grind (arith, some_sends u.machine u.spots net (tree_of u nets packets stand net has) (source_of u nets packets stand net has) (targets_of u nets packets stand net has) w in_ws)
+          let found = some_sends u.machine u.spots net (tree_of u nets packets stand net has) (source_of u nets packets stand net has) (targets_of u nets packets stand net has) w in_ws in
+          record { way = found.0; among = found.1; on = ap (λ i. (q == i) && (k.hop == 0)) found.3 ∙ on; one = found.2 }
       by_station w in_ws k (in_queue c port) steps on =
           let found = some_counts u.machine u.spots net (tree_of u nets packets stand net has) (source_of u nets packets stand net has)
           (targets_of u nets packets stand net has) k.hop c port w in_ws on in
@@ -218,10 +230,27 @@ module _ (m n : State) (f : Flow) (nets : List NetPlan) (packets : List Packet) 
       by_station w in_ws k (dumped c o) steps on = absurd (true≢false (sym steps))
 
       of_net : r.net ≡ net → is_step v.leaves ≡ true → IsTaken ws v.leaves.copy v.leaves.station
-      of_net is steps = grind (arith, way_there, by_station)
+      of_net is steps =
+          let trail = r.trail in
+          let own : IsWayOn u.machine u.spots net trail.target trail.branch trail.from trail.to =
+          subst (λ (s : Setup). IsWayOn s.machine s.spots net trail.target trail.branch trail.from trail.to) same
+          (subst (λ (x : NetPlan). IsWayOn m.setup.machine m.setup.spots x trail.target trail.branch trail.from trail.to) is trail.way) in
+          let w = way_there u.machine u.spots net (tree_of u nets packets stand net has) (source_of u nets packets stand net has) (targets_of u nets packets stand net has) trail.target
+          own.is_target in
+          let one = one_way u.machine u.spots nets net trail.target trail.branch w.0.branch trail.from w.0.from trail.to w.0.to stand has own w.2 in
+          let on : on_trail w.0.from w.0.to w.0.branch v.leaves.copy.hop v.leaves.station ≡ true =
+          subst (λ i. on_trail i w.0.to w.0.branch v.leaves.copy.hop v.leaves.station ≡ true) one.1
+          (subst (λ i. on_trail trail.from i w.0.branch v.leaves.copy.hop v.leaves.station ≡ true) one.2
+          (subst (λ (xs : List Exit). on_trail trail.from trail.to xs v.leaves.copy.hop v.leaves.station ≡ true) one.0 trail.on)) in
+          by_station w.0 w.1 v.leaves.copy v.leaves.station steps on
 
     net_is : r.net ≡ asked.net
-    net_is = grind (arith, asked_of_net nets packets job.of_nets number was.0 was.1, one_net)
+    net_is =
+        let of = asked_of_net nets packets job.of_nets number was.0 was.1 in
+        let key : v.leaves.copy.key ≡ was.0.label.key = r.key ∙ ap (λ (o : Option Asked). (label_of o).key) was.1 in
+        let first : r.net ≡ was.0.net =
+        one_net nets ledger.nets_stand.disjoint r.net was.0.net r.in_nets of.0 v.leaves.copy.key r.is_key (subst (IsKeyOf was.0.net.block) (sym key) of.1) in
+        first ∙ ap (λ (b : Asked). b.net) asked.is_asked
 
     by_net : (o : Option NetPlan) (at : slice_get nets asked.packet.net ≡ o) → is_step v.leaves ≡ true → IsTaken (ways_at u nets packets stand asked.packet o at) v.leaves.copy v.leaves.station
     unfolding ways_at
@@ -292,4 +321,6 @@ module _ (patience turns : ℕ) (m : State) (nets : List NetPlan) (packets : Lis
   -- Rounds in which copies move are at most as many as copies can move.
   pub few_rounds : (n : State) (rounds : HasRounds patience turns m n) → MoveEach rounds → rounds_in rounds ≤ most_moves nets packets
   unfolding all_ways
-  few_rounds n rounds each = grind (arith, most_from_packets m.setup nets packets stand (marks_of m) 0 packets one_mark, so_far n rounds each)
+  few_rounds n rounds each =
+      let most = most_from_packets m.setup nets packets stand (marks_of m) 0 packets one_mark in
+      omega (arith, so_far n rounds each, most)

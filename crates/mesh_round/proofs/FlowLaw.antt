@@ -1,8 +1,8 @@
 -- Rounds keep the ledger of copies, since each is a bag of moves.
-use Rattle.std.proofs.Common.{arith, ◌≡◌, ℕ, List, Option, refl, sym, ◌∙◌, ap}
+use Rattle.std.proofs.Common.{◌≡◌, ℕ, List, Option, refl, sym, subst, ◌∙◌, ap}
 use Rattle.spin_base.specs.declared.copies.Packet.{Packet}
 use Rattle.machine_desc.specs.{declared.nets.NetPlan.NetPlan, RightTables.AreRight}
-use Rattle.mesh_core.specs.{State.State, State.IsMesh, Ledger.Asked, Ledger.Label, Ledger.label_of, Ledger.MeetsLedger, Ledger.MeetsLedgerFor, Opened.asked_by, Opened.MeetsJobLedger}
+use Rattle.mesh_core.specs.{State.Setup, State.State, State.IsMesh, Ledger.Asked, Ledger.Label, Ledger.label_of, Ledger.MeetsLedger, Ledger.MeetsLedgerFor, Opened.asked_by, Opened.MeetsJobLedger}
 use Rattle.mesh_core.proofs.LedgerLaw.{bag_keeps_ledger, bag_adds_no_packet, bag_keeps_packets}
 use Rattle.mesh_round.specs.RoundFlow.{Flow, Passes, HasRounds, none, more}
 use Rattle.mesh_round.proofs.RoundBag.{bag_of_round}
@@ -41,12 +41,19 @@ pub record Stands (m n : State) (nets : List NetPlan) (packets : List Packet) : 
 pub rounds_stand : (patience turns : ℕ) (m n : State) (nets : List NetPlan) (packets : List Packet) → IsMesh m → AreRight m.setup.machine m.setup.tables nets →
     MeetsJobLedger m nets packets → HasRounds patience turns m n → Stands m n nets packets
 rounds_stand patience turns m n nets packets mesh right job none = record { mesh = mesh; setup = refl; job = job }
-rounds_stand patience turns m n nets packets mesh right job (more f k n' before after round) = grind (arith, rounds_stand patience turns m k nets packets mesh right job before, round_keeps_job)
+rounds_stand patience turns m n nets packets mesh right job (more f k n' before after round) =
+    let was = rounds_stand patience turns m k nets packets mesh right job before in
+    record {
+      mesh = after;
+      setup = round.passes.setup ∙ was.setup;
+      job = round_keeps_job k n' f nets was.mesh after round.passes (subst (λ (s : Setup). AreRight s.machine s.tables nets) (sym was.setup) right) packets was.job;
+    }
 
 -- Rounds lead from a mesh to a mesh of the same machine, vertices, tables and capacity.
 pub rounds_keep_mesh : (patience turns : ℕ) (m n : State) → IsMesh m → HasRounds patience turns m n → IsMesh n × (n.setup ≡ m.setup)
 rounds_keep_mesh patience turns m n mesh none = (mesh, refl)
-rounds_keep_mesh patience turns m n mesh (more f k n' before after round) = grind (arith, rounds_keep_mesh patience turns m k mesh before)
+rounds_keep_mesh patience turns m n mesh (more f k n' before after round) =
+    (after, round.passes.setup ∙ (rounds_keep_mesh patience turns m k mesh before).1)
 
 pub rounds_keep_job : (patience turns : ℕ) (m n : State) (nets : List NetPlan) (packets : List Packet) → IsMesh m → AreRight m.setup.machine m.setup.tables nets →
     MeetsJobLedger m nets packets → HasRounds patience turns m n → MeetsJobLedger n nets packets

@@ -58,7 +58,10 @@ left_counts p (v ∷ vs) =
 
 pub come_counts : {s : State} (p : Mark → Bool) (vs : List (Moved s)) → count_come p vs ≡ count_by p (all_come vs)
 come_counts p [] = refl
-come_counts p (v ∷ vs) = grind (arith, come_counts p vs, count_by-append p v.come (all_come vs))
+come_counts p (v ∷ vs) =
+    let rest = come_counts p vs in
+    let both = count_by-append p v.come (all_come vs) in
+    omega arith
 
 lighter : {s : State} (vs : List (Moved s)) → sum_by work_weight_of (all_come vs) + length vs ≤ sum_by work_weight_of (all_left vs)
 lighter [] = omega arith
@@ -85,7 +88,9 @@ unfolding work_in
 bag_lighter s t bag = omega (arith, even_weights s t bag work_weight_of, lighter bag.moves)
 
 pub round_lighter : (m n : State) (f : Flow) → IsMesh m → IsMesh n → Passes m f n → work_in n ≤ work_in m
-round_lighter m n f mesh after passes = grind (arith, bag_lighter m n (bag_of_round m f n mesh after passes), bag_of_round m f n mesh after passes)
+round_lighter m n f mesh after passes =
+    omega (arith, bag_lighter m n (bag_of_round m f n mesh after passes))
 
 pub moved_lighter : (m n : State) (f : Flow) → IsMesh m → IsMesh n → Passes m f n → HasMoved m f → work_in n < work_in m
-moved_lighter m n f mesh after passes moved = grind (arith, bag_lighter m n (bag_of_round m f n mesh after passes), bag_of_round m f n mesh after passes, some_moves m f n mesh after passes moved)
+moved_lighter m n f mesh after passes moved =
+    omega (arith, bag_lighter m n (bag_of_round m f n mesh after passes), some_moves m f n mesh after passes moved)

@@ -134,4 +134,13 @@ module _ (m n : State) (nets : List NetPlan) (labels : ℕ → Label) (mesh : Is
 
   -- So those that were at its place, those that came there, and those that are still before it, are at most one.
   pub passed_once : count_by here (marks_of m) + count_come here bag.moves + count_by before (marks_of n) ≤ 1
-  passed_once = grind (arith, all_moves bag.moves, once, sum_within, one_if, no_more, here_parts, sum_plus, apart_within, past_parts, and_from, and_parts, ltb-true, nat_lt, eq-eqb)
+  passed_once =
+      let was = sum_within (λ z. one_if (here z)) (λ z. one_if (past z)) (marks_of m) (λ z a. no_more (here z) (past z) (λ there. past_from z (here_parts z there).0)) in
+      let both = sum_plus (λ z. one_if (past z)) (λ z. one_if (before z)) (marks_of n) in
+      let within = sum_within (λ z. one_if (past z) + one_if (before z)) (λ z. one_if (beside z)) (marks_of n) (λ z a. apart_within (past z) (before z) (beside z)
+      (λ is. let p = past_parts z is in and_from (z.copy.packet == x.copy.packet) (on z) (eq-eqb z.copy.packet x.copy.packet p.packet) p.is_on)
+      (λ is. (and_parts (beside z) (nat_lt (to_go x) (to_go z)) is).0)
+      (λ is is'.
+      let far = ltb-true (to_go x) (to_go z) ((and_parts (beside z) (nat_lt (to_go x) (to_go z)) is').1) in
+      absurd (omega (arith, (past_parts z is).near, far)))) in
+      omega (arith, was, all_moves bag.moves, bag.balance past, both, within, once)

@@ -1,13 +1,14 @@
 -- A round on threads leads to a mesh. It moves a copy where anything was done, and else changes nothing.
-use Rattle.std.proofs.Common.{◌≡◌, ◌≢◌, ℕ, ◌+◌, ◌<◌, List, [], ◌∷◌, ◌++◌, length, take, drop, Some, refl, sym, ap, ap₂, ◌∙◌, subst, arith, inl, inr}
+use Rattle.std.proofs.Common.{◌≡◌, ◌≢◌, ℕ, ◌+◌, ◌<◌, List, [], ◌∷◌, ◌++◌, length, take, drop, Option, Some, refl, sym, ap, ap₂, ◌∙◌, subst, arith, inl, inr}
 use Rattle.std.proofs.{Math.Seq.drop-append_seam, Math.Seq.take-append_seam, lemmas.List.append-nil, lemmas.List.get_or_append_left, lemmas.List.get_or-append-add, lemmas.List.get_or_default}
 use Rattle.std.proofs.lemmas.{List.length-append, List.same_lists, Option.get_or_from_slice_get, Option.slice_get_within, Option.slice_get-get_or}
-use Rattle.std.specs.List.{All, Contains, slice_get, slice_index_or}
+use Rattle.std.specs.{Prelude.IfSome, List.All, List.Contains, List.slice_get, List.slice_index_or}
 use Rattle.spin_base.proofs.{Members.Among, Members.among_contains, Pairs.All-right, Places.both_none}
-use Rattle.spin_base.specs.declared.{chips.Chip.Chip, chips.Port.Port, copies.McCopy.McCopy}
-use Rattle.machine_desc.specs.Live.{chip_of, IsInside}
+use Rattle.spin_base.specs.declared.{chips.Chip.Chip, chips.Port.Port, chips.Port.TheVariants.Local, copies.McCopy.McCopy}
+use Rattle.spin_base.specs.declared.chips.Port.TheVariants.{Link as ByLink}
+use Rattle.machine_desc.specs.Live.{chip_of, index_of, IsInside}
 use Rattle.chip_node.specs.Items.{Item, took, served, sent, got, port_place, entered, left, left_by, sent_by, sent_in, taking_of}
-use Rattle.mesh_core.specs.State.{Setup, State, FitsQueue, IsMesh, core, queue_at}
+use Rattle.mesh_core.specs.State.{Setup, State, Hand, FitsQueue, FitsHand, IsMesh, core, queue_at}
 use Rattle.mesh_core.proofs.Changes.{queue_at-below}
 use Rattle.mesh_run.specs.Played.{held_at, vertex_place, IsPlayedBy}
 use Rattle.mesh_run.proofs.Apart.{first_here}
@@ -34,7 +35,11 @@ module _ (r : Round) where
 
   cores_short : All (FitsQueue u.capacity) r.n.cores
   cores_short v d below =
-      grind (arith, get_or-append-add r.n.inputs r.n.cores v, get_or_default r.n.cores v, fits_after r (vertex_place u v) (omega (arith, below, (r.played.cores_long ∙ r.mesh.core_lists))))
+      let inputs = r.played.inputs_long ∙ r.mesh.input_lists in
+      let cores = r.played.cores_long ∙ r.mesh.core_lists in
+      let is : held_at r.n (vertex_place u v) ≡ slice_index_or r.n.cores v d =
+      ap (λ k. held_at r.n (k + v)) (sym inputs) ∙ (get_or-append-add r.n.inputs r.n.cores v [] ∙ get_or_default r.n.cores v [] d below) in
+      subst (FitsQueue u.capacity) is (fits_after r (vertex_place u v) (omega (arith, below, cores)))
 
   -- what is not sent yet has passed no router
   at_start : All (λ (q : List McCopy). All (λ k. k.hop ≡ 0) q) r.n.unsent
@@ -53,7 +58,24 @@ module _ (r : Round) where
       slice_get-get_or r.n.inputs (queue_at u.machine c port) [] (omega (arith, queue_at-below u.machine c port inside, long)) ∙ ap Some none.1
 
   still_mesh : IsMesh (record r.n { setup = r.m.setup })
-  still_mesh = grind (arith, inputs_short, cores_short, at_start, still_empty, dead_chips, dead_ports)
+  still_mesh = record {
+    size = r.mesh.size;
+    different = r.mesh.different;
+    sites = r.mesh.sites;
+    room = r.mesh.room;
+    unsent_lists = r.played.unsent_long ∙ r.mesh.unsent_lists;
+    input_lists = r.played.inputs_long ∙ r.mesh.input_lists;
+    hand_list = ap length r.played.hands ∙ r.mesh.hand_list;
+    core_lists = r.played.cores_long ∙ r.mesh.core_lists;
+    table_list = r.mesh.table_list;
+    inputs_within = inputs_short;
+    cores_within = cores_short;
+    unsent_at_start = at_start;
+    hands_fit = subst (All (λ (h : Option Hand). IfSome h FitsHand)) (sym r.played.hands) r.mesh.hands_fit;
+    none_at_dead_ports = λ c d dead inside. still_empty c (ByLink d) inside (r.mesh.none_at_dead_ports c d dead inside) (dead_ports r c d inside dead);
+    none_on_dead_chips = λ c dead inside. still_empty c Local inside (r.mesh.none_on_dead_chips c dead inside) (dead_chips r c inside dead);
+    no_hand_on_dead_chips = λ c dead inside. ap (λ (l : List (Option Hand)). slice_get l (index_of u.machine c)) r.played.hands ∙ r.mesh.no_hand_on_dead_chips c dead inside;
+  }
 
   pub is_mesh : IsMesh r.n
   is_mesh = subst (λ (s : Setup). IsMesh (record r.n { setup = s })) (sym r.played.setup) still_mesh
@@ -102,7 +124,14 @@ module _ (r : Round) where
 -- ---- where nothing was done
 
 same_state : (m n : State) → n.setup ≡ m.setup → n.unsent ≡ m.unsent → n.inputs ≡ m.inputs → n.hands ≡ m.hands → n.cores ≡ m.cores → n.delivered ≡ m.delivered → n.dumped ≡ m.dumped → n ≡ m
-same_state m n setup unsent inputs hands cores delivered dumped = grind arith
+same_state m n setup unsent inputs hands cores delivered dumped =
+    ap (λ x. let s : State = record n { setup = x } in s) setup
+    ∙ (ap (λ x. let s : State = record n { setup = m.setup; unsent = x } in s) unsent
+    ∙ (ap (λ x. let s : State = record n { setup = m.setup; unsent = m.unsent; inputs = x } in s) inputs
+    ∙ (ap (λ x. let s : State = record n { setup = m.setup; unsent = m.unsent; inputs = m.inputs; hands = x } in s) hands
+    ∙ (ap (λ x. let s : State = record m { cores = x; delivered = n.delivered; dumped = n.dumped } in s) cores
+    ∙ (ap (λ x. let s : State = record m { delivered = x; dumped = n.dumped } in s) delivered
+    ∙ ap (λ x. let s : State = record m { dumped = x } in s) dumped)))))
 
 pub still : (patience turns : ℕ) (items : List Item) (m n : State) → IsMesh m → IsPlayedBy patience turns items m n → items ≡ [] → n ≡ m
 still patience turns items m n mesh played is = done (subst (λ (l : List Item). IsPlayedBy patience turns l m n) is played)

@@ -62,7 +62,9 @@ module _ (r : Round) where
       IsMoment came went e = (e.0 ≤ length came) × (e.1 ≤ length went) × (length (held_in r.m q) + e.0 ≡ e.1 + capacity_of u q)
 
       by : (x : Stands r q) → All (IsMoment (by_place r q (λ p. entered p.at r.items) [] x) (by_place r q (λ p. left p.at r.items) [] x)) (by_place r q (λ p. (goes r q p).fulls) (nowhere_fulls r) x)
-      by (found p) = grind (arith, goes r q p)
+      by (found p) = λ i d below.
+          let moment = (goes r q p).full i d below in
+          (moment.entered_by_then, moment.left_by_then, omega (arith, moment.full, ap length p.before, p.room))
       by (beyond out some before after) = All-nil (IsMoment [] [])
       by (dark is) =
           let none = ap length (ap (held_in r.m) is) in
@@ -99,7 +101,10 @@ module _ (r : Round) where
       by (got i v place k) has = All-nil IsSmall
 
   small_held : (q : ℕ) → q < port_count u + length u.spots → All IsSmall (held_at r.m q)
-  small_held q below = grind (arith, All-append (FitsQueue u.capacity) r.m.inputs r.m.cores r.mesh.inputs_within r.mesh.cores_within, length-append r.m.inputs r.m.cores)
+  small_held q below =
+      let fits = All-append (FitsQueue u.capacity) r.m.inputs r.m.cores r.mesh.inputs_within r.mesh.cores_within in
+      let queue = fits q [] (omega (arith, below, length-append r.m.inputs r.m.cores, r.mesh.input_lists, r.mesh.core_lists)) in
+      λ i d within. let hop = queue.hops i d within in omega (arith, hop)
 
   small_at : (q : ℕ) → q < port_count u + length u.spots → All IsSmall (left q r.items ++ held_at r.n q)
   small_at q below =
@@ -110,7 +115,11 @@ module _ (r : Round) where
 
   -- what a queue holds afterwards fits into it
   pub fits_after : (q : ℕ) → q < port_count u + length u.spots → FitsQueue u.capacity (held_at r.n q)
-  fits_after q below = grind (arith, All-right IsSmall (left q r.items) (held_at r.n q) (small_at q below), small_at q below)
+  fits_after q below =
+      record {
+        within = (r.played.queues q below).within;
+        hops = λ i d within. let hop = (All-right IsSmall (left q r.items) (held_at r.n q) (small_at q below)) i d within in omega (arith, hop);
+      }
 
   pub hops_left : (q : Queue) → All (λ (k : McCopy). k.hop ≤ last_hop) ((flow_of r).left q)
   hops_left q = by (stands r q)

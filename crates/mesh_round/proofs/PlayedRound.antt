@@ -1,10 +1,11 @@
 -- A round on threads is a round.
-use Rattle.std.proofs.Common.{◌≡◌, ℕ, ◌*◌, ◌<◌, ◌≤◌, ◌&&◌, Bool, true, false, List, [], ◌∷◌, ◌++◌, map, length, Option, Some, None, refl, sym, ap, ap₂, ◌∙◌, subst, arith, inl, inr, ◌⊎◌}
+use Rattle.std.proofs.Common.{◌≡◌, ℕ, ◌*◌, ◌<◌, ◌≤◌, ◌==◌, ◌&&◌, Bool, true, false, List, [], ◌∷◌, ◌++◌, map, length, Option, Some, None, refl, sym, ap, ap₂, ◌∙◌, subst, arith, inl, inr, ◌⊎◌}
 use Rattle.std.proofs.{Math.Nat.mul-le-mul_left, lemmas.List.length-map, lemmas.List.length-replicate, lemmas.List.Concat.flat_map_single, lemmas.List.Sorted.IsPermutation-map}
 use Rattle.std.proofs.lemmas.{List.Sorted.IsPermutation-trans, List.Sorted.length_permutation, List.Sums.count_by-le-length, List.Sums.length-filter, Option.slice_get_within}
 use Rattle.std.specs.List.{All, filter, flat_map, sum_by, Sorted.IsPermutation}
 use Rattle.spin_base.specs.{Gathered.gathered, declared.chips.Chip.Chip, declared.chips.Dir.Dir, declared.chips.Port.Port, declared.chips.Port.TheVariants.Local, declared.routes.Out.Out}
-use Rattle.spin_base.specs.{declared.copies.McCopy.McCopy, declared.copies.DumpRec.DumpRec, Equality.chip_eq, Equality.out_eq, Hops.onward, Links.opposite_of, Outputs.IsOutput}
+use Rattle.spin_base.specs.{declared.copies.McCopy.McCopy, declared.copies.Delivery.Delivery, declared.copies.DumpRec.DumpRec, Equality.chip_eq, Equality.out_eq, Hops.onward, Links.opposite_of}
+use Rattle.spin_base.specs.Outputs.{IsOutput}
 use Rattle.spin_base.specs.declared.chips.Port.TheVariants.{Link as ByLink}
 use Rattle.spin_base.proofs.Tests.{answers_none}
 use Rattle.machine_desc.specs.Live.{chip_of, index_of, is_live_chip, is_live_link, IsInside, IsLiveChip}
@@ -93,7 +94,9 @@ module _ (r : Round) where
       (λ v spot. filter-flat (λ k. chip_eq spot.chip c) (sent_in v) r.items) (sent_by_bank u c inside) r.played.turns_are.each
 
   delivered_is : (v : ℕ) → delivered_to (flow_of r) v ≡ flat_map (λ x. copies_to v (delivered_of x)) r.items
-  delivered_is v = grind (arith, filter-flat, map-flat)
+  delivered_is v =
+      ap (map (λ (d : Delivery). d.copy)) (filter-flat (λ (d : Delivery). d.vertex == v) delivered_of r.items)
+      ∙ map-flat (λ (d : Delivery). d.copy) (λ x. filter (λ (d : Delivery). d.vertex == v) (delivered_of x)) r.items
 
   got_spread : (c : Chip) → IsInside u.machine c → IsPermutation (got_on u (flow_of r) c) (gettings (index_of u.machine c) r.items)
   got_spread c inside =
@@ -153,7 +156,10 @@ module _ (r : Round) where
     ]
 
     not_beyond : (IsQueueOf r.m (behind u c o) → ⊥) → (behind u c o ≡ nowhere → ⊥) → ⊥
-    not_beyond out some = grind (arith, is_there)
+    not_beyond out some = elim is_there [
+      | inl at ↦ some at
+      | inr there ↦ out there
+    ]
 
     entered_is : (x : Stands r (behind u c o)) → by_place r (behind u c o) (λ p. entered p.at r.items) [] x ≡ went_on at_output
     entered_is (found p) = all_agree (entered_by p.at) (λ x. went_on (service_at u c inside o x)) (entered_behind u c inside o p.at p.is) ∙ went_is
@@ -239,4 +245,11 @@ module _ (r : Round) where
   }
 
   pub is_round : IsRound r.patience r.turns r.m (flow_of r) r.n
-  is_round = grind (arith, passes, full, full r, few_taken, few_sent, few_got)
+  is_round = record {
+    passes = passes;
+    full = full r;
+    patient = λ c o live is. patient c live o;
+    takes = few_taken;
+    sends = few_sent;
+    gets = few_got;
+  }

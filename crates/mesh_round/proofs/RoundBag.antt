@@ -24,7 +24,10 @@ use Rattle.mesh_round.proofs.{Parts.part_of, Parts.count_come-append, Parts.coun
 -- the sum over the places of a list
 sum_at-range : {X : Type 0} (g : ℕ → ℕ) (a : ℕ) (xs : List X) → sum_at (λ i x. g i) a xs ≡ sum_by g (range_with_len a (length xs))
 sum_at-range g a [] = refl
-sum_at-range g a (x ∷ xs) = grind (arith, sum_at-range g (a + 1) xs, sum_by-cons g a (range_with_len (a + 1) (length xs)))
+sum_at-range g a (x ∷ xs) =
+    let long : length (x ∷ xs) ≡ suc (length xs) = omega arith in
+    let rest = sum_at-range g (a + 1) xs in
+    ap (λ k. g a + k) rest ∙ (sym (sum_by-cons g a (range_with_len (a + 1) (length xs))) ∙ sym (ap (λ n. sum_by g (range_with_len a n)) long))
 
 sum_at-agree : {X : Type 0} (h k : ℕ → X → ℕ) (a : ℕ) (xs : List X) → ((i : ℕ) (x : X) → slice_get xs i ≡ Some x → h (a + i) x ≡ k (a + i) x) → sum_at h a xs ≡ sum_at k a xs
 sum_at-agree h k a [] same = refl
@@ -37,7 +40,9 @@ sum_at-agree h k a (x ∷ xs) same =
     omega (arith, first, rest)
 
 sum_single : {X : Type 0} (g : X → ℕ) (x : X) → sum_by g (x ∷ []) ≡ g x
-sum_single g x = grind (arith, sum_by-cons g x)
+sum_single g x =
+    let none : sum_by g [] ≡ 0 = refl in
+    omega (arith, sum_by-cons g x [], none)
 
 module _ (m : State) (f : Flow) (n : State) (mesh : IsMesh m) (after : IsMesh n) (passes : Passes m f n) where
   abbrev u : Setup
@@ -282,7 +287,11 @@ module _ (m : State) (f : Flow) (n : State) (mesh : IsMesh m) (after : IsMesh n)
             ]
 
         of_vertex : (v : ℕ) → v < length u.spots → sum_by (λ d. share d v) f.delivered ≡ count_by p (marks_at (at_core v) (f.left (core v)))
-        of_vertex v low = grind (arith, sum_filter, sum_map, one_where, mark)
+        of_vertex v low =
+            sym (sum_filter (λ (d : Delivery). d.vertex == v) (at v) f.delivered)
+            ∙ (sym (sum_map (λ (d : Delivery). d.copy) (λ k. one_where (p (mark k (at_core v)))) (filter (λ (d : Delivery). d.vertex == v) f.delivered))
+            ∙ (ap (sum_by (λ k. one_where (p (mark k (at_core v))))) (passes.collected v low)
+            ∙ sym (sum_map (λ k. mark k (at_core v)) (λ x. one_where (p x)) (f.left (core v)))))
 
     -- ---- lists before and after
 
@@ -331,10 +340,24 @@ module _ (m : State) (f : Flow) (n : State) (mesh : IsMesh m) (after : IsMesh n)
     no_hands s none = ap (count_by p) (gathered_of_none (λ i h. hand_marks (chip_of s.setup.machine i) h) None (λ j. refl) 0 s.hands none)
 
     delivered_even : count_by p (delivered_marks n) ≡ count_by p (delivered_marks m) + sum_by (λ (d : Delivery). count_by p (mark d.copy (delivered d.vertex) ∷ [])) f.delivered
-    delivered_even = grind (arith, count_by p, count_by p (delivered_marks m), map-append, count_by-append, sum_map, sum_agree, one_where, single, mark)
+    delivered_even =
+        ap (λ ds. count_by p (map (λ (d : Delivery). mark d.copy (delivered d.vertex)) ds)) passes.delivered
+        ∙ (ap (count_by p) (map-append (λ (d : Delivery). mark d.copy (delivered d.vertex)) m.delivered f.delivered)
+        ∙ (count_by-append p (delivered_marks m) (map (λ (d : Delivery). mark d.copy (delivered d.vertex)) f.delivered)
+        ∙ ap (λ k. count_by p (delivered_marks m) + k)
+        (sum_map (λ (d : Delivery). mark d.copy (delivered d.vertex)) (λ x. one_where (p x)) f.delivered
+        ∙ sum_agree (λ (d : Delivery). one_where (p (mark d.copy (delivered d.vertex)))) (λ (d : Delivery). count_by p (mark d.copy (delivered d.vertex) ∷ [])) f.delivered
+        (λ d a. sym (single (mark d.copy (delivered d.vertex)))))))
 
     dumped_even : count_by p (dumped_marks n) ≡ count_by p (dumped_marks m) + sum_by (λ (r : DumpRec). count_by p (mark r.copy (dumped r.chip r.out) ∷ [])) f.dumped
-    dumped_even = grind (arith, count_by p, count_by p (dumped_marks m), map-append, count_by-append, sum_map, sum_agree, one_where, single, mark)
+    dumped_even =
+        ap (λ rs. count_by p (map (λ (r : DumpRec). mark r.copy (dumped r.chip r.out)) rs)) passes.dumped
+        ∙ (ap (count_by p) (map-append (λ (r : DumpRec). mark r.copy (dumped r.chip r.out)) m.dumped f.dumped)
+        ∙ (count_by-append p (dumped_marks m) (map (λ (r : DumpRec). mark r.copy (dumped r.chip r.out)) f.dumped)
+        ∙ ap (λ k. count_by p (dumped_marks m) + k)
+        (sum_map (λ (r : DumpRec). mark r.copy (dumped r.chip r.out)) (λ x. one_where (p x)) f.dumped
+        ∙ sum_agree (λ (r : DumpRec). one_where (p (mark r.copy (dumped r.chip r.out)))) (λ (r : DumpRec). count_by p (mark r.copy (dumped r.chip r.out) ∷ [])) f.dumped
+        (λ r a. sym (single (mark r.copy (dumped r.chip r.out)))))))
 
     pub in_parts : (s : State) → count_by p (marks_of s)
         ≡ count_by p (unsent_marks s) + (count_by p (input_marks s) + (count_by p (all_hand_marks s) + (count_by p (core_marks s) + (count_by p (delivered_marks s) + count_by p (dumped_marks s)))))
