@@ -51,7 +51,9 @@ size_is keys size some few power enough half_below = by_power power.0 power.1
         ]
 
         lower : (j : ℕ) → j < k → leb keys (2 ^ j) ≡ false
-        lower j less = grind (arith, pow_mono (omega (arith, less)), lt-leb keys (2 ^ j) (omega (arith, (pow_mono (omega (arith, less))), pow_more 2 j, is, half_below, some)), pow_more 2 j)
+        lower j less =
+            let up : 2 ^ (j + 1) ≤ 2 ^ k = pow_mono (omega (arith, less)) in
+            lt-leb keys (2 ^ j) (omega (arith, up, pow_more 2 j, is, half_below, some))
 
 -- ---- all claims
 

@@ -64,16 +64,29 @@ module _ (ds : List Delivery) where
   -- the marks up to the deliveries are the same
   past_copies : (s : State) (k : Mark) (ys zs : List Mark) → (Among k ys → Among k zs) → Among k (unsent_marks s ++ (input_marks s ++ (all_hand_marks s ++ (core_marks s ++ ys)))) →
       Among k (unsent_marks s ++ (input_marks s ++ (all_hand_marks s ++ (core_marks s ++ zs))))
-  past_copies s k ys zs more = grind (arith, inside k (core_marks s) ys zs more)
+  past_copies s k ys zs more =
+      inside k (unsent_marks s) _ _ (inside k (input_marks s) _ _ (inside k (all_hand_marks s) _ _ (inside k (core_marks s) ys zs more)))
 
   own_delivered : (s : State) → delivered_marks (we s) ≡ map mapped ds ++ delivered_marks s
   own_delivered s = map-append mapped ds s.delivered
 
   pub has_with : (s : State) (k : Mark) → Contains (marks_of s) k → Contains (marks_of (we s)) k
-  has_with s k has = grind (arith, contains_among k (marks_of s) has, Among k, own_delivered s, among_contains, past_copies, among_either, among_left, among_right)
+  has_with s k has =
+      among_contains k (marks_of (we s))
+      (past_copies s k (delivered_marks s ++ dumped_marks s) (delivered_marks (we s) ++ dumped_marks s)
+      (λ a. elim (among_either k (delivered_marks s) (dumped_marks s) a) [
+        | inl left ↦ among_left k (delivered_marks (we s)) (dumped_marks s) (subst (Among k) (sym (own_delivered s)) (among_right k (map mapped ds) (delivered_marks s) left))
+        | inr right ↦ among_right k (delivered_marks (we s)) (dumped_marks s) right
+      ]) (contains_among k (marks_of s) has))
 
   pub has_own : (s : State) (k : Mark) → IsUnderWayAt k.station → Contains (marks_of (we s)) k → Contains (marks_of s) k
-  has_own s k under has = grind (arith, contains_among k (marks_of (we s)) has, among_contains, past_copies, among_either, among_map, among_right)
+  has_own s k under has =
+      among_contains k (marks_of s)
+      (past_copies s k (delivered_marks (we s) ++ dumped_marks s) (delivered_marks s ++ dumped_marks s)
+      (λ a. elim (among_either k (delivered_marks (we s)) (dumped_marks s) a) [
+        | inl left ↦ (let d = among_map mapped k (ds ++ s.delivered) left in absurd (subst (λ (m : Mark). IsUnderWayAt m.station) d.2 under))
+        | inr right ↦ among_right k (delivered_marks s) (dumped_marks s) right
+      ]) (contains_among k (marks_of (we s)) has))
 
   waits_with : (s : State) (app : LoadedApp) (n : ℕ) → WaitsIn s app n → WaitsIn (we s) app n
   waits_with s app n waits = (waits.0, (waits.1.0, has_with s waits.1.0 waits.1.1, waits.1.2, waits.1.3))
@@ -101,7 +114,12 @@ module _ (xs ys : List Delivery) (s t u : State) (clean : IsClean xs s) (reached
   sent_reached = subst (IsReachedDropless (with_earlier xs s)) (sym (same_mesh xs ys t u is all)) (reached_with xs s t reached)
 
   pub sent_clean : NothingWaits t → u.delivered ≡ [] → IsClean ys u
-  sent_clean quiet none = grind (arith, kept_reached (with_earlier xs s) (with_earlier ys u) clean.kept sent_reached, quiet_still t u is quiet, is quiet, is, dumped_reached s t reached)
+  sent_clean quiet none = record {
+    kept = kept_reached (with_earlier xs s) (with_earlier ys u) clean.kept sent_reached;
+    quiet = quiet_still t u is quiet;
+    none_delivered = none;
+    none_dumped = ap (λ (v : State). v.dumped) is ∙ (dumped_reached s t reached ∙ clean.none_dumped);
+  }
 
   -- what it brought came behind the earlier ones
   pub brought_more : (v key : ℕ) → u.delivered ≡ [] → HasBrought s t v key → HasBroughtMore xs ys u.setup v key
@@ -145,7 +163,14 @@ module _ {xs ys : List Delivery} {s u : State} {v : ℕ} {k : McCopy} {block : B
   is = dropped ∙ ap (λ q. record s { unsent = drop_front s.unsent v q }) sends.first.1
 
   pub again_reached : IsReachedDropless (with_earlier xs s) (with_earlier ys u)
-  again_reached = grind (arith, append-nil xs, append-nil ys, is)
+  again_reached =
+      let may : MaySend (with_earlier xs s) =
+      record { kept = clean.kept; quiet = record { inputs_empty = clean.quiet.inputs_empty; hands_empty = clean.quiet.hands_empty; cores_empty = clean.quiet.cores_empty } } in
+      let all : (xs ++ s.delivered) ++ own ≡ ys ++ s.delivered =
+      ap (λ l. (xs ++ l) ++ own) clean.none_delivered ∙ (ap (λ l. l ++ own) (append-nil xs) ∙ (sym put ∙ (sym (append-nil ys) ∙ ap (λ l. ys ++ l) (sym clean.none_delivered)))) in
+      subst (IsReachedDropless (with_earlier xs s))
+      (ap (λ l. record s { unsent = slice_set s.unsent v sends.first.0; delivered = l }) all ∙ ap (with_earlier ys) (sym is))
+      (comes (with_earlier xs s) k sends.first.0 may refl sends.first.1 key)
 
   pub again_clean : IsClean ys u
   again_clean = grind (arith, kept_reached (with_earlier xs s) (with_earlier ys u) clean.kept again_reached, is)

@@ -155,7 +155,10 @@ module _ (app : LoadedApp) (tables : List (List Entry)) (s : State) (none : None
           other m e is = ap (λ i. not (is_packet_of app i)) (eqb-true m.copy.packet k.copy.packet e) ∙ ap not is
 
       each_asked' : (i : ℕ) (a : Asked) → less i ≡ Some a → (k : Mark) × Contains (marks_of t) k × (k.copy.packet ≡ i)
-      each_asked' i a e = grind (arith, asked_before i a e, Contains-filter)
+      each_asked' i a e =
+          let old = l.each_asked i a (asked_before i a e) in
+          let is : is_of_other app old.0 ≡ true = ap (λ j. not (is_packet_of app j)) old.2 ∙ ap not (of_other i a e) in
+          (old.0, subst (λ m. Contains m old.0) (sym (marks_without app tables s none)) (Contains-filter (is_of_other app) (marks_of s) old.0 old.1 is), old.2)
 
 -- ---- the packets of the other applications
 

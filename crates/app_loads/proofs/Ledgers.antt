@@ -151,7 +151,14 @@ module _ (s : State) (nets : List NetPlan) (asked : ℕ → Option Asked) (i : �
 
       on_a_trail' : (k : Mark) → Contains (marks_of t) k → (net : NetPlan) × Contains nets net × IsKeyOf net.block k.copy.key ×
           ((d : Spot) × (branch : List Exit) × (from : ℕ) × (to : ℕ) × IsWayOn s.setup.machine s.setup.spots net d branch from to × IsTrue (is_on_trail from to branch k))
-      on_a_trail' k has = grind (arith, some_way s.setup.machine s.setup.spots nets l.ledger.nets_stand a.net of_nets target some_target, on_way)
+      on_a_trail' k has = elim (cases k has) [
+        | inl new ↦
+            let way = some_way s.setup.machine s.setup.spots nets l.ledger.nets_stand a.net of_nets target some_target in
+            subst (λ (m : Mark). (net : NetPlan) × Contains nets net × IsKeyOf net.block m.copy.key ×
+            ((d : Spot) × (branch : List Exit) × (from : ℕ) × (to : ℕ) × IsWayOn s.setup.machine s.setup.spots net d branch from to × IsTrue (is_on_trail from to branch m))) (sym new)
+            (a.net, of_nets, key, (target, way.0, way.1, way.2, way.3, on_way way.0 way.1 way.2 way.3.begins))
+        | inr old ↦ l.ledger.on_a_trail k old
+      ]
 
       once' : (k : Mark) → Contains (marks_of t) k → (net : NetPlan) → Contains nets net → IsKeyOf net.block k.copy.key →
           (d : Spot) (branch : List Exit) (from to : ℕ) → IsWayOn s.setup.machine s.setup.spots net d branch from to →
@@ -180,10 +187,21 @@ module _ (s : State) (nets : List NetPlan) (asked : ℕ → Option Asked) (i : �
               omega (arith, few, count_by-none (marks_of s))
 
       of_its_net' : (j : ℕ) (b : Asked) → also asked i a j ≡ Some b → Contains nets b.net × IsKeyOf b.net.block b.label.key
-      of_its_net' j b e = grind (arith, cases_eq j i, same_Some, also_else, also_here)
+      of_its_net' j b e = elim (cases_eq j i) [
+        | inl same ↦
+            let one : a ≡ b = same_Some _ _ (sym (also_here asked i j a same) ∙ e) in
+            subst (λ (c : Asked). Contains nets c.net × IsKeyOf c.net.block c.label.key) one (of_nets, key)
+        | inr other ↦ l.of_its_net j b (sym (also_else asked i j a other) ∙ e)
+      ]
 
       was_asked' : (k : Mark) → Contains (marks_of t) k → (b : Asked) × (also asked i a k.copy.packet ≡ Some b)
-      was_asked' k has = grind (arith, here_asked, also_else, other_number)
+      was_asked' k has = elim (cases k has) [
+        | inl new ↦ (a, ap (λ (m : Mark). also asked i a m.copy.packet) new ∙ here_asked)
+        | inr old ↦ (let was = l.was_asked k old in (was.0, also_else asked i k.copy.packet a (other_number k old) ∙ was.1))
+      ]
 
       each_asked' : (j : ℕ) (b : Asked) → also asked i a j ≡ Some b → (k : Mark) × Contains (marks_of t) k × (k.copy.packet ≡ j)
-      each_asked' j b e = grind (arith, cases_eq j i, is_there, also_else)
+      each_asked' j b e = elim (cases_eq j i) [
+        | inl same ↦ (x, is_there, sym same)
+        | inr other ↦ (let was = l.each_asked j b (sym (also_else asked i j a other) ∙ e) in (was.0, stays was.0 was.1, was.2))
+      ]

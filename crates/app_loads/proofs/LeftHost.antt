@@ -36,7 +36,20 @@ module _ (h : Host) (apps : AreApps h) (number : ℕ) (app : LoadedApp) (in_apps
   -- ---- what is taken
 
   either_taken : (region k : ℕ) → is_taken (all_ranges others ++ app.ranges) region k ≡ is_taken (all_ranges h.apps) region k
-  either_taken region k = grind (arith, same_tests, by_taken, taken_by, among_contains, item_of, among_right, among_left, contains_among, among_either, others_item, own_item)
+  either_taken region k = same_tests (is_taken (all_ranges others ++ app.ranges) region k) (is_taken (all_ranges h.apps) region k)
+      (λ hit.
+      let found = by_taken (all_ranges others ++ app.ranges) region k hit in
+      taken_by (all_ranges h.apps) region k found.0 (elim (among_either found.0 (all_ranges others) app.ranges (contains_among found.0 (all_ranges others ++ app.ranges) found.1)) [
+        | inl other ↦ others_item h.apps apps.numbers number app in_apps its ranges_in found.0 (among_contains found.0 (all_ranges others) other)
+        | inr own ↦ own_item h.apps apps.numbers number app in_apps its ranges_in found.0 (among_contains found.0 app.ranges own)
+      ]) found.2)
+      (λ hit.
+      let found = by_taken (all_ranges h.apps) region k hit in
+      taken_by (all_ranges others ++ app.ranges) region k found.0
+      (among_contains found.0 (all_ranges others ++ app.ranges) (elim (item_of h.apps apps.numbers number app in_apps its ranges_in found.0 found.1) [
+        | inl own ↦ among_right found.0 (all_ranges others) app.ranges (contains_among found.0 app.ranges own)
+        | inr other ↦ among_left found.0 (all_ranges others) app.ranges (contains_among found.0 (all_ranges others) other)
+      ])) found.2)
 
   others_apart : AllPairs ShareNoPlace (all_ranges others)
   others_apart = AllPairs-left_in ranges_in (λ (a : LoadedApp). not (a.number == number)) ShareNoPlace h.apps apps.apart
@@ -112,7 +125,12 @@ module _ (h : Host) (apps : AreApps h) (number : ℕ) (app : LoadedApp) (in_apps
 
         nobodys : (c : Chip) (k : ℕ) → is_taken (all_ranges others) (place_of m (Rows c)) k ≡ false → is_taken app.ranges (place_of m (Rows c)) k ≡ false →
             is_taken (all_ranges h.apps) (place_of m (Rows c)) k ≡ false
-        nobodys c k free not_mine = grind (arith, false_from_ne_true, by_taken, item_of, false≢true, taken_by)
+        nobodys c k free not_mine = false_from_ne_true (is_taken (all_ranges h.apps) (place_of m (Rows c)) k) (λ some.
+            let found = by_taken (all_ranges h.apps) (place_of m (Rows c)) k some in
+            elim (item_of h.apps apps.numbers number app in_apps its ranges_in found.0 found.1) [
+              | inl own ↦ false≢true (sym not_mine ∙ taken_by app.ranges (place_of m (Rows c)) k found.0 own found.2)
+              | inr other ↦ false≢true (sym free ∙ taken_by (all_ranges others) (place_of m (Rows c)) k found.0 other found.2)
+            ])
 
     ledger_now : MeetsLedgerFor (mesh_without app t h.mesh) (all_nets others) (asked_of others)
     ledger_now = subst (λ n. MeetsLedgerFor (mesh_without app t h.mesh) (all_nets (others_than n h.apps)) (asked_of (others_than n h.apps))) its (the_ledger_without h app t apps in_apps none)

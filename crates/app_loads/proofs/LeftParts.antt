@@ -1,5 +1,5 @@
 -- The fields of a host that an application left, or left not.
-use Rattle.std.proofs.Common.{arith, ◌≡◌, ℕ, suc, ◌<◌, ◌==◌, false, List, ◌++◌, length, take, drop, get_or, sym, ap, ◌∙◌, subst, None, Some, Result, Ok, OnOk}
+use Rattle.std.proofs.Common.{◌≡◌, ℕ, suc, ◌<◌, ◌==◌, false, List, ◌++◌, length, take, drop, get_or, sym, ap, ◌∙◌, subst, None, Some, Result, Ok, OnOk}
 use Rattle.std.proofs.lemmas.{List.drop-map, List.map-append, List.take-map, Bool.eqb-true, Bool.false_from_ne_true, Option.slice_get-get_or, Option.slice_get_within, Option.same_Some}
 use Rattle.std.specs.{Prelude.IfSome, Prelude.position, List.slice_get, List.Contains}
 use Rattle.spin_base.proofs.Members.{Contains-at, any_among, position_nowhere, position_there}
@@ -15,7 +15,9 @@ use Rattle.app_loads.proofs.{LoadedParts.mesh_h, LoadedParts.old_is, Others.with
 
 -- where no place is found, the number is not loaded
 pub not_loaded : (apps : List LoadedApp) (number : ℕ) → position (λ (app : LoadedApp). app.number == number) apps ≡ None → is_loaded apps number ≡ false
-not_loaded apps number none = grind (arith, apps number, false_from_ne_true, any_among, position_nowhere)
+not_loaded apps number none = false_from_ne_true (is_loaded apps number) (λ some.
+    let found = any_among (λ (app : LoadedApp). app.number == number) apps some in
+    position_nowhere (λ (app : LoadedApp). app.number == number) apps found.0 none found.1 found.2)
 
 -- the place that is found is one of the list
 found_below : (apps : List LoadedApp) (number at : ℕ) (d : LoadedApp) → position (λ (app : LoadedApp). app.number == number) apps ≡ Some at → at < length apps
@@ -26,7 +28,9 @@ found_there apps number at app is value = slice_get-get_or apps at app (found_be
 
 -- and has the application of the number
 pub found_number : (apps : List LoadedApp) (number at : ℕ) (app : LoadedApp) → position (λ (app : LoadedApp). app.number == number) apps ≡ Some at → slice_get apps at ≡ Some app → app.number ≡ number
-found_number apps number at app is here = grind (arith, apps at app is, here, position_there, same_Some, eqb-true)
+found_number apps number at app is here =
+    let found = position_there (λ (a : LoadedApp). a.number == number) apps at app is in
+    ap (λ (a : LoadedApp). a.number) (same_Some _ _ (sym here ∙ found.1)) ∙ eqb-true found.0.number number found.3
 
 -- what a call answered where it succeeded
 pub on_ok_is : {A E : Type 0} (P : Type 0) {r : Result A E} {x : A} → r ≡ Ok x → OnOk r P → P
@@ -113,10 +117,26 @@ module _ {i j : Inside} {now : Host} {number at : ℕ} {app : LoadedApp} {mesh :
       (gone.apps ∙ without_one number i.apps.items at app (here leaves) (its leaves) (apps leaves).numbers) gone.packets
 
   both : AreApps new × HasUnloaded old number ended new
-  both = grind (arith, its_mesh leaves, apps leaves, in_apps leaves, its leaves, old_is leaves.out, apps_left, has_unloaded, left)
+  both =
+      let none = subst (λ (s : State). NoneUnderWay s app) (sym (its_mesh leaves)) gone.none in
+      let back = subst (λ (s : State). AreGivenBack s.setup.machine app.ranges given gone.new) (sym (its_mesh leaves)) gone.back (all_ranges (others_than number old.apps)) in (
+        apps_left old (apps leaves) number app (in_apps leaves) (its leaves) given gone.new (old_is leaves.out) back ended gone.after left none,
+        has_unloaded old (apps leaves) number app (in_apps leaves) (its leaves) given gone.new (old_is leaves.out) back ended gone.after left none,
+      )
 
   pub ok_unloaded : HasUnloaded now number ended (host_of j)
   ok_unloaded = subst (λ (x : Host). HasUnloaded x number ended (host_of j)) leaves.out.stands.view (subst (HasUnloaded old number ended) (sym is_now) both.1)
 
   pub ok_host : IsHost j
-  ok_host = grind (arith, apps, is_now, left_alone app old.mesh gone.after gone.after.setup.tables i.senders left.mesh leaves.out.stands.host.rest, take-map, drop-map, map-append)
+  ok_host = record {
+    there = ap is_some gone.mesh_is;
+    apps = subst AreApps (sym is_now) both.0;
+    numbers = gone.numbers
+        ∙ (ap (λ (l : List ℕ). take at l ++ drop (suc at) l) leaves.out.stands.host.numbers
+        ∙ (ap (λ (l : List ℕ). l ++ drop (suc at) (numbers_of i.apps.items)) (take-map (λ (a : LoadedApp). a.number) at i.apps.items)
+        ∙ (ap (λ (l : List ℕ). numbers_of (take at i.apps.items) ++ l) (drop-map (λ (a : LoadedApp). a.number) (suc at) i.apps.items)
+        ∙ (sym (map-append (λ (a : LoadedApp). a.number) (take at i.apps.items) (drop (suc at) i.apps.items)) ∙ ap numbers_of (sym gone.apps)))));
+    rest = subst (λ (o : Option State). IfSome j.senders (λ vertices. SendAlone vertices (mesh_in o))) (sym gone.mesh_is)
+        (subst (λ (o : Option (List ℕ)). IfSome o (λ vertices. SendAlone vertices gone.after)) (sym gone.senders)
+        (left_alone app old.mesh gone.after gone.after.setup.tables i.senders left.mesh leaves.out.stands.host.rest));
+  }

@@ -33,7 +33,15 @@ same_frees m taken xs ys one other = same_lists xs ys long each
     long = one.all ∙ sym other.all
 
     each : (k : ℕ) (d : Free) → k < length xs → get_or xs k d ≡ get_or ys k d
-    each k d below = grind (arith, get_or xs k d, get_or ys k d, slice_get-get_or xs k d below, slice_get-get_or ys k d (omega (arith, below, long)), one_free)
+    each k d below =
+        let f = get_or xs k d in
+        let g = get_or ys k d in
+        let p = one.each k f (slice_get-get_or xs k d below) in
+        let q = other.each k g (slice_get-get_or ys k d (omega (arith, below, long))) in
+        let size : f.size ≡ g.size = p.size ∙ sym q.size in
+        let holes = same_holes 0 f.size f.holes g.holes p.runs (subst (λ n. AreRuns 0 n g.holes) (sym size) q.runs)
+        (λ z. p.free z ∙ (ap (λ n. ltb z n && not (is_taken taken k z)) size ∙ sym (q.free z))) in
+        one_free f.size g.size f.holes g.holes holes size
 
 -- what vertices have unsent
 sent_unsent : (spots : List Spot) (app : LoadedApp) (n : ℕ) (before after : List (List McCopy)) → AreSent spots app n before after →
@@ -134,7 +142,13 @@ module _ (h : Host) (apps : AreApps h) (number : ℕ) (plan : AppPlan) (may : Ma
   spots_free s has = All-contains (λ z. is_spot_taken h.apps z ≡ false) plan.spots s may.free (subst (λ (p : AppPlan). Contains p.spots s) served.plan_is has)
 
   disjoint_now : HaveDisjointBlocks (all_nets h.apps ++ nets_of app)
-  disjoint_now = grind (arith, own_disjoint m app on own_apart, on own_apart, AllPairs-append, All-each, among_flat, among_contains, apps_disjoint, All-contains, across, in_ranges, contains_among)
+  disjoint_now = AllPairs-append (λ (a b : NetPlan). (key : ℕ) → IsKeyOf a.block key → IsKeyOf b.block key → ⊥) (all_nets h.apps) (nets_of app) apps.disjoint (own_disjoint m app on own_apart)
+      (All-each (λ (a : NetPlan). All (λ (b : NetPlan). (key : ℕ) → IsKeyOf a.block key → IsKeyOf b.block key → ⊥) (nets_of app)) (all_nets h.apps) (λ a in_a.
+      All-each (λ (b : NetPlan). (key : ℕ) → IsKeyOf a.block key → IsKeyOf b.block key → ⊥) (nets_of app) (λ b in_b.
+      let f = among_flat nets_of a h.apps (contains_among a (all_nets h.apps) in_a) in
+      let in_apps = among_contains f.0 h.apps f.1 in
+      apps_disjoint m f.0 app (All-contains (IsLoadedOn m) h.apps f.0 apps.loaded in_apps) on
+      (λ r s in_r in_s. across r s (in_ranges f.0 in_apps r in_r) in_s) a b (among_contains a (nets_of f.0) f.2) in_b)))
 
   spots_in : (s : Spot) → Contains app.plan.spots s → Contains h.mesh.setup.spots s
   spots_in s has = subst (λ (l : List Spot). Contains l s) (sym apps.vertices) (usable_there m s (usable_spot m app on s has))
@@ -154,7 +168,27 @@ module _ (h : Host) (apps : AreApps h) (number : ℕ) (plan : AppPlan) (may : Ma
   none_of_others r in_r = none_taken app.ranges r (λ other in_other. across r other in_r in_other)
 
   rows_now : HaveRows m t all
-  rows_now = grind (arith, ranges_are, All-push, below, or_parts, list_any-append, All-each, All-contains, same_part, none_of_others, in_ranges, mine_at)
+  rows_now = record {
+    long = settled.written.long;
+    rows = All-push (λ (a : LoadedApp). All (λ (r : Range). (c : Chip) → IsInside m c → r.region ≡ place_of m (Rows c) → HasRows m (nets_of a) c (table_at m t c) r) a.ranges) h.apps app
+        (All-each (λ (a : LoadedApp). All (λ (r : Range). (c : Chip) → IsInside m c → r.region ≡ place_of m (Rows c) → HasRows m (nets_of a) c (table_at m t c) r) a.ranges) h.apps (λ a in_apps.
+        All-each (λ (r : Range). (c : Chip) → IsInside m c → r.region ≡ place_of m (Rows c) → HasRows m (nets_of a) c (table_at m t c) r) a.ranges (λ r in_a c inside region.
+        let was = All-contains (λ (r' : Range). (d : Chip) → IsInside m d → r'.region ≡ place_of m (Rows d) → HasRows m (nets_of a) d (table_at m h.mesh.setup.tables d) r') a.ranges r
+        (All-contains (λ (b : LoadedApp). All (λ (r' : Range). (d : Chip) → IsInside m d → r'.region ≡ place_of m (Rows d) → HasRows m (nets_of b) d (table_at m h.mesh.setup.tables d) r')
+        b.ranges) h.apps a apps.rows.rows in_apps) in_a c inside region in
+        record {
+          rows = was.rows;
+          plain = was.plain;
+          entries = same_part (table_at m t c) (table_at m h.mesh.setup.tables c) r.place r.size (settled.written.long c inside ∙ sym (apps.rows.long c inside))
+              (λ k low high. settled.written.others c k inside (none_of_others r (in_ranges a in_apps r in_a) (place_of m (Rows c)) k (mine_at r (place_of m (Rows c)) k region low high)))
+              ∙ was.entries;
+        })))
+        (All-each (λ (r : Range). (c : Chip) → IsInside m c → r.region ≡ place_of m (Rows c) → HasRows m (nets_of app) c (table_at m t c) r) app.ranges (λ r in_app. settled.written.rows r in_app));
+    others = λ c k inside below free.
+        let parts = or_parts (is_taken (all_ranges h.apps) (place_of m (Rows c)) k) (is_taken app.ranges (place_of m (Rows c)) k)
+        (sym (list_any-append (range_has (place_of m (Rows c)) k) (all_ranges h.apps) app.ranges) ∙ (ap (λ l. is_taken l (place_of m (Rows c)) k) (sym ranges_are) ∙ free)) in
+        settled.written.others c k inside parts.1 ∙ apps.rows.others c k inside below parts.0;
+  }
 
   loaded_now : All (IsLoadedOn m) all
   loaded_now = All-push (IsLoadedOn m) h.apps app apps.loaded on
@@ -229,7 +263,21 @@ module _ (h : Host) (apps : AreApps h) (number : ℕ) (plan : AppPlan) (may : Ma
   apps_now = subst (λ (s : State). AreApps (now s)) (sym settled.mesh) apps_of_after
 
   pub loaded_host : HasLoaded h number plan (now mesh)
-  loaded_host = grind (arith, first_is, served_now, take_all (length app.plan.packets) app.plan.packets (omega arith))
+  loaded_host = record {
+    was_not = not_loaded;
+    app = app;
+    number_is = served.number_is;
+    plan_is = served.plan_is;
+    first_is = first_is;
+    served = served_now;
+    apps = refl;
+    packets = refl;
+    mesh = settled.mesh;
+    unsent = λ v before at. sent_unsent h.mesh.setup.spots app (length app.plan.packets) h.mesh.unsent q settled.sent (omega arith) v before at
+        ∙ ap (λ l. Some (before ++ filter_map (λ (e : ℕ × Packet). copy_from h.mesh.setup.spots v e.0 e.1 (slice_get (nets_of app) e.1.net)) (enumerate_from app.first l)))
+        (take_all (length app.plan.packets) app.plan.packets (omega arith));
+    tables = λ c k inside free. settled.written.others c k inside free;
+  }
 
 -- why an application is not loaded
 pub why_not : (h : Host) (apps : AreApps h) (number : ℕ) (plan : AppPlan) (old : List Region) → frees old ≡ h.regions → is_loaded h.apps number ≡ false → IsPlan h.mesh.setup.machine plan →

@@ -62,7 +62,9 @@ module _ {i : Inside} {now : Host} {mesh : State} {given : List Region} (out : I
 
   -- ranges that were given back are free as before
   pub free_again : (new : List Region) → AreFreeAgain mesh.setup.machine given new → frees new ≡ h.regions
-  free_again new back = grind (arith, mesh_h, free, same_frees)
+  free_again new back =
+      same_frees h.mesh.setup.machine (all_ranges h.apps) (frees new) h.regions
+      (subst (λ (s : State). AreFreeAgain s.setup.machine given new) (sym mesh_h) back (all_ranges h.apps) out.stands.host.apps.apart free) out.stands.host.apps.free
 
   module _ (plan : AppPlan) (may : MayLoad now plan) where
     may_h : MayLoad h plan
@@ -114,7 +116,13 @@ module _ {i j : Inside} {now : Host} {mesh : State} {given : List Region} {numbe
   is_now = grind (arith, host_is)
 
   both : AreApps new × HasLoaded old number plan new
-  both = grind (arith, mesh_h out, may_h out plan joins.may, old_is out, settled, apps_now, loaded_host)
+  both =
+      let served = subst (λ (s : State). IsServedApp s.setup.machine given number i.packets plan app joins.new) (sym (mesh_h out)) joins.served in
+      let may = may_h out plan joins.may in
+      let none = ap (λ (x : Host). is_loaded x.apps number) out.stands.view ∙ joins.none in (
+        apps_now old out.stands.host.apps number plan may none given joins.new (old_is out) app joins.after served settled,
+        loaded_host old out.stands.host.apps number plan may none given joins.new (old_is out) app joins.after served settled,
+      )
 
   pub ok_loaded : HasLoaded now number plan (host_of j)
   ok_loaded = subst (λ (x : Host). HasLoaded x number plan (host_of j)) out.stands.view (subst (HasLoaded old number plan) (sym is_now) both.1)

@@ -71,7 +71,10 @@ module _ (n : ℕ) where
 
       by_test : (b : Bool) → (j == n) ≡ b → count_by is_for (fixed (j + 1) nets) + count_by is_for (keys (j + 1) nets) ≤ 1 →
           count_by is_for (fixed j (net ∷ nets)) + count_by is_for (keys j (net ∷ nets)) ≤ 1
-      by_test true is rest = grind (arith, eqb-true j n is, none_above (j + 1) nets (omega (arith, (eqb-true j n is))), own true is, second)
+      by_test true is rest =
+          let here : j ≡ n = eqb-true j n is in
+          let none = none_above (j + 1) nets (omega (arith, here)) in
+          omega (arith, own true is, none, first, second)
       by_test false is rest = let none = own false is in omega (arith, none, rest, first, second)
 
   module _ (m : Description) (plan : AppPlan) where

@@ -119,17 +119,36 @@ module _ (m : Description) (chips : List ℕ) where
 
         -- the item at the end is greater, and so are all after it
         at_end : (x : ℕ) → slice_get chips end ≡ Some x → c < x
-        at_end x e = grind (arith, cases_eq x c, in_order at end c x after_at here e)
+        at_end x e =
+            elim (cases_eq x c) [
+              | inl same ↦ absurd (run.other x c e here same)
+              | inr differ ↦ omega (arith, in_order at end c x after_at here e, differ)
+            ]
 
         beyond : (k x : ℕ) → end ≤ k → slice_get chips k ≡ Some x → c + 1 ≤ x
-        beyond k x low e = grind (arith, cases_eq k end, slice_get_within chips k x e, at_end, slice_get_there, in_order)
+        beyond k x low e = elim (cases_eq k end) [
+          | inl same ↦ let w = at_end x (ap (slice_get chips) (sym same) ∙ e) in omega (arith, w)
+          | inr more ↦
+              let there = slice_get_there chips end (let w = slice_get_within chips k x e in omega (arith, low, more, w)) in
+              let v = in_order end k there.0 x (omega (arith, low, more)) there.1 e in
+              omega (arith, at_end there.0 there.1, v)
+        ]
 
         counted : count_by (λ k. k == c) chips ≡ end - at
-        counted = grind (arith, count_run, ne_eqb, eq-eqb, beyond)
+        counted = count_run (λ k. k == c) chips at end (omega (arith, after_at)) run.within
+            (λ k x less e. let w = so_far.before k x less e in let v = so_far.from at c (omega arith) here in ne_eqb x c (λ same. absurd (omega (arith, w, v, same))))
+            (λ k x low high e. eq-eqb x c (run.same k x c low high e here))
+            (λ k x low e. let w = beyond k x low e in ne_eqb x c (λ same. absurd (omega (arith, w, same))))
 
         -- no chip between
         apart : (i : ℕ) → so_far.next ≤ i → i < c → (k x : ℕ) → slice_get chips k ≡ Some x → x ≢ i
-        apart i low high k x e same = grind (arith, cases_lt k at, cases_lt k end, beyond)
+        apart i low high k x e same = elim (cases_lt k at) [
+          | inl earlier ↦ let w = so_far.before k x earlier e in absurd (omega (arith, w, same, low))
+          | inr later ↦ elim (cases_lt k end) [
+            | inl within ↦ let w = run.same k x c later within e here in absurd (omega (arith, w, same, high))
+            | inr past ↦ let w = beyond k x past e in absurd (omega (arith, w, same, high))
+          ]
+        ]
 
     pub all_runs : (at : ℕ) (start claims : List Claim) → length chips ≤ at → HaveRuns at start claims → claims ≡ start ++ flat_map (run_claim m chips) (range_with_len 0 (chip_count m))
     all_runs at start claims end so_far = grind (arith, up_to, none_there, slice_get_within)

@@ -81,10 +81,21 @@ module _ (h : Host) (number : ℕ) (apps : AreApps h) (app : LoadedApp) (has : C
           ]
 
       backward : (is_spot_taken (others_than number h.apps) s || has_spot app) ≡ true → is_spot_taken h.apps s ≡ true
-      backward either = grind (arith, cases_Bool (has_spot app), among_any, or_none, any_among, among_filter, in_apps)
+      backward either = elim (cases_Bool (has_spot app)) [
+        | inl mine ↦ among_any has_spot app h.apps in_apps mine
+        | inr not_mine ↦ (
+            let other : is_spot_taken (others_than number h.apps) s ≡ true = sym (or_none (is_spot_taken (others_than number h.apps) s) (has_spot app) not_mine) ∙ either in
+            let found = any_among has_spot (others_than number h.apps) other in
+            among_any has_spot found.0 h.apps (among_filter (λ (a : LoadedApp). not (a.number == number)) found.0 h.apps found.1).0 found.2
+            )
+      ]
 
   pub spots_beside : (is_spot_taken h.apps s ≡ (is_spot_taken (others_than number h.apps) s || has_spot app)) × (has_spot app ≡ true → is_spot_taken (others_than number h.apps) s ≡ false)
-  spots_beside = grind (arith, false_from_ne_true, any_among, other_apart)
+  spots_beside = (
+    taken_by,
+    λ mine. false_from_ne_true (is_spot_taken (others_than number h.apps) s)
+        (λ other. let found = any_among has_spot (others_than number h.apps) other in other_apart found.0 found.1 found.2 mine),
+  )
 
 -- the spots of an application are usable cores
 pub spots_usable : (h : Host) → AreApps h → (app : LoadedApp) → Contains h.apps app → All (IsUsable h.mesh.setup.machine) app.plan.spots

@@ -58,7 +58,10 @@ module _ (w : Whole) where
 
   -- whether a copy moved is noted after ends are collected as it was before
   moved_same : list_any (λ (s : Share). s.moved) w.played ≡ list_any (λ (s : Share). s.moved) w.collected
-  moved_same = grind (arith, any_same, slice_get-get_or, get_or)
+  moved_same = any_same (λ (s : Share). s.moved) (λ (s : Share). s.moved) w.played w.collected (sym w.collects.collects.same.0) (λ i x y below.
+      let same = w.collects.collects.same in
+      let p = slice_get-get_or w.played i x below in
+      sym (same.1 i (get_or w.played i x) (get_or w.collected i y) p (slice_get-get_or w.collected i y (omega (arith, below, same.0)))).moved)
 
   -- the mesh after a round: its shares, its links and its logs are those that the round left, and the rest is as it was
   module _ (shares : Vec Share) (logs : MeshLogs) (left : shares.items ≡ w.cleared) where

@@ -116,4 +116,28 @@ module _ {m : State} {r : RaisedMesh} {lent : Standing} {dealt : List Share} whe
           logs.delivered.items ≡ r.logs.delivered.items ++ flat_map (λ s. s.hold.deliveries.items) collected →
           logs.dumped.items ≡ r.logs.dumped.items ++ flat_map (λ s. s.hold.dumps.items) collected → IsAnyMoved collected moved →
           PlaysTo r.pace.patience r.pace.turns m moved (record r { standing = standing; shares = shares; logs = logs })
-      round_plays {rested} standing shares logs moved h rests clears delivered dumped moved_are = grind (arith, whole_plays)
+      round_plays {rested} standing shares logs moved h rests clears delivered dumped moved_are =
+          let t = h.turned in
+          let d = t.before in
+          let w : Whole = record {
+            m = m;
+            is_mesh = d.is_mesh;
+            patience = r.pace.patience;
+            turns = r.pace.turns;
+            r = r;
+            roomy = d.roomy;
+            dealt = dealt;
+            deals = d.deals;
+            played = played;
+            played_long = t.long;
+            plays = λ k s below. (t.plays k s below).0;
+            brought = brought;
+            collected = collected;
+            collects = h.collects;
+            standing = standing;
+            rested = rested;
+            rests = subst (λ (u : Setup). RestAll u.capacity h.collects.ends standing rested) d.roomy.raised.setup (rests h.collects.ends h.collects.holds);
+            cleared = shares.items;
+            clears = clears;
+          } in
+          whole_plays w shares logs refl moved (record { delivered = delivered; dumped = dumped }) moved_are

@@ -1,5 +1,5 @@
 -- What stands on the boards is moved to the lists, place by place.
-use Rattle.std.proofs.Common.{arith, ◌≡◌, ◌≢◌, ℕ, ◌+◌, ◌*◌, ◌<◌, ◌≤◌, List, [], ◌∷◌, ◌++◌, length, get_or, take, set, Option, Some, None, refl, sym, ap, ◌∙◌, subst, inl, inr, ◌⊎◌}
+use Rattle.std.proofs.Common.{◌≡◌, ◌≢◌, ℕ, ◌+◌, ◌*◌, ◌<◌, ◌≤◌, List, [], ◌∷◌, ◌++◌, length, get_or, take, set, Option, Some, None, refl, sym, ap, ◌∙◌, subst, inl, inr, ◌⊎◌}
 use Rattle.std.proofs.{lemmas.Bool.cases_eq, lemmas.List.get_or-set_same, lemmas.List.get_or-set_other, lemmas.List.take_all, lemmas.List.Elements.Contains-push_cases, Math.ListN.length-set}
 use Rattle.std.proofs.lemmas.Option.{none-some, same_Some}
 use Rattle.spin_base.proofs.Members.{Contains-none}
@@ -37,7 +37,11 @@ pub record IsTaken (m : Description) (root : Chip) (edges : List Edge) (block : 
 
 -- what stands once a place was taken
 after : Block → ℕ → Stand → Stand
-after block p s = grind (arith, get_or s.ports p None, get_or s.routes p nothing, get_or s.lists p)
+after block p s = record {
+  ports = set s.ports p None;
+  routes = set s.routes p nothing;
+  lists = set s.lists p (with_mark block (get_or s.ports p None) (get_or s.routes p nothing) (get_or s.lists p []));
+}
 
 -- the boards and the lists have the place
 pub record Has (s : Stand) (p : ℕ) : Type 0 where
@@ -82,7 +86,13 @@ module _ (block : Block) (from s : Stand) (p : ℕ) where
 
   each_kept : Has s p → ((i : ℕ) → IsDone block from s i ⊎ IsLeft from s i) → (i : ℕ) →
       IsDone block from (after block p s) i ⊎ IsLeft from (after block p s) i
-  each_kept within each i = grind (arith, cases_eq i p, after block p s, done_at within (each p), done_kept, left_kept)
+  each_kept within each i = elim (cases_eq i p) [
+    | inl here ↦ inl (subst (IsDone block from (after block p s)) (sym here) (done_at within (each p)))
+    | inr other ↦ elim (each i) [
+      | inl was ↦ inl (done_kept i other was)
+      | inr was ↦ inr (left_kept i other was)
+    ]
+  ]
 
   -- a chip's place is done once it was taken, and stays so
   done_after : (m : Description) (c : Chip) → Has s p → ((i : ℕ) → IsDone block from s i ⊎ IsLeft from s i) →
@@ -101,7 +111,15 @@ pub record IsAfter (block : Block) (p : ℕ) (s t : Stand) : Type 0 where
 -- such boards and lists are the same
 is_after : (block : Block) (p : ℕ) (s t : Stand) → IsAfter block p s t → after block p s ≡ t
 unfolding after
-is_after block p s t is = grind (arith, get_or s.ports p None, get_or s.routes p nothing, get_or s.lists p)
+is_after block p s t is =
+    let third = set s.lists p (with_mark block (get_or s.ports p None) (get_or s.routes p nothing) (get_or s.lists p [])) in
+    let a : after block p s ≡ record { ports = t.ports; routes = set s.routes p nothing; lists = third } =
+    ap (λ ps. record { ports = ps; routes = set s.routes p nothing; lists = third }) (sym is.ports) in
+    let b : record { ports = t.ports; routes = set s.routes p nothing; lists = third } ≡ record { ports = t.ports; routes = t.routes; lists = third } =
+    ap (λ rs. record { ports = t.ports; routes = rs; lists = third }) (sym is.routes) in
+    let c : record { ports = t.ports; routes = t.routes; lists = third } ≡ t =
+    ap (λ ls. record { ports = t.ports; routes = t.routes; lists = ls }) (sym is.lists) in
+    a ∙ (b ∙ c)
 
 -- only the root's place was taken
 first_after : (m : Description) (root : Chip) (edges : List Edge) (block : Block) (from : Stand) (p : ℕ) → p ≡ index_of m root → Has from p →
@@ -124,7 +142,8 @@ first_after m root edges block from p at within = record {
 -- the root's place is taken first
 pub taken_first : (m : Description) (root : Chip) (edges : List Edge) (block : Block) (from s : Stand) (p : ℕ) → p ≡ index_of m root → Has from p →
     IsAfter block p from s → IsTaken m root (take 0 edges) block from s
-taken_first m root edges block from s p at within is = grind (arith, is_after block p from s is, first_after m root edges block from p at within)
+taken_first m root edges block from s p at within is =
+    subst (IsTaken m root (take 0 edges) block from) (is_after block p from s is) (first_after m root edges block from p at within)
 
 -- the place of the far end of one more edge is taken
 taken_push : (m : Description) (root : Chip) (es : List Edge) (e : Edge) (far : Chip) (block : Block) (from s : Stand) (p : ℕ) →
@@ -180,7 +199,8 @@ taken_same m root items edges i d block from s same below none so_far =
 -- the edges were read to the end
 pub taken_all : (m : Description) (root : Chip) (items edges : List Edge) (i : ℕ) (block : Block) (from s : Stand) → items ≡ edges → length items ≤ i →
     IsTaken m root (take i edges) block from s → IsTaken m root edges block from s
-taken_all m root items edges i block from s same past = grind (arith, take_all)
+taken_all m root items edges i block from s same past =
+    subst (λ es. IsTaken m root es block from s) (take_all i edges (subst (λ (es : List Edge). length es ≤ i) same past))
 
 -- ---- once the whole tree was gone over
 
@@ -190,10 +210,17 @@ module _ (m : Description) (net : NetPlan) (from s : Stand) (told : TellsPorts m
   none_off : (c : Chip) → IsInside m c → IsLeft from s (index_of m c) → (o : Option Port) → get_or from.ports (index_of m c) None ≡ o →
       TellsPort m net.tree.root net.tree.edges c o → IsDone net.block from s (index_of m c)
   none_off c inside left (Some port) is tells = all.done c (comes_in_tree m net.tree.root net.tree.edges c port tells)
-  none_off c inside left None is tells = grind (arith, get_or from.routes (index_of m c) nothing, get_or from.lists (index_of m c))
+  none_off c inside left None is tells = record {
+    port = left.port ∙ is;
+    route = left.route ∙ off c inside tells;
+    list = left.list ∙ sym (ap (λ o. with_mark net.block o (get_or from.routes (index_of m c) nothing) (get_or from.lists (index_of m c) [])) is);
+  }
 
   all_done : (c : Chip) → IsInside m c → IsDone net.block from s (index_of m c)
-  all_done c inside = grind (arith, get_or from.ports (index_of m c) None, none_off)
+  all_done c inside = elim (all.each (index_of m c)) [
+    | inl done ↦ done
+    | inr left ↦ none_off c inside left (get_or from.ports (index_of m c) None) refl (told c inside)
+  ]
 
   pub ports_clear : length from.ports ≡ m.width * m.height → IsBlank m None s.ports
   ports_clear long = record { long = all.ports_long ∙ long; clear = λ c inside. (all_done c inside).port }

@@ -1,4 +1,3 @@
-use Rattle.std.proofs.Common.{arith}
 use Rattle.mesh_drain.proofs.Frame.{setup_reached}
 use Rattle.spin_base.specs.declared.blocks.Block.{Block}
 use Rattle.app_loads.specs.{Earlier.with_earlier, Grouping.all_grouped, Groups.last_arrivals, Running.AreKnown, Running.Comes, Running.IsBlockWith}
@@ -19,7 +18,11 @@ still c =
 -- others with keys of the block come where this packet came
 comes : (c : After-block_of) (block : Block) → IsBlockWith c.args.apps.now c.args.copy.key block → AreKnown c.send_one.new.mesh.setup c.args.vertex c.args.apps.now c.args.known.now →
     Comes c.send_one.new.mesh.setup c.args.vertex (last_arrivals c.join.new.self) block
-comes c block with' known = grind (arith, comes_again)
+comes c block with' known =
+    comes_again (all_grouped c.args.earlier.now) (all_grouped c.send_one.new.earlier) c.send_one.new.mesh.setup c.args.vertex c.len-before.result c.args.copy (last_arrivals c.join.new.self) block
+    (c.in_ok-send_one.ensures.brought c.args.copy c.requires.sends.first.0 c.requires.sends.first.1) c.len-before.ensures
+    (ap (drop c.len-before.result) (sym (c.join.ensures ∙ ap all_grouped c.share_near.ensures)) ∙ c.ends_with.ensures c.if-not-ends_with.false)
+    (λ other its. known.alike block c.args.copy.key other with' its)
 
 pub returns-then-not-ends_with-clause-known : goal.returns-then-not-ends_with-clause-known
 returns-then-not-ends_with-clause-known c = still (goal.at.returns-then-not-ends_with-clause-known c).After-ends_with

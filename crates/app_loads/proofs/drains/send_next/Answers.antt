@@ -6,7 +6,9 @@ pub first_unsent-copy-requires : goal.first_unsent-copy-requires
 first_unsent-copy-requires c = record { there = c.requires.can.there; some = c.requires.can.some }
 
 pub send_again-requires-clause-comes : goal.send_again-requires-clause-comes
-send_again-requires-clause-comes c = grind arith
+send_again-requires-clause-comes c =
+    let is = c.is_last.ensures c.if-is_last.true in
+    (is.0, is.2, subst (λ k. IfSome k (Comes c.args.mesh.now.setup c.args.vertex (last_arrivals c.args.earlier.now))) is.1 c.requires.last)
 
 pub send_to-requires-clause-comes : goal.send_to-requires-clause-comes
 send_to-requires-clause-comes c = grind arith

@@ -25,4 +25,9 @@ pub returns-clause-unsent : goal.returns-clause-unsent
 returns-clause-unsent c = grind (arith, ok_then)
 
 pub returns-clause-brought : goal.returns-clause-brought
-returns-clause-brought c = grind (arith, ok_then, brought_more)
+returns-clause-brought c =
+    ok_then c.keep.result
+    (λ none copy rest at.
+    brought_more (all_grouped c.args.earlier.now) (all_grouped c.keep.new.earlier) c.args.mesh.now c.send_first.new.mesh c.keep.new.mesh c.requires.clean c.send_first.ensures.reached
+    c.keep.ensures.mesh c.keep.ensures.all
+    c.args.vertex copy.key none (c.in_ok-send_first.ensures.brought copy rest at)) c.keep.ensures.none

@@ -23,7 +23,15 @@ pub returns-in-Ok-settled-clause-served : goal.returns-in-Ok-settled-clause-serv
 returns-in-Ok-settled-clause-served c = served_on c.machine.ensures c.in-Ok.ensures.served
 
 pub give_all-requires : goal.give_all-requires
-give_all-requires c = grind (arith, served_on c.machine.ensures c.in-Ok.ensures.served)
+give_all-requires c =
+    let own = c.requires.of_machine in
+    let taken = (served_on c.machine.ensures c.in-Ok.ensures.served).taken own.taken own.apart own.free in
+    record {
+      taken = (c.args.mesh.setup.machine, own.taken, subst (λ (l : List Range). AreTaken c.args.mesh.setup.machine own.taken l c.serve.new.regions) (sym c.as_slice.ensures) taken);
+      room = subst (λ (l : List Range). HaveRoom l c.serve.new.regions) (sym c.as_slice.ensures) c.in-Ok.ensures.room;
+    }
 
 pub returns-in-Err-settled-clause-back : goal.returns-in-Err-settled-clause-back
-returns-in-Err-settled-clause-back c taken apart free = grind (arith, served_on c.machine.ensures c.in-Ok.ensures.served)
+returns-in-Err-settled-clause-back c taken apart free =
+    c.give_all.ensures.free c.args.mesh.setup.machine taken
+    (subst (λ (l : List Range). AreTaken c.args.mesh.setup.machine taken l c.serve.new.regions) (sym c.as_slice.ensures) ((served_on c.machine.ensures c.in-Ok.ensures.served).taken taken apart free))

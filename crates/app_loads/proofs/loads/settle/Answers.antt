@@ -1,6 +1,6 @@
-use Rattle.std.proofs.Common.{arith}
 use Rattle.app_loads.proofs.Kept.{can_settle_own}
 use Rattle.app_loads.proofs.loads.settle.Goals as goal
 
 pub settle_mesh-mesh-requires : goal.settle_mesh-mesh-requires
-settle_mesh-mesh-requires c = grind (arith, can_settle_own)
+settle_mesh-mesh-requires c =
+    can_settle_own (all_grouped c.mesh.inside.earlier) c.mesh.inside.mesh c.args.app.now (subst (λ (s : State). CanSettle s c.args.app.now) (sym c.mesh.view_is) c.requires)

@@ -6,7 +6,9 @@ pub of-delivered-requires : goal.of-delivered-requires
 of-delivered-requires c = grind (arith, few_own)
 
 pub returns-in-Ok-clause-none : goal.returns-in-Ok-clause-none
-returns-in-Ok-clause-none c = grind (arith, none_with)
+returns-in-Ok-clause-none c =
+    none_with (all_grouped c.args.earlier) c.args.mesh c.args.app.now
+    (subst (λ (r : Result Left UnloadErr). OnOk r (NoneUnderWay c.args.mesh c.args.app.now)) c.in-Ok.is c.leave_mesh-mesh.ensures.none)
 
 pub returns-in-Err-clause-why : goal.returns-in-Err-clause-why
 returns-in-Err-clause-why c = grind (arith, why_with)
