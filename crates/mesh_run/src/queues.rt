@@ -71,7 +71,7 @@ fn link_for<R: Wait>(
 {
     let list = copied(alloc, queue)?;
     let cap = places.for_held(list.len());
-    match link_up(rt, alloc, list, cap) {
+    match link_up(rt, alloc, FirstList { list, cap }) {
         Ok(ends) => Ok(ends),
         Err(_) => Err(Memory),
     }
