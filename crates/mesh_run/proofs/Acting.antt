@@ -40,19 +40,18 @@ bit_within (Link d) below = tt
 bit_within (Core p) below = omega (arith, below)
 
 -- an output behind which a router knows a queue has a bit
-has_bit : (r : RouterNode) (o : Out) (q : ℕ) → length r.behind.now ≡ 24 → place_at_router r.behind.now o ≡ Some q → IsOutput o
-has_bit r o q long is =
+has_bit : (r : RouterNode) (o : Out) (q : ℕ) → place_at_router r.behind.now o ≡ Some q → IsOutput o
+has_bit r o q is =
     let at = something (slice_get r.behind.now (out_number o)) q is in
-    bit_within o (let within = slice_get_within r.behind.now (out_number o) at.0 at.1 in omega (arith, within, long))
+    bit_within o (let within = slice_get_within r.behind.now (out_number o) at.0 at.1 in omega (arith, within, r.outputs))
 
 module _ (u : Setup) (links : List QueueLink) (s : Share) where
   pub ready_router : (i : ℕ) (r : RouterNode) → IsRouterOf u i r → IsShareOf u links s → IsInRun s.from s.to (router_place i) → IsReadyRouter links r s.hold
   ready_router i r router share within =
       let inside = live_inside u.machine (chip_of u.machine i) router.live.live in
       let at : (o : Out) (q : ℕ) → place_at_router r.behind.now o ≡ Some q → place_behind u (chip_of u.machine i) o ≡ Some q =
-      λ o q behind. sym (router.behind o (has_bit r o q router.outputs behind)) ∙ behind in
+      λ o q behind. sym (router.behind o (has_bit r o q behind)) ∙ behind in
       record {
-        outputs = router.outputs;
         senders = λ o q behind. share.routers i o q router.live within (at o q behind);
         differ = λ o p q one two o_is p_is. (one_output u (chip_of u.machine i) (chip_of u.machine i) o p q inside inside (at o q one) (at p q two)).1;
         apart = λ o port behind.

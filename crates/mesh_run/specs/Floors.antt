@@ -37,7 +37,6 @@ pub record IsRouterOf (u : Setup) (i : ℕ) (r : RouterNode) : Type 0 where
   pub index : r.index ≡ i
   pub chip : r.chip ≡ chip_of u.machine i
   pub table : r.table.now ≡ slice_index_or u.tables i []
-  pub outputs : length r.behind.now ≡ 24
   pub behind : (o : Out) → IsOutput o → place_at_router r.behind.now o ≡ place_behind u (chip_of u.machine i) o
 
 -- For each chip index the chip where it is live, the place of the queue behind each output of a live chip, and the bank. The setup has a
