@@ -341,7 +341,28 @@ module _ (s : State) (w : List Waiting) (c : Chip) (o : Out) (os : List Out) (u 
   pub send_link : IsServing (after_event s (Send c o)) (w ++ next ∷ []) c os
   unfolding linked
   send_link =
-      grind (arith, moved s linked (Send c o) is_linked, linked (Send c o) is_linked, kept_after s (Send c o) u.kept, free, All-append, i, far_there, All-cons, All-nil, times_more, nat_eq_same)
+      let Live : Waiting → Type 0 = λ x. IsLiveChip s.setup.machine x.chip in
+      let Of : McCopy → Type 0 = λ k. k.packet ≡ u.copy.packet in
+      let same : after_event s (Send c o) ≡ linked = moved s linked (Send c o) is_linked in
+      subst (λ x. IsServing x (w ++ next ∷ []) c os) (sym same) (record {
+        kept = subst MeetsSomeLedger same (kept_after s (Send c o) u.kept);
+        copy = u.copy;
+        port = u.port;
+        others = u.others;
+        free = u.free;
+        within = u.within;
+        hand = refl;
+        here = u.here;
+        collected = u.collected;
+        live = All-append Live w (next ∷ []) u.live (All-cons Live next [] far.live (All-nil Live));
+        listed = λ x. written (λ q. length q ≤ times s.setup.machine x (w ++ next ∷ [])) s.inputs i x (onward u.copy ∷ []) far_there
+            (λ here. let more = times_more s.setup.machine x w next
+            ∙ ap (λ y. times s.setup.machine x w + (if y then 1 else 0)) (ap (λ y. y == x) (far.place ∙ here) ∙ nat_eq_same x) in omega (arith, more))
+            (λ other. let most = u.listed x in let more = times_more s.setup.machine x w next in omega (arith, most, more));
+        of_packet = λ x. written (All Of) s.inputs i x (onward u.copy ∷ []) far_there
+            (λ here. All-cons Of (onward u.copy) [] refl (All-nil Of))
+            (λ other. u.of_packet x);
+      })
 
 -- an output that leads to a vertex is served, and the vertex takes the copy
 module _ (s : State) (w : List Waiting) (c : Chip) (o : Out) (os : List Out) (u : IsServing s w c (o ∷ os)) (v : ℕ) (is : behind s.setup c o ≡ core v) where
