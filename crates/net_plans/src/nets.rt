@@ -223,10 +223,15 @@ pub fn net_plan(alloc: Global, placed: PlacedNet) -> Result<NetPlan, RepairErr>
         targets: &targets,
     };
     let chips = target_chips(alloc, ends)?;
+    let growth = Ends {
+        machine,
+        root: source.chip,
+        targets: &chips,
+    };
     let Grown {
         tree: grown,
         joins: _,
-    } = ner(alloc, machine, source.chip, &chips)?;
+    } = ner(alloc, growth)?;
     let tree = with_detours(alloc, ground, grown, &chips)?;
     Ok(NetPlan {
         block,

@@ -116,7 +116,12 @@ fn chip_keys(alloc: Global, ends: NetEnds) -> Result<Vec<(u32, u8, u8)>, Memory>
     for i in 0..ends.targets.len() {
         let chip = ends.targets.get(i).chip;
         if !ends_at(&keys, chip) {
-            keys.push((distance(ends.machine, ends.root, chip), chip.x, chip.y))?;
+            let pair = ChipPair {
+                machine: ends.machine,
+                from: ends.root,
+                to: chip,
+            };
+            keys.push((distance(pair), chip.x, chip.y))?;
         }
     }
     Ok(keys)

@@ -20,11 +20,15 @@ invariant_of-ends c =
       targets_inside = of_targets (λ s. IsInside m s.chip) c.args.placed.spots.now c.args.placed.net.now.targets c.in_ok-targets.targets c.in_ok-targets.ensures inside;
     }
 
-pub ner-requires-clause-targets_inside : goal.ner-requires-clause-targets_inside
-ner-requires-clause-targets_inside c =
-    of_chips (IsInside c.args.placed.ground.machine.now) c.args.placed.ground.machine.now c.get-source.result.now.chip c.in_ok-targets.targets c.in_ok-chips.chips
-    c.in_ok-chips.ensures (of_targets (λ s. IsInside c.args.placed.ground.machine.now s.chip) c.args.placed.spots.now c.args.placed.net.now.targets c.in_ok-targets.targets
-    c.in_ok-targets.ensures (all_inside c.args.placed.ground.machine.now c.args.placed.spots.now c.args.placed.sites))
+pub invariant_of-growth : goal.invariant_of-growth
+invariant_of-growth c =
+    let m = c.args.placed.ground.machine.now in
+    let inside = all_inside m c.args.placed.spots.now c.args.placed.sites in
+    record {
+      root_inside = All-at (λ s. IsInside m s.chip) c.args.placed.spots.now c.args.placed.net.now.source c.get-source.result.now inside c.get-source.ensures;
+      targets_inside = of_chips (IsInside m) m c.get-source.result.now.chip c.in_ok-targets.targets c.in_ok-chips.chips c.in_ok-chips.ensures
+          (of_targets (λ s. IsInside m s.chip) c.args.placed.spots.now c.args.placed.net.now.targets c.in_ok-targets.targets c.in_ok-targets.ensures inside);
+    }
 
 pub returns-in_err-tree-clause-cause : goal.returns-in_err-tree-clause-cause
 returns-in_err-tree-clause-cause c =

@@ -19,8 +19,8 @@ loop-i-preserved c = elim c.if-not-ends_at.branch [
       (subst (λ ks. IsChipOfOne ks c.get.result.now.chip) c.deref.ensures.value (c.ends_at.ensures w.if-not-ends_at.false)) c.if-not-ends_at.keys.items (ap (λ v. v.items) w.keys-is)
 ]
 
-pub distance-requires-clause-to_inside : goal.distance-requires-clause-to_inside
-distance-requires-clause-to_inside c =
+pub invariant_of-pair-clause-to_inside : goal.invariant_of-pair-clause-to_inside
+invariant_of-pair-clause-to_inside c =
     All-at (λ (s : Spot). IsInside c.args.ends.machine.now s.chip) c.args.ends.targets.now c.loop-i.i c.get.result.now c.args.ends.targets_inside c.get.ensures
 
 pub returns : goal.returns
