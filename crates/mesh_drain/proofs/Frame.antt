@@ -1,5 +1,5 @@
 -- Events that drop no copy: what they leave as it is, and that they follow on each other.
-use Rattle.std.proofs.Common.{arith, ◌≡◌, ℕ, refl, sym, ap, ◌∙◌, List, [], ◌∷◌, ◌++◌}
+use Rattle.std.proofs.Common.{subst, arith, ◌≡◌, ℕ, refl, sym, ap, ◌∙◌, List, [], ◌∷◌, ◌++◌}
 use Rattle.std.proofs.lemmas.List.Elements.{All-head, All-tail, All-nil, All-cons, All-append, All-weaker}
 use Rattle.std.specs.List.{slice_get, All}
 use Rattle.spin_base.specs.declared.copies.Event.{Event, TheVariants.Inject, TheVariants.Take, TheVariants.Send, TheVariants.Dump, TheVariants.Collect}

@@ -1,4 +1,4 @@
-use Rattle.std.proofs.Common.{◌+◌, ◌<◌, sym, subst, None, arith}
+use Rattle.std.proofs.Common.{◌+◌, ◌<◌, refl, sym, subst, None, arith}
 use Rattle.std.proofs.lemmas.Option.{get_or_from_slice_get}
 use Rattle.std.specs.List.{slice_index_or}
 use Rattle.spin_base.specs.declared.copies.Packet.{Packet}
@@ -15,7 +15,7 @@ bounds-nets-net c =
     (known c.args.mesh.now.setup.spots c.args.nets.now c.args.packets.now c.requires.listed.can.of_nets c.requires.listed.can.sources c.loop-number.number _ c.loop-number-test.true).net_within
 
 pub bounds-nets-net-in-loop-number : goal.bounds-nets-net-in-loop-number
-bounds-nets-net-in-loop-number c =
+bounds-nets-net-in-loop-number c _ =
     (known c.args.mesh.now.setup.spots c.args.nets.now c.args.packets.now c.requires.listed.can.of_nets c.requires.listed.can.sources c.loop-number.number _ c.loop-number-test.true).net_within
 
 pub overflow_add-copy : goal.overflow_add-copy
@@ -42,6 +42,8 @@ overflow_cast-sources c =
 pub loop-number-preserved : goal.loop-number-preserved
 loop-number-preserved c =
     let d : Packet = record { net = 0; index = 0; payload = None } in
+    let p : Packet = slice_index_or c.args.packets.now c.loop-number.number d in
+    let n : NetPlan = slice_index_or c.args.nets.now p.net c.index-nets-net.result in
     let k = known c.args.mesh.now.setup.spots c.args.nets.now c.args.packets.now c.requires.listed.can.of_nets c.requires.listed.can.sources c.loop-number.number d c.loop-number-test.true in
     record {
       opened = grows c.args.mesh.now.setup c.args.nets.now c.args.packets.now c.loop-number.number d c.index-nets-net.result
