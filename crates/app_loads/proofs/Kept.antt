@@ -1,5 +1,6 @@
 -- A mesh whose earlier deliveries are held apart, seen as one mesh.
 use Rattle.std.proofs.Common.{◌≡◌, ◌≢◌, Bool, ℕ, ◌+◌, ◌^◌, ◌<◌, List, [], ◌++◌, ◌∷◌, drop, length, refl, sym, ap, ◌∙◌, subst, inl, inr, arith, Option, Result, Ok, Err, OnOk, Some, map, nat_cmp}
+use Rattle.mesh_core.specs.Ledger.{dumped_marks}
 use Rattle.std.proofs.lemmas.{Bool.cases_Bool, Bool.eq-eqb, Option.none-some, Option.same_Some, List.append-nil, List.drop_at, List.map-append, List.Sums.count_by-le-length, List.Sums.length-filter}
 use Rattle.std.specs.{BTreeMap.BTreeMap, BTreeMap.Updates, BTreeMap.is_at, Map.lookup, List.Contains, List.filter, List.slice_get, List.slice_index_or, List.slice_set}
 use Rattle.spin_base.proofs.Members.{Among, among_contains, among_either, among_left, among_map, among_right, contains_among}

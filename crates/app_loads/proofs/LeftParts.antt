@@ -1,5 +1,8 @@
 -- The fields of a host that an application left, or left not.
 use Rattle.std.proofs.Common.{◌≡◌, ℕ, suc, ◌<◌, ◌==◌, false, List, ◌++◌, length, take, drop, get_or, sym, ap, ◌∙◌, subst, None, Some, Result, Ok, OnOk}
+use Rattle.app_loads.specs.Inner.{numbers_of}
+use Rattle.std.specs.Prelude.{is_some}
+use Rattle.std.proofs.Common.{Option}
 use Rattle.std.proofs.lemmas.{List.drop-map, List.map-append, List.take-map, Bool.eqb-true, Bool.false_from_ne_true, Option.slice_get-get_or, Option.slice_get_within, Option.same_Some}
 use Rattle.std.specs.{Prelude.IfSome, Prelude.position, List.slice_get, List.Contains}
 use Rattle.spin_base.proofs.Members.{Contains-at, any_among, position_nowhere, position_there}

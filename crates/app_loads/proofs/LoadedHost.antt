@@ -1,5 +1,16 @@
 -- A host to which an application came.
 use Rattle.std.proofs.Common.{◌≡◌, ◌≢◌, ℕ, zero, suc, ◌+◌, ◌<◌, ◌≤◌, ◌==◌, true, false, List, [], ◌∷◌, ◌++◌, ◌∙◌, Option, None, Some, if◌then◌else◌, length, take, refl, sym, ap, subst, inl, inr}
+use Rattle.app_loads.proofs.Holes.{same_holes}
+use Rattle.app_loads.specs.Regions.{place_of}
+use Rattle.app_loads.specs.declared.places.Region.TheVariants.{Rows}
+use Rattle.app_loads.specs.Applications.{HasRows}
+use Rattle.range_store.specs.Regions.{AreRuns}
+use Rattle.machine_desc.specs.RightTables.{table_at}
+use Rattle.machine_desc.specs.Live.{IsInside}
+use Rattle.spin_base.specs.declared.chips.Chip.{Chip}
+use Rattle.std.proofs.Common.{not}
+use Rattle.std.proofs.Common.{ltb}
+use Rattle.std.proofs.Common.{◌&&◌}
 use Rattle.std.proofs.Common.{arith, append-nil, append_assoc, get_or}
 use Rattle.std.proofs.lemmas.{Bool.cases_eq, Bool.eq-eqb, Bool.eqb-true, Bool.false≢true, Bool.and_parts, Bool.ne_eqb, Bool.or_parts, List.Elements.All-append, List.Elements.All-contains}
 use Rattle.std.proofs.lemmas.{List.Elements.All-weaker, List.Elements.filter_map-append, List.Elements.All-push, List.Folds.list_any-append, Option.slice_get_within, Option.same_Some}

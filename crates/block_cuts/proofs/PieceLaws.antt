@@ -209,8 +209,22 @@ record IsCut (ps es final : List Block) : Type 0 where
   pub apart : Apart ps → Apart final
 
 cut_from_is : (room : ℕ) (block : Block) (es ps final : List Block) → ((k : ℕ) → k < 2 ^ 32 → Has ps k → Matches block k) → cut_from room block ps es ≡ Some final → IsCut ps es final
-cut_from_is room block [] ps final inside same = grind (arith, same_Some ps final (where_few (nat_le (length ps) room) (Some ps) final same), where_few (nat_le (length ps) room) (Some ps) final same)
-cut_from_is room block (e ∷ es) ps final inside same = grind (arith, where_few (nat_le (length ps) room) (cut_from room block (cut_by block e ps) es) final same, by_sub, by_whole, by_apart)
+cut_from_is room block [] ps final inside same =
+    let is : ps ≡ final = same_Some ps final (where_few (nat_le (length ps) room) (Some ps) final same) in record {
+      sub = λ k small has. (subst (λ xs. Has xs k) (sym is) has, tt);
+      whole = λ k has free. subst (λ xs. Has xs k) is has;
+      apart = λ apart. subst Apart is apart;
+    }
+cut_from_is room block (e ∷ es) ps final inside same =
+    let rest = cut_from_is room block es (cut_by block e ps) final (λ k small has. inside k small (by_sub block e ps inside k small has).0)
+    (where_few (nat_le (length ps) room) (cut_from room block (cut_by block e ps) es) final same) in record {
+      sub = λ k small has.
+          let after = rest.sub k small has in
+          let before = by_sub block e ps inside k small after.0 in
+          (before.0, (before.1, after.1));
+      whole = λ k has free. rest.whole k (by_whole block e ps k has free.0) free.1;
+      apart = λ apart. rest.apart (by_apart block e ps apart);
+    }
 
 -- ---- the same, of all items of a list
 

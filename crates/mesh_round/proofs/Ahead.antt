@@ -1,6 +1,7 @@
 -- What is left of a way for a copy on its trail, where some places of the way count: each move leaves at most as much, and less by
 -- what it takes.
 use Rattle.std.proofs.Common.{◌≡◌, ℕ, zero, suc, ◌+◌, ◌*◌, ◌-◌, ◌<◌, ◌≤◌, ◌==◌, cond, min, refl, ap, sym, subst, arith, inl, inr, List, [], ◌∷◌, length, Bool, true, false, count_by}
+use Rattle.std.proofs.Common.{◌∙◌}
 use Rattle.std.proofs.lemmas.{Bool.and_parts, Bool.eqb-true, List.Sums.sum_by-cons, Option.slice_get_within}
 use Rattle.std.specs.List.{sum_by}
 use Rattle.spin_base.proofs.{Counts.count_by-cons, Members.Among, Members.among_map, Members.among_only}

@@ -1,5 +1,10 @@
 -- Each move leaves marks that have less far to go, and few of them.
 use Rattle.std.proofs.Common.{◌≡◌, ℕ, ◌+◌, ◌*◌, ◌-◌, ◌<◌, ◌≤◌, ◌==◌, sym, subst, arith, inl, inr, List, [], ◌∷◌, map, Bool, true, false, if◌then◌else◌}
+use Rattle.machine_desc.specs.RightTables.{table_at}
+use Rattle.spin_base.specs.Outputs.{outs_of}
+use Rattle.spin_base.specs.Lookup.{lookup}
+use Rattle.std.proofs.Common.{refl}
+use Rattle.std.proofs.Common.{min}
 use Rattle.std.proofs.lemmas.Bool.{eq-eqb}
 use Rattle.spin_base.proofs.{Members.Among, Members.among_only, Tests.answers_none}
 use Rattle.spin_base.specs.{declared.chips.Chip.Chip, declared.chips.Port.Port, declared.chips.Port.TheVariants.Local, declared.routes.Out.Out, declared.copies.McCopy.McCopy, Links.opposite_of}

@@ -1,5 +1,7 @@
 -- After a whole round the links are up for the queues of the cuts, and nothing is logged in the shares.
 use Rattle.std.proofs.Common.{◌≡◌, ℕ, ◌<◌, List, [], ◌++◌, length, map, get_or, refl, sym, ◌∙◌, arith}
+use Rattle.mesh_run.specs.Queues.{IsUp}
+use Rattle.std.proofs.Common.{subst}
 use Rattle.std.proofs.lemmas.{List.get_or_default, List.length-map, Option.get_or_from_slice_get, Option.slice_get_within, Option.slice_get-get_or}
 use Rattle.spin_base.proofs.Places.{slice_get-mapped, slice_get_there}
 use Rattle.spin_base.specs.declared.copies.McCopy.{McCopy}

@@ -1,5 +1,7 @@
 -- What a whole round logged is what its items tell, and the mesh to which it leads is split as it was.
 use Rattle.std.proofs.Common.{◌≡◌, ℕ, ◌<◌, Bool, false, List, [], ◌∷◌, ◌++◌, length, get_or, refl, sym, ap, ap₂, ◌∙◌, subst, arith}
+use Rattle.std.proofs.Common.{suc}
+use Rattle.std.proofs.Common.{◌||◌}
 use Rattle.std.proofs.lemmas.{List.get_or_default, Option.slice_get-get_or}
 use Rattle.std.specs.{List.flat_map, List.list_any, Global.Vec}
 use Rattle.chip_node.specs.{Going.Goes, Items.Item, Items.deliveries, Items.delivered_of, Items.dumped_of, Items.records}

@@ -1,5 +1,6 @@
 -- What the shares so far have logged.
 use Rattle.std.proofs.Common.{◌≡◌, Bool, ℕ, ◌≤◌, List, ◌++◌, length, take, drop, get_or, arith}
+use Rattle.std.proofs.Common.{◌+◌}
 use Rattle.std.proofs.lemmas.{Option.get_or_from_slice_get, Option.slice_get_within, List.take_all}
 use Rattle.std.specs.List.{flat_map, list_any, sum_by}
 use Rattle.mesh_run.specs.{declared.gathering.MeshLogs.MeshLogs, declared.shares.Share.Share, Gathering.AreEmptied, Gathering.IsAnyMoved, Gathering.IsEmptied}

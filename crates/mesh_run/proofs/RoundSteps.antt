@@ -1,5 +1,9 @@
 -- The steps of a round, each as far as what its call promises: ends dealt, turns played, ends collected, links at rest, logs gathered.
 use Rattle.std.proofs.Common.{arith, ◌≡◌, ℕ, ◌+◌, ◌<◌, Bool, List, ◌++◌, length, get_or, sym, subst}
+use Rattle.mesh_run.proofs.WholeRound.{Whole}
+use Rattle.std.proofs.Common.{◌∙◌}
+use Rattle.std.proofs.Common.{ap}
+use Rattle.std.proofs.Common.{refl}
 use Rattle.std.specs.{Global.Vec, List.All, List.flat_map}
 use Rattle.link_queue.specs.declared.links.{Link.Link, LinkEnds.LinkEnds}
 use Rattle.mesh_core.specs.State.{IsMesh, Setup, State}

@@ -1,4 +1,8 @@
 use Rattle.std.proofs.Common.{arith}
+use Rattle.app_loads.specs.Running.{Comes}
+use Rattle.app_loads.specs.Groups.{last_arrivals}
+use Rattle.std.specs.Prelude.{IfSome}
+use Rattle.std.proofs.Common.{subst}
 use Rattle.app_loads.proofs.Kept.{known_still, ok_anyway}
 use Rattle.app_loads.proofs.drains.send_next.Goals as goal
 

@@ -1,4 +1,9 @@
 use Rattle.std.proofs.Common.{arith, subst, refl}
+use Rattle.app_loads.specs.Taking.{HaveRoom}
+use Rattle.app_loads.specs.Taking.{AreTaken}
+use Rattle.app_loads.specs.declared.loaded.Range.{Range}
+use Rattle.std.proofs.Common.{List}
+use Rattle.std.proofs.Common.{sym}
 use Rattle.machine_desc.specs.Description.{Description}
 use Rattle.app_loads.specs.{Claims.claims_of, Taking.AreFreeAgain, Taking.IsDueAlways}
 use Rattle.app_loads.proofs.JoinLaws.{can_settle, served_on}

@@ -1,4 +1,13 @@
 use Rattle.std.proofs.Common.{arith}
+use Rattle.mesh_run.specs.Raised.{IsRaisedFrom}
+use Rattle.mesh_run.specs.Gathering.{HasRoomForLogs}
+use Rattle.mesh_run.specs.declared.shares.Share.{Share}
+use Rattle.mesh_core.specs.State.{State}
+use Rattle.mesh_core.specs.State.{IsMesh}
+use Rattle.std.proofs.Common.{subst}
+use Rattle.std.proofs.Common.{refl}
+use Rattle.std.proofs.Common.{List}
+use Rattle.std.proofs.Common.{◌+◌}
 use Rattle.std.proofs.lemmas.Result.{on_ok_weaker}
 use Rattle.mesh_run.proofs.{Raising.copies_self, Raising.known_up, Raising.with_links, Resting.after_refusal}
 use Rattle.mesh_run.proofs.raised.RaisedMesh.make_room.Goals as goal
