@@ -264,10 +264,6 @@ module _ (u : Setup) (f : Floor) (of : IsFloorOf u f) (i : ℕ) where
     index = index;
     chip = chip;
     table = table;
-    outputs =
-        let taken = length-take 24 (drop (24 * i) f.behind.items) in
-        let dropped = length-drop (24 * i) f.behind.items in
-        omega (arith, ap length behind, taken, dropped, of.behind_long, below);
     behind = λ o output.
         ap place_in (ap (λ l. slice_get l (out_number o)) behind
         ∙ (slice_get_take 24 (out_number o) (drop (24 * i) f.behind.items) (out_number_below o output) ∙ slice_get_drop (24 * i) (out_number o) f.behind.items))

@@ -50,7 +50,7 @@ actors-preserved g c =
           let m = a.does in
           let moves : MovesAt u patience at before (record w.act.new.self { moved = true }) =
           record { items = m.items; goes = m.goes; of_it = m.of_it; turns_are = m.turns_are; some = m.some } in
-          on _ w.self-is (flagged u links w.act.new.self _ _ _ w.act.ensures.share) (one_moves u patience at before _ a.from a.to refl above w.if-at-self.true moves)
+          on _ w.self-is (flagged u links w.act.new.self _ _ _ w.act.ensures.share) (one_moves u patience at before _ a.from a.to refl (record { above = above; below = w.if-at-self.true }) moves)
       | then-at-self+in-Waits w ↦
           let a = w.in-Waits.ensures.acts in
           on _ w.self-is (flagged u links w.act.new.self _ _ _ w.act.ensures.share) (one_stays u patience at before _ a.from a.to a.moved a.does)
