@@ -41,7 +41,7 @@ pub fn shorten_within(
     }
     match free_route(alloc, given, ROUTES)? {
         Some(route) => {
-            let given = Walled {
+            let given = WalledRows {
                 rows: given,
                 target,
                 route,
@@ -57,7 +57,7 @@ pub fn shorten_within(
 
 // Rows of which there are more than `target`, and the route of a wall behind them, which none of them has.
 #[derive(Clone, Copy)]
-struct Walled<'a> {
+struct WalledRows<'a> {
     rows: &'a [RoutedBlock],
     target: u32,
     route: Route,
@@ -66,7 +66,7 @@ struct Walled<'a> {
 }
 
 // The rows of the table that is covered with its wall.
-fn within_wall(alloc: Global, given: Walled, room: u32) -> Result<Option<Seq<RoutedBlock>>, Memory>
+fn within_wall(alloc: Global, given: WalledRows, room: u32) -> Result<Option<Seq<RoutedBlock>>, Memory>
     ensures rows { IfOk result (λ new. MatchOption new
         (AreTooManyWithin given.entry.target room given.entry.rows.now)
         (IsShortenedWithin given.entry.target room given.entry.rows.now)) }
@@ -110,7 +110,7 @@ fn wall(route: Route) -> RoutedBlock
 // fewer, and else those given.
 fn covered_within(
     alloc: Global,
-    given: Walled,
+    given: WalledRows,
     table: Table,
     room: u32,
 ) -> Result<Seq<RoutedBlock>, Memory>
@@ -121,7 +121,7 @@ fn covered_within(
     ensures keys { IfOk result (HasNoNewKeys given.entry.rows.now) }
     ensures few { IfOk result (λ rows. length rows ≤ length given.entry.rows.now) }
 {
-    let Walled {
+    let WalledRows {
         rows,
         target,
         route,
