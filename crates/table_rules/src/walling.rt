@@ -66,7 +66,11 @@ struct WalledRows<'a> {
 }
 
 // The rows of the table that is covered with its wall.
-fn within_wall(alloc: Global, given: WalledRows, room: u32) -> Result<Option<Seq<RoutedBlock>>, Memory>
+fn within_wall(
+    alloc: Global,
+    given: WalledRows,
+    room: u32,
+) -> Result<Option<Seq<RoutedBlock>>, Memory>
     ensures rows { IfOk result (λ new. MatchOption new
         (AreTooManyWithin given.entry.target room given.entry.rows.now)
         (IsShortenedWithin given.entry.target room given.entry.rows.now)) }
