@@ -266,6 +266,15 @@ kept_queue v w a b cap count queue tx rx r =
     ap (λ (l : List McCopy). l ++ r.held) (sym rx.took) ∙ (sym r.all ∙ (ap₂ (λ (x y : List McCopy). x ++ y) tx.first tx.sent ∙ append-nil queue))
 
 -- the link at a place rests, by what its ends tell
+-- the link at a place, where its ends have left: they are its own
+pub lent_there : (ends : List LinkEnds) (place : ℕ) (old : LinkEnds) (mid : Standing) (link : Link) (tx : Tx) (rx : Rx) → slice_get ends place ≡ Some old → AreEnds old →
+    (tx ≡ old.tx) × (rx ≡ old.rx) → LacksEnds ends place mid → link ≡ get_or mid.links.items place link → IsTx link tx × IsRx link rx
+lent_there ends place old mid link tx rx at are taken lacks index =
+    let link_is : link ≡ old.link = index ∙ slot_is (λ (e : LinkEnds). e.link) ends mid.links.items place old link lacks.links at in (
+      subst (λ (l : Link). IsTx l tx) (sym link_is) (subst (IsTx old.link) (sym taken.0) are.tx),
+      subst (λ (l : Link). IsRx l rx) (sym link_is) (subst (IsRx old.link) (sym taken.1) are.rx),
+    )
+
 pub rests_there : (ends es : List LinkEnds) (place : ℕ) (old o : LinkEnds) (s mid t : Standing) (link : Link) (tx sender : Tx) (rx receiver : Rx) (held : ℕ) → HoldsAll ends s →
     slice_get ends place ≡ Some old →
     HoldsAll es s → slice_get es place ≡ Some o → AreEnds o → (tx ≡ old.tx) × (rx ≡ old.rx) → LacksEnds ends place mid → link ≡ get_or mid.links.items place link → IsTx link sender →
