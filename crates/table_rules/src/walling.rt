@@ -118,7 +118,7 @@ fn covered_within(
     table: Table,
     room: u32,
 ) -> Result<Seq<RoutedBlock>, Memory>
-    requires made { IsTableMadeOf room (walled given.entry.rows.now given.entry.route) table.rows }
+    requires made { IsTableMadeOf room (walled given.rows.now given.route) table.rows }
     requires few { length table.rows < 2 ^ 32 }
     ensures rows { IfOk result (IsShortenedWithin given.entry.target room given.entry.rows.now) }
     ensures routes { IfOk result (KeepsRoutes given.entry.rows.now) }
