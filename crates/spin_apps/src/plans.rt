@@ -167,12 +167,12 @@ fn unrouted_net(net: u32, e: RepairErr) -> NetErr
 }
 
 // A net with its source, its targets and its tree.
-fn app_net(
+fn app_net<'x>(
     alloc: Global,
-    machine: &Machine,
-    roads: &Roads,
-    spots: &Seq<Spot>,
-    net: &Net,
+    machine: &'x Machine,
+    roads: &'x Roads,
+    spots: &'x Seq<Spot>,
+    net: &'x Net,
 ) -> Result<AppNet, RepairErr>
     requires { CanRouteNet machine.now roads.now spots.now net.now }
     ensures net { IfOk result (IsNetFor machine.now spots.now net.now) }

@@ -1,8 +1,8 @@
 use Rattle.spin_apps.proofs.Planning.{net_for, net_valid}
 use Rattle.spin_apps.proofs.plans.app_net.Goals as goal
 
-pub invariant_of-placed : goal.invariant_of-placed
-invariant_of-placed c =
+pub invariant_of-placed-2 : goal.invariant_of-placed-2
+invariant_of-placed-2 c =
     let v = c.requires.valid in
     record { ends = record { source = v.source; some_target = v.some_target; targets = v.targets }; sites = c.requires.sites }
 
