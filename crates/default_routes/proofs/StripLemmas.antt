@@ -270,7 +270,7 @@ apart_from_keys rows mask hold ascending masked i j d less inside m e among met 
     omega (arith, same, below)
 
 -- then no later kept row meets an alias of the row before
-pub later_clear : (rows : List Row) (kept : List ℕ) (i : ℕ) (d : Row) → AllPairs (λ (r s : Row). Misses s.block r) rows →
+later_clear : (rows : List Row) (kept : List ℕ) (i : ℕ) (d : Row) → AllPairs (λ (r s : Row). Misses s.block r) rows →
     All (λ s. s < length rows) kept → 0 < i → i ≤ length rows → KeptFrom rows i (reverse kept) →
     All (λ (r : Row). Misses r.block (get_or rows (i - 1) d)) (rows_at rows kept)
 later_clear rows kept i d apart in_range some within from =
@@ -283,3 +283,10 @@ later_clear rows kept i d apart in_range some within from =
   where
     get_or-reverse-reverse : (k : ℕ) → k < length kept → get_or (reverse kept) (length kept - 1 - k) 0 ≡ get_or kept k 0
     get_or-reverse-reverse k less = get_or-reverse kept (length kept - 1 - k) 0 (omega arith) ∙ ap (λ n. get_or kept n 0) (omega arith)
+
+-- and none meets an alias of the row that was read there
+pub missed : (rows : List Row) (kept list : List ℕ) → list ≡ kept → (i : ℕ) (row : Row) → row ≡ get_or rows (i - 1) row → AllPairs (λ (r s : Row). Misses s.block r) rows →
+    All (λ s. s < length rows) kept → 0 < i → i ≤ length rows → KeptFrom rows i (reverse kept) → All (λ (r : Row). Misses r.block row) (rows_at rows list)
+missed rows kept list same i row read apart in_range some within from =
+    subst (λ ks. All (λ (r : Row). Misses r.block row) (rows_at rows ks)) (sym same)
+    (subst (λ (x : Row). All (λ (r : Row). Misses r.block x) (rows_at rows kept)) (sym read) (later_clear rows kept i row apart in_range some within from))

@@ -1,5 +1,5 @@
 // The original blocks of all chips, gathered net by net.
-ghost use Rattle.std.specs.Prelude.{◌≡◌, ◌*◌, ◌<◌, ◌≤◌, ◌++◌, ◌∷◌, List, [], length, map, All, IfOk, OnOk, None, replicate, slice_index_or, slice_set};
+ghost use Rattle.std.specs.Prelude.{◌≡◌, ◌*◌, ◌<◌, ◌≤◌, List, [], length, map, All, IfOk, OnOk, None, replicate, slice_index_or, slice_set};
 ghost use Rattle.spin_base.specs.declared.chips.Chip.{Chip};
 ghost use Rattle.spin_base.specs.Outputs.{nothing};
 ghost use Rattle.machine_desc.specs.Live.{IsInside, index_of};
@@ -152,15 +152,6 @@ fn take_mark(
     routes[place] = Route::nothing();
     match port {
         None => Ok(()),
-        Some(port) => push_mark(lists, place, Mark { block, port, route }),
+        Some(port) => lists[place].push(Mark { block, port, route }),
     }
-}
-
-// Puts an original block at the back of the list at a place.
-fn push_mark(lists: &mut [Seq<Mark>], place: usize, mark: Mark) -> Result<(), Memory>
-    requires { place < length lists.old }
-    ensures { OnOk result (lists.new
-        ≡ slice_set lists.old place (slice_index_or lists.old place [] ++ mark ∷ [])) }
-{
-    lists[place].push(mark)
 }

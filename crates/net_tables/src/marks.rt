@@ -62,11 +62,11 @@ pub fn set_links(machine: &Machine, net: &NetPlan, routes: &mut [Route])
 pub fn set_targets(machine: &Machine, net: &NetPlan, routes: &mut [Route])
     requires routed { IsRouted machine.now net.now }
     requires long { length routes.old ≡ machine.now.width * machine.now.height }
-    requires links { TellsRoutes machine.now net.now.tree.edges [] routes.old }
-    requires clear_off { IsClearOff machine.now net.now routes.old }
     ensures long { length routes.new ≡ machine.now.width * machine.now.height }
-    ensures told { TellsRoutes machine.now net.now.tree.edges net.now.targets routes.new }
-    ensures clear_off { IsClearOff machine.now net.now routes.new }
+    ensures told { TellsRoutes machine.now net.now.tree.edges [] routes.old
+        → TellsRoutes machine.now net.now.tree.edges net.now.targets routes.new }
+    ensures clear_off { IsClearOff machine.now net.now routes.old
+        → IsClearOff machine.now net.now routes.new }
 {
     for target in net.targets.as_slice() {
         let place = machine.index(target.chip) as usize;

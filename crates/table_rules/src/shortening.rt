@@ -11,7 +11,7 @@ use crate::making::made_table;
 use crate::pieces::pieces_of;
 use crate::rows::RoutedBlock;
 use cover_merge::cover;
-use default_routes::strip;
+use default_routes::{RowsToStrip, strip};
 use spin_base::{Memory, Port, Seq};
 use std::alloc::Global;
 use tern_word::{Row, Table};
@@ -84,7 +84,7 @@ pub(crate) fn rows_left(alloc: Global, rows: &[Row]) -> Result<Seq<RoutedBlock>,
     requires sound { IsSound rows.now }
     ensures { IfOk result (AreLeft rows.now) }
 {
-    let kept = strip(alloc, rows)?;
+    let kept = strip(alloc, RowsToStrip { rows })?;
     let left = rows_at(alloc, rows, kept.as_slice())?;
     Ok(left)
 }

@@ -4,4 +4,4 @@ use Rattle.default_routes.proofs.stripping.are_apart.Goals as goal
 
 pub returns-then-not-is_empty : goal.returns-then-not-is_empty
 returns-then-not-is_empty c ascends =
-    apart_from_keys c.args.rows.now _ c.requires (c.keys_ascend.ensures ascends).0 (c.keys_ascend.ensures ascends).1
+    apart_from_keys c.args.sound.rows.now _ c.args.sound.sound.inside (c.keys_ascend.ensures ascends).0 (c.keys_ascend.ensures ascends).1

@@ -10,12 +10,11 @@ keyed nets g h is =
     let same : (draws drawn_net 300 g).0 ≡ nets = ap (λ (p : List DrawnNet × List ℕ). p.0) (sym is) in
     subst (All NeedsKey) same (all_keys (draws drawn_net 300 g).0 (nets_drawn 300 g))
 
-pub draw_packets-requires-clause-nets : goal.draw_packets-requires-clause-nets
-draw_packets-requires-clause-nets c = ap length c.as_slice.ensures ∙ number_drawn drawn_net 300 c.draw_sdrams.new.generator c.draw_nets.new.generator c.in_ok-nets.nets c.in_ok-nets.ensures
-
-pub draw_packets-requires-clause-keys : goal.draw_packets-requires-clause-keys
-draw_packets-requires-clause-keys c =
-    subst (All NeedsKey) (sym c.as_slice.ensures) (keyed c.in_ok-nets.nets c.draw_sdrams.new.generator c.draw_nets.new.generator c.in_ok-nets.ensures)
+pub invariant_of-all : goal.invariant_of-all
+invariant_of-all c = record {
+  many = ap length c.as_slice.ensures ∙ number_drawn drawn_net 300 c.draw_sdrams.new.generator c.draw_nets.new.generator c.in_ok-nets.nets c.in_ok-nets.ensures;
+  keys = subst (All NeedsKey) (sym c.as_slice.ensures) (keyed c.in_ok-nets.nets c.draw_sdrams.new.generator c.draw_nets.new.generator c.in_ok-nets.ensures);
+}
 
 pub returns : goal.returns
 unfolding drawn seeded

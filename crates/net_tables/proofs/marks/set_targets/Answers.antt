@@ -18,10 +18,10 @@ loop-target-preserved c =
     target_on c.args.machine.now c.args.net.now.tree.root c.args.net.now.tree.edges c.args.net.now.targets c.requires.routed.tree
     c.as_slice-target-items.result.now c.as_slice-target-items.ensures c.loop-target.target-index _ c.loop-target-test.true in (
       length-set _ _ _ ∙ c.loop-target.invariant.0,
-      ends_more c.args.machine.now c.args.net.now.tree.edges c.as_slice-target-items.result.now c.args.net.now.targets c.loop-target.target-index _ c.index-place.result
+      λ told. ends_more c.args.machine.now c.args.net.now.tree.edges c.as_slice-target-items.result.now c.args.net.now.targets c.loop-target.target-index _ c.index-place.result
           c.loop-target.routes c.index-routes-place.result c.with.result c.as_slice-target-items.ensures
           c.loop-target-test.true inside c.index-place.ensures.value
           (subst (λ n. c.index-place.result < n) (sym c.loop-target.invariant.0) c.index-place.ensures.below)
-          c.index-routes-place.is (rw c.out_of.ensures at c.with.ensures) c.loop-target.invariant.1,
-      off_kept c.args.machine.now c.args.net.now _ c.index-place.result c.with.result c.loop-target.routes inside on c.index-place.ensures.value c.loop-target.invariant.2,
+          c.index-routes-place.is (rw c.out_of.ensures at c.with.ensures) (c.loop-target.invariant.1 told),
+      λ off. off_kept c.args.machine.now c.args.net.now _ c.index-place.result c.with.result c.loop-target.routes inside on c.index-place.ensures.value (c.loop-target.invariant.2 off),
     )
